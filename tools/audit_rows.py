@@ -1,5 +1,5 @@
 #!/usr/bin/env python3
-"""audit_rows.py [keys | live T | line C.E] < SCRIPT_AND_TRANSCRIPT: a key audit, as the program `key_audit` writes it.
+"""audit_rows.py [keys | live T | live C.E | line C.E] < SCRIPT_AND_TRANSCRIPT: a key audit, as `key_audit` writes it.
 
 It shares nothing with the crates: it was written from docs/TRANSCRIPT.md, docs/DEFINITIONS.md and docs/AUDIT.md. The
 crates go along each lane's list; here all visits happen in the order of their stamps, and each key is a thing that
@@ -16,18 +16,18 @@ class Visit:
     def __init__(self, text, line):
         self.lane, rest = text.split(':')
         self.place, self.stamp = map(int, rest.split('@'))
-        self.line, self.role, self.key_call, self.done = line, None, False, self.stamp
+        self.line, self.role, self.key_call = line, None, False
 
     def __str__(self):
         return '%s:%d@%d' % (self.lane, self.place, self.stamp)
 
 
 class Moment:
-    """An entry of a vgetrandom state, behind the visit of this stamp."""
+    """An entry of a vgetrandom state. Its stamp is that at which the call was over that left it."""
 
-    def __init__(self, caller, state, place, stamp, line, what):
-        self.caller, self.state, self.place, self.stamp = caller, state, place, stamp
-        self.line, self.what, self.done = line, what, stamp
+    def __init__(self, caller, state, place, line, what):
+        self.caller, self.state, self.place, self.line, self.what = caller, state, place, line, what
+        self.call, self.stamp = None, None
 
     def __str__(self):
         return 'v%d.%d:%d@%d' % (self.caller, self.state, self.place, self.stamp)
@@ -136,12 +136,21 @@ class Course:
 
     def __init__(self, caller, stamp):
         self.caller, self.stamp, self.states, self.current = caller, stamp, [State() for _ in range(16)], 0
-        self.moments = []
+        self.moments, self.calls, self.ends = [], 0, {}
 
     def leave(self, line, *what):
         state = self.states[self.current]
-        self.moments.append(Moment(self.caller, self.current, state.count, self.stamp, line, what))
+        self.moments.append(Moment(self.caller, self.current, state.count, line, what))
         state.count += 1
+
+    def over(self, numbers):
+        """A call is over, which had the lines of these numbers."""
+        for moment in self.moments:
+            if moment.call is None:
+                moment.call, moment.stamp = self.calls, self.stamp
+        for number in numbers:
+            self.ends['%d.%d' % (self.caller, number)] = (self.calls, self.stamp)
+        self.calls += 1
 
     def wipe(self, line):
         state = self.states[self.current]
@@ -155,16 +164,15 @@ class Course:
 
     def meet(self, line, acts, point):
         is_wiped = False
-        for number, words, steps in acts:
-            if number == point:
+        for at, words, steps, _ in acts:
+            if at == point:
                 self.passed(steps)
                 if words[0] == 'wipe' and not is_wiped:
                     self.wipe(line)
                     is_wiped = True
 
     def vread(self, line, length, flags, acts, steps):
-        state, first = self.states[self.current], len(self.moments)
-        rest = list(steps)
+        state, rest = self.states[self.current], list(steps)
         if not (flags & ~7 or flags & 6 == 6) and rest[0] and length:
             look = rest.pop(0)
             if not acts and state.generation == look + 1 and length <= BATCH - state.at:
@@ -174,8 +182,6 @@ class Course:
         self.passed(steps)
         for act in acts:
             self.passed(act[2])
-        for moment in self.moments[first:]:
-            moment.done = self.stamp
 
     def attempts(self, line, length, acts, rest):
         state, block = self.states[self.current], 0
@@ -189,9 +195,7 @@ class Course:
                 rest.pop(0), rest.pop(0)
                 visit = rest.pop(0)
                 if visit.lane == 'b':
-                    self.passed([visit])
                     visit = rest.pop(0)
-                self.passed([visit])
                 visit.key_call = True
                 state.at = BATCH
                 self.leave(line, 'rekey', visit)
@@ -227,8 +231,9 @@ def parents_of(events):
 
 
 def tell_callers(events, steps):
-    """Tells each visit's role; answers the entries of all states, each caller's in order."""
-    parents, stamps, moments = parents_of(events), {}, []
+    """Tells each visit's role; answers the entries of all states, each caller's in order, and of each line the number of
+    its call and the stamp at which that was over."""
+    parents, stamps, moments, ends = parents_of(events), {}, [], {}
     for caller, lines in enumerate(events):
         start = stamps.get(parents.get(caller), 0)
         course, waiting = Course(caller, start), []
@@ -238,8 +243,10 @@ def tell_callers(events, steps):
             word = fields[0]
             tell_line('reseed' if fields[2:] == ['reseed'] and word == 'inside' else word, fields, taken)
             if word == 'inside' and number < last:
-                waiting.append((int(fields[1]), fields[2:], taken))
-            elif word == 'vread':
+                waiting.append((int(fields[1]), fields[2:], taken, number))
+                continue
+            acts = []
+            if word == 'vread':
                 acts, waiting = waiting, []
                 course.vread(line, int(fields[1]), int(fields[2]), acts, taken)
             elif word == 'drop':
@@ -249,10 +256,11 @@ def tell_callers(events, steps):
             if word == 'fork':
                 visits = [step for step in taken if not isinstance(step, int)]
                 stamps[(caller, number)] = visits[0].stamp if visits else course.stamp
-            if word not in ('vread', 'inside'):
-                course.passed(taken)
+            course.passed(taken)
+            course.over([act[3] for act in acts] + [number])
         moments += course.moments
-    return moments
+        ends.update(course.ends)
+    return moments, ends
 
 
 # ---- Keys --------------------------------------------------------------------------------------------------------
@@ -406,12 +414,12 @@ def happened(things):
 
 
 def run_of(text):
-    """The events of all callers, and all visits and entries in the order in which they happened."""
+    """The events of all callers, all visits and entries in the order in which they happened, and the ends of lines."""
     events, steps = read(text)
-    moments = tell_callers(events, steps)
+    moments, ends = tell_callers(events, steps)
     visits = [step for lines in steps for line in lines for step in line if not isinstance(step, int)]
     by_caller = sorted(enumerate(visits + moments), key=lambda of: rank(of[1])[:2] + of[:1])
-    return events, [one for _, one in by_caller]
+    return events, [one for _, one in by_caller], ends
 
 
 def in_order(keys):
@@ -438,10 +446,14 @@ def holder_rank(holder):
     return (2, *map(int, holder[5:].split('.'))) if holder != 'base' else (0,)
 
 
-def live(text, stamp):
-    """What is held behind a stamp, and what can be computed from it."""
-    run = run_of(text)[1]
-    before = happened(one for one in run if one.done <= stamp)
+def live(text, at):
+    """What is held after a stamp or a line, and what can be computed from it."""
+    _, run, ends = run_of(text)
+    call, stamp = (None, int(at)) if '.' not in at else ends.get(at, (None, None))
+    if stamp is None or stamp > max((one.stamp for one in run), default=-1):
+        yield 'no line' if '.' in at else 'no stamp'
+        return
+    before = happened(one for one in run if is_by(one, at.split('.')[0], call, stamp))
     held = [before.held[holder].name for holder in sorted(before.held, key=holder_rank)]
     rests = [((batch if isinstance(batch, str) else batch[0]), rest[0].name, rest[1], rest[2])
              for batch, rest in sorted(before.batches.items(), key=batch_rank) if rest[0] and rest[2]]
@@ -463,6 +475,13 @@ def live(text, stamp):
         yield 'line %s %s' % (line, ' '.join(lines[line]))
 
 
+def is_by(one, caller, call, stamp):
+    """Of the caller whose line is named, the calls up to that of the line count; all else by its stamp."""
+    if call is not None and isinstance(one, Moment) and str(one.caller) == caller:
+        return one.call <= call
+    return one.stamp <= stamp
+
+
 def batch_rank(item):
     batch = item[0]
     return (*holder_rank(batch), 0) if isinstance(batch, str) else (*holder_rank(batch[0]), batch[1])
@@ -470,7 +489,10 @@ def batch_rank(item):
 
 def line(text, wanted):
     """The rows that the bytes of a line come from, and the extractions of their roots."""
-    events, run = run_of(text)
+    events, run, ends = run_of(text)
+    if wanted not in ends:
+        yield 'no line'
+        return
     found, roots = set(), []
     for key in reversed(rows(run)):
         if any(fate == '>' + wanted for _, _, fate in key.uses) or found.intersection(key.became()):
@@ -554,15 +576,15 @@ def credit_of(fields, now, timer, bits):
     return timer.bits(now) if bits < 256 else 0
 
 
-def main(words):
-    text = sys.stdin.read()
+def main(words, text):
     if words in ([], ['keys']):
         return keys(text)
     if len(words) == 2 and words[0] in ('live', 'line'):
-        return live(text, int(words[1])) if words[0] == 'live' else line(text, words[1])
-    sys.exit('usage: audit_rows.py [keys | live T | line C.E]')
+        return live(text, words[1]) if words[0] == 'live' else line(text, words[1])
+    sys.exit('usage: audit_rows.py [keys | live T | live C.E | line C.E]')
 
 
 if __name__ == '__main__':
-    for row in main(sys.argv[1:]):
-        print(row)
+    told = list(main(sys.argv[1:], sys.stdin.read()))
+    print(*told, sep='\n', end='\n' if told else '')
+    sys.exit(1 if told in (['no stamp'], ['no line']) else 0)

@@ -7,13 +7,27 @@
 # sources and no program was changed since, nothing is read. Every edit, checkout or copy sets the time of a file's last
 # change to the clock, whatever time the file itself is given. Once something is newer the sum decides, so a file that was
 # only touched costs one look.
+#
+# An installed copy has no sources: its programs lie beside ./rng, and the file RELEASE there says what they are.
+# A program that `./rng fetch` took out of a release has a stamp of its own in out/fetched, and is used only if none was
+# proved here.
 # shellcheck shell=sh
+
+is_installed() {
+    [ -f "${top:?}/RELEASE" ]
+}
 
 # choose CRATE: the program that the functions below speak of.
 choose() {
     built=$1
-    own=crates/$built/out/$built
-    program=${top:?}/$own
+    use "crates/$built/out/$built"
+    ! is_installed || use "$built"
+}
+
+# use PATH: the program's place below top.
+use() {
+    own=$1
+    program=$top/$own
     stamp=$program.stands_for
 }
 choose rng_tool
@@ -53,6 +67,7 @@ sum_of_sources() (
 
 # The program stands for the sources, by a look at no more than the times of the files' last changes.
 seems_current() {
+    ! is_installed || { [ -x "$program" ]; return; }
     [ -x "$program" ] && [ -f "$stamp.seen" ] && [ -r "$stamp.folders" ] || return 1
     # shellcheck source=/dev/null
     . "$stamp.folders"
@@ -77,4 +92,47 @@ stands_for() {
     [ "$(sum_of_sources)" = "$1" ] || return 1
     printf '%s %s\n' "$1" "$(sha256sum <"$program")" >"$stamp"
     is_current
+}
+
+# There is a program for the sources as they are: one that was proved here, or else one that was fetched.
+is_ready() {
+    seems_current || is_current || is_fetched || {
+        choose "$built"
+        return 1
+    }
+}
+
+is_fetched() {
+    ! is_installed || return 1
+    use "out/fetched/$built"
+    seems_current || is_current
+}
+
+# What `rt ci` proves, tries and builds.
+sum_of_crates() (
+    cd "$top" || return
+    find crates crates.txt HANDLES -name out -prune -o -type f -exec sha256sum {} + | LC_ALL=C sort | sha256sum
+)
+
+# All files of the tree, and which of them can be run. What .gitignore names is left out.
+sum_of_tree() (
+    cd "$top" || return
+    {
+        files_of_tree -exec sha256sum {} +
+        files_of_tree -perm -100 -print
+    } | LC_ALL=C sort | sha256sum
+)
+
+# files_of_tree ACTION..: find's action for each file.
+files_of_tree() {
+    find . \( -name .git -o -name out -o -name target -o -name __pycache__ \) -prune -o \
+        -type f ! -name '*.log' "$@"
+}
+
+# What the last gate passed, as .ci/run writes it: a line `crates SUM`, `tree SUM` and `kit` with what rt says of itself.
+gate=out/gate
+
+# passed NAME: the sum, or what else the gate's record has of that name. Fails if it has nothing.
+passed() {
+    sed -n "s/^$1 //p" "$top/$gate" 2>/dev/null | grep .
 }

@@ -2,7 +2,9 @@
 # but run, check and replay alone.
 # shellcheck shell=sh
 
-audit_usage='usage: rng audit keys | rng audit live T | rng audit line C.E'
+self=./rng
+! is_installed || self=rng
+audit_usage='usage: rng audit keys | rng audit live T | rng audit live C.E | rng audit line C.E'
 
 # refuse TEXT: says what is wrong, and then which words there are.
 refuse() {
@@ -67,7 +69,7 @@ read_audit() {
     usage=$audit_usage
     case ${1-} in
     keys) taken=1 ;;
-    live) is_number "${2-}" || is_event "${2-}" || refuse "live takes a stamp, T, and not '${2-}'" ;;
+    live) is_number "${2-}" || is_event "${2-}" || refuse "live takes a stamp, T, or a line's caller and event, C.E, and not '${2-}'" ;;
     line) is_event "${2-}" || refuse "line takes a line's caller and event, C.E, and not '${2-}'" ;;
     '') refuse 'which audit is missing' ;;
     *) refuse "'$1' is no audit" ;;
@@ -119,8 +121,26 @@ read_words() {
         taken=$((taken + 1))
         ;;
     '') refuse 'which command is missing' ;;
-    clean | --version) refuse "$1 takes no other words, and does not follow try" ;;
-    *) refuse "'$1' is no command; ./rng --help lists them" ;;
+    --version) refuse "$1 takes no other words, and does not follow try" ;;
+    *) refuse "'$1' is no command; $self --help lists them" ;;
+    esac
+}
+
+# need_sources WORDS..: an installed copy has nothing to build from.
+need_sources() {
+    case ${1-} in
+    try | clean | fetch | prove)
+        ! is_installed || refuse "'$1' takes the sources, and this copy is installed: it is a word of ./rng there"
+        ;;
+    esac
+}
+
+# read_own WORDS..: ends if these are no words of ./rng itself that build or keep programs.
+read_own() {
+    [ "${way:?}" = prove ] || refuse "$1 does not follow try"
+    case $1 in
+    clean | prove) [ $# -eq 1 ] || refuse "$1 takes no other words" ;;
+    fetch) [ $# -eq 2 ] || refuse 'fetch takes one file, the archive of a release' ;;
     esac
 }
 

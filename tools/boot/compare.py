@@ -6,12 +6,15 @@
                                     more has to differ, or the status is 1
 
 The program is `rng` at the top of the repository, or the one that RNG names. It is called with the word `run`. Files
-with names that end in .gz are unpacked. Of a longer read a value is the first 4,096 bytes, which recorder.py notes.
+with names that end in .gz are unpacked. Of a longer read a value is the first 4,096 bytes, which recorder.py notes, or
+fewer and the SHA-256 of all.
 """
 
 import argparse
 import gzip
+import hashlib
 import os
+import re
 import subprocess
 import sys
 
@@ -22,6 +25,7 @@ import command  # noqa: E402
 SAMPLES = ("write", "device")
 LONGEST = 4096  # bytes of a value that recorder.py notes
 SURELY = 8  # digits: a value of so many does not come out equal by chance
+VALUE = re.compile(r"([0-9]{1,9}) ([0-9a-f]*)(?: ([0-9]{1,9})(?: ([0-9a-f]{64}))?)?")
 
 
 def text_of(path):
@@ -30,13 +34,16 @@ def text_of(path):
 
 
 def values_of(text):
-    """The numbers of events, and the digits that the kernel handed out in each."""
+    """The numbers of events, and the digits that were handed out in each; of some, how many bytes of the event's answer
+    come before those, and of longer ones the SHA-256 of all bytes."""
     values = []
     for place, line in enumerate(text.splitlines(), 1):
-        number, _, digits = line.partition(" ")
-        if not number.isdecimal() or len(number) > 9 or digits.strip("0123456789abcdef"):
+        found = VALUE.fullmatch(line)
+        if not found:
             raise command.Fault(f"VALUES, line {place}: an event's number and its bytes are wanted, not {line[:60]!r}")
-        values.append((int(number), digits))
+        number, digits, before, digest = found.groups()
+        more = [] if before is None else [int(before)] if digest is None else [int(before), digest]
+        values.append((int(number), digits, *more))
     return values
 
 
@@ -50,36 +57,46 @@ def changed(script):
     raise command.Fault("SCRIPT has no sample of some bytes in which a digit could be changed")
 
 
-def transcript_of(script, program):
-    """The lines of the events, each as its fields."""
+def run_of(script, program):
+    """The transcript of a script."""
     ran = subprocess.run([program, "run"], input=script.encode(), stdout=subprocess.PIPE, check=False)
     if ran.returncode:
         said = ran.stdout[:80].decode(errors="replace").strip()
         raise command.Fault(f"SCRIPT was not replayed: {program} ended with status {ran.returncode}: {said}")
-    return [line.split(" ") for line in ran.stdout.decode().splitlines()[1:-1]]
+    return ran.stdout.decode()
 
 
-def is_equal(fields, digits):
+def lines_of(transcript):
+    """The lines of the events, each as its fields."""
+    return [line.split(" ") for line in transcript.splitlines()[1:-1]]
+
+
+def is_equal(fields, digits, before=0, digest=None):
     """Whether the call succeeded, and its bytes are these, as far as they are noted."""
-    return fields[2] == "ok" and fields[4][: 2 * LONGEST] == digits
+    if fields[2] != "ok":
+        return False
+    found = fields[4][2 * before :]
+    if digest is None:
+        return found[: 2 * LONGEST] == digits
+    return found.startswith(digits) and hashlib.sha256(bytes.fromhex(found)).hexdigest() == digest
 
 
 def compare(values, transcript):
     """The values that came out equal, and those that did not, as places in the list."""
-    highest = max((number for number, _ in values), default=0)
+    highest = max((number for number, *_ in values), default=0)
     if highest >= len(transcript):
         raise command.Fault(f"VALUES has event {highest}, and SCRIPT has {len(transcript)} events: is it of another record?")
-    equal = [place for place, (number, digits) in enumerate(values) if is_equal(transcript[number], digits)]
+    equal = [place for place, (number, *value) in enumerate(values) if is_equal(transcript[number], *value)]
     kept = set(equal)
     return equal, [place for place in range(len(values)) if place not in kept]
 
 
 def told(values, transcript, place):
-    number, digits = values[place]
+    number, digits, before = (*values[place], 0)[:3]
     fields = transcript[number]
     return (
         f"the first that differs: event {number}, {fields[1]}: the kernel had {digits[:64]}, "
-        f"the program {fields[2]} {fields[4][: len(digits)][:64]}"
+        f"the program {fields[2]} {fields[4][2 * before :][: len(digits)][:64]}"
     )
 
 
@@ -93,19 +110,23 @@ def arguments():
     return parser.parse_args()
 
 
+def verdict(name, values, transcript, is_changed=False):
+    """Whether as many values are equal as may be, and what is said of it."""
+    equal, other = compare(values, transcript)
+    line = f"{name}: {len(equal)} of {len(values)} equal{', with one digit changed' if is_changed else ''}"
+    if is_changed:
+        return bool(values) and all(len(values[place][1]) < SURELY for place in equal), line
+    return bool(values) and not other, f"{line}\n{told(values, transcript, other[0])}" if other else line
+
+
 def main():
     given = arguments()
-    is_changed, script_path = given.is_changed, given.script
-    script, values = text_of(script_path), values_of(text_of(given.values))
+    script, values = text_of(given.script), values_of(text_of(given.values))
     program = os.environ.get("RNG", os.path.join(TOP, "rng"))
-    transcript = transcript_of(changed(script) if is_changed else script, program)
-    equal, other = compare(values, transcript)
-    print(f"{script_path}: {len(equal)} of {len(values)} equal{', with one digit changed' if is_changed else ''}")
-    if is_changed:
-        return 1 if not values or any(len(values[place][1]) >= SURELY for place in equal) else 0
-    if other:
-        print(told(values, transcript, other[0]))
-    return 1 if other or not values else 0
+    transcript = run_of(changed(script) if given.is_changed else script, program)
+    is_right, said = verdict(given.script, values, lines_of(transcript), given.is_changed)
+    print(said)
+    return 0 if is_right else 1
 
 
 if __name__ == "__main__":

@@ -10,8 +10,11 @@ noted where they begin and end, for their arguments and for what they hand out, 
 The places are found by what they do (behind the call of a lock, behind the load of the generation, before a return),
 in functions that are found by their names. If one is not found exactly as expected, nothing is recorded.
 
+Each value has a note of who got it: the task that ran there, and of an integer the function that asked for it.
+
 The environment says: BOOT_STUB, where QEMU's stub listens; BOOT_SYMBOLS, the lines of /proc/kallsyms of the same
-kernel; BOOT_RECORD, the file to write; BOOT_VALUES, after how many values to stop.
+kernel; BOOT_RECORD, the file to write; BOOT_VALUES, after how many values to stop; BOOT_VGETRANDOM, 1 if the calls of
+vgetrandom in user memory are noted too (vdso_places.py).
 """
 
 import bisect
@@ -32,9 +35,16 @@ GENERATION = 32  # where the generation stands behind the key, in the base as in
 STACK = 16384  # kernel stacks have this size and begin at a multiple of it
 ZERO_FLAG = 0x40
 EMPTY_OR_EARLY = 2  # crng_init is below it while the core is not ready
-LONGEST = 4096  # so many bytes of a read are noted
+LONGEST = 1 << 17  # so many bytes of a read are noted
 WIDTHS = (8, 16, 32, 64)
+BELOW = "__get_random_u32_below"  # draws integers for another function
 USER_BUFFER = 0  # iov_iter of one buffer in user memory
+EAGAIN = -11
+KERNEL_HALF = 2**63  # addresses from here on are the kernel's
+TASK_AT_MOST = 12288  # bytes of a task that are searched for its numbers and name
+NAME = 16  # bytes of a task's name
+CALL = 5  # bytes of a call instruction
+SOFT, HARD = 0x100, 0xFF0000  # bits of the count that says whether a CPU handles an interrupt
 
 
 class Symbols:
@@ -143,6 +153,68 @@ class Code:
         return found
 
 
+    def frame(self):
+        """How far the return address lies above the stack pointer, once the function has its frame."""
+        size, tracer = 0, f"0x{self.symbols.address('__fentry__'):x}"
+        for _, text in self.lines:
+            less = re.match(r"sub +\$0x([0-9a-f]+),%rsp", text)
+            if re.match(rf"(?!call +{tracer}\b)(j|call|ret)", text):
+                return size
+            size += 8 if text.startswith("push") else int(less.group(1), 16) if less else 0
+        raise LookupError(f"{self.name} has no frame")
+
+
+class Tasks:
+    """Who runs on a CPU.
+
+    Where a task has its numbers and its name is found in the first one, while it is alone: it is its own parent, twice
+    in a row, with the two numbers and one word of 8 bytes before; and its name is `swapper`.
+    """
+
+    def __init__(self, symbols):
+        self.current = symbols.address("pcpu_hot")  # of each CPU: the task, and the count that interrupts raise
+        self.ticks = symbols.address("jiffies_64")
+        first = symbols.address("init_task")
+        task = memory(first, TASK_AT_MOST)
+        own = first.to_bytes(8, "little")
+        self.parent = self.only(task, own + own, "own parents")
+        self.name = self.only(task, b"swapper\0", "name")
+        self.start, self.end = min(self.parent - 16, self.name), max(self.parent, self.name + NAME)
+        if self.here()[0] != first or memory(first + self.parent - 16, 8) != bytes(8):
+            raise LookupError("the first task is not where it is expected")
+        self.first_tick = number(self.ticks)
+        self.ticks_of_a_second, rest = divmod(2**32 - self.first_tick, 300)  # ticks start five minutes before they wrap
+        if rest or self.ticks_of_a_second not in (100, 250, 300, 1000):
+            raise LookupError(f"the first tick is {self.first_tick}")
+
+    def only(self, task, what, words):
+        places = [at for at in range(0, len(task), 8) if task.startswith(what, at)]
+        if len(places) != 1:
+            raise LookupError(f"the first task has {len(places)} places of its {words}")
+        return places[0]
+
+    def here(self):
+        """The task on this CPU, and the count that says whether an interrupt is handled."""
+        base = register("gs_base")
+        base = base if base >= KERNEL_HALF else register("k_gs_base")
+        both = memory(base + self.current, 12)
+        return int.from_bytes(both[:8], "little"), int.from_bytes(both[8:], "little")
+
+    def now(self):
+        """Milliseconds of the kernel's tick counter."""
+        return (number(self.ticks) - self.first_tick) * 1000 // self.ticks_of_a_second
+
+    def who(self):
+        """The moment, process, thread, what the CPU does, and the task's name."""
+        task, count = self.here()
+        held_there = memory(task + self.start, self.end - self.start)
+        at = self.parent - 16 - self.start
+        numbers = [int.from_bytes(held_there[it : it + 4], "little") for it in (at + 4, at)]
+        name = held_there[self.name - self.start :][:NAME].split(b"\0")[0]
+        doing = "interrupt" if count & HARD else "softirq" if count & SOFT else "task"
+        return [self.now(), *numbers, doing, name.decode("ascii", "backslashreplace")]
+
+
 class Place(gdb.Breakpoint):
     """A place at which something is noted each time that a CPU comes there."""
 
@@ -167,16 +239,25 @@ class Recorder:
         self.reads = {}  # what a read that has begun will fill: its buffer and length, by its stack pointer
         self.base = symbols.address("base_crng")
         self.pool = symbols.address("input_pool")
+        self.tasks = None
+        self.callers = {}  # names of functions, by the return address of a call
+        self.frames = {}  # of the functions of integers, how far the return address lies above the stack pointer
+        self.parts = []  # what notes more than this, at places of its own
+        self.jobs = []  # what is to be done when the machine stands, since a place may not change places
+        self.early_places = []  # places that matter only while the core is not ready
 
     def is_over(self):
-        return self.left <= 0
+        return self.left <= 0 or bool(self.jobs)
+
+    def is_ready(self):
+        return number(self.symbols.address("crng_init"), 4) >= EMPTY_OR_EARLY
 
     def put(self, **fields):
         fields["cpu"] = cpu()
         self.record.write(json.dumps(fields) + "\n")
 
     def at(self, address, note):
-        Place(self, address, note)
+        return Place(self, address, note)
 
     def caller(self):
         """The function that the present one was called from; to be asked at its first instruction."""
@@ -190,9 +271,11 @@ class Recorder:
 
     def leave(self, call, value=None):
         pointer = register("rsp")
+        who = {}
         if value is not None:
             self.left -= 1
-        self.put(stop="leave", call=call, stack=pointer // STACK, pointer=pointer, value=value)
+            who["who"] = self.tasks.who()
+        self.put(stop="leave", call=call, stack=pointer // STACK, pointer=pointer, value=value, **who)
 
     def commit(self, step, **fields):
         self.put(stop=step, stack=register("rsp") // STACK, **fields)
@@ -208,7 +291,8 @@ class Recorder:
     def kernel_read(self):
         """The filling of a batch is such a read too; its bytes are handed out later, one by one."""
         count = register("rsi")
-        self.begin_read("kread", register("rdi") if count != BATCH else None, count)
+        asked = {"asked": self.asker(register("rsp"))} if self.caller() in self.frames else {}
+        self.begin_read("kread", register("rdi") if count != BATCH else None, count, **asked)
 
     def user_read(self):
         iterator = register("rdi")
@@ -217,8 +301,29 @@ class Recorder:
         self.begin_read("uread", buffer, number(iterator + 24))
 
     def system_read(self):
-        registers = register("rdi")  # struct pt_regs, with the third argument
-        self.enter("getrandom", flags=number(registers + 96) % 2**32)
+        registers = memory(register("rdi"), 160)  # struct pt_regs: arguments, and what the program had
+        wanted, buffer, ip, pointer = (int.from_bytes(registers[at : at + 8], "little") for at in (104, 112, 128, 152))
+        flags = int.from_bytes(registers[96:100], "little")
+        self.enter_source("getrandom", flags=flags, wanted=wanted, buffer=buffer, ip=ip, sp=pointer, mm=register("cr3") >> 12)
+
+    def enter_source(self, call, **fields):
+        """A user's call, with who makes it. While the core is not ready, its answer is noted too."""
+        if not self.is_ready():
+            fields["early"] = True
+        elif self.early_places:
+            self.jobs.append(self.leave_early_places)
+        self.enter(call, who=self.tasks.who(), **fields)
+
+    def answer(self, call):
+        """The answer of a user's call, as long as it may be that the core is not ready."""
+        pointer, result = register("rsp"), register("rax")
+        if result == EAGAIN % 2**64:
+            self.put(stop="answer", call=call, stack=pointer // STACK, pointer=pointer, result=EAGAIN)
+
+    def leave_early_places(self):
+        for place in self.early_places:
+            place.delete()
+        self.early_places = []
 
     # Steps, where they are committed.
 
@@ -239,16 +344,32 @@ class Recorder:
         key = register("rdi")
         if key != self.base:
             self.commit("serve", generation=number(key + GENERATION))
-        elif number(self.symbols.address("crng_init"), 4) < EMPTY_OR_EARLY:
+        elif not self.is_ready():
             self.commit("draw")
         else:
             self.commit("refill", generation=number(self.base + GENERATION))
 
-    def taken(self, width, value, generation):
+    def taken(self, width, value, generation, frame):
         """An integer was loaded from its batch, behind the lock of this and a look at the generation."""
         self.left -= 1
         digits = (register(value) % 2**width).to_bytes(width // 8, "little").hex()
-        self.commit("take", call=f"int{width}", generation=register(generation), value=digits)
+        self.commit("take", call=f"int{width}", generation=register(generation), value=digits,
+                    by=self.asker(register("rsp") + frame), who=self.tasks.who())
+
+    def asker(self, pointer):
+        """The function that asked for an integer, by the place of a return address. One that asks for another is left out."""
+        name = self.called_from(number(pointer))
+        while name in self.frames:
+            pointer += 8 + self.frames[name]
+            name = self.called_from(number(pointer))
+        return name
+
+    def called_from(self, address):
+        """The function that a call was made in; a call instruction stands before the address that it returns to."""
+        if address not in self.callers:
+            is_call = address >= KERNEL_HALF and memory(address - CALL, 1) == b"\xe8"
+            self.callers[address] = self.symbols.around(address) if is_call else None
+        return self.callers[address]
 
     def place_calls(self):
         entries = [("_get_random_bytes", "kread", self.kernel_read), ("get_random_bytes_user", "uread", self.user_read)]
@@ -259,8 +380,11 @@ class Recorder:
                 self.at(address, lambda call=call: self.end_read(call))
         address = self.symbols.address
         self.at(address("__x64_sys_getrandom"), self.system_read)
-        self.at(address("random_read_iter"), lambda: self.enter("random_file"))
-        self.at(address("urandom_read_iter"), lambda: self.enter("urandom_file"))
+        self.at(address("random_read_iter"), lambda: self.enter_source("random_file"))
+        self.at(address("urandom_read_iter"), lambda: self.enter_source("urandom_file"))
+        for name, call in (("__x64_sys_getrandom", "getrandom"), ("random_read_iter", "random_file")):
+            for place in Code(self.symbols, name).returns():
+                self.early_places.append(self.at(place, lambda call=call: self.answer(call)))
         for name, call, fields in (
             ("crng_reseed", "reseed", lambda: {"by": self.caller()}),
             ("_credit_init_bits", "credit", lambda: {"bits": register("rdi")}),
@@ -271,12 +395,14 @@ class Recorder:
                 self.at(address, lambda call=call: self.leave(call))
 
     def place_integers(self):
+        self.frames[BELOW] = Code(self.symbols, BELOW).frame()
         for width in WIDTHS:
             code = Code(self.symbols, f"get_random_u{width}")
             generation = code.behind_load(self.base + GENERATION)[1]
+            self.frames[code.name] = code.frame()
             place, match = code.behind(r"mov\w* +[-0-9a-fx]*\(%\w+,%\w+(?:,\d)?\),%(\w+)$", "behind a load from a list")
-            self.at(place, lambda width=width, value=match.group(1), generation=generation:
-                    self.taken(width, value, generation))
+            self.at(place, lambda width=width, value=match.group(1), generation=generation, frame=self.frames[code.name]:
+                    self.taken(width, value, generation, frame))
 
     def place_commits(self):
         address = self.symbols.address
@@ -296,11 +422,20 @@ class Recorder:
         """Waits for the kernel's first C function, and then records until the machine is off or all was seen."""
         gdb.Breakpoint(f"*{self.symbols.address('start_kernel'):#x}", gdb.BP_BREAKPOINT, internal=True, temporary=True)
         gdb.execute("continue")
+        self.tasks = Tasks(self.symbols)
         self.place_calls()
         self.place_integers()
         self.place_commits()
+        for part in self.parts:
+            part.place()
         try:
-            gdb.execute("continue")
+            while True:
+                gdb.execute("continue")
+                if self.left <= 0 or not self.jobs:
+                    break
+                jobs, self.jobs = self.jobs, []
+                for job in jobs:
+                    job()
             gdb.execute("kill")
         except gdb.error as error:  # the machine was switched off, and QEMU with it
             print("the recording ends:", error)
@@ -317,12 +452,29 @@ def attach(stub):
     raise TimeoutError(f"nobody listens at {stub}")
 
 
+def recorder_class():
+    """The recorder, with the parts that the environment asks for."""
+    sys.path.insert(0, os.path.dirname(os.path.abspath(__file__)))
+    found = Recorder
+    if os.environ.get("BOOT_VGETRANDOM") == "1":
+        import vdso_places
+
+        found = vdso_places.with_vgetrandom(sys.modules[__name__], found)
+    if "MEMORY_DUMPS" in os.environ:
+        sys.path.insert(0, os.path.join(os.path.dirname(os.path.dirname(os.path.abspath(__file__))), "memory"))
+        import dumps
+
+        found = dumps.with_dumps(sys.modules[__name__], found)
+    return found
+
+
 def main():
-    for setting in ("architecture i386:x86-64", "pagination off", "confirm off"):
+    # gdb takes all places away and puts them back at each stop, if it is not told to leave them: 120 packets a stop.
+    for setting in ("architecture i386:x86-64", "pagination off", "confirm off", "breakpoint always-inserted on"):
         gdb.execute(f"set {setting}")
     attach(os.environ["BOOT_STUB"])
     with open(os.environ["BOOT_RECORD"], "w") as file:
-        Recorder(Symbols(os.environ["BOOT_SYMBOLS"]), file, int(os.environ.get("BOOT_VALUES", "1000000"))).run()
+        recorder_class()(Symbols(os.environ["BOOT_SYMBOLS"]), file, int(os.environ.get("BOOT_VALUES", "1000000"))).run()
 
 
 def end(why):

@@ -30,7 +30,8 @@ class Ends(unittest.TestCase):
         return path
 
     def run_tool(self, tool, words, redirected="", **more):
-        command = ["sh", "-c", f'exec "$@" {redirected}', "sh", sys.executable, "-B", os.path.join(HERE, tool), *words]
+        # -S: the tools need no more than Python's own library, and each of these runs begins sooner without the rest.
+        command = ["sh", "-c", f'exec "$@" {redirected}', "sh", sys.executable, "-S", "-B", os.path.join(HERE, tool), *words]
         return subprocess.run(command, capture_output=True, text=True, timeout=60, check=False, **more)
 
     def assert_line(self, ran, status, *said):
@@ -42,17 +43,30 @@ class Ends(unittest.TestCase):
     def converted(self, record, redirected=""):
         return self.run_tool("convert.py", [record, "1", self.path("script"), self.path("values")], redirected)
 
-    def test_words(self):
-        for tool in ("compare.py", "convert.py"):
-            for words in ([], ["one"], ["1", "2", "3", "4", "5", "6"], ["--nonsense"]):
-                self.assert_line(self.run_tool(tool, words), 2, f"usage: {tool}")
-            self.assert_line(self.run_tool(tool, ["--help"]), 0, f"usage: {tool}")
+    def assert_usage(self, tool):
+        for words in ([], ["one"], ["1", "2", "3", "4", "5", "6"], ["--nonsense"]):
+            self.assert_line(self.run_tool(tool, words), 2, f"usage: {tool}")
+        self.assert_line(self.run_tool(tool, ["--help"]), 0, f"usage: {tool}")
+
+    def test_words_of_compare(self):
+        self.assert_usage("compare.py")
+
+    def test_words_of_convert(self):
+        self.assert_usage("convert.py")
+
+    def test_words_of_transcript(self):
+        self.assert_usage("transcript.py")
+
+    def test_words_of_who(self):
+        self.assert_usage("who")
+
+    def test_other_words(self):
         self.assert_line(self.run_tool("recorder.py", []), 1, "tools/boot/record starts gdb")
         for cpus in ("0", "65", "many"):
             self.assert_line(self.run_tool("convert.py", ["a", cpus, "b", "c"]), 2, "from 1 to 64")
 
     def test_files_that_are_not_there(self):
-        for tool, words in (("compare.py", []), ("convert.py", ["1", "a", "b"])):
+        for tool, words in (("compare.py", []), ("convert.py", ["1", "a", "b"]), ("transcript.py", ["1", "a", "b"]), ("who", ["a", "b"])):
             ran = self.run_tool(tool, ["/nowhere", *words] if words else ["/nowhere", "/nowhere"])
             self.assert_line(ran, 2, f"{tool}: /nowhere: No such file")
         self.assert_line(self.run_tool("convert.py", [self.path("one", STOP), "1", "/nowhere/s", "b"]), 2, "/nowhere/s")
@@ -63,6 +77,8 @@ class Ends(unittest.TestCase):
             with self.subTest(name):
                 ran = self.converted(self.path("record", content))
                 self.assert_line(ran, 1 if "refused: " in ran.stdout else 2, "stop")
+
+    def test_damaged_records(self):
         whole = gzip.compress(STOP.encode() * 100)
         for content in (b"\xff\xfe}\n", whole, whole[:-9], b"no gzip\n"):
             with self.subTest(content[:9]):

@@ -1,4 +1,4 @@
--- For callers: a list's base goes on entry by entry.
+-- For callers: the base of a list, entry by entry.
 use Rattle.std.proofs.Common.{◌≡◌, ℕ, Option, Some, None, List, [], ◌∷◌, ◌++◌, refl, ap, sym, ◌∙◌}
 use Rattle.std.specs.Prelude.{if◌then◌else◌}
 use Rattle.std.proofs.lemmas.List.Sums.{fold-append}
@@ -10,7 +10,7 @@ use Rattle.key_names.specs.BaseList.{BaseState, root_of, base_erases, base_step,
 use Rattle.key_names.specs.KeyInUse.{zero_key, root_value_or, base_value_step, base_value_after}
 use Rattle.base_gen.specs.BaseValue.{key_in_use, after_entry, base_at, after_entries}
 
--- what is handed to an entry is the root that it names
+-- the root that is handed to an entry is the one that the entry names
 abbrev pub HandsRoot : List PoolEntry → BaseEntry → List ℕ → Type 0
 HandsRoot pool e root = (place : ℕ) → root_of e ≡ Some place → root ≡ root_value pool place
 

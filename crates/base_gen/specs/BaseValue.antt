@@ -1,4 +1,4 @@
--- What contracts see of a base, and what an entry of the base's list makes of it.
+-- What contracts see of a base, and how an entry of the base's list changes it.
 use Rattle.std.specs.Prelude.{ℕ, Bool, true, Option, Some, None, List, if◌then◌else◌}
 use Rattle.key_names.specs.declared.entries.BaseEntry.{BaseEntry}
 use Rattle.key_names.specs.declared.entries.BaseEntry.TheVariants.{Early as EarlyEntry, Reseed, Tick}
@@ -33,7 +33,7 @@ start = record { key = zero_key; phase = empty; generation = 0; timer = None; ea
 abbrev pub erased : BaseValue → BaseValue
 erased b = record b { key = keystream b.key 0 32 }
 
--- the value of the key in use at an entry: the root, if the entry names one
+-- the value of the key in use at an entry: the root if the entry names one, else the base key
 abbrev pub key_in_use : Option ℕ → List ℕ → List ℕ → List ℕ
 key_in_use None root key = key
 key_in_use (Some place) root key = root
@@ -49,8 +49,7 @@ after_entry e root b = record {
   running = running_after e b.running;
 }
 
--- the calls that install a root, as their entries: the place that the root has in the pool's list changes nothing, so
--- 0 stands for each
+-- the calls that install a root, as their entries. The root's place in the pool's list changes nothing, so they use 0
 abbrev pub seeded_early : List ℕ → BaseValue → BaseValue
 seeded_early root b = after_entry (EarlyEntry (Some 0)) root b
 
@@ -60,7 +59,7 @@ reseeded now root b = after_entry (Reseed 0 now) root b
 abbrev pub fired : ℕ → List ℕ → BaseValue → BaseValue
 fired now root b = after_entry (Tick now (Some 0)) root b
 
--- a base whose list is in this state, with the value of its key
+-- the base whose list is in this state, with this value of its key
 abbrev pub base_at : BaseState → List ℕ → BaseValue
 base_at s value = record {
   key = value;

@@ -1,4 +1,4 @@
-//! The base key and what is kept beside it.
+//! The base key and the state that the kernel keeps with it.
 
 ghost use Rattle.std.specs.Prelude.{◌≡◌, ◌↔◌, ◌+◌, ◌^◌, ◌<◌, ◌≤◌, Some, length, IsTrue};
 ghost use Rattle.key_names.specs.Keystream.{keystream};
@@ -9,8 +9,8 @@ use crate::phase::Phase;
 use chacha_blocks::{Detached, derive_key, erase};
 use std::marker::Model;
 
-/// The base key (`base_crng`), how far the core is, how often it was reseeded, when it is due again, and how many
-/// callers run.
+/// The base key (`base_crng`), the phase of the core, how often it was reseeded, when the next reseed is due,
+/// and how many callers run.
 #[derive(Drop)]
 pub struct Base {
     key: [u8; 32],
@@ -37,7 +37,8 @@ impl Model for Base {
 }
 
 impl Base {
-    /// The base as the system starts: a key of zeros that nothing seeded yet, no timer, and one caller that runs.
+    /// The base at the start of the system: a key of zeros that nothing has seeded yet, no
+    /// timer, and one running caller.
     pub fn start() -> Base
         ensures { result ≡ start }
     {
@@ -51,7 +52,7 @@ impl Base {
         }
     }
 
-    /// How far the core is.
+    /// The phase of the core.
     pub fn phase(&self) -> Phase
         ensures { phase_of result ≡ self.now.phase }
     {
@@ -65,7 +66,7 @@ impl Base {
         self.generation
     }
 
-    /// How many callers run. It is for a caller of this crate alone: the core asks [`Base::idle`].
+    /// How many callers run. It is for callers of this crate alone; the core uses [`Base::idle`].
     pub fn running(&self) -> u32
         ensures { result ≡ self.now.running }
     {
@@ -79,15 +80,16 @@ impl Base {
         self.running == 0
     }
 
-    /// Replaces the key by a root for one draw before anything that counts was gathered, as the kernel's
-    /// `crng_make_state` does by `extract_entropy` while `crng_init` is `CRNG_EMPTY`.
+    /// Replaces the key by a root for one draw while the core is empty, as the kernel's `crng_make_state` does by
+    /// `extract_entropy` while `crng_init` is `CRNG_EMPTY`.
     pub fn fill_empty(&mut self, root: [u8; 32])
         ensures { self.new ≡ record self.old { key = root } }
     {
         self.key = root;
     }
 
-    /// Installs a root once half of what readiness asks was gathered (`_credit_init_bits` at `POOL_EARLY_BITS`).
+    /// Installs a root once half of the bits needed for readiness are credited
+    /// (`_credit_init_bits` at `POOL_EARLY_BITS`).
     pub fn install_early(&mut self, root: [u8; 32])
         ensures { self.new ≡ seeded_early root self.old }
     {
@@ -95,8 +97,9 @@ impl Base {
         self.phase = Phase::Early;
     }
 
-    /// Installs a root at this moment in milliseconds (`crng_reseed`): one more generation, and ready. A pending timer
-    /// stays; else one is set. `now` is below 2^40, and the generation below 2^63.
+    /// Installs a root at this moment in milliseconds (`crng_reseed`). The generation goes up by one, and
+    /// the core is ready. A pending timer stays; if there is no timer, one is set. `now` is below 2^40, and
+    /// the generation below 2^63.
     pub fn install(&mut self, root: [u8; 32], now: u64)
         requires generation { self.old.generation < 2 ^ 63 }
         requires now { now < 2 ^ 40 }
@@ -108,7 +111,7 @@ impl Base {
         }
     }
 
-    /// Whether the timer is pending and due at this moment in milliseconds.
+    /// Whether the timer is set, and due at this moment in milliseconds.
     pub fn due(&self, now: u64) -> bool
         ensures { IsTrue result ↔ IsDue self.now.timer now }
     {
@@ -118,8 +121,9 @@ impl Base {
         }
     }
 
-    /// Installs a root at this moment in milliseconds (`crng_reseed` as the delayed work): one more generation, and ready.
-    /// The timer is set anew; that it is due is for the lanes to see. `now` is below 2^40, and the generation below 2^63.
+    /// Installs a root at this moment in milliseconds (`crng_reseed` as the delayed work), and sets the next timer. The
+    /// generation goes up by one, and the core is ready. The lanes check that the timer is due. `now` is below 2^40,
+    /// and the generation below 2^63.
     pub fn fire(&mut self, root: [u8; 32], now: u64)
         requires generation { self.old.generation < 2 ^ 63 }
         requires now { now < 2 ^ 40 }
@@ -128,7 +132,7 @@ impl Base {
         self.timer = Some(self.reseed(root, now));
     }
 
-    // What `install` and `fire` share: all but the timer. The result is the moment at which the next reseed is due.
+    // All of `install` and `fire` except the timer. Returns the moment at which the next reseed is due.
     fn reseed(&mut self, root: [u8; 32], now: u64) -> u64
         requires generation { self.old.generation < 2 ^ 63 }
         requires now { now < 2 ^ 40 }
@@ -146,8 +150,8 @@ impl Base {
         now + reseed_interval(&mut self.early_boot, now)
     }
 
-    /// Erases the key, and hands out the first bytes that its block has over, at most 32, and the old key from block 1
-    /// on (`crng_fast_key_erasure`).
+    /// Erases the key (`crng_fast_key_erasure`). Writes the first bytes that the rest of its block has, at most 32, to
+    /// `out`, and returns the old key from block 1 on.
     pub fn draw(&mut self, out: &mut [u8]) -> Detached
         requires { length out.old ≤ 32 }
         ensures state { self.new ≡ erased self.old }
@@ -158,8 +162,8 @@ impl Base {
         erase(&mut self.key, out)
     }
 
-    /// Erases the key, and hands out 32 bytes as a key: of a CPU that is refilled, or, before the core is ready, of one
-    /// user's read that is longer than 32 bytes (`crng_make_state`).
+    /// Erases the key, and returns 32 bytes as a key. It is for a CPU's refill or, before the core is ready, for one
+    /// user's read of more than 32 bytes (`crng_make_state`).
     pub fn call_key(&mut self) -> [u8; 32]
         ensures state { self.new ≡ erased self.old }
         ensures key { result ≡ keystream self.old.key 32 32 }
@@ -167,14 +171,14 @@ impl Base {
         derive_key(&mut self.key)
     }
 
-    /// One more caller runs. 2^32 - 1 stay as they are.
+    /// Counts one more running caller. 2^32 - 1 stays as it is.
     pub fn up(&mut self)
         ensures { self.new ≡ record self.old { running = one_more self.old.running } }
     {
         self.running = self.running.saturating_add(1);
     }
 
-    /// One caller less runs. None stays none.
+    /// Counts one running caller less. 0 stays 0.
     pub fn down(&mut self)
         ensures { self.new ≡ record self.old { running = one_less self.old.running } }
     {
@@ -182,8 +186,9 @@ impl Base {
     }
 }
 
-/// The milliseconds until the next reseed (`crng_reseed_interval`): while the system is young, half its age in whole
-/// seconds and at least one second; from 120 seconds on, a minute for good.
+/// The milliseconds until the next reseed (`crng_reseed_interval`). While the system is young, they are
+/// half its age in whole seconds, and at least one second. Once an interval is taken at 120 seconds or
+/// later, they are a minute for good.
 fn reseed_interval(early_boot: &mut bool, now: u64) -> u64
     ensures early_boot { early_boot.new ≡ early_boot_after (Some now) early_boot.old }
     ensures interval { result ≡ interval early_boot.old now }

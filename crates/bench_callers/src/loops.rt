@@ -24,7 +24,7 @@ fn line_count(transcript: &Transcript) -> u64 {
     count
 }
 
-/// How many lines a run of the script of a text has. It is run so many times, each time on a new table.
+/// The number of lines in a run of the script in a text. The script is run `times` times, each time on a new table.
 pub fn runs<R: Threads + Wait + Sync>(
     rt: &R,
     alloc: Global,
@@ -44,7 +44,8 @@ fn add_one<R: Wait>(rt: &R, number: &Mutex<u64>) {
     *guard = guard.wrapping_add(1);
 }
 
-/// A number that so many threads each added one to, each in a scope of its own and joined before the next one.
+/// A number after `count` threads each added one. Each thread has its own scope, and is joined before the next one
+/// starts.
 pub fn threads<R: Threads + Wait + Sync>(rt: &R, count: u32) -> u64 {
     let number = Mutex::new(0u64);
     let shared = &number;

@@ -1,10 +1,10 @@
 //! Callers in threads, in loops that are measured by hand (bench/threads.sh).
 //!
-//! `runs NUMBER` reads the script on standard input once and runs it so many times, without the text of a transcript.
-//! `threads NUMBER` starts a thread and joins it so many times. Without words each goes over a little. A line says what
-//! came out last.
+//! `runs NUMBER` reads the script on standard input once and runs it NUMBER times, without the text of a transcript.
+//! `threads NUMBER` starts and joins a thread NUMBER times. Without words each loop runs a few times. One line shows
+//! the last result.
 //!
-//! Nothing is promised of them but that they do not abort.
+//! The only promise is that the loops do not abort.
 #![tactic(auto)]
 
 mod loops;

@@ -11,7 +11,7 @@ use std::alloc::Global;
 use std::sync::Wait;
 use std::thread::Threads;
 
-/// How many feeders there are.
+/// The number of feeders.
 const FEEDERS: u32 = 16;
 
 const SET: Setting = Setting {
@@ -22,7 +22,7 @@ const SET: Setting = Setting {
     hw: [0; 32],
 };
 
-/// The pool's bits behind so many samples of each feeder.
+/// The pool's bits after `each` samples of each feeder.
 pub fn feeds<R: Threads + Wait + Sync>(rt: &R, alloc: Global, each: u32) -> Result<u32, NoMemory>
     requires { (1 ≤ each) × (each ≤ 10000) }
 {

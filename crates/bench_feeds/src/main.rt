@@ -1,9 +1,10 @@
 //! Interrupt samples of 16 feeders, in loops that are measured by hand (bench/feeds.sh).
 //!
-//! `feeds NUMBER` hands in so many samples of each feeder through the queue, each feeder in a thread; `irqs NUMBER` makes
-//! the same interrupts by one caller, without a queue. Without words each goes over a few. A line says what came out.
+//! `feeds NUMBER` hands in NUMBER samples of each feeder through the queue, each feeder in a thread. `irqs NUMBER`
+//! makes the same interrupts by one caller, without a queue. Without words each loop uses a few samples. One line
+//! shows the result.
 //!
-//! Nothing is promised of them but that they do not abort.
+//! The only promise is that the loops do not abort.
 #![tactic(auto)]
 
 mod loops;

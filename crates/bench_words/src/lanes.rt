@@ -1,4 +1,4 @@
-//! A lane and a `Mutex`, with nobody else about.
+//! A lane and a `Mutex` without contention.
 ghost use Rattle.std.specs.Prelude.{◌≡◌, ◌≢◌, ℕ, ◌+◌, ◌^◌, ◌<◌, ◌≤◌, [], IfOk};
 ghost use Rattle.key_names.specs.declared.entries.CpuEntry.TheVariants.{Irq};
 ghost use Rattle.lane_table.specs.declared.view.Handed.{Handed};
@@ -19,7 +19,7 @@ fn started(alloc: Global) -> Result<(Lanes, Pass), AllocError>
     Lanes::start(alloc, 1, 0)
 }
 
-// Mixes an interrupt into the CPU that is held.
+// Mixes an interrupt into the held CPU.
 fn mix(held: &mut Held)
     requires { (i : ℕ) × (s : Model) × (2 ≤ i) × ValueRepresents i held.old.state s }
     ensures turn { held.new.turn ≡ held.old.turn }
@@ -34,7 +34,7 @@ fn mix(held: &mut Held)
     }
 }
 
-// One visit of CPU 0: it is taken, an interrupt is mixed into it, and it is put.
+// One visit of CPU 0: takes it, mixes an interrupt into it, and puts it.
 fn visit<R: Wait>(rt: &R, lanes: &Lanes, pass: &mut Pass, event: u32)
     requires { HoldsLanes lanes.now 0 [] pass.old }
     ensures { HoldsLanes lanes.now 0 [] pass.new }
@@ -62,7 +62,7 @@ fn visit<R: Wait>(rt: &R, lanes: &Lanes, pass: &mut Pass, event: u32)
     );
 }
 
-/// The stamp after so many visits of a CPU.
+/// The stamp after this number of visits of a CPU.
 pub fn visits<R: Wait>(rt: &R, alloc: Global, count: u32) -> Result<u64, AllocError> {
     let (lanes, mut pass) = started(alloc)?;
     for event in 0..count {
@@ -71,7 +71,7 @@ pub fn visits<R: Wait>(rt: &R, alloc: Global, count: u32) -> Result<u64, AllocEr
     Ok(pass.stamp())
 }
 
-/// A number that so many locks of a `Mutex` each added one to.
+/// A number after this number of locks of a `Mutex`, each of which adds one.
 pub fn locks<R: Wait>(rt: &R, count: u32) -> u64 {
     let number = Mutex::new(0u64);
     for _ in 0..count {

@@ -1,4 +1,4 @@
-//! The loops, each of which answers 8 bytes of what came out last.
+//! The loops. Each returns 8 bytes of its last result.
 use blake2s_core::{Blake2s, hash};
 use chacha_blocks::{erase, fill};
 use rand_chacha::ChaCha20Rng;
@@ -16,7 +16,7 @@ const SAMPLE: [u8; 64] = [0; 64];
 
 const MANY: u32 = 256;
 
-// The last 8 bytes, or fewer, as a number whose digits are theirs.
+// The last 8 bytes, or fewer, as the digits of a number.
 pub(crate) fn end_of(bytes: &[u8]) -> u64 {
     let last = bytes.len().saturating_sub(8);
     bytes[last..]
@@ -24,14 +24,14 @@ pub(crate) fn end_of(bytes: &[u8]) -> u64 {
         .fold(0, |number: u64, byte| number << 8 | u64::from(*byte))
 }
 
-/// So many bytes of a key's stream, as the library writes them.
+/// `len` bytes of a key's stream, as the library writes them.
 pub fn keystream(alloc: Global, len: u32) -> Result<u64, AllocError> {
     let mut bytes = vec![in alloc; 0; len as usize]?;
     fill(&KEY, 0, &mut bytes);
     Ok(end_of(&bytes))
 }
 
-/// So many bytes of a key's stream, straight from the generator below the library.
+/// `len` bytes of a key's stream, straight from the generator below the library.
 pub fn plain(alloc: Global, len: u32) -> Result<u64, AllocError> {
     let mut bytes = vec![in alloc; 0; len as usize]?;
     let mut generator = ChaCha20Rng::from_seed(KEY);
@@ -39,13 +39,13 @@ pub fn plain(alloc: Global, len: u32) -> Result<u64, AllocError> {
     Ok(end_of(&bytes))
 }
 
-/// The hash of so many zero bytes.
+/// The hash of `len` zero bytes.
 pub fn hashed(alloc: Global, len: u32) -> Result<u64, AllocError> {
     let bytes = vec![in alloc; 0; len as usize]?;
     Ok(end_of(&hash(None, &bytes)))
 }
 
-/// The hash of so many samples of 64 zero bytes, appended many at once: little but the compression of each.
+/// The hash of `count` samples of 64 zero bytes, appended many at once: little except the compression of each.
 pub fn bulk(count: u32) -> u64 {
     let samples = [0; 64 * MANY as usize];
     let mut hash = Blake2s::plain();
@@ -56,7 +56,7 @@ pub fn bulk(count: u32) -> u64 {
     end_of(&hash.finish())
 }
 
-/// The same hash, with each sample appended by a call of its own.
+/// The same hash, with a separate call for each sample.
 pub fn updated(count: u32) -> u64 {
     let mut hash = Blake2s::plain();
     for _ in 0..count {
@@ -65,7 +65,7 @@ pub fn updated(count: u32) -> u64 {
     end_of(&hash.finish())
 }
 
-/// The root of an input pool that so many samples of 64 zero bytes were mixed into.
+/// The root of an input pool, after `count` samples of 64 zero bytes were mixed into it.
 pub fn mixed(count: u32) -> u64 {
     let mut pool = input_pool::Pool::start();
     for _ in 0..count {
@@ -74,14 +74,14 @@ pub fn mixed(count: u32) -> u64 {
     end_of(&pool.extract(&[0; 32]))
 }
 
-// A call of its own, so that the pool lies in memory between two interrupts.
+// A separate call, so that the pool is in memory between two interrupts.
 #[inline(never)]
 fn interrupt(pool: &mut FastPool, v1: u64, v2: u64, now: u64) -> bool {
     pool.mix(v1, v2, now)
 }
 
-/// A fast pool after so many interrupts, one each millisecond, with a dump made as soon as it is due. What the dumps
-/// credit is added to the answer.
+/// A fast pool after `count` interrupts, one each millisecond, with each dump made as soon as it is due. The result
+/// includes the credit of the dumps.
 pub fn interrupts(count: u32) -> u64 {
     let mut pool = FastPool::start();
     let end = u64::from(count);
@@ -102,7 +102,7 @@ fn extracted(seed: &[u8; 32], counter: u64) -> [u8; 32] {
     block.finish()
 }
 
-// What goes on between two reads: the pool, without credits.
+// The state between two reads: the pool, without credits.
 #[derive(Drop)]
 struct Pool {
     hash: Blake2s,
@@ -127,7 +127,7 @@ impl Pool {
     }
 }
 
-/// So many writes of three bytes with a read of 4,096 bytes after each, made straight on the primitives.
+/// `count` writes of three bytes, each followed by a read of 4,096 bytes, straight on the primitives.
 pub fn reads(count: u32) -> u64 {
     let mut pool = Pool::empty();
     let mut bytes = [0; READ];
@@ -137,7 +137,7 @@ pub fn reads(count: u32) -> u64 {
     end_of(&bytes)
 }
 
-/// The same, with the bytes of each read turned into hexadecimal, as a transcript shows them.
+/// The same, with the bytes of each read in hexadecimal, as a transcript shows them.
 pub fn shown(count: u32) -> u64 {
     let mut pool = Pool::empty();
     let mut bytes = [0; READ];

@@ -1,15 +1,21 @@
-//! Loops over the primitives, whose instructions are counted by hand (bench/compare.sh).
+//! Loops over the primitives, for counts of instructions by hand (bench/compare.sh).
 //!
-//! Without words each loop goes over a little. `WORD NUMBER` goes over as much as asked for with one of them:
-//! `keystream` and `plain` write so many bytes of a key's stream, `hash` hashes so many bytes, `bulk` hashes so many
-//! samples of 64 bytes, `updated` hashes them one by one, `mixed` mixes them into an input pool, `interrupts` mixes so
-//! many interrupts into a fast pool, `visits` takes a lane and puts it so many times, `locks` locks a `Mutex`, `reads`
-//! makes so many writes of three bytes with a read of 4,096 bytes after each, and `shown` also turns what they read into
-//! hexadecimal. `bare-LEN`, `fill-LEN`, `kernel-LEN` and `user-LEN` make so many reads of LEN bytes. `script` and
-//! `transcript` read the text on standard input so many times, and `script_lines` and `transcript_lines` go over the same
-//! text with a plain loop. A line says what came out last.
+//! Without words each loop runs a few times. `WORD NUMBER` runs one of them as often as asked:
 //!
-//! Nothing is promised of them but that they do not abort.
+//! - `keystream` and `plain` write NUMBER bytes of a key's stream, and `hash` hashes NUMBER bytes.
+//! - `bulk` hashes NUMBER samples of 64 bytes, `updated` hashes them one by one, and `mixed` mixes them into an
+//!   input pool.
+//! - `interrupts` mixes NUMBER interrupts into a fast pool.
+//! - `visits` takes a lane and puts it NUMBER times, and `locks` locks a `Mutex`.
+//! - `reads` makes NUMBER writes of three bytes, each followed by a read of 4,096 bytes, and `shown` also turns the
+//!   bytes into hexadecimal.
+//! - `bare-LEN`, `fill-LEN`, `kernel-LEN` and `user-LEN` make NUMBER reads of LEN bytes.
+//! - `script` and `transcript` read the text on standard input NUMBER times, and `script_lines` and
+//!   `transcript_lines` go over it with a plain loop.
+//!
+//! One line shows the last result.
+//!
+//! The only promise is that the loops do not abort.
 #![tactic(auto)]
 
 mod lanes;
@@ -53,7 +59,7 @@ fn result_of<R: Wait>(rt: &R, alloc: Global, word: &str, size: u32) -> Result<u6
     })
 }
 
-// What a loop over a text answers, or `None` where the word names none.
+// The result of a loop over a text, or `None` if the word names no such loop.
 fn text_result_of(alloc: Global, word: &str, text: &[u8], times: u32) -> Result<Option<u64>> {
     Ok(Some(match word {
         "script" => script(alloc, text, times)?,

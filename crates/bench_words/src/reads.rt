@@ -6,10 +6,10 @@ use rand_core::SeedableRng;
 use rand_core::utils::fill_bytes_via_u32;
 use std::alloc::{AllocError, Global};
 
-/// What fills the buffer of a read.
+/// The function that fills the buffer of a read.
 #[derive(Clone, Copy)]
 pub enum Maker {
-    /// A new generator of the kit, and nothing beside it.
+    /// A new generator of the kit, and no other work.
     Bare,
     /// The key's stream from its start.
     Fill,
@@ -19,7 +19,7 @@ pub enum Maker {
     User,
 }
 
-/// The maker and the length that a word like `user-100` names.
+/// The maker and the length in a word like `user-100`.
 pub fn made_of(word: &str) -> Option<(Maker, u32)> {
     let (name, len) = word.split_once('-')?;
     let maker = match name {
@@ -38,7 +38,7 @@ fn bare(key: &[u8; 32], bytes: &mut [u8]) {
     fill_bytes_via_u32(&mut generator, bytes);
 }
 
-/// So many reads of `len` bytes.
+/// Makes `count` reads of `len` bytes.
 pub fn many(alloc: Global, maker: Maker, len: u32, count: u32) -> Result<u64, AllocError> {
     let mut key = [0; 32];
     let mut bytes = vec![in alloc; 0; len as usize]?;

@@ -1,4 +1,4 @@
-//! Loops over texts, each of which is gone over so many times. They answer what the last time counted.
+//! Loops that go over a text a number of times. They return the count of the last time.
 ghost use Rattle.std.specs.Prelude.{◌<◌, IfSome, length};
 
 use anyhow::{Result, bail};
@@ -34,7 +34,7 @@ fn read_transcript(alloc: Global, text: &[u8]) -> Result<Transcript> {
     }
 }
 
-/// How many callers a script has.
+/// The number of callers of a script.
 pub fn script(alloc: Global, text: &[u8], times: u32) -> Result<u64> {
     let mut count = 0;
     for _ in 0..times {
@@ -43,7 +43,7 @@ pub fn script(alloc: Global, text: &[u8], times: u32) -> Result<u64> {
     Ok(count)
 }
 
-/// How many callers a transcript has.
+/// The number of callers of a transcript.
 pub fn transcript(alloc: Global, text: &[u8], times: u32) -> Result<u64> {
     let mut count = 0;
     for _ in 0..times {
@@ -52,12 +52,12 @@ pub fn transcript(alloc: Global, text: &[u8], times: u32) -> Result<u64> {
     Ok(count)
 }
 
-/// Which lines of a text show bytes that a plain loop decodes.
+/// The lines of a text with bytes that a plain loop decodes.
 #[derive(Clone, Copy)]
 pub enum Lines {
-    /// Those of writes.
+    /// The lines of writes.
     Script,
-    /// Those of reads of 4,096 bytes.
+    /// The lines of reads of 4,096 bytes.
     Transcript,
 }
 
@@ -69,7 +69,7 @@ fn digits_of(lines: Lines, line: &[u8]) -> Option<&[u8]> {
     }
 }
 
-// The first line of a text, and what stands behind its end.
+// The first line of a text, and the text after its end.
 fn cut_line(text: &[u8]) -> Option<(&[u8], &[u8])>
     ensures { IfSome result (λ both. length both.1.now < length text.now) }
 {
@@ -89,7 +89,7 @@ fn decoded(alloc: Global, lines: Lines, text: &[u8]) -> Result<u64> {
     Ok(count)
 }
 
-/// How many bytes the lines of a text show: no more than the ends of lines and those bytes are looked for.
+/// The number of bytes that the lines of a text show. The loop looks only for the ends of lines and for these bytes.
 pub fn plain_lines(alloc: Global, lines: Lines, text: &[u8], times: u32) -> Result<u64> {
     let mut count = 0;
     for _ in 0..times {

@@ -1,4 +1,4 @@
--- What a caller of the hash may want to know.
+-- Facts for callers of the hash.
 use Rattle.std.proofs.Common.{◌≡◌, ℕ, List, [], ◌++◌, length, replicate, Some, sym, ◌∙◌, arith, length-append}
 use Rattle.std.proofs.lemmas.List.{append-nil}
 use Rattle.key_names.specs.Blake2s.{inner_count, start_words}

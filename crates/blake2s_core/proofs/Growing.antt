@@ -1,4 +1,4 @@
--- How what a hash keeps follows a message as it grows.
+-- How the state of a hash follows a message as it grows.
 use Rattle.std.proofs.Common.{◌≡◌, ℕ, ◌+◌, ◌-◌, ◌*◌, ◌/◌, ◌%◌, ◌^◌, ◌<◌, ◌≤◌, List, [], ◌∷◌, ◌++◌, length, take, drop, replicate, get_or, false, Option, Some, None, refl, sym, ap, ◌∙◌, arith, length-append, length-drop}
 use Rattle.std.specs.Simd.{first_chunks}
 use Rattle.std.proofs.lemmas.List.{append_assoc, take-append-le, drop-append-le, take_all, get_or-take, drop_at, drop-drop}
@@ -10,7 +10,7 @@ use Rattle.blake2s_core.specs.Hash.{Hash, IsAfter, Stands}
 
 -- ---- blocks of a message
 
--- a block that lies whole within the message has no padding
+-- a block that lies wholly within the message has no padding
 pub block_bytes_whole : (bytes : List ℕ) (i : ℕ) → 64 * i + 64 ≤ length bytes
     → block_bytes bytes i ≡ take 64 (drop (64 * i) bytes)
 block_bytes_whole bytes i fits =
@@ -25,7 +25,7 @@ block_bytes-append bytes more i fits =
     ∙ take-append-le 64 (drop (64 * i) bytes) more (omega (arith, length-drop (64 * i) bytes))
     ∙ sym (block_bytes_whole bytes i fits)
 
--- and so do the first n blocks
+-- the first n blocks stay too
 pub inner_blocks-append : (bytes more : List ℕ) (n : ℕ) → 64 * n ≤ length bytes
     → inner_blocks (bytes ++ more) n ≡ inner_blocks bytes n
 inner_blocks-append bytes more n fits =
@@ -57,13 +57,13 @@ IsAfter_more words count start bytes block n after whole =
       counted = counted;
     }
 
--- ---- the bytes behind the first n blocks
+-- ---- the bytes after the first n blocks
 
 pub record IsTail (bytes : List ℕ) (n : ℕ) (tail : List ℕ) : Type 0 where
   pub dropped : drop (64 * n) bytes ≡ tail
   pub counted : length bytes ≡ 64 * n + length tail
 
--- what stands behind k blocks more
+-- the bytes after k more blocks
 IsTail-drop : (bytes tail : List ℕ) (n k : ℕ) → IsTail bytes n tail → drop (64 * k) tail ≡ drop (64 * (n + k)) bytes
 IsTail-drop bytes tail n k is_tail =
     let place : 64 * n + 64 * k ≡ 64 * (n + k) = omega arith in
@@ -91,7 +91,7 @@ module _ (hash : Hash) (key : Option (List ℕ)) (text : List ℕ) (stands : Sta
   length-rest : length hash.rest ≡ length (message key text) - 64 * inner_count (message key text)
   length-rest = ap length stands.last ∙ length-drop (64 * inner_count (message key text)) (message key text)
 
-  -- the bytes kept, with bytes that follow the text
+  -- the kept bytes, with bytes that follow the text
   rest-append : (more : List ℕ)
       → hash.rest ++ more ≡ drop (64 * inner_count (message key text)) (message key text ++ more)
   rest-append more =
@@ -111,7 +111,7 @@ module _ (hash : Hash) (key : Option (List ℕ)) (text : List ℕ) (stands : Sta
         last = rw (message-append key text more, same) (grown ∙ rest-append more);
       }
 
-  -- the blocks so far, in the message that more bytes make
+  -- the blocks so far are also blocks of the longer message
   pub Stands-IsAfter : (more : List ℕ)
       → IsAfter hash.words hash.count (start_words (key_len key)) (message key (text ++ more))
       (inner_count (message key text))
@@ -130,7 +130,7 @@ module _ (hash : Hash) (key : Option (List ℕ)) (text : List ℕ) (stands : Sta
     length_front : length (message key text ++ head) ≡ 64 * (inner_count (message key text) + 1)
     length_front = omega (arith, length-rest, length-append (message key text) head)
 
-    -- the head fills the block of the bytes kept
+    -- the head fills the block of the kept bytes
     pub filled_block : hash.rest ++ head ≡ block_bytes (message key (text ++ more)) (inner_count (message key text))
     filled_block =
         let front = message key text ++ head in
@@ -140,7 +140,7 @@ module _ (hash : Hash) (key : Option (List ℕ)) (text : List ℕ) (stands : Sta
         rw message_cut
         (rest-append head ∙ sym all ∙ sym (block_bytes_whole front n fits) ∙ sym (block_bytes-append front tail n fits))
 
-    -- and the tail stands behind it
+    -- the tail comes after it
     pub tail_of_message : IsTail (message key (text ++ more)) (inner_count (message key text) + 1) tail
     tail_of_message =
         let front = message key text ++ head in

@@ -16,7 +16,7 @@ little_number-u32_at : (bytes : List ℕ) (k : ℕ) → little_number 4 (drop (4
 unfolding u32_at
 little_number-u32_at bytes k = simp (get_or-drop, add-zero) (omega arith)
 
--- words that were read from bytes
+-- words that are read from bytes
 pub read_words : (bytes words : List ℕ) (n : ℕ) → length words ≡ n → IsRead little_number 4 bytes words
     → words ≡ map (u32_at bytes) (range_with_len 0 n)
 read_words bytes words n len read =

@@ -1,20 +1,20 @@
--- What a hash keeps of a key and a text, before the last block is hashed.
+-- The state of a hash of a key and a text before the last block is hashed.
 use Rattle.std.specs.Prelude.{◌≡◌, ℕ, ◌*◌, ◌%◌, ◌^◌, Option, List, drop}
 use Rattle.std.specs.List.{fold}
 use Rattle.key_names.specs.Blake2s.{compressed, inner_blocks, inner_count, key_len, message, start_words}
 
--- the hash words, the bytes that no block has taken yet, and how many bytes the blocks so far have
+-- the hash words, the bytes that are in no block so far, and the number of bytes in the blocks so far
 pub record Hash : Type 0 where
   pub words : List ℕ
   pub rest : List ℕ
   pub count : ℕ
 
--- the hash words and the count that the first n blocks of a message leave, each with more bytes behind it
+-- the hash words and the count after the first n blocks of a message, each with more bytes after it
 pub record IsAfter (words : List ℕ) (count : ℕ) (start bytes : List ℕ) (n : ℕ) : Type 0 where
   pub hashed : words ≡ fold compressed start (inner_blocks bytes n)
   pub counted : count ≡ 64 * n % 2 ^ 64
 
--- the hash stands for the key and the text: it has hashed every block of the message but the last, and keeps the last
+-- the hash matches the key and the text: it has hashed every block of the message but the last, and keeps the last
 pub record Stands (hash : Hash) (key : Option (List ℕ)) (text : List ℕ) : Type 0 where
   pub blocks : IsAfter hash.words hash.count (start_words (key_len key)) (message key text)
       (inner_count (message key text))

@@ -44,8 +44,8 @@ fn round(v: [u32; 16], m: [u32; 16]) -> [u32; 16]
     ]
 }
 
-// Rounds written out, so that the place of each message word is a constant of the code: a loop over the schedule
-// takes a third longer.
+// Rounds written out, so that the place of each message word is a constant of the code. A loop over the
+// schedule takes a third longer.
 macro_rules! rounds {
     ($words:ident, $start:ident, $([$($place:literal)*])*) => {{
         let v = $start;
@@ -74,7 +74,7 @@ fn all_rounds(words: &[u32; 16], start: [u32; 16]) -> [u32; 16]
     )
 }
 
-// The vector before the rounds: `count` is how many bytes the message has up to the end of the block.
+// The vector before the rounds. `count` is the number of the message's bytes up to the end of the block.
 #[inline(always)]
 fn start_vector(h: [u32; 8], count: u64, is_last: bool) -> [u32; 16]
     ensures { result ≡ start_vector h count is_last }

@@ -10,7 +10,7 @@ use std::marker::Model;
 
 const BLOCK_LEN: usize = 64;
 
-// The chaining value: the hash words after the blocks so far, and how many bytes those have, modulo 2^64.
+// The chaining value: the hash words after the blocks so far, and the number of bytes in those blocks, modulo 2^64.
 #[derive(Drop)]
 struct Chain {
     words: [u32; 8],
@@ -28,7 +28,7 @@ impl Chain {
         Chain { words, count: 0 }
     }
 
-    // Hashes a block that more bytes follow.
+    // Hashes one block. The message has more bytes after it.
     fn hash_block(&mut self, block: &[u8; 64])
         ensures { (start bytes : List ℕ) (n : ℕ) → IsAfter self.old.words self.old.count start bytes n
             → block.now ≡ block_bytes bytes n
@@ -38,7 +38,7 @@ impl Chain {
         self.words = compress(self.words, block, self.count, false);
     }
 
-    // Hashes blocks that more bytes follow.
+    // Hashes blocks. The message has more bytes after them.
     fn hash_blocks(&mut self, blocks: &[[u8; 64]])
         ensures { (start bytes : List ℕ) (n : ℕ) → IsAfter self.old.words self.old.count start bytes n
             → ((k : ℕ) → k < length blocks.now → get_or blocks.now k [] ≡ block_bytes bytes (n + k))
@@ -49,7 +49,7 @@ impl Chain {
         }
     }
 
-    // The words after the last block, of which `used` bytes are the message's.
+    // The words after the last block. `used` of its bytes are the message's.
     fn hash_last(&self, block: &[u8; 64], used: usize) -> [u32; 8]
         ensures { result ≡ compressed self.now.words
             (record { bytes = block.now; count = (self.now.count + used) % 2 ^ 64; is_last = true }) }
@@ -60,10 +60,10 @@ impl Chain {
 }
 
 /// A hash of a text that comes in pieces, as the kernel's `struct blake2s_state`. It keeps the bytes of the last block,
-/// which is hashed only at the end, and nothing of the text before them.
+/// which is hashed only at the end. It keeps nothing of the text before them.
 ///
-/// Contracts see it as a `Hash` of specs/: the hash words, the bytes kept, and the count of the bytes before them.
-/// `Stands hash key text` says that these are what RFC 7693 makes of the key and the text.
+/// Contracts see it as a `Hash` of specs/: the hash words, the kept bytes, and the count of the bytes before them.
+/// `Stands hash key text` means that these are the state that RFC 7693 makes from the key and the text.
 #[derive(Drop)]
 pub struct Blake2s {
     chain: Chain,
@@ -104,7 +104,7 @@ impl Blake2s {
         }
     }
 
-    /// Appends bytes to the text (`blake2s_update`). Any number may come: the count is taken modulo 2^64.
+    /// Appends bytes to the text (`blake2s_update`). The length is not limited: the count is taken modulo 2^64.
     pub fn update(&mut self, text: &[u8])
         ensures { (key : Option (List ℕ)) (before : List ℕ) → Stands self.old key before
             → Stands self.new key (before ++ text.now) }
@@ -118,7 +118,7 @@ impl Blake2s {
         let (head, tail) = text.split_at(room);
         self.rest[self.rest_len..].copy_from_slice(head);
         self.chain.hash_block(&self.rest);
-        // The last block of the tail stays, even a full one.
+        // The last block of the tail is kept, even if it is full.
         let inner = (tail.len() - 1) / BLOCK_LEN;
         let (blocks, _) = tail.as_chunks::<BLOCK_LEN>();
         self.chain.hash_blocks(&blocks[..inner]);
@@ -127,7 +127,7 @@ impl Blake2s {
         self.rest_len = last.len();
     }
 
-    /// The 32 bytes of the hash of all that was appended (`blake2s_final`).
+    /// The 32 bytes of the hash of the whole text (`blake2s_final`).
     pub fn finish(mut self) -> [u8; 32]
         ensures { (key : Option (List ℕ)) (text : List ℕ) → Stands self key text → result ≡ blake2s key text }
     {
@@ -140,7 +140,7 @@ impl Blake2s {
     }
 }
 
-/// The hash of a text at once, under a key or without one (`blake2s`).
+/// The hash of a text in one call, with or without a key (`blake2s`).
 pub fn hash(key: Option<&[u8; 32]>, text: &[u8]) -> [u8; 32]
     ensures { MatchOption key.entry (result ≡ blake2s None text.now)
         (λ k. result ≡ blake2s (Some k.now) text.now) }

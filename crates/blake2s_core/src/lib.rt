@@ -1,7 +1,7 @@
-//! BLAKE2s-256 (RFC 7693), with a key of 32 bytes or with none, over a text that comes in pieces.
+//! BLAKE2s-256 (RFC 7693), with a key of 32 bytes or without one, over a text that comes in pieces.
 //!
-//! It promises the hash of the whole text, however it was cut: `blake2s key text` of `key_names`, a fold over a list of
-//! blocks. It stands on that definition, and on `byteorder` for words.
+//! The contracts promise the hash of the whole text, however it was cut: `blake2s key text` of `key_names`, a fold over
+//! a list of blocks. The crate uses that definition, and `byteorder` for words.
 #![tactic(auto)]
 
 mod compress;

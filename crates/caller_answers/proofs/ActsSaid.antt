@@ -1,4 +1,4 @@
--- Acts inside a vread, one after another; and the vread itself.
+-- Acts inside a vread in sequence, and the vread itself.
 use Rattle.std.proofs.Common.{◌≡◌, ℕ, ◌+◌, ◌<◌, Bool, true, false, List, [], ◌∷◌, ◌++◌, length, get_or, take, map, refl, sym, subst, ap, ◌∙◌, Some, None}
 use Rattle.std.specs.Prelude.{Option, MatchBool}
 use Rattle.std.specs.List.{AllByRecursion}
@@ -45,7 +45,7 @@ module _ (kept : KeptLists) (set : Setting) (reached : Reached) where
     is_done one is =
         subst (λ x. IsActSaid kept set (includes reached bound.point) bound.act bound.line.steps x) is said_here
 
-  -- one act more is written
+  -- one more act is noted
   pub acts_written : {Noted : Type 0} (IsNoted : ℕ → Said → Noted → Type 0) (acts : List ActLine) (i : ℕ) (a : ActLine) →
       i < length acts → a ≡ get_or acts i a → (old mid new : List Noted) (one : Said) →
       Written IsNoted (map (act_write kept set reached) (map seen_act (take i acts))) old mid →

@@ -1,4 +1,4 @@
--- One call after another is said.
+-- The answers and data of calls in sequence.
 use Rattle.std.proofs.Common.{◌≡◌, ℕ, zero, suc, ◌+◌, ◌<◌, min, List, [], ◌∷◌, ◌++◌, length, get_or, take, drop, refl, sym, subst, ap, ◌∙◌, arith, append_assoc}
 use Rattle.std.proofs.lemmas.List.{append-nil, drop_more, length-take-le}
 use Rattle.key_names.specs.Calls.{Setting, Call, alone, vread_call, unbound, ending}
@@ -17,7 +17,7 @@ module _ {Noted : Type 0} (IsNoted : ℕ → Said → Noted → Type 0) where
       (put.0, put.1, written_more writes more put.0 mid new put.2 later)
 
 module _ (kept : KeptLists) where
-  -- a call leaves the states in one way
+  -- a call determines the states after it
   pub determined : (set : Setting) (call : Call) (s t u : VStates) (writes more : List Write) →
       CallSaid kept set call s t writes → CallSaid kept set call s u more → t ≡ u
   determined set (alone event line) s t u writes more one other = one.new_is ∙ sym other.new_is
@@ -50,13 +50,13 @@ module _ (kept : KeptLists) where
   )
 
   module _ (sets : List Setting) (calls : List Call) where
-    -- the first calls are said, and what they say is noted
+    -- the first calls have answers and data, and these are noted
     abbrev pub SoFar : {Noted : Type 0} → (ℕ → Said → Noted → Type 0) → ℕ → VStates → List Noted → Type 0
     SoFar IsNoted n here notes =
         (writes : List Write) × CallsSaid kept (take n sets) (take n calls) first_states here writes
         × Written IsNoted writes [] notes
 
-    -- the rest of the calls can be said
+    -- the rest of the calls can have answers and data
     abbrev pub Left : ℕ → VStates → Type 0
     Left n here = (end : VStates) × (rest : List Write) × CallsSaid kept (drop n sets) (drop n calls) here end rest
 
@@ -75,7 +75,7 @@ module _ (kept : KeptLists) where
           (snoc (take n sets) (take n calls) set call first_states here next before.0 one.0 (a ∙ sym b) before.1 one.1)) in
           (before.0 ++ one.0, calls_said, written_more IsNoted before.0 one.0 [] notes more before.2 one.2)
 
-      -- the next of those that are left
+      -- the next call of the rest
       next_left : Left n here → (at : VStates) × (one : List Write) × CallSaid kept set call here at one × Left (n + 1) at
       next_left left =
           let P : List Setting → List Call → Type 0 = λ xs ys. CallsSaid kept xs ys here left.0 left.1 in

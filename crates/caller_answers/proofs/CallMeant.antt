@@ -1,4 +1,4 @@
--- What is said of a call is what it means.
+-- The answers and data of a call are those of its meaning.
 use Rattle.std.proofs.Common.{◌≡◌, ℕ, Bool, true, false, List, [], ◌∷◌, map, refl, sym, subst, ap, ◌∙◌}
 use Rattle.std.specs.Prelude.{⊤, MatchBool}
 use Rattle.std.specs.List.{AllByRecursion}
@@ -46,7 +46,7 @@ use Rattle.caller_answers.specs.CallSays.{UnboundSaid, EndingSaid, CallSaid}
 use Rattle.caller_answers.proofs.MetDeeds.{AreMet, steps_are}
 use Rattle.caller_answers.proofs.MetSays.{all_seen, kinds_are, looks_fit, crossing_is, crossings_known, event_said, system_said}
 
--- where a caller stands with this set and these vgetrandom states
+-- the state of a caller with this setting and these vgetrandom states
 abbrev pub standing : Setting → VStates → CallerState
 standing set s = record { setting = set; states = s.states; current = s.current }
 
@@ -57,11 +57,11 @@ CallLooks (vread_call n flags line acts) = AllByRecursion StepFits line.steps
 CallLooks (unbound bound) = ⊤
 CallLooks (ending line) = ⊤
 
--- it is said at its event's number
+-- the answer and data are those at the event's number
 abbrev pub IsSaidIn : (ℕ → Said → Type 0) → Write → Type 0
 IsSaidIn At w = At w.event w.said
 
--- the deeds of a line are those of what it means
+-- the deeds of a line are those of its meaning
 abbrev pub HasDeeds : Lists → SeenLine → LineMeaning → Type 0
 HasDeeds book line m = deeds_of book line.steps ≡ m.deeds
 
@@ -82,7 +82,7 @@ module _ (kept : KeptLists) (book : Lists) (keeps : Keeps kept book) (lawful : L
   kinds_at cpu steps = kinds_are cpu (met_in kept steps) (deeds_of book steps) (met_are steps)
 
   module _ (At : ℕ → Said → Type 0) where
-    -- a call that is said means something, and leaves the caller there
+    -- a call with answers and data has a meaning, with the caller's states before and after it
     pub record CallMeant (set : Setting) (call : Call) (s t : VStates) (writes : List Write) : Type 0 where
       pub m : CallMeaning
       pub before : m.before ≡ standing set s
@@ -96,7 +96,7 @@ module _ (kept : KeptLists) (book : Lists) (keeps : Keeps kept book) (lawful : L
       first_said w is all =
           let P : List Write → Type 0 = λ ws. AllByRecursion (IsSaidIn At) ws in (subst P is all).0
 
-      -- ---- an event by itself
+      -- ---- a single event
 
       alone_meant : (event : Event) (line : SeenLine) → CallFills book set (alone event line) →
           AloneSaid kept set event line s t writes → CallMeant set (alone event line) s t writes

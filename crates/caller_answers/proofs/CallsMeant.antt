@@ -1,4 +1,4 @@
--- What is said of calls one after another is what they mean.
+-- The answers and data of calls in sequence are those of their meanings.
 use Rattle.std.proofs.Common.{◌≡◌, ℕ, suc, List, [], ◌∷◌, ◌++◌, map, refl, sym, subst, ap, ◌∙◌}
 use Rattle.std.specs.Prelude.{true, false, if◌then◌else◌, Option, Some, None, MatchOption, IfSome, IsSome}
 use Rattle.std.specs.Global.{Vec}
@@ -56,7 +56,7 @@ calls_numbered kept set (call ∷ calls) s t writes said =
     ∙ ap (λ ns. ns ++ map event_of said.2) (call_numbered kept set call s said.0 said.1 said.3)
     ∙ ap (λ ns. call_numbers call ++ ns) (calls_numbered kept (setting_after_call set call) calls said.0 t said.2 said.4)
 
--- ---- what calls mean
+-- ---- the meanings of calls
 
 module _ (kept : KeptLists) (book : Lists) (keeps : Keeps kept book) (lawful : LawfulLanes book) where
   pub record CallsMeant (At : ℕ → Said → Type 0) (set : Setting) (calls : List Call) (s : VStates) (writes : List Write) : Type 0 where

@@ -20,7 +20,7 @@ module _ {A : Type 0} (xs : List A) (i : ℕ) (x : A) (low : i < length xs) (is 
   mapped_more f done so_far =
       ap (λ ys. ys ++ f x ∷ []) so_far ∙ sym (map-append f (take i xs) (x ∷ [])) ∙ ap (map f) (sym taken_more)
 
-  -- what holds of those before, mapped, and of one more
+  -- a fact of the earlier elements, mapped, and of one more
   pub each_mapped_more : {B : Type 0} (f : A → B) (P : B → Type 0) → AllByRecursion P (map f (take i xs)) → P (f x) →
       AllByRecursion P (map f (take (i + 1) xs))
   each_mapped_more f P before here =
@@ -30,6 +30,6 @@ module _ {A : Type 0} (xs : List A) (i : ℕ) (x : A) (low : i < length xs) (is 
   pub mapped_at : {B : Type 0} (f : A → B) → get_or (map f xs) i (f x) ≡ f x
   mapped_at f = get_or-map f xs i x (f x) low ∙ ap f (sym is)
 
-  -- what holds of each mapped element holds of this
+  -- a fact of each mapped element is one of this
   pub each_mapped_at : {B : Type 0} (f : A → B) (P : B → Type 0) → AllByRecursion P (map f xs) → P (f x)
   each_mapped_at f P all = subst P (mapped_at f) (each_at P (map f xs) i (f x) all (rw length-map low))

@@ -1,4 +1,4 @@
--- What a call means is said of it.
+-- A call with a meaning has the meaning's answers and data.
 use Rattle.std.proofs.Common.{◌≡◌, ℕ, Bool, true, false, List, [], ◌∷◌, refl, sym, subst, ap, ◌∙◌}
 use Rattle.std.specs.Prelude.{MatchBool}
 use Rattle.std.specs.List.{AllByRecursion}
@@ -41,7 +41,7 @@ no_steps_of book [] none = refl
 no_steps_of book (step ∷ steps) none = cc
 
 module _ (kept : KeptLists) (book : Lists) (keeps : Keeps kept book) (lawful : LawfulLanes book) where
-  -- what is said of a call that means something
+  -- the answers and data of a call with a meaning
   pub record MeantSaid (set : Setting) (call : Call) (s : VStates) (m : CallMeaning) : Type 0 where
     pub t : VStates
     pub writes : List Write

@@ -1,4 +1,4 @@
--- What is kept of the steps of a line is what stands behind them.
+-- The data kept of a line's steps are those of their visits.
 use Rattle.std.proofs.Common.{◌≡◌, ℕ, zero, suc, ◌+◌, ◌*◌, ◌/◌, ◌<◌, ◌≤◌, Bool, true, false, List, [], ◌∷◌, length, take, refl, sym, subst, ap, ◌∙◌, arith, Some, None, inl, inr, ◌⊎◌}
 use Rattle.std.specs.Prelude.{◌==◌, ◌||◌, not, ⊤, Option, slice_get, unwrap_or, nat_le, nat_lt, if◌then◌else◌}
 use Rattle.std.proofs.Math.Nat.{zero-mul, mul-zero, mul-suc, mul-div-le, mul-le-mul_left}
@@ -43,7 +43,7 @@ use Rattle.caller_answers.specs.declared.met.Met.TheVariants.{Looked, InPool, In
 use Rattle.caller_answers.specs.Met.{lane_met, mark_met, met_at, met_in}
 use Rattle.caller_answers.specs.EventSays.{taken_recipe, base_recipe, cpu_recipe}
 
--- ---- what a visit serves
+-- ---- the bytes of a visit
 
 taken_made : (key : List ℕ) (taken : Taken) → taken_bytes key taken ≡ bytes_made (taken_recipe key taken)
 taken_made key (User n) = sym (user_bytes key n)
@@ -116,7 +116,7 @@ module _ (book : Lists) (c : ℕ) (fills : ℕ → Option Fill) (place : ℕ) wh
 
 -- ---- a step
 
--- this is what was met where this stands
+-- the kept data are those of this look or visit
 abbrev pub IsMet : Met → Deed → Type 0
 IsMet (Looked g) (looked found) = g ≡ found
 IsMet (InPool k) (at_pool v) = KeepsPool k v
@@ -130,7 +130,7 @@ AreMet [] [] = ⊤
 AreMet (m ∷ met) (d ∷ deeds) = IsMet m d × AreMet met deeds
 AreMet _ _ = ⊥
 
--- a place of two lists of one length: nothing is at it in both, or one thing in each
+-- two lists of one length both have an element at a place, or neither has
 both_found : {K E : Type 0} (ks : List K) (es : List E) (i : ℕ) → length ks ≡ length es →
     (slice_get ks i ≡ None) × (slice_get es i ≡ None)
     ⊎ (k : K) × (e : E) × (slice_get ks i ≡ Some k) × (slice_get es i ≡ Some e)

@@ -1,4 +1,4 @@
--- What is said of steps by what is kept of them is what their deeds say.
+-- The answer and data from the kept data of steps are those from their deeds.
 use Rattle.std.proofs.Common.{◌≡◌, ℕ, suc, ◌-◌, ◌<◌, Bool, true, false, List, [], ◌∷◌, length, refl, sym, subst, ap, ◌∙◌, arith, Some, None}
 use Rattle.std.specs.Prelude.{◌==◌, ◌^◌, ⊤, Option, slice_get, unwrap_or, if◌then◌else◌}
 use Rattle.std.specs.List.{AllByRecursion}
@@ -41,7 +41,7 @@ use Rattle.caller_answers.specs.EventSays.{event_shows}
 use Rattle.caller_answers.specs.Said.{shown_by}
 use Rattle.caller_answers.proofs.MetDeeds.{MetBase, MetCpu, IsMet, AreMet}
 
--- ---- what stands behind steps of which this is met
+-- ---- the looks and visits of steps with these kept data
 
 pub record OfPool (k : KeptPool) : Type 0 where
   pub v : PoolVisit
@@ -97,7 +97,7 @@ shaped (m ∷ met) (d ∷ ds) h =
     let p = one m d h.0 in
     let r = shaped met ds h.1 in ((p.0, r.0), both d (deed m p.0) ds (deeds_in met r.0) p.1 r.1)
 
--- ---- what is seen
+-- ---- seen steps
 
 module _ (cpu : ℕ) where
   look_is : (g : ℕ) (b : Bool) → (g == 0) ≡ b → IsSeen cpu (if b then Unready else Ready g) (looked g)
@@ -177,7 +177,7 @@ module _ (cpu : ℕ) where
     looks_fit [] fits = tt
     looks_fit (step ∷ steps) fits = (step_fits step fits.0, looks_fit steps fits.1)
 
--- ---- what is said
+-- ---- answers and data
 
 crossing_in : (met : List Met) (s : Shape met) → crossing_of (first_crossing met) ≡ facts.first_crossing (deeds_in met s)
 crossing_in [] s = refl
@@ -270,7 +270,7 @@ module _ (met : List Met) (ds : List Deed) (h : AreMet met ds) where
   shape : (s : Shape met) × (ds ≡ deeds_in met s)
   shape = shaped met ds h
 
-  -- an event by itself
+  -- a single event
   pub event_said : (event : Event) → (answers.answer_of event ds ≡ event_says event met)
       × (answers.shown_of event ds ≡ shown_by (event_shows event met))
   event_said event =

@@ -1,4 +1,4 @@
--- The numbers of the events of calls, each of which is another one.
+-- The numbers of the events of calls, which are all different.
 use Rattle.std.proofs.Common.{◌≡◌, ℕ, suc, ◌<◌, ◌≤◌, true, false, List, [], ◌∷◌, ◌++◌, map, sym, subst, ap, ◌∙◌, arith, Some}
 use Rattle.std.specs.Prelude.{⊤, slice_get, if◌then◌else◌}
 use Rattle.std.specs.List.{AllByRecursion}
@@ -21,7 +21,7 @@ abbrev pub Distinct : List ℕ → Type 0
 Distinct [] = ⊤
 Distinct (n ∷ ns) = AllByRecursion (Differs n) ns × Distinct ns
 
--- ---- what is put at numbers that all differ is there in the end
+-- ---- notes at different numbers are all there in the end
 
 each_mapped : {A : Type 0} (f : A → ℕ) (P : ℕ → Type 0) (xs : List A) → AllByRecursion P (map f xs) →
     AllByRecursion (λ x. P (f x)) xs
@@ -70,7 +70,7 @@ distinct_parts [] ys one two apart = two
 distinct_parts (x ∷ xs) ys one two apart =
     (each_append (Differs x) xs ys one.0 apart.0, distinct_parts xs ys one.1 two apart.1)
 
--- acts that wait have numbers below the next line's
+-- waiting acts have numbers below the next line's
 abbrev Waits : ℕ → List BoundAct → Type 0
 Waits n waiting = AllByRecursion (λ k. k < n) (map act_number waiting)
 
@@ -88,7 +88,7 @@ waits_more : (waiting : List BoundAct) (bound : BoundAct) →
     map act_number (waiting ++ bound ∷ []) ≡ map act_number waiting ++ bound.line.event ∷ []
 waits_more waiting bound = map-append act_number waiting (bound ∷ [])
 
--- what holds of those that wait and of all numbers from n on holds of the numbers of the calls
+-- a fact of the waiting acts and of all numbers from n on is one of the numbers of the calls
 each_number : (P : ℕ → Type 0) (c n : ℕ) (waiting : List BoundAct) (events : List Event) (lines : List SeenLine) →
     LinesFit c n events lines → AllByRecursion P (map act_number waiting) → ((k : ℕ) → n ≤ k → P k) →
     AllByRecursion P (numbers (calls_from waiting events lines))
@@ -115,7 +115,7 @@ each_number P c n waiting (event ∷ events) (line ∷ lines) fit wait above = (
   each_number P c (suc n) waiting events lines fit.1 wait (λ k high. above k (omega arith)),
 )
 
--- a line of its own comes first
+-- the line of a single event comes first
 one_first : (c n : ℕ) (waiting : List BoundAct) (events : List Event) (lines : List SeenLine) (line : SeenLine) →
     line.event ≡ n → LinesFit c (suc n) events lines → Waits n waiting →
     Distinct (numbers (calls_from waiting events lines)) → Distinct (line.event ∷ numbers (calls_from waiting events lines))

@@ -1,4 +1,4 @@
--- What is said of the lines of a call, and where it leaves the caller's vgetrandom states.
+-- The answers and data of the lines of a call, and the caller's vgetrandom states after it.
 use Rattle.std.specs.Prelude.{ℕ, ◌≡◌, Bool, true, false, Some, List, [], ◌∷◌, ◌++◌, map, replicate, slice_get}
 use Rattle.std.specs.Prelude.{slice_set, unwrap_or}
 use Rattle.std.specs.List.{AllByRecursion}
@@ -32,7 +32,7 @@ state_of s = unwrap_or (slice_get s.states s.current) wiped_state
 abbrev pub with_state : VStates → VgetrandomState → VStates
 with_state s state = record s { states = slice_set s.states s.current state }
 
--- what an event by itself does to them
+-- the states after a single event
 abbrev pub states_after : Event → VStates → VStates
 states_after Drop s = with_state s wiped_state
 states_after (State number) s = record s { current = number }
@@ -47,7 +47,7 @@ module _ (kept : KeptLists) (set : Setting) where
     pub new_is : new ≡ states_after event old
     pub writes_are : writes ≡ write line (alone_says kept set event line.steps) ∷ []
 
-  -- an act has a form of its own where its point was reached, and no steps elsewhere
+  -- an act whose point was reached has a form, and any other act has no steps
   abbrev pub ActDone : Reached → BoundAct → Type 0
   ActDone reached bound = ActStands kept set (includes reached bound.point) bound.act bound.line.steps
 
@@ -80,7 +80,7 @@ module _ (kept : KeptLists) (set : Setting) where
   CallSaid (unbound bound) old new writes = UnboundSaid bound old new writes
   CallSaid (ending line) old new writes = EndingSaid line old new writes
 
--- whether a call is said, and what the notes become
+-- whether a call has answers and data, and the notes after it
 module _ {Noted : Type 0} (IsNoted : ℕ → Said → Noted → Type 0) (kept : KeptLists) (set : Setting) where
   abbrev pub IsCallSaid : Call → VStates → VStates → List Noted → List Noted → Bool → Type 0
   IsCallSaid call old new notes notes' true =
@@ -89,7 +89,7 @@ module _ {Noted : Type 0} (IsNoted : ℕ → Said → Noted → Type 0) (kept : 
       (t : VStates) (writes : List Write) → CallSaid kept set call old t writes → ⊥
 
 module _ (kept : KeptLists) where
-  -- the calls are said one after another, each with the setting that it finds
+  -- the calls have these answers and data in sequence, each with its setting
   abbrev pub CallsSaid : List Setting → List Call → VStates → VStates → List Write → Type 0
   CallsSaid [] calls s t writes = (t ≡ s) × (writes ≡ [])
   CallsSaid (set ∷ sets) [] s t writes = (t ≡ s) × (writes ≡ [])

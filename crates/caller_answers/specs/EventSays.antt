@@ -1,4 +1,4 @@
--- What an event by itself, or an act inside a vread, says of steps with what is kept of them.
+-- The answer and data of a single event, or of an act inside a vread, from steps with their kept data.
 use Rattle.std.specs.Prelude.{ℕ, ◌≡◌, ◌-◌, ◌*◌, ◌==◌, ◌&&◌, not, Bool, true, false, Option, Some, None, List, [], ◌∷◌}
 use Rattle.std.specs.Prelude.{length, slice_get, nat_lt, if◌then◌else◌}
 use Rattle.key_names.specs.declared.entries.Taken.{Taken}
@@ -32,7 +32,7 @@ use Rattle.caller_answers.specs.declared.said.Shows.{Shows}
 use Rattle.caller_answers.specs.declared.said.Shows.TheVariants.{Nothing as ShowsNothing, Count, Served}
 use Rattle.caller_answers.specs.Met.{met_in, kinds_met}
 
--- what the first visit of the pool crossed
+-- the crossing of the first visit of the pool
 abbrev pub first_crossing : List Met → Crossing
 first_crossing [] = CrossedNothing
 first_crossing (InPool kept ∷ met) = kept.crossing
@@ -60,7 +60,7 @@ cpu_recipe (CpuRead look refill taken) (Some key) count = taken_recipe key taken
 cpu_recipe (Int look refill width filled) (Some key) count = batch_recipe key width count
 cpu_recipe _ _ _ = no_recipe
 
--- what a visit served
+-- the bytes of a visit
 abbrev pub recipe_met : Met → Recipe
 recipe_met (Looked g) = no_recipe
 recipe_met (InPool kept) = no_recipe
@@ -72,7 +72,7 @@ abbrev pub recipe_or_none : Option Met → Recipe
 recipe_or_none None = no_recipe
 recipe_or_none (Some met) = recipe_met met
 
--- a call serves what its last visit serves
+-- the bytes of a call are those of its last visit
 abbrev pub last_recipe : List Met → Recipe
 last_recipe met = recipe_or_none (slice_get met (length met - 1))
 
@@ -143,12 +143,12 @@ module _ (kept : KeptLists) (set : Setting) where
   alone_says event steps =
       record { answer = event_says event (met_in kept steps); shows = event_shows event (met_in kept steps) }
 
-  -- nothing is said exactly where they have not
+  -- the answer and data, if the steps have these kinds, and otherwise none
   abbrev pub IsAloneSaid : Event → List Step → Option Said → Type 0
   IsAloneSaid event steps None = AloneStands event steps → ⊥
   IsAloneSaid event steps (Some said) = AloneStands event steps × (said ≡ alone_says event steps)
 
-  -- the same of an act, by whether its point was reached
+  -- the same for an act, by whether its point was reached
   abbrev pub ActStands : Bool → InsideAct → List Step → Type 0
   ActStands true act steps = IsActRow act (kinds_met set.cpu (met_in kept steps))
   ActStands false act steps = steps ≡ []

@@ -1,4 +1,4 @@
--- What is kept of the steps of a line, and what is seen of them.
+-- The data kept of a line's steps, and its seen steps.
 use Rattle.std.specs.Prelude.{ℕ, ◌==◌, Bool, true, false, Option, Some, None, List, map, slice_get, unwrap_or}
 use Rattle.std.specs.Prelude.{if◌then◌else◌}
 use Rattle.std.specs.Global.{Vec}
@@ -40,7 +40,7 @@ mark_met kept PoolLane place = pool_met (slice_get kept.pool.items place)
 mark_met kept BaseLane place = base_met (slice_get kept.base.items place)
 mark_met kept (CpuLane cpu) place = lane_met cpu place (slice_get kept.cpus.items cpu)
 
--- a step with what is kept of its visit
+-- a step with the data kept of its visit
 abbrev pub met_at : KeptLists → Step → Met
 met_at kept (Look found) = Looked found
 met_at kept (Marked mark) = mark_met kept mark.lane mark.place
@@ -59,7 +59,7 @@ abbrev pub cpu_seen : Bool → List ℕ → Seen
 cpu_seen true key = Cpu key
 cpu_seen false key = Elsewhere
 
--- what is seen of a step, cpu being the one that the line is on
+-- the seen step, with cpu as the line's CPU
 abbrev pub seen_of : ℕ → Met → Seen
 seen_of cpu (Looked g) = look_seen g
 seen_of cpu (InPool kept) = Pool

@@ -1,20 +1,20 @@
--- Noting what is said, at the numbers of events.
+-- Notes of answers and data, at the numbers of events.
 use Rattle.std.specs.Prelude.{ℕ, ◌≡◌, ◌≢◌, Some, List, [], ◌∷◌, slice_get}
 use Rattle.caller_answers.specs.declared.said.Said.{Said}
 use Rattle.caller_answers.specs.Said.{NotedAt}
 
--- what is said of an event
+-- the answer and data of an event
 pub record Write : Type 0 where
   pub event : ℕ
   pub said : Said
 
 module _ {Noted : Type 0} (IsNoted : ℕ → Said → Noted → Type 0) where
-  -- a note of one is put at an event's number, and no other note changes
+  -- a note is put at an event's number, and no other note changes
   pub record IsPut (event : ℕ) (one : Said) (old new : List Noted) : Type 0 where
     pub here : NotedAt IsNoted new event one
     pub others : (k : ℕ) (x : Noted) → k ≢ event → slice_get old k ≡ Some x → slice_get new k ≡ Some x
 
-  -- these are noted one after another
+  -- these are noted in sequence
   abbrev pub Written : List Write → List Noted → List Noted → Type 0
   Written [] old new = new ≡ old
   Written (w ∷ writes) old new = (mid : List Noted) × IsPut w.event w.said old mid × Written writes mid new

@@ -1,4 +1,4 @@
-//! A caller's calls in order: what each line answers and shows, and the caller's vgetrandom states.
+//! A caller's calls in order: the answer and data of each line, and the caller's vgetrandom states.
 ghost use Rattle.std.specs.Prelude.{◌≡◌, List, [], map, IfOk, IfSome, IsSome, MatchOption};
 ghost use Rattle.std.specs.List.{AllByRecursion};
 ghost use Rattle.key_names.specs.declared.events.Event.{Event};
@@ -31,7 +31,7 @@ use list_replay::Lists;
 use std::alloc::{AllocError, Global};
 
 impl<N: Note> Walk<'_, N> {
-    // An event by itself; whether its steps are a form of it.
+    // Takes a single event. Returns whether its steps are a form of it.
     fn alone(
         &mut self,
         set: &Setting,
@@ -90,7 +90,7 @@ impl<N: Note> Walk<'_, N> {
         Ok(true)
     }
 
-    // One call; whether its steps are those of one.
+    // Takes one call. Returns whether its steps are those of such a call.
     fn call(&mut self, set: &Setting, call: &Called<'_>) -> Result<bool, AllocError>
         requires { CallInRange (seen_call call.now) }
         ensures lists { self.new.lists ≡ self.old.lists }
@@ -121,7 +121,7 @@ impl<N: Note> Walk<'_, N> {
     }
 }
 
-// What the calls say one after another, from where a caller starts.
+// Takes the calls in sequence, from a caller's start.
 fn calls_said<N: Note>(
     alloc: Global,
     calls: &[Called<'_>],
@@ -156,12 +156,11 @@ fn calls_said<N: Note>(
     Ok(Some(walk.notes.noted))
 }
 
-/// Notes of what each line of a caller says, by the numbers of its events; nothing where some line's steps are no form
-/// of its call.
+/// Notes of each line of a caller, by the numbers of its events; `None` if some line's steps are no form of its call.
 ///
 /// # Errors
 ///
-/// `AllocError` where there is no memory for it.
+/// `AllocError` if there is no memory for them.
 pub fn caller_said<N: Note>(
     alloc: Global,
     calls: &[Called<'_>],

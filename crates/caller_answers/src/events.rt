@@ -1,4 +1,4 @@
-//! What an event by itself says, or an act inside a `vread`.
+//! The answer and data of a single event, or of an act inside a `vread`.
 ghost use Rattle.std.specs.Prelude.{◌≡◌, ◌↔◌, IfOk, IsTrue};
 ghost use Rattle.line_forms.specs.Rows.{cpu_for};
 ghost use Rattle.caller_answers.specs.EventSays.{first_crossing, taken_recipe, batch_recipe, base_recipe, cpu_recipe};
@@ -16,7 +16,7 @@ use list_replay::{KeptBase, KeptCpu, Lists};
 use std::alloc::AllocError;
 use vread_course::served::Served;
 
-// What the first visit of the pool crossed.
+// The crossing of the first visit of the pool.
 fn first_crossing(met: &[Met]) -> Crossing
     ensures { result ≡ first_crossing met.now }
 {
@@ -78,7 +78,7 @@ fn visit_served(met: &Met) -> Served
     }
 }
 
-// What a read serves: what its last visit serves.
+// The bytes of a read: those of its last visit.
 fn last_served(met: &[Met]) -> Served
     ensures { result ≡ last_recipe met.now }
 {
@@ -94,7 +94,7 @@ fn found_unready(met: &[Met]) -> bool
     matches!(met, [Met::Looked(0), ..])
 }
 
-// Whether a read waited in vain.
+// Whether a read's wait was interrupted.
 fn was_interrupted(met: &[Met]) -> bool
     ensures { result ≡ was_interrupted met.now }
 {
@@ -132,7 +132,7 @@ fn reseed_says(met: &[Met]) -> Answer
     }
 }
 
-// A tick fired where it extracted a root.
+// A tick fired if it extracted a root.
 fn tick_says(met: &[Met]) -> Answer
     ensures { result ≡ tick_says met.now }
 {
@@ -190,11 +190,11 @@ fn event_cpu(event: &Event, set: &Setting) -> u32
     }
 }
 
-/// What an event by itself says, if its steps are a form of it.
+/// The answer and data of a single event, if its steps are a form of it.
 ///
 /// # Errors
 ///
-/// `AllocError` where there is no memory to look at the steps.
+/// `AllocError` if there is no memory for the data of its steps.
 pub fn alone_said(
     room: &mut Room,
     lists: &Lists,
@@ -234,7 +234,7 @@ fn act_says(act: InsideAct, met: &[Met]) -> Said
     }
 }
 
-/// What is said of what was not done.
+/// The answer and data of an act that was not done.
 pub fn unused() -> Said
     ensures { result ≡ unused }
 {
@@ -244,11 +244,12 @@ pub fn unused() -> Said
     }
 }
 
-/// What an act inside a `vread` says, if its steps are a form of it; one whose point was not reached has no steps.
+/// The answer and data of an act inside a `vread`, if its steps are a form of it. An act whose point was not reached
+/// has no steps.
 ///
 /// # Errors
 ///
-/// `AllocError` where there is no memory to look at the steps.
+/// `AllocError` if there is no memory for the data of its steps.
 pub fn act_said(
     room: &mut Room,
     lists: &Lists,
@@ -278,7 +279,7 @@ pub fn act_said(
 ///
 /// # Errors
 ///
-/// `AllocError` where there is no memory to look at the steps.
+/// `AllocError` if there is no memory for the data of its steps.
 pub fn end_stands(
     room: &mut Room,
     lists: &Lists,

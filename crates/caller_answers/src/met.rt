@@ -1,4 +1,4 @@
-//! What is kept of the steps of a line, and what is seen of them.
+//! The data kept of a line's steps, and its seen steps.
 ghost use Rattle.std.specs.Prelude.{◌≡◌, ℕ, List, [], OnOk, slice_get, unwrap_or};
 ghost use Rattle.key_names.specs.KeyInUse.{zero_key};
 ghost use Rattle.line_forms.specs.Kinds.{is_resume};
@@ -12,7 +12,7 @@ use list_replay::{KeptBase, KeptCpu, KeptPool, Lists};
 use std::alloc::{AllocError, Global};
 use vread_course::seen::Seen;
 
-/// A step with what is kept of its visit.
+/// A step with the data kept of its visit.
 #[derive(Clone, Copy)]
 pub enum Met {
     Looked(u64),
@@ -20,7 +20,7 @@ pub enum Met {
     InBase(KeptBase),
     /// With the number of the CPU.
     InCpu(u32, KeptCpu),
-    /// A visit of which nothing is kept.
+    /// A visit without kept data.
     Nothing,
 }
 
@@ -68,7 +68,7 @@ fn met_at(lists: &Lists, step: Step) -> Met
     }
 }
 
-/// Room for the steps of a line: what is kept of them, what is seen of them, and their kinds. Each line uses it anew.
+/// Room for the steps of a line: their kept data, the seen steps, and their kinds. Each line uses the same room again.
 #[derive(Drop)]
 pub struct Room {
     pub met: Vec<Met>,
@@ -77,7 +77,7 @@ pub struct Room {
 }
 
 impl Room {
-    /// Room in which nothing is.
+    /// Empty room.
     pub fn new(alloc: Global) -> Room
         ensures met { result.met.items ≡ [] }
         ensures seen { result.seen.items ≡ [] }
@@ -91,11 +91,11 @@ impl Room {
     }
 }
 
-/// The steps of a line with what is kept of them, in the place of those of another.
+/// Replaces the content by the steps of a line, with their kept data.
 ///
 /// # Errors
 ///
-/// `AllocError` where there is no memory for them.
+/// `AllocError` if there is no memory for them.
 pub fn put_met(met: &mut Vec<Met>, lists: &Lists, steps: &[Step]) -> Result<(), AllocError>
     ensures { OnOk result (met.new.items ≡ met_in lists.now steps.now) }
 {
@@ -115,7 +115,7 @@ fn base_seen(kept: &KeptBase) -> Seen
     }
 }
 
-// What is seen of a step, `cpu` being the one that the line is on.
+// The seen step, with `cpu` as the line's CPU.
 fn seen_of(cpu: u32, met: &Met) -> Seen
     ensures { result ≡ seen_of cpu met.now }
 {
@@ -129,11 +129,11 @@ fn seen_of(cpu: u32, met: &Met) -> Seen
     }
 }
 
-/// What is seen of the steps of a line that is on this CPU, in the place of what was seen of another.
+/// Replaces the content by the seen steps of a line on this CPU.
 ///
 /// # Errors
 ///
-/// `AllocError` where there is no memory for it.
+/// `AllocError` if there is no memory for them.
 pub fn put_seen(seen: &mut Vec<Seen>, cpu: u32, met: &[Met]) -> Result<(), AllocError>
     ensures { OnOk result (seen.new.items ≡ seen_in cpu met.now) }
 {
@@ -167,11 +167,11 @@ fn kind_met(cpu: u32, met: &Met) -> Kind
     }
 }
 
-/// The kinds of the steps of a line that is on this CPU, in the place of those of another.
+/// Replaces the content by the kinds of the steps of a line on this CPU.
 ///
 /// # Errors
 ///
-/// `AllocError` where there is no memory for them.
+/// `AllocError` if there is no memory for them.
 pub fn put_kinds(kinds: &mut Vec<Kind>, cpu: u32, met: &[Met]) -> Result<(), AllocError>
     ensures { OnOk result (kinds.new.items ≡ kinds_met cpu met.now) }
 {

@@ -1,4 +1,4 @@
-//! The notes of what a caller's lines say.
+//! The notes of a caller's lines.
 ghost use Rattle.std.specs.Prelude.{◌≡◌, IfOk};
 ghost use Rattle.caller_answers.specs.Writes.{IsPut};
 
@@ -6,7 +6,7 @@ use crate::events::unused;
 use crate::said::{Note, Said};
 use std::alloc::AllocError;
 
-/// What is noted of a caller's lines, by the numbers of their events, and how it is noted.
+/// The notes of a caller's lines, by the numbers of their events, and the way of noting.
 #[derive(Drop)]
 pub struct Notes<'a, N: Note> {
     pub how: &'a N,
@@ -23,11 +23,11 @@ impl<N: Note> Notes<'_, N> {
         self.how.note(self.caller, event, said)
     }
 
-    /// Notes what is said of an event at its number.
+    /// Notes the answer and data of an event at its number.
     ///
     /// # Errors
     ///
-    /// `AllocError` where there is no memory for it.
+    /// `AllocError` if there is no memory for the note.
     #[inline(always)]
     pub fn put(&mut self, event: u32, said: Said) -> Result<(), AllocError>
         ensures same { self.new ≡ record self.old { noted = self.new.noted } }
@@ -40,7 +40,7 @@ impl<N: Note> Notes<'_, N> {
             self.noted.push(one)?;
             return Ok(());
         }
-        // Of those between it is not said yet what they say.
+        // The events in between get their notes later.
         while self.noted.len() <= place {
             let none = self.note(self.noted.len() as u32, unused());
             self.noted.push(none)?;

@@ -1,11 +1,11 @@
-//! What is said of a line, and what is noted of it.
+//! The answer and data of a line, and notes of them.
 ghost use Rattle.std.specs.Prelude.{◌≡◌, ℕ};
 ghost use Rattle.caller_answers.specs.declared.said.Said.{Said as SaidOfLine};
 
 use key_names::Answer;
 use vread_course::served::Served;
 
-/// What a line shows behind its steps: nothing, a number, or the bytes that a recipe makes, if it makes any.
+/// The data of a line: nothing, a number, or the bytes of a recipe, if it makes any.
 #[derive(Drop)]
 pub enum Shows {
     Nothing,
@@ -13,26 +13,26 @@ pub enum Shows {
     Served(Served),
 }
 
-/// The answer of a line, and what it shows.
+/// The answer of a line, and its data.
 #[derive(Drop)]
 pub struct Said {
     pub answer: Answer,
     pub shows: Shows,
 }
 
-/// How what is said of a line is noted: whole, or no more of it than who asks needs.
+/// How the answer and data of a line are noted: whole, or only as far as they are needed.
 pub trait Note {
     type Noted: Drop;
 
-    /// This is a note of what is said of an event, by the numbers of the caller and of the event.
+    /// This is a note of the answer and data of an event, by the numbers of the caller and of the event.
     ghost IsNoted: { Self → ℕ → ℕ → SaidOfLine → Self.Noted → Type 0 };
 
-    /// Notes what is said of this event of this caller.
+    /// Makes the note of this event of this caller.
     fn note(&self, caller: u32, event: u32, said: Said) -> Self::Noted
         ensures { IsNoted self.now caller event said result };
 }
 
-/// Notes all that is said.
+/// Notes the answer and data whole.
 #[derive(Drop)]
 pub struct Whole;
 

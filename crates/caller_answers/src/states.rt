@@ -35,11 +35,11 @@ impl States {
     ghost use Rattle.caller_answers.specs.Said.{StateInRange};
     ghost use Rattle.caller_answers.specs.CallSays.{first_states, state_of, with_state, states_after};
 
-    /// What a caller starts with: all states wiped, the first current.
+    /// The states of a caller at its start: all wiped, the first current.
     ///
     /// # Errors
     ///
-    /// `AllocError` where there is no memory for them.
+    /// `AllocError` if there is no memory for them.
     pub fn new(alloc: Global) -> Result<States, AllocError>
         ensures { IfOk result (λ states. states ≡ first_states) }
     {
@@ -50,7 +50,7 @@ impl States {
         Ok(States { all, current: 0 })
     }
 
-    /// Does what an event by itself does.
+    /// Changes the states as a single event does.
     pub fn turn(&mut self, event: &Event)
         requires { StateInRange event.now }
         ensures { self.new ≡ states_after event.now self.old }

@@ -18,14 +18,14 @@ use line_orders::called::ActLine;
 use std::alloc::AllocError;
 use vread_course::inside::{Inside, Reached};
 
-/// The bytes that a `vread` asks for, and its flags.
+/// The number of bytes that a `vread` wants, and its flags.
 #[derive(Clone, Copy)]
 pub struct Asked {
     pub len: u32,
     pub flags: u32,
 }
 
-// What the acts inside a `vread` do to its state.
+// The effect of the acts inside a `vread` on its state.
 fn inside_of(acts: &[ActLine<'_>]) -> Inside
     ensures { result ≡ inside_of (map seen_act acts.now) }
 {
@@ -37,8 +37,8 @@ fn inside_of(acts: &[ActLine<'_>]) -> Inside
 }
 
 impl<N: Note> Walk<'_, N> {
-    // Notes what is said of each act, by the points that the `vread` came to. Answers whether all have the steps that
-    // they may have.
+    // Notes the answer and data of each act, by the points that the `vread` reached. Returns whether all have steps
+    // that they may have.
     fn acts(
         &mut self,
         set: &Setting,
@@ -72,11 +72,11 @@ impl<N: Note> Walk<'_, N> {
         Ok(true)
     }
 
-    /// A `vread`; whether its steps, and those of the acts inside it, are those of one.
+    /// Takes a `vread`. Returns whether its steps, and those of the acts inside it, are those of such a call.
     ///
     /// # Errors
     ///
-    /// `AllocError` where there is no memory for it.
+    /// `AllocError` if there is no memory for it.
     pub fn vread(
         &mut self,
         set: &Setting,

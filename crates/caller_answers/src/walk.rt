@@ -5,8 +5,8 @@ use crate::said::Note;
 use crate::states::States;
 use list_replay::Lists;
 
-/// What the calls of a caller are looked at with: the replayed lists, its vgetrandom states, room for the steps of a
-/// line, and the notes of what its lines say.
+/// The state while the calls of a caller are taken: the replayed lists, its vgetrandom states, room for the steps of a
+/// line, and the notes of its lines.
 #[derive(Drop)]
 pub struct Walk<'a, N: Note> {
     pub lists: &'a Lists,

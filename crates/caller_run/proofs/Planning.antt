@@ -1,4 +1,4 @@
--- Who forks whom, and the room that each caller gets before the first one starts.
+-- The parent of each caller, and the room that each caller gets before the first one starts.
 pub mod OnceEach
 pub mod Parents
 pub mod Ancestors

@@ -1,4 +1,4 @@
--- The run of a caller that is the only one of its script, line by line, where no line is kept.
+-- The run of the only caller of a script, line by line. No line is kept.
 use Rattle.std.specs.Prelude.{◌≡◌, ℕ, ◌+◌, ◌*◌, ◌≤◌, ◌^◌, Bool, true, false, ⊤, Some, List, [], ◌∷◌, length, take, slice_get, sum_by, vec_len}
 use Rattle.std.specs.List.{AllByRecursion}
 use Rattle.key_names.specs.declared.events.Event.{Event}
@@ -23,23 +23,23 @@ use Rattle.caller_run.specs.Says.{most_shown, shown_by, ShowsFit}
 use Rattle.caller_run.specs.Standing.{CanAdvanceWith, HasAdvanced, Start}
 use Rattle.caller_run.specs.Ways.{IsFirst}
 
--- the line of the event is told once: it is no act that waits for a vread, and forks nobody
+-- the line of the event is final when it is made: the event is no act that waits for a vread, and forks no caller
 abbrev pub IsToldOnce : Event → Type 0
 IsToldOnce (Inside point act) = ⊥
 IsToldOnce (Fork child) = ⊥
 IsToldOnce _ = ⊤
 
--- a script with one caller, each of whose lines is told once
+-- a script with one caller, with no act and no fork among its events
 pub record IsToldByOne (script : Script) : Type 0 where
   pub one : length script.callers ≡ 1
   pub once : AllByRecursion (AllByRecursion IsToldOnce) script.callers
 
--- the caller, then c and now d, made the call of such an event, with this reply, these bytes and these steps
+-- the caller, first c and now d, made the call of such an event, with this reply, these bytes and these steps
 abbrev pub CalledOnce : Lanes → Event → Caller → Caller → Reply → List ℕ → List Step → Type 0
 CalledOnce t (Vread len flags) c d said served steps = StateRead t len flags c d said served steps [] []
 CalledOnce t event c d said served steps = Called t event c d said served steps
 
--- lines that are kept nowhere, as if there were room for those of these events and a last one
+-- lines that are not kept, as if there were room for those of these events and a last one
 abbrev pub as_kept : List SeenLine → List Event → Gathered
 as_kept lines rest = record {
   lines = lines;
@@ -50,7 +50,7 @@ as_kept lines rest = record {
   step_room = 20 * (length rest + 1);
 }
 
--- the caller has told these lines of its events and can go on with the rest, where so many bytes can be served at once
+-- the caller has made these lines of its events and can go on with the rest, if that many bytes can be served at once
 pub record GoesAlone (t : Lanes) (served : ℕ) (begun : Start) (events rest : List Event) (c : Caller)
     (lines : List SeenLine) : Type 0 where
   pub inside : ℕ
@@ -58,11 +58,11 @@ pub record GoesAlone (t : Lanes) (served : ℕ) (begun : Start) (events rest : L
   pub once : AllByRecursion IsToldOnce rest
   pub gone : HasAdvanced begun events rest c lines [] []
 
--- caller 0 on a new table, where its pass is so
+-- the start of caller 0 on a new table, with this pass
 abbrev pub first_start : Pass → Start
 first_start p = record { caller = 0; set = setting_of (first_setting 0); view = view p }
 
--- a run of the script's only caller, which goes on
+-- a run of the script's only caller that goes on
 pub record IsGoing (script : Script) (run : LoneRun) (lines : List SeenLine) : Type 0 where
   pub well : WellFormed script
   pub cpus : run.lanes.cpus ≡ script.cpus
@@ -70,7 +70,7 @@ pub record IsGoing (script : Script) (run : LoneRun) (lines : List SeenLine) : T
   pub events : List Event
   pub there : slice_get script.callers 0 ≡ Some events
   pub once : AllByRecursion IsToldOnce events
-  -- how its pass began
+  -- the pass at the start of the run
   pub pass : Pass
   pub first : IsFirst (view pass)
   pub whole : (view pass).share ≡ 2 ^ (view pass).halvings
@@ -84,7 +84,7 @@ abbrev pub Stands : Bool → Script → LoneRun → List SeenLine → Type 0
 Stands true script run lines = IsLawful script lines
 Stands false script run lines = IsGoing script run lines
 
--- the run has told these lines so far, which are a lawful transcript once it is over
+-- these are the run's lines so far; once the run is over, they are a lawful transcript
 abbrev pub HasTold : Script → LoneRun → List SeenLine → Type 0
 HasTold script run lines = Stands run.is_over script run lines
 

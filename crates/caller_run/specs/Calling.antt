@@ -1,4 +1,4 @@
--- What a caller's call is, of the core or out of a vgetrandom state, in the words of a caller's run.
+-- A caller's call, of the core or out of a vgetrandom state, in the terms of a caller's run.
 use Rattle.std.specs.Prelude.{◌≡◌, ℕ, ◌<◌, ◌≤◌, ◌^◌, List, [], length}
 use Rattle.std.specs.List.{AllByRecursion}
 use Rattle.key_names.specs.declared.events.Event.{Event}
@@ -32,29 +32,29 @@ use Rattle.caller_run.specs.declared.caller.Caller.{Caller}
 use Rattle.caller_run.specs.declared.reply.Reply.{Reply}
 use Rattle.caller_run.specs.declared.states.States.{States}
 
--- a caller with this setting and these states, as the meaning of its calls has it
+-- a caller with this setting and these states, as the meaning of its calls uses it
 abbrev pub caller_at : CallSetting → States → CallerState
 caller_at set states = record { setting = set; states = states.all; current = states.current }
 
 abbrev pub stand : Caller → CallerState
-stand c = caller_at (setting_of c.set) c.states
+stand c = caller_at (setting_of c.set) c.states.value
 
--- sixteen states, one of them current, and each of a generation that a look which found so much publishes, or of one
--- before
+-- sixteen states, one of them current. The generation of each is at most the one that the vDSO publishes if the core's
+-- generation is `found`
 pub record Seen (found : ℕ) (s : CallerState) : Type 0 where
   pub many : length s.states ≡ 16
   pub current : s.current < 16
   pub published : AllByRecursion (λ st. st.generation ≤ published_by found) s.states
 
--- the states of a caller, by what its pass has seen
+-- the same of a caller, with the generation that its pass has seen
 abbrev pub StatesStand : Caller → Type 0
 StatesStand c = Seen (floor (view c.pass)) (stand c)
 
--- from m to n an event was done, with this answer and these data, and the samples behind it stand
+-- from m to n an event was done, with this answer and these data, and the samples of its visits are right
 abbrev pub Does : Setting → Event → Answer → Shown → Moment → Moment → Type 0
 Does set event answer shown m n = MakesIn (Sampled (IsOutcomeOf (setting_of set) event answer shown)) set m n
 
--- any event's call can be made at this site, where no step was made yet
+-- the call of any event can be made at this site, which has no step yet
 pub record CanAsk (s : Site) : Type 0 where
   pub idle : IsIdle 20 s
   pub cpu : IsOnCpu s
@@ -67,13 +67,13 @@ pub record Asked (event : Event) (said : Reply) (served : List ℕ) (m n : Site)
   pub does : Does m.set event said.answer (shown_by served said.shows) (at m) (at n)
   pub shows : ShowsFit (event_word event) said.shows
 
--- the caller has no lane in its hands, and its setting is one of the table's
+-- the caller holds no lane, its CPU is one of the table's, and its moment is below 2^40
 pub record IsReady (t : Lanes) (c : Caller) : Type 0 where
   pub has : HoldsLanes t c.set.caller [] c.pass
   pub cpu : c.set.cpu < t.cpus
   pub moment : c.set.now < 2 ^ 40
 
--- the caller, then c and now d, made the call of an event, with these steps and these bytes
+-- the caller, first c and now d, made the call of an event, with these steps and these bytes
 pub record Called (t : Lanes) (event : Event) (c d : Caller) (said : Reply) (served : List ℕ) (steps : List Step)
     : Type 0 where
   pub has : HoldsLanes t d.set.caller [] d.pass
@@ -82,15 +82,15 @@ pub record Called (t : Lanes) (event : Event) (c d : Caller) (said : Reply) (ser
   pub does : Does c.set event said.answer (shown_by served said.shows) (moment c.pass []) (moment d.pass steps)
   pub shows : ShowsFit (event_word event) said.shows
 
--- the caller, then c and now d, made its last visit
+-- the caller, first c and now d, made its last visit
 pub record HasLeft (t : Lanes) (c d : Caller) (steps : List Step) : Type 0 where
   pub has : HoldsLanes t d.set.caller [] d.pass
   pub set : d.set ≡ c.set
   pub reached : floor (view d.pass) ≤ (model d.pass 1).base.generation
   pub did : Makes (BaseOnly End) c.set (moment c.pass []) (moment d.pass steps)
 
--- the caller, then c and now d, read n bytes out of its current state with these flags and these acts inside, of which
--- this came
+-- the caller, first c and now d, read n bytes out of its current state with these flags, with these acts inside, and
+-- these are the acts' outcomes
 pub record StateRead (t : Lanes) (n flags : ℕ) (c d : Caller) (said : Reply) (served : List ℕ) (steps : List Step)
     (asks : List Ask) (zs : List ActOutcome) : Type 0 where
   pub has : HoldsLanes t d.set.caller [] d.pass

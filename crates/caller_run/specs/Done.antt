@@ -1,4 +1,4 @@
--- What one call of a caller's script did, and what some calls did one after another.
+-- The effects of one call of a caller's script, and of several calls one after another.
 use Rattle.std.specs.Prelude.{◌≡◌, ℕ, List, [], ◌∷◌, ◌++◌, map}
 use Rattle.std.specs.List.{AllByRecursion}
 use Rattle.key_names.specs.Book.{Lists}
@@ -19,14 +19,14 @@ use Rattle.caller_run.specs.Ran.{RanBy}
 use Rattle.key_names.specs.LineSamples.{SamplesStand}
 use Rattle.rng_core.specs.SampleDeeds.{fast_in}
 
--- the lines of a call in the order of what they tell: those of the acts inside it, and then its own
+-- the lines of a call in the order of the script: those of the acts inside it, and then its own
 abbrev pub lines_in_order : Call → List SeenLine
 lines_in_order (alone event line) = line ∷ []
 lines_in_order (vread_call len flags line acts) = map (λ bound. bound.line) acts ++ line ∷ []
 lines_in_order (unbound bound) = bound.line ∷ []
 lines_in_order (ending line) = line ∷ []
 
--- a meaning of a call that goes from one state of the caller to another, and fits its lines
+-- a meaning of a call that leads from one state of the caller to another, and agrees with its lines
 pub record CallMeant (lists : Lists) (s : CallerState) (call : Call) (t : CallerState) : Type 0 where
   pub meaning : CallMeaning
   pub before : meaning.before ≡ s
@@ -36,12 +36,12 @@ pub record CallMeant (lists : Lists) (s : CallerState) (call : Call) (t : Caller
   pub answers : EachOfCall (λ line m. line.answer ≡ m.answer) call meaning
   pub shown : EachOfCall (λ line m. line.shown ≡ m.shown) call meaning
 
--- the samples of each line of a call stand
+-- the samples of each line of a call are right
 abbrev pub CallSamples : (ℕ → ℕ → FastPool) → Lists → Call → Type 0
 CallSamples fast lists call = AllByRecursion (λ line. SamplesStand fast (deeds_of lists line.steps)) (lines_in_order call)
 
--- from v to w, and from s to t, the caller made this call; what it meant is said of all lists in the end of which its
--- pass knows beginnings
+-- from v to w, and from s to t, the caller made this call. Its meaning holds in all final lists that begin with what
+-- the pass has seen
 pub record CallDoneBy (caller splits : ℕ) (v w : View) (s t : CallerState) (call : Call) : Type 0 where
   pub numbered_steps : List NumberedStep
   pub ran : RanBy caller splits v w numbered_steps
@@ -51,11 +51,11 @@ pub record CallDoneBy (caller splits : ℕ) (v w : View) (s t : CallerState) (ca
   pub samples : (lanes : ℕ) (visits : ℕ → List Visit) (callers : StateLists) → Continues lanes w visits →
       CallSamples (fast_in visits) (book_lists lanes visits callers) call
 
--- the same of a call that forks nobody
+-- the same of a call that forks no caller
 abbrev pub CallDone : ℕ → View → View → CallerState → CallerState → Call → Type 0
 CallDone caller v w s t call = CallDoneBy caller 0 v w s t call
 
--- the same of some calls
+-- the same of several calls
 pub record CallsMeant (lists : Lists) (s : CallerState) (calls : List Call) (t : CallerState) : Type 0 where
   pub meanings : List CallMeaning
   pub means : CallsMean s calls meanings
@@ -64,7 +64,7 @@ pub record CallsMeant (lists : Lists) (s : CallerState) (calls : List Call) (t :
   pub answers : EachLine (λ line m. line.answer ≡ m.answer) calls meanings
   pub shown : EachLine (λ line m. line.shown ≡ m.shown) calls meanings
 
--- what a loop over a caller's calls keeps, which forked so many
+-- the invariant of a loop over a caller's calls, with this number of splits
 pub record CallsDone (caller splits : ℕ) (v w : View) (s t : CallerState) (calls : List Call) : Type 0 where
   pub numbered_steps : List NumberedStep
   pub ran : RanBy caller splits v w numbered_steps

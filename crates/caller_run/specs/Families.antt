@@ -1,4 +1,4 @@
--- What a caller's run tells of itself and of all its descendants.
+-- The run of a caller with all its descendants.
 use Rattle.std.specs.Prelude.{◌≡◌, ◌⊎◌, ℕ, ◌+◌, ◌*◌, ◌^◌, ◌<◌, List, [], ◌∷◌, length, Some, slice_get}
 use Rattle.std.specs.List.{AllByRecursion, sum_by}
 use Rattle.key_names.specs.declared.events.Event.{Event}
@@ -11,7 +11,7 @@ use Rattle.lane_table.specs.WorldRule.{AllBegin, Begins, at, known_of}
 use Rattle.caller_run.specs.Laws.{Run, HasRun, IsOneOf, marked}
 use Rattle.caller_run.specs.Standing.{Start}
 
--- these lists of visits go on from all that a pass knows, and from all that the passes which it took in knew
+-- these lists of visits begin with all that a pass has seen, and with all that the passes that it took in had seen
 pub record Hears (visits : ℕ → List Visit) (v : View) : Type 0 where
   pub known : (lane : ℕ) → lane < length v.lanes → Begins (known_of v lane) (visits lane)
   pub heard : (lane : ℕ) → lane < length v.lanes → AllBegin (at lane v).heard (visits lane)
@@ -22,17 +22,17 @@ pub record RunsIn (script : Script) (r : Run) : Type 0 where
   pub there : slice_get script.callers r.begun.caller ≡ Some events
   pub has : HasRun r.begun.caller events r
 
--- all these callers ran: some from these starts, and each other one where one of them forked it
+-- all these callers ran. Each began from one of these starts, or was forked by one of them
 pub record Family (script : Script) (starts : List Start) (runs : List Run) : Type 0 where
   pub each : AllByRecursion (RunsIn script) runs
   pub began : AllByRecursion
       (λ r. IsOneOf r.begun starts ⊎ ((p : Run) × IsOneOf p runs × IsOneOf r.begun p.kids)) runs
 
--- what a place of a lane weighs in the marks of a caller
+-- the weight of a lane's places in the marks of a caller
 abbrev pub marked_by : (ℕ → ℕ) → LaneId → Run → ℕ
 marked_by f lane r = marked f lane (r.lines ∷ [])
 
--- a pass knew v, and w when it had taken in those of these callers
+-- a pass had the view v, and has w after it took in the passes of these callers
 pub record Joined (v w : View) (runs : List Run) : Type 0 where
   pub sized : length w.lanes ≡ length v.lanes
   pub hears : (visits : ℕ → List Visit) → Hears visits w →
@@ -44,23 +44,23 @@ pub record Joined (v w : View) (runs : List Run) : Type 0 where
   pub made : (lane : LaneId) → index_of lane < length v.lanes →
       (at (index_of lane) w).made ≡ (at (index_of lane) v).made + sum_by (marked_by (λ p. 1) lane) runs
 
--- as large a share of the table
+-- the same share of the table, counted across splits
 abbrev pub SameShare : View → View → Type 0
 SameShare v w = w.share * 2 ^ v.halvings ≡ v.share * 2 ^ w.halvings
 
--- no split lies between them
+-- the pass was not split between the two views
 pub record SameHalves (v w : View) : Type 0 where
   pub share : w.share ≡ v.share
   pub halvings : w.halvings ≡ v.halvings
 
--- from x on a caller went to its end, where its pass knew e, and forked these; w is what the pass knew when it had taken
--- them in, with all that they forked
+-- from x on a caller went to its end, with the view e, and forked these callers. After it took them in, with all that
+-- they forked, its view is w
 pub record RanOn (script : Script) (x e w : View) (starts : List Start) (runs : List Run) : Type 0 where
   pub family : Family script starts runs
   pub joined : Joined e w runs
   pub share : SameShare x w
 
--- from its start a caller ran, and all that it forked
+-- a caller ran from its start to its end, with all that it forked
 pub record RanSo (script : Script) (begun : Start) (w : View) (own : Run) (runs : List Run) : Type 0 where
   pub begun_is : own.begun ≡ begun
   pub has : RunsIn script own

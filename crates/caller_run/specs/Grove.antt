@@ -1,4 +1,4 @@
--- What callers fill, as data: the sheets of callers, each followed by those of its children and then by the next.
+-- The rooms of callers as data: the sheet of each caller, followed by those of its children and then by the next.
 use Rattle.std.specs.Prelude.{ℕ, List, [], ◌∷◌, ◌++◌}
 use Rattle.key_names.specs.SeenLine.{SeenLine}
 use Rattle.caller_run.specs.declared.rooms.Sheet.{Sheet}
@@ -8,22 +8,22 @@ pub data Grove : Type 0 where
   cleared : Grove
   planted : (caller : ℕ) (sheet : Sheet) (kids rest : Grove) → Grove
 
--- one room: the caller, what it fills, and the rooms of its children
+-- one room: the caller, its sheet, and the rooms of its children
 pub record Plot : Type 0 where
   pub caller : ℕ
   pub sheet : Sheet
   pub kids : Grove
 
--- a room before others
+-- a room in front of others
 abbrev pub plant : Plot → Grove → Grove
 plant p f = planted p.caller p.sheet p.kids f
 
--- each of these rooms before those so far
+-- each of these rooms in turn, in front of those so far
 abbrev pub seeded : Grove → List Plot → Grove
 seeded f [] = f
 seeded f (p ∷ ps) = seeded (plant p f) ps
 
--- rooms that stand last to first
+-- rooms that are listed from last to first
 abbrev pub grove_of : List Plot → Grove
 grove_of ps = seeded cleared ps
 

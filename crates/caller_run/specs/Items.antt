@@ -1,4 +1,5 @@
--- The order of a caller's calls, with the maker of each step: the event of its line, and its own number there.
+-- The order of a caller's calls, with the maker of each step: the event of its line, and the step's number in that
+-- line.
 use Rattle.std.specs.Prelude.{ℕ, suc, false, List, [], ◌∷◌, ◌++◌, map, take, drop, slice_get, if◌then◌else◌}
 use Rattle.std.specs.Option.{option_map_or}
 use Rattle.std.specs.List.{flat_map}
@@ -16,11 +17,11 @@ pub record Item : Type 0 where
   pub number : ℕ
   pub step : Step
 
--- the steps themselves
+-- the steps without their numbers
 abbrev pub steps_of : List Item → List Step
 steps_of items = map (λ item. item.step) items
 
--- the steps of a line, i being the number of the first
+-- the steps of a line; i is the number of the first
 abbrev pub items_from : ℕ → ℕ → List Step → List Item
 items_from event i [] = []
 items_from event i (step ∷ steps) = record { event = event; number = i; step = step } ∷ items_from event (suc i) steps
@@ -35,7 +36,7 @@ items_at_point (bound ∷ acts) point =
     if is_same_point bound.point point then line_items bound.line ++ items_at_point acts point
     else items_at_point acts point
 
--- cut in two behind the visits that stand together at the front
+-- a cut after the visits at the front of a list
 abbrev pub cut_items : List Item → List Item × List Item
 cut_items [] = ([], [])
 cut_items (item ∷ items) =

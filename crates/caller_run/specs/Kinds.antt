@@ -1,4 +1,4 @@
--- The kinds of events, by the calls that they ask for.
+-- The kinds of events, by the calls that they need.
 use Rattle.std.specs.Prelude.{⊤}
 use Rattle.key_names.specs.declared.events.Event.{Event}
 use Rattle.key_names.specs.declared.events.Event.TheVariants.{Device, Write, Add, Credit, Bits, Irq, Input}
@@ -6,7 +6,7 @@ use Rattle.key_names.specs.declared.events.Event.TheVariants.{Read, Vread, Kread
 use Rattle.key_names.specs.declared.events.Event.TheVariants.{Int64, Reseed, Tick, Fork, Inside, Prepare, Online}
 use Rattle.key_names.specs.declared.events.Event.TheVariants.{Vmfork}
 
--- samples, and what is read of their credit
+-- a sample, or the query of the credit
 abbrev pub IsSample : Event → Type 0
 IsSample (Write text) = ⊤
 IsSample (Device word text) = ⊤
@@ -29,7 +29,7 @@ IsOfCpu (Prepare cpu) = ⊤
 IsOfCpu (Online cpu) = ⊤
 IsOfCpu _ = ⊥
 
--- reads of bytes
+-- a read of bytes
 abbrev pub IsRead : Event → Type 0
 IsRead (Read len flags) = ⊤
 IsRead (Kread len) = ⊤
@@ -37,7 +37,7 @@ IsRead (Dread len flag) = ⊤
 IsRead (Uread len) = ⊤
 IsRead _ = ⊥
 
--- integers out of a CPU's batches
+-- an integer out of a CPU's batches
 abbrev pub IsInteger : Event → Type 0
 IsInteger Int8 = ⊤
 IsInteger Int16 = ⊤
@@ -45,19 +45,19 @@ IsInteger Int32 = ⊤
 IsInteger Int64 = ⊤
 IsInteger _ = ⊥
 
--- each is a call of the core by itself
+-- each is one call of the core
 abbrev pub IsCall : Event → Type 0
 IsCall (Vread len flags) = ⊥
 IsCall (Fork child) = ⊥
 IsCall (Inside point act) = ⊥
 IsCall _ = ⊤
 
--- none of the kinds above: it asks nothing of the core, and may set something
+-- an event of none of these kinds: it makes no call of the core, and may set something
 abbrev pub IsQuiet : Event → Type 0
 IsQuiet event = IsCall event × (IsSample event → ⊥) × (IsReseed event → ⊥) × (IsOfCpu event → ⊥) × (IsRead event → ⊥)
     × (IsInteger event → ⊥)
 
--- it forks nobody
+-- the event forks no caller
 abbrev pub ForksNobody : Event → Type 0
 ForksNobody (Fork child) = ⊥
 ForksNobody _ = ⊤

@@ -1,5 +1,5 @@
--- The law of a script with its callers: what each did by its calls, from the start of a table to its end, is a lawful
--- transcript of the script.
+-- The law of a script with its callers: their calls, from the start of a table to its end, make a lawful transcript of
+-- the script.
 use Rattle.std.specs.Prelude.{◌≡◌, ◌⊎◌, ℕ, ◌+◌, ◌<◌, ◌≤◌, List, [], ◌∷◌, map, length}
 use Rattle.std.specs.List.{AllByRecursion, sum_by}
 use Rattle.key_names.specs.declared.events.Event.{Event}
@@ -19,15 +19,14 @@ use Rattle.lane_table.specs.Advances.{floor}
 use Rattle.lane_table.specs.BookLists.{book_of}
 use Rattle.caller_run.specs.Standing.{Start, RunEnded}
 
--- one caller of a run: its start, what its pass knew behind its last visit, its lines, and the callers that it forked
+-- one caller of a run: its start, its pass's view after its last visit, its lines, and the callers that it forked
 pub record Run : Type 0 where
   pub begun : Start
   pub end : View
   pub lines : List SeenLine
   pub kids : List Start
 
--- the caller of this number made these events and ended, and all that its pass saw of the generation is in the base's
--- list
+-- the caller of this number made these events and ended, and each generation that its pass saw is in the base's list
 pub record HasRun (caller : ℕ) (events : List Event) (r : Run) : Type 0 where
   pub own : r.begun.caller ≡ caller
   pub ended : RunEnded r.begun events r.end r.lines r.kids
@@ -37,7 +36,7 @@ abbrev pub IsOneOf : {X : Type 0} → X → List X → Type 0
 IsOneOf x [] = ⊥
 IsOneOf x (y ∷ ys) = (y ≡ x) ⊎ IsOneOf x ys
 
--- caller 0 started with the first setting, and each other caller where one forked it
+-- caller 0 started with the first setting, and each other caller at a fork of one of the runs
 pub record Began (runs : List Run) (r : Run) : Type 0 where
   pub how : ((r.begun.caller ≡ 0) × (r.begun.set ≡ first_setting))
       ⊎ ((p : Run) × IsOneOf p runs × IsOneOf r.begun p.kids)
@@ -46,11 +45,11 @@ pub record Began (runs : List Run) (r : Run) : Type 0 where
 abbrev pub lines_of_all : List Run → List (List SeenLine)
 lines_of_all runs = map (λ r. r.lines) runs
 
--- what a place of a lane weighs, in the marks of some lines
+-- the weight of a lane's places, in the marks of some lines
 abbrev pub marked : (ℕ → ℕ) → LaneId → List (List SeenLine) → ℕ
 marked f lane t = sum_by (λ mark. f mark.place) (lane_marks lane (all_marks t))
 
--- all callers of a script made their calls on a new table; w is what the pass knew that took in all others
+-- all callers of a script made their calls on a new table; w is the view of the pass that took in all others
 pub record RanAll (script : Script) (runs : List Run) (w : View) : Type 0 where
   pub each : EachCaller HasRun 0 script.callers runs
   pub began : AllByRecursion (Began runs) runs

@@ -1,4 +1,4 @@
--- What a caller did, one after another: its looks and visits, each with the event and the number of its step.
+-- The looks and visits of a caller, in order, each with its event and the number of its step.
 use Rattle.std.specs.Prelude.{ℕ, suc, List, [], ◌∷◌, map}
 use Rattle.caller_run.specs.Items.{Item}
 use Rattle.lane_table.specs.Advances.{MadeStep, step_of}
@@ -9,7 +9,7 @@ pub record NumberedStep : Type 0 where
   pub number : ℕ
   pub made_step : MadeStep
 
--- those of one event, n being the number of the first
+-- those of one event; n is the number of the first
 abbrev pub numbered_steps_from : ℕ → ℕ → List MadeStep → List NumberedStep
 numbered_steps_from event n [] = []
 numbered_steps_from event n (made_step ∷ made_steps) =
@@ -21,7 +21,7 @@ made_step_of d = d.made_step
 abbrev pub made_steps_of : List NumberedStep → List MadeStep
 made_steps_of numbered_steps = map made_step_of numbered_steps
 
--- as a caller's order has them
+-- the same in the form of a caller's order
 abbrev pub item_of : NumberedStep → Item
 item_of d = record { event = d.event; number = d.number; step = step_of d.made_step }
 

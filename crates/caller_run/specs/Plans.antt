@@ -1,4 +1,4 @@
--- All memory of a run, and where the lines of its callers go.
+-- All memory of a run, and the slots for the lines of its callers.
 use Rattle.std.specs.Prelude.{◌≡◌, ℕ, ◌<◌, List, [], ◌∷◌, length, map, slice_set}
 use Rattle.std.specs.List.{AllByRecursion}
 use Rattle.key_names.specs.declared.events.Event.{Event}
@@ -19,12 +19,12 @@ pub record IsNewRoom (callers : List (List Event)) (c : ℕ) (a : Plot) : Type 0
   pub new : IsNewSheet a.sheet (list_at callers a.caller)
   pub ready : ArePrepared callers a.kids (forks (list_at callers a.caller))
 
--- and for each caller a slot
+-- the same, with a slot for each caller
 pub record IsPlanned (script : Script) (a : Plot) (slots : List Gathered) : Type 0 where
   pub root : IsNewRoom script.callers 0 a
   pub slots' : length slots ≡ length script.callers
 
--- all memory of a run of the script, with nothing in it
+-- all memory of a run of the script, still empty
 abbrev pub IsPlanFor : Script → Plan → Type 0
 IsPlanFor script plan = IsPlanned script (plot plan.root) plan.slots.items
 
@@ -32,7 +32,7 @@ IsPlanFor script plan = IsPlanned script (plot plan.root) plan.slots.items
 abbrev pub lines_in : List Gathered → List (List SeenLine)
 lines_in slots = map (λ c. c.lines) slots
 
--- the slots once each of these lines is in the slot of its caller
+-- the slots after each of these lines was put into the slot of its caller
 abbrev pub put_in : List (List SeenLine) → List (ℕ × List SeenLine) → List (List SeenLine)
 put_in t [] = t
 put_in t (x ∷ xs) = put_in (slice_set t x.0 x.1) xs

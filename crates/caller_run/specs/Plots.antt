@@ -8,10 +8,10 @@ use Rattle.caller_run.specs.Grove.{Plot, grove_of}
 abbrev pub plot_by : ℕ → Sheet → List Plot → Plot
 plot_by c sheet kids = record { caller = c; sheet = sheet; kids = grove_of kids }
 
--- the same of a room whose children are seen so
+-- the same of a room with its children in this form
 abbrev pub plot_step : Room-F Plot → Plot
 plot_step a = plot_by a.caller a.sheet a.kids.items
 
--- what a room holds
+-- the content of a room
 unfoldable pub plot : Room → Plot
 plot r = fold-Room Plot plot_step r

@@ -1,4 +1,4 @@
--- What a pass did between two views, in any events of its caller.
+-- The steps of a pass between two views, in any events of its caller.
 use Rattle.std.specs.Prelude.{◌≡◌, ℕ, ◌+◌, ◌<◌, ⊤, List, ◌++◌, length}
 use Rattle.std.specs.List.{AllByRecursion}
 use Rattle.lane_table.specs.declared.view.View.{View}
@@ -7,7 +7,7 @@ use Rattle.lane_table.specs.Steps.{Grows}
 use Rattle.lane_table.specs.Advances.{MadeStep, looked, visited, IsMarkOf, maker, places_in, stamps_in, Climbs, Sees, floor}
 use Rattle.caller_run.specs.NumberedSteps.{NumberedStep, made_steps_of}
 
--- a visit is known, and was made by this caller as this step
+-- a visit is in the pass's view, and was made by this caller as this step
 abbrev pub Stood : View → ℕ → NumberedStep → Type 0
 Stood w caller d = Standing d.made_step
   where
@@ -15,14 +15,14 @@ Stood w caller d = Standing d.made_step
     Standing (looked g) = ⊤
     Standing (visited mark e) = IsMarkOf w mark (maker caller d.event d.number) e
 
--- what only joins change, but that each split cuts the share in half
+-- the part of a view that only joins change, except that each split adds a halving of the share
 pub record SplitView (splits : ℕ) (v w : View) : Type 0 where
   pub first : w.first ≡ v.first
   pub share : w.share ≡ v.share
   pub halvings : w.halvings ≡ v.halvings + splits
   pub sized : length w.lanes ≡ length v.lanes
 
--- from v to w the pass of this caller did exactly this, and was split so often
+-- from v to w the pass of this caller made exactly these steps, and was split this often
 pub record RanBy (caller splits : ℕ) (v w : View) (numbered_steps : List NumberedStep) : Type 0 where
   pub same : SplitView splits v w
   pub grows : Grows v w
@@ -35,6 +35,6 @@ pub record RanBy (caller splits : ℕ) (v w : View) (numbered_steps : List Numbe
   pub sees : Sees w (floor v) (made_steps_of numbered_steps) (floor w)
   pub stood : AllByRecursion (Stood w caller) numbered_steps
 
--- the same, where it forked nobody
+-- the same, without a fork
 abbrev pub Ran : ℕ → View → View → List NumberedStep → Type 0
 Ran caller v w numbered_steps = RanBy caller 0 v w numbered_steps

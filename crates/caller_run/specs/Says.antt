@@ -1,4 +1,4 @@
--- What a line tells of a call, beside its steps.
+-- The content of a line apart from its steps.
 use Rattle.std.specs.Prelude.{◌≡◌, ◌≢◌, ℕ, ⊤, List}
 use Rattle.key_names.specs.declared.events.Event.{Event}
 use Rattle.key_names.specs.declared.events.Event.TheVariants.{Int8, Int16, Int32, Int64}
@@ -23,7 +23,7 @@ IsNoCount Nothing = ⊤
 IsNoCount Served = ⊤
 IsNoCount (Count n) = ⊥
 
--- how many bytes the line of an event shows at most: those that it reads, or those of its integer
+-- the largest number of bytes that the line of an event shows: those that it reads, or those of its integer
 abbrev pub most_shown : Event → ℕ
 most_shown Int8 = 1
 most_shown Int16 = 2
@@ -31,7 +31,7 @@ most_shown Int32 = 4
 most_shown Int64 = 8
 most_shown event = bytes_read event
 
--- a count stands only on the line of bits, and bytes only on others
+-- only the line of bits has a count, and only the others have bytes
 abbrev pub ShowsFit : Word → Shows → Type 0
 ShowsFit word Nothing = ⊤
 ShowsFit word Served = word ≢ Bits

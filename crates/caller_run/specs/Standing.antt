@@ -1,4 +1,4 @@
--- Where a caller stands between two of its events, and what it needs for the next.
+-- The state of a caller between two of its events, and its preconditions for the next.
 use Rattle.std.specs.Prelude.{◌≡◌, ℕ, ◌+◌, ◌*◌, ◌<◌, ◌≤◌, true, Some, List, ◌∷◌, ◌++◌, length, slice_get, sum_by, vec_capacity}
 use Rattle.std.specs.List.{AllByRecursion, fold}
 use Rattle.key_names.specs.declared.events.Event.{Event}
@@ -33,12 +33,12 @@ abbrev pub read_inside : Event → ℕ
 read_inside (Inside point act) = wants act
 read_inside _ = 0
 
--- what the acts ask that wait for a vread
+-- the requests of the acts that wait for a vread
 abbrev pub waiting_in : Log → List Ask
 waiting_in log = asks_of log.acts.items
 
--- a caller with these lines that can make these events, while these acts wait: so many bytes can be served at once, and
--- so many can be read inside a vread
+-- a caller with these lines can make these events, while these acts wait. `served` bytes can be served at once, and
+-- `inside` bytes can be read inside a vread
 pub record CanAdvanceWith (t : Lanes) (c : Caller) (lines : Gathered) (acts : List Bound) (served inside : ℕ)
     (rest : List Event) : Type 0 where
   pub ready : IsReady t c
@@ -55,7 +55,7 @@ pub record CanAdvanceWith (t : Lanes) (c : Caller) (lines : Gathered) (acts : Li
   pub fresh : AllByRecursion IsWaitingAct acts
   pub told : AllByRecursion (λ a. a.event < length lines.lines) (asks_of acts)
 
--- a caller that can make these events
+-- a caller can make these events
 pub record CanAdvance (t : Lanes) (c : Caller) (log : Log) (served inside : ℕ) (rest : List Event) : Type 0 where
   pub goes : CanAdvanceWith t c log.lines log.acts.items served inside rest
   pub act_room : 8 ≤ vec_capacity log.acts
@@ -66,20 +66,20 @@ pub record HasLine (caller : ℕ) (lines : List SeenLine) (a : Ask) : Type 0 whe
   pub there : slice_get lines a.event ≡ Some line
   pub is : LineIs caller a.event InsideWord line
 
--- a caller at its start: its number, its setting, and what its pass knows
+-- a caller at its start: its number, its setting, and its pass's view
 pub record Start : Type 0 where
   pub caller : ℕ
   pub set : CallSetting
   pub view : View
 
--- a caller that began so, and whose pass knows w now, has forked this child by one of these calls
+-- a caller that began so, and has the view w now, forked this child by one of these calls
 pub record Forked (begun : Start) (w : View) (calls : List Call) (child : Start) : Type 0 where
   pub before : List Call
   pub line : SeenLine
   pub after : List Call
   pub calls_are : calls ≡ before ++ alone (Fork child.caller) line ∷ after
   pub above : begun.caller < child.caller
-  -- what its pass did up to and with the visit of the fork, and what it knew then
+  -- the steps of its pass up to and including the visit of the fork, and its view after them
   pub splits : ℕ
   pub middle : View
   pub numbered_steps : List NumberedStep
@@ -90,8 +90,8 @@ pub record Forked (begun : Start) (w : View) (calls : List Call) (child : Start)
   pub view_is : child.view ≡ split_off middle
   pub set_is : child.set ≡ fold setting_after_call begun.set before
 
--- from its start a caller has made all events but the rest, and these are its lines; acts that ask this wait, and these
--- are the callers that it forked
+-- from its start a caller has made all events but the rest, and these are its lines. Acts with these requests wait, and
+-- these are the callers that it forked
 pub record HasAdvanced (begun : Start) (events rest : List Event) (c : Caller) (lines : List SeenLine) (asks : List Ask)
     (kids : List Start) : Type 0 where
   pub own : c.set.caller ≡ begun.caller
@@ -110,14 +110,15 @@ pub record HasAdvanced (begun : Start) (events rest : List Event) (c : Caller) (
 abbrev pub HasLogged : Start → List Event → List Event → Caller → Log → List Start → Type 0
 HasLogged begun events rest c log kids = HasAdvanced begun events rest c log.lines.lines (waiting_in log) kids
 
--- c made this event and is d now, and its log went on: so many bytes can be served at once, and read inside a vread
+-- c made this event and is d now, and its log grew. `served` bytes can be served at once, and `inside` bytes read
+-- inside a vread
 pub record MadeEvent (t : Lanes) (served inside : ℕ) (event : Event) (c : Caller) (log : Log) (d : Caller) (after : Log)
     : Type 0 where
   pub can : (rest : List Event) → CanAdvance t c log served inside (event ∷ rest) → CanAdvance t d after served inside rest
   pub gone : (begun : Start) (events rest : List Event) (kids : List Start) →
       HasLogged begun events (event ∷ rest) c log kids → HasLogged begun events rest d after kids
 
--- the caller has made all of its events, and ended; its pass then knew w
+-- the caller has made all of its events, and ended; w is its pass's view then
 pub record RunEnded (begun : Start) (events : List Event) (w : View) (lines : List SeenLine) (kids : List Start)
     : Type 0 where
   pub fit : LinesFit begun.caller 0 events lines

@@ -1,4 +1,4 @@
--- A read out of a caller's current state, and what it was lent for that.
+-- A read out of a caller's current state, and the buffers that were lent for it.
 use Rattle.std.specs.Prelude.{◌≡◌, ◌≤◌, ◌^◌, List, length}
 use Rattle.std.specs.List.{AllByRecursion}
 use Rattle.key_names.specs.declared.names.Step.{Step}
@@ -11,7 +11,7 @@ use Rattle.caller_run.specs.declared.caller.Caller.{Caller}
 use Rattle.caller_run.specs.declared.reply.Reply.{Reply}
 use Rattle.caller_run.specs.declared.vreads.ReadInto.{ReadInto}
 
--- a caller can read: its acts are not done yet, and there is a place for the bytes of each
+-- a caller can read: its acts are not done yet, and there is room for the bytes of each
 pub record CanRead (t : Lanes) (c : Caller) (acts : List Bound) (into : ReadInto) : Type 0 where
   pub ready : IsReady t c
   pub states : StatesStand c
@@ -19,7 +19,7 @@ pub record CanRead (t : Lanes) (c : Caller) (acts : List Bound) (into : ReadInto
   pub fresh : AllByRecursion IsWaitingAct acts
   pub fits : length into.inside.now ≡ all_wanted (asks_of acts)
 
--- the caller, then c and now d, read in these steps, with these acts inside, which are those now
+-- the caller, first c and now d, read with these steps and these acts inside; `after` are the acts after it
 pub record CurrentRead (t : Lanes) (c d : Caller) (said : Reply) (steps : List Step) (acts after : List Bound)
     (into done : ReadInto) : Type 0 where
   pub served : done.served.ghost_name ≡ into.served.ghost_name

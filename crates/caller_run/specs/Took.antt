@@ -1,4 +1,4 @@
--- The line of a fork, in either way: with a thread for the child, or with the child run here.
+-- The line of a fork, of both kinds: the child has a thread, or runs in its parent's.
 use Rattle.std.specs.Prelude.{◌≡◌, ℕ, List, [], ◌∷◌, ◌++◌, length}
 use Rattle.key_names.specs.declared.events.Event.TheVariants.{Fork}
 use Rattle.key_names.specs.declared.names.Mark.{Mark}
@@ -17,15 +17,15 @@ use Rattle.caller_run.specs.NumberedSteps.{NumberedStep, items_of}
 use Rattle.caller_run.specs.Items.{items_from}
 use Rattle.caller_run.specs.Ran.{RanBy}
 
--- from m to n the caller took these steps of one line, and its pass was split so often
+-- from m to n the caller took these steps of one line, and its pass was split this often
 pub record Tells (set : Setting) (splits : ℕ) (m n : Moment) (steps : List Step) : Type 0 where
   pub trace : n.steps ≡ m.steps ++ steps
   pub numbered_steps : List NumberedStep
   pub ran : RanBy set.caller splits m.view n.view numbered_steps
   pub order : items_of numbered_steps ≡ items_from set.event (length m.steps) steps
 
--- from v to w the caller took these steps, in a line that forks this number; the first of them is the visit that tells of
--- it, behind which its pass knew u
+-- from v to w the caller took these steps, in a line that forks this number. The first step is the fork's visit, and u
+-- is the pass's view after it
 pub record Took (set : Setting) (child : ℕ) (v u w : View) (steps : List Step) : Type 0 where
   pub mark : Mark
   pub rest : List Step

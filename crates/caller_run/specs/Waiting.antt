@@ -1,5 +1,4 @@
--- The acts that wait for a caller's next vread: the line of each says that it was not done, until that vread tells it
--- anew.
+-- The acts that wait for a caller's next vread. The line of each is kept as not done, until that vread replaces it.
 use Rattle.std.specs.Prelude.{◌≡◌, ◌<◌, false, ⊤, List, [], ◌∷◌, ◌++◌, length, slice_set}
 use Rattle.std.specs.List.{AllByRecursion}
 use Rattle.key_names.specs.declared.events.Event.{Event}
@@ -10,13 +9,13 @@ use Rattle.rng_core.specs.Acts.{Ask, ActOutcome}
 use Rattle.rng_core.specs.InsideMakes.{act_line}
 use Rattle.rng_core.specs.declared.setting.Setting.{Setting}
 
--- a caller's lines, these being told anew as the lines of the acts that ask this
+-- a caller's lines, after those of these requests were replaced by the lines of the acts
 abbrev pub told_anew : List SeenLine → List Ask → List SeenLine → List SeenLine
 told_anew lines [] acts = lines
 told_anew lines (a ∷ asks) [] = lines
 told_anew lines (a ∷ asks) (line ∷ acts) = told_anew (slice_set lines a.event line) asks acts
 
--- the lines of acts, by what came of them
+-- the lines of acts, by their outcomes
 abbrev pub act_lines : Setting → List Ask → List ActOutcome → List SeenLine
 act_lines set [] zs = []
 act_lines set (a ∷ asks) [] = []
@@ -31,14 +30,14 @@ all_bound [] lines = []
 all_bound (a ∷ asks) [] = []
 all_bound (a ∷ asks) (line ∷ lines) = bound_by a line ∷ all_bound asks lines
 
--- an event that is a call of its own
+-- an event that is a call by itself
 abbrev pub IsAlone : Event → Type 0
 IsAlone (Vread len flags) = ⊥
 IsAlone (Inside point act) = ⊥
 IsAlone _ = ⊤
 
--- what a loop over the events keeps, rest being those that it has not come to: whatever lines are told anew and follow,
--- these calls were made
+-- the invariant of a loop over the events; `rest` are those still to come. Whatever lines replace those of the acts,
+-- and whatever lines follow, these calls were made
 pub record CallsSoFar (events rest : List Event) (lines : List SeenLine) (waiting : List Ask)
     (calls : List Call) : Type 0 where
   pub told : AllByRecursion (λ a. a.event < length lines) waiting

@@ -1,4 +1,4 @@
--- What the run of a caller asks, and what it tells of itself and of all that it forks.
+-- The preconditions and results of a caller's run, with all that it forks.
 use Rattle.std.specs.Prelude.{◌≡◌, ℕ, ◌+◌, ◌*◌, ◌<◌, ◌≤◌, ◌^◌, List, [], ◌∷◌, ◌++◌, length, map, sum_by, All, vec_len, vec_capacity}
 use Rattle.std.specs.List.{AllByRecursion}
 use Rattle.std.specs.Global.{Vec as GlobalVec}
@@ -38,7 +38,7 @@ use Rattle.caller_run.specs.Says.{most_shown}
 use Rattle.caller_run.specs.Standing.{Start, CanAdvance, HasLogged, RunEnded, read_inside}
 use Rattle.caller_run.specs.Took.{Took}
 
--- room for these events, with nothing in it
+-- room for these events, still empty
 pub record IsNewSheet (s : Sheet) (events : List Event) : Type 0 where
   pub lines : s.log.lines.lines ≡ []
   pub line_room : s.log.lines.line_room ≡ length events + 1
@@ -64,15 +64,15 @@ module _ (callers : List (List Event)) where
   load cleared = 0
   load (planted c s ks rest) = length (list_at callers c) + 4 + (load ks + load rest)
 
--- the rooms of those that a caller on its way will fork
+-- the rooms of the callers that a caller on its way will fork
 abbrev pub kids_of : Way → Grove
 kids_of w = grove_of (map plot w.kids.items)
 
--- where a child calls
+-- a child's setting at its start
 abbrev pub child_set : ℕ → Setting → Setting
 child_set child set = record set { caller = child; event = 0 }
 
--- a start with this setting, where the pass is so
+-- a start with this setting and this pass
 abbrev pub start_of : Setting → Pass → Start
 start_of set p = record { caller = set.caller; set = setting_of set; view = view p }
 
@@ -88,9 +88,9 @@ GoneIn begun events rest c w kids = HasLogged begun events rest c w.sheet.log ki
 abbrev pub AreAbove : ℕ → List Event → Type 0
 AreAbove c events = AllByRecursion (IsForkAbove c) events
 
--- ---- what is asked
+-- ---- preconditions
 
--- a caller can run from its start: its pass holds nothing, and its room is new
+-- a caller can run from its start: its pass holds no lane, and its room is new
 pub record CanRun (t : Lanes) (script : Script) (set : Setting) (p : Pass) (a : Plot) : Type 0 where
   pub has : HoldsLanes t set.caller [] p
   pub cpu : set.cpu < t.cpus
@@ -103,14 +103,14 @@ pub record CanRun (t : Lanes) (script : Script) (set : Setting) (p : Pass) (a : 
   pub new : IsNewSheet a.sheet (list_at script.callers a.caller)
   pub ready : ArePrepared script.callers a.kids (forks (list_at script.callers a.caller))
 
--- a caller on its way can make these events, and the rooms of those that they fork are new
+-- a caller on its way can make these events, and the rooms of the callers that they fork are new
 pub record CanAdvanceOn (t : Lanes) (script : Script) (events : List Event) (w : Way) : Type 0 where
   pub can : CanAdvanceIn t w events
   pub well : WellFormed script
   pub cpus : t.cpus ≡ script.cpus
   pub ready : ArePrepared script.callers (kids_of w) (forks events)
 
--- the line of a fork is still to be told
+-- the line of a fork is still to be made
 pub record CanTell (t : Lanes) (script : Script) (child : ℕ) (rest : List Event) (w : Way) (steps : List Step)
     : Type 0 where
   pub can : CanAdvanceIn t w (Fork child ∷ rest)
@@ -120,15 +120,15 @@ pub record CanTell (t : Lanes) (script : Script) (child : ℕ) (rest : List Even
   pub long : length steps ≡ 1
   pub fits : AllByRecursion StepFits steps
 
--- a fork's visit was made: the child can run, and the parent can tell of it
+-- a fork's visit was made: the child can run, and the parent can make the fork's line
 pub record CanPart (t : Lanes) (script : Script) (child : ℕ) (rest : List Event) (w : Way) (steps : List Step)
     (theirs : Pass) (a : Plot) : Type 0 where
   pub child_can : CanRun t script (child_set child w.caller.set) theirs a
   pub parent_can : CanTell t script child rest w steps
 
--- ---- what is told
+-- ---- results
 
--- the events up to a fork, or all
+-- the events up to a fork, or all, were made
 pub record RanPlain (t : Lanes) (events : List Event) (x : Way) (rest : List Event) (y : Way) : Type 0 where
   pub can : CanAdvanceIn t y rest
   pub gone : (begun : Start) (all : List Event) (kids : List Start) → GoneIn begun all events x.caller x kids →
@@ -144,7 +144,7 @@ pub record AtFork (m w : Caller) (steps : List Step) (child : ℕ) (theirs : Pas
   pub states : w.states ≡ m.states
   pub forked : cuts.Forked m.set (moment m.pass []) steps child w.pass theirs
 
--- its caller made two more visits: it waits from the first on, and goes on from the second
+-- the caller made two more visits: it waits from the first on, and goes on from the second
 pub record RanHere (set : Setting) (m n : Moment) : Type 0 where
   pub middle : Moment
   pub stall : Makes (BaseOnly Stall) set m middle
@@ -156,7 +156,7 @@ pub record TookFrom (m d : Caller) (child : ℕ) (u : View) (steps : List Step) 
   pub states : d.states ≡ m.states
   pub took : Took m.set child (view m.pass) u (view d.pass) steps
 
--- the start of a child that m forks where its pass knows u
+-- the start of a child that m forks at the view u
 abbrev pub kid_of : Caller → ℕ → View → Start
 kid_of m child u = record { caller = child; set = (stand m).setting; view = split_off u }
 
@@ -164,7 +164,7 @@ kid_of m child u = record { caller = child; set = (stand m).setting; view = spli
 abbrev pub numbered : Run → ℕ × List SeenLine
 numbered r = (r.begun.caller, r.lines)
 
--- from its start a caller ran, and all that it forked
+-- a caller ran from its start to its end, with all that it forked
 pub record Returned (t : Lanes) (script : Script) (begun : Start) (a : Plot) (q : Pass) (b : Plot) : Type 0 where
   pub has : HoldsLanes t begun.caller [] q
   pub own : Run
@@ -174,7 +174,7 @@ pub record Returned (t : Lanes) (script : Script) (begun : Start) (a : Plot) (q 
   pub caller : b.caller ≡ a.caller
   pub shape : tree b.kids ≡ tree a.kids
 
--- a caller that began so went from v to its end, and y is behind its joins
+-- a caller that began so went from the view v to its end, and is y after its joins
 pub record WentFrom (script : Script) (begun : Start) (events : List Event) (kids : List Start) (v : View) (y : Way)
     : Type 0 where
   pub own : y.caller.set.caller ≡ begun.caller
@@ -186,7 +186,7 @@ pub record WentFrom (script : Script) (begun : Start) (events : List Event) (kid
   pub seen : floor end ≤ (replay (known_of end 1)).base.generation
   pub told : told_in (kids_of y) ≡ map numbered runs
 
--- the rooms of the children are as they were, but for what was filled
+-- the rooms of the children are as they were, apart from their sheets
 pub record SameKids (ks ks' : GlobalVec Room) : Type 0 where
   pub shape : tree (grove_of (map plot ks'.items)) ≡ tree (grove_of (map plot ks.items))
   pub many : vec_len ks' ≡ vec_len ks
@@ -199,14 +199,14 @@ pub record WentOn (t : Lanes) (script : Script) (rest : List Event) (x y : Way) 
   pub goes : (begun : Start) (events : List Event) (kids : List Start) → AreAbove begun.caller rest →
       GoneIn begun events rest x.caller x kids → WentFrom script begun events kids (view x.caller.pass) y
 
--- the same from a fork on, behind whose first visit the pass knew u
+-- the same from a fork on; u is the view after its first visit
 pub record Past (script : Script) (begun : Start) (events : List Event) (kids : List Start) (u : View) (kid : Start)
     (y : Way) : Type 0 where
   pub behind : View
   pub after : SameHalves (halved u) behind
   pub went : WentFrom script begun events (kids ++ kid ∷ []) behind y
 
--- a child ran beside its parent, which went on
+-- a child ran in its own thread, and its parent went on
 pub record WentBeside (t : Lanes) (script : Script) (child : ℕ) (rest : List Event) (w : Way) (steps : List Step)
     (theirs : Pass) (a : Plot) (y : Way) (q : Pass) (b : Plot) : Type 0 where
   pub has : HoldsLanes t y.caller.set.caller [] y.caller.pass
@@ -224,7 +224,7 @@ pub record WholeRan (script : Script) (lines : List (List SeenLine)) (w : View) 
   pub told : lines ≡ lines_of_all runs
   pub lawful : LawfulRuns script lines w
 
--- where a pass has done nothing
+-- the view of a pass that has made no visit
 pub record IsFirst (v : View) : Type 0 where
   pub places : (lane : ℕ) → (at lane v).places ≡ []
   pub made : (lane : ℕ) → (at lane v).made ≡ 0

@@ -28,7 +28,7 @@ pub(crate) fn all_wanted(acts: &[Bound]) -> usize
 }
 
 impl Caller {
-    /// An act waits for the caller's next `vread`. Its line says that it was not done, until that `vread` tells it anew.
+    /// An act waits for the caller's next `vread`. Its line is kept as not done, until that `vread` replaces it.
     pub(crate) fn wait(&mut self, log: &mut Log, event: &Event, point: Point, act: InsideAct)
         requires can { (t : Lanes) × (served : ℕ) × (inside : ℕ)
             × CanAdvance t self.old log.old served inside (event.now ∷ []) }
@@ -43,7 +43,7 @@ impl Caller {
         self.go_on(event);
     }
 
-    // Tells the line of an act anew, with these bytes of it.
+    // Replaces the line of an act, with these bytes for it.
     fn tell_act(&self, lines: &mut CallerLines, bound: &Bound, bytes: &[u8])
         requires told { bound.now.event < length lines.old.lines }
         requires step_room { 20 ≤ lines.old.step_room }
@@ -68,7 +68,7 @@ impl Caller {
         lines.replace(bound.event as usize, line);
     }
 
-    /// Tells the lines of acts anew, behind the `vread` that they waited for. Their bytes follow each other.
+    /// Replaces the lines of acts, after the `vread` that they waited for. Their bytes follow each other.
     pub(crate) fn tell_acts(&self, lines: &mut CallerLines, acts: &[Bound], bytes: &[u8])
         requires told { AllByRecursion (λ a. a.event < length lines.old.lines) (asks_of acts.now) }
         requires fits { length bytes.now ≡ all_wanted (asks_of acts.now) }

@@ -22,7 +22,7 @@ use std::alloc::{AllocError, Global};
 use std::sync::Wait;
 use transcript_text::{LineView, Shown};
 
-/// What the last line tells, beside its steps: of which event, and how many bytes were served.
+/// The last line apart from its steps and bytes: its event, its word, its reply, and how many bytes were served.
 #[derive(Clone, Copy)]
 pub(crate) struct Told {
     pub(crate) event: u32,
@@ -32,7 +32,7 @@ pub(crate) struct Told {
 }
 
 impl Told {
-    // The line, with these steps, and these bytes where it shows them.
+    // The line with these steps, and with these bytes if it shows them.
     #[inline(always)]
     fn view<'a>(self, caller: u32, steps: &'a [Step], served: &'a [u8]) -> LineView<'a>
         requires few { length steps.now ≤ 20 }
@@ -63,8 +63,8 @@ impl Told {
     }
 }
 
-/// The run of a script that has one caller, and no act inside a vgetrandom call, since its line would be told twice. The
-/// lines are made one by one. Each is there until the next is made, and none is kept.
+/// The run of a script that has one caller, and no act inside a vgetrandom call, since the line of an act is made
+/// twice. The lines are made one by one. Each is available until the next is made, and none is kept.
 #[derive(Drop)]
 pub struct LoneRun<'a> {
     pub(crate) lanes: Lanes,
@@ -76,7 +76,7 @@ pub struct LoneRun<'a> {
     pub(crate) told: Told,
 }
 
-// The most bytes that a line of these events shows, or `None` where one of them is not told once.
+// The largest number of bytes that a line of these events shows, or `None` if one of them is an act or a fork.
 fn longest_line(events: &[Event]) -> Option<u32>
     ensures none { result ≡ None → All IsToldOnce events.now → ⊥ }
     ensures once { IfSome result (λ _. All IsToldOnce events.now) }
@@ -96,8 +96,8 @@ fn longest_line(events: &[Event]) -> Option<u32>
 }
 
 impl Caller {
-    // The call of an event that is told once: what it told, and how many bytes its line shows at most. These are the front
-    // of `served`.
+    // The call of an event that is no act and no fork: its reply, and the largest number of bytes that its line shows.
+    // These are the front of `served`.
     fn call_once<R: Wait>(
         &mut self,
         rt: &R,
@@ -128,12 +128,12 @@ impl Caller {
 }
 
 impl<'a> LoneRun<'a> {
-    /// The run of a script on a new table, or `None` exactly where the script has more callers, or acts inside vgetrandom
+    /// The run of a script on a new table, or `None` exactly if the script has more callers, or acts inside vgetrandom
     /// calls. All memory is taken here.
     ///
     /// # Errors
     ///
-    /// `AllocError` where there is no memory for the table, or for the bytes of one line.
+    /// `AllocError` if there is no memory for the table, or for the bytes of one line.
     pub fn start(alloc: Global, script: &'a Script) -> Result<Option<LoneRun<'a>>, AllocError>
         requires { WellFormed script.now }
         ensures run { IfOk result (λ found. IfSome found (λ run. HasTold script.now run [])) }
@@ -146,13 +146,14 @@ impl<'a> LoneRun<'a> {
         let Some(longest) = longest_line(events) else {
             return Ok(None);
         };
+        let states = States::boxed(alloc)?;
         let (lanes, pass) = Lanes::start(alloc, script.cpus(), 0)?;
         Ok(Some(LoneRun {
             lanes,
             caller: Caller {
                 pass,
                 set: Setting::first(0),
-                states: States::wiped(),
+                states,
             },
             rest: events,
             is_over: false,
@@ -214,8 +215,8 @@ impl<'a> LoneRun<'a> {
         self.is_over = true;
     }
 
-    /// Makes the next line, in front of whose event the gate is called, or answers that there is none: then all lines that
-    /// were made are a lawful transcript of the script.
+    /// Makes the next line and returns true; the gate is called before an event. After the last line it returns false:
+    /// then all lines that were made are a lawful transcript of the script.
     pub fn step<R: Wait, G: Gate>(&mut self, rt: &R, gate: &G) -> bool
         requires { (script : SeenScript) × (lines : List SeenLine) × HasTold script self.old lines }
         ensures more { (script : SeenScript) (lines : List SeenLine) → IsTrue result → HasTold script self.old lines

@@ -18,16 +18,17 @@ use lane_table::{Lanes, Pass};
 use rng_core::{Setting, Site, end, fork};
 use std::sync::Wait;
 
-/// A caller between two events: its pass through the lanes, what it has set, and its vgetrandom states.
+/// A caller between two events: its pass through the lanes, its setting, and its vgetrandom states.
 #[derive(Drop)]
 pub(crate) struct Caller {
     pub(crate) pass: Pass,
     pub(crate) set: Setting,
-    pub(crate) states: States,
+    // In a box, since a caller is moved with each fork.
+    pub(crate) states: Box<States>,
 }
 
 impl Caller {
-    // An event that is a call of the core by itself.
+    // An event that is one call of the core.
     fn make<R: Wait>(
         &mut self,
         rt: &R,
@@ -49,8 +50,8 @@ impl Caller {
         self.go_on(event);
     }
 
-    /// One event, which forks nobody. Its call serves at the front of `served`, and what acts inside a `vread` read goes
-    /// to the front of `inside`.
+    /// One event that forks no caller. Its call serves at the front of `served`, and the acts inside a `vread` read to
+    /// the front of `inside`.
     pub(crate) fn step<R: Wait, G>(
         &mut self,
         shared: &Shared<'_, R, G>,
@@ -72,7 +73,7 @@ impl Caller {
         }
     }
 
-    /// The visit that tells of a child, and the child's pass.
+    /// The visit of a fork, and the child's pass.
     pub(crate) fn fork<R: Wait>(
         &mut self,
         rt: &R,

@@ -1,4 +1,4 @@
-//! The calls of the core that a caller's events ask for, each on a line of its own.
+//! The calls of the core for a caller's events, each with its own line.
 ghost use Rattle.std.specs.Prelude.{◌≡◌, ℕ, List, [], length};
 ghost use Rattle.key_names.specs.Texts.ScriptGrammar.{InRange};
 ghost use Rattle.caller_run.specs.Calling.{Asked, Called, CanAsk, IsReady};
@@ -15,7 +15,7 @@ use rng_core::{
 };
 use std::sync::Wait;
 
-// What goes into the pool, and what is read of its credit.
+// Bytes and credit for the pool, and the query of its credit.
 fn sample<R: Wait>(rt: &R, site: &mut Site, event: &Event) -> Reply
     requires can { CanAsk site.old }
     requires kind { IsSample event.now }
@@ -119,7 +119,7 @@ fn read<R: Wait>(rt: &R, site: &mut Site, served: &mut [u8], event: &Event) -> R
     }
 }
 
-// The call that an event asks for; what is only set asks nothing of the core.
+// The call for an event. An event that only sets something makes no call of the core.
 fn ask<R: Wait>(rt: &R, site: &mut Site, served: &mut [u8], event: &Event) -> Reply
     requires can { CanAsk site.old }
     requires range { (version : ℕ) × InRange version site.old.lanes.now.cpus event.now }
@@ -149,7 +149,7 @@ fn ask<R: Wait>(rt: &R, site: &mut Site, served: &mut [u8], event: &Event) -> Re
 }
 
 impl Caller {
-    /// The call that an event asks for, and what its line tells beside the steps. `served` gets the bytes that it shows.
+    /// The call for an event, and the reply that its line shows. `served` gets the bytes of the line.
     pub(crate) fn call<R: Wait>(
         &mut self,
         rt: &R,

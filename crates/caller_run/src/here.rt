@@ -1,4 +1,4 @@
-//! A child that gets no thread.
+//! A child without a thread.
 ghost use Rattle.std.specs.Prelude.{◌≤◌, [], length};
 ghost use Rattle.lane_table.specs.Hands.{HoldsLanes};
 ghost use Rattle.rng_core.specs.Traces.{moment};
@@ -10,9 +10,10 @@ use lane_table::{Lanes, Pass};
 use rng_core::{Setting, Site, stall, unstall};
 use std::sync::Wait;
 
-/// Runs a child whose closure was handed back, in its parent's thread. Two visits of the base tell so: by the first the
-/// parent stops running, and by the second it goes on. The two visits are made in this order. That the child runs between
-/// them is tested and not promised. The answer is the child's.
+/// Runs a child in its parent's thread, after its closure came back from the failed start of a thread, and returns the
+/// child's result. Two visits of the base record this: with the first the parent stops running, and with the second it
+/// goes on. The contract fixes the order of the two visits. That the child runs between them is tested and not
+/// promised.
 pub fn run_here<R: Wait, F: FnOnce() -> (Pass, Room)>(
     rt: &R,
     lanes: &Lanes,

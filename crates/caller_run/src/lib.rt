@@ -1,17 +1,18 @@
 //! The run of a script: its callers make their events over the lanes of one table, and leave a transcript.
 //!
-//! [`run_all`] takes caller 0 from its start to its end. A child that it forks runs beside it, in a thread of its own, or
-//! in its parent's thread where none can be made ([`run_here`]), and forks children in turn. A parent joins its children
-//! behind its own last visit. All memory of a run is taken first, as a [`Plan`].
+//! [`run_all`] runs caller 0 from its start to its end, in a thread. A child that it forks runs in a further thread, or
+//! in its parent's if no thread can be made ([`run_here`]), and can fork children in turn. A parent joins its children
+//! after its own last visit. All memory of a run is taken first, as a [`Plan`]. Only threads come later; their stacks
+//! have the size that their callers' forks need.
 //!
-//! A caller that is the only one of its script can also be run line by line ([`LoneRun`]), and then no line is kept.
+//! The only caller of a script can also be run line by line ([`LoneRun`]); then no line is kept.
 //!
-//! Whatever the callers' calls did to each other, the lines are a lawful transcript of the script, with the book of the
-//! lanes' lists ([`laws`]). That is promised of each run that ends. It is not promised that a run ends, nor that two
-//! callers ever ran at once.
+//! However the callers' calls interleave, the lines are a lawful transcript of the script, with the book of the lanes'
+//! lists ([`laws`]). This is promised of each run that ends. It is not promised that a run ends, nor that two callers
+//! ever run at once.
 //!
-//! What one call does and tells comes from `rng_core`; what a pass knows of the lanes, when it is split off, lent and
-//! joined, from `lane_table`. Both give clauses alone: nothing here looks into a lane.
+//! The clauses of `rng_core` describe each call and its steps. Those of `lane_table` describe a pass's view of the
+//! lanes, and how passes are split off, lent and joined. This crate uses clauses alone: no code here looks into a lane.
 #![tactic(auto)]
 
 mod acts;

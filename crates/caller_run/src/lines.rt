@@ -1,4 +1,4 @@
-//! The lines that tell of a caller's events.
+//! The lines of a caller's events.
 ghost use Rattle.std.specs.Prelude.{◌≡◌, ◌+◌, ◌<◌, ◌≤◌, ◌^◌, ◌∷◌, ◌++◌, [], length};
 ghost use Rattle.std.specs.List.{AllByRecursion};
 ghost use Rattle.key_names.specs.Texts.TranscriptGrammar.{StepFits};
@@ -11,7 +11,7 @@ use key_names::{Answer, Step, Trace, Word};
 use transcript_text::{CallerLines, LineView, Shown};
 
 impl Caller {
-    // A line of the event that the caller is at.
+    // A line of the caller's current event.
     #[inline(always)]
     fn line<'a>(
         &self,
@@ -41,7 +41,7 @@ impl Caller {
         }
     }
 
-    /// One more line, of the event that the caller is at.
+    /// One more line, of the caller's current event.
     pub(crate) fn tell(
         &self,
         lines: &mut CallerLines,

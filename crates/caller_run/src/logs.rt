@@ -1,4 +1,4 @@
-//! A caller's lines, the acts that wait for its next `vread`, and how much room both need.
+//! A caller's lines, the acts that wait for its next `vread`, and the room that both need.
 ghost use Rattle.std.specs.Prelude.{◌≡◌, ◌+◌, ◌*◌, ◌≤◌, [], All, IfOk, length, sum_by, vec_capacity, vec_len};
 ghost use Rattle.std.specs.Bool.{OnTrue};
 ghost use Rattle.caller_run.specs.Alone.{IsToldOnce};
@@ -21,11 +21,12 @@ const MOST_ACTS: usize = 8;
 pub(crate) struct Log {
     pub(crate) lines: CallerLines,
     pub(crate) acts: Vec<Bound>,
-    // One for all events, since a new one is cleared byte by byte; and apart, since a log is moved with each fork.
+    // One for all events, since a new one is cleared byte by byte. In a box, since a log is moved with each fork.
     pub(crate) trace: Box<Trace>,
 }
 
-/// Whether an event is one of many that are told once and show no bytes. It is found by one look at its kind.
+/// Whether an event is of a frequent kind that is no act, forks no caller and shows no bytes. One test of its kind
+/// finds this.
 #[inline(always)]
 pub(crate) fn is_silent(event: &Event) -> bool
     ensures { OnTrue result (IsToldOnce event.now × (most_shown event.now ≡ 0)) }
@@ -37,7 +38,7 @@ pub(crate) fn is_silent(event: &Event) -> bool
 }
 
 /// How many bytes the line of an event shows at most.
-// It is asked of each event twice, and so stands within its callers.
+// Inlined, since each event calls it twice.
 #[inline(always)]
 pub(crate) fn most_shown(event: &Event) -> u32
     ensures { result ≡ most_shown event.now }
@@ -70,16 +71,16 @@ fn read_inside(event: &Event) -> u32
 /// How much room the lines of some events and their reads need at most, in bytes.
 #[derive(Clone, Copy)]
 pub(crate) struct Needs {
-    /// What all lines show.
+    /// The bytes of all lines.
     pub(crate) shown: u64,
-    /// What the line that shows most shows.
+    /// The bytes of the line with the most.
     pub(crate) longest: u32,
-    /// What is read inside vreads.
+    /// The bytes that are read inside vreads.
     pub(crate) inside: u64,
 }
 
 impl Needs {
-    /// What these events need.
+    /// The needs of these events.
     pub(crate) fn of(events: &[Event]) -> Needs
         requires { length events.now ≤ 65536 }
         ensures shown { result.shown ≡ sum_by most_shown events.now }
@@ -104,11 +105,11 @@ impl Needs {
 }
 
 impl Log {
-    /// A log with room for the lines of so many events, which show so many bytes together, and for a last line.
+    /// A log with room for the lines of this many events, which show this many bytes together, and for a last line.
     ///
     /// # Errors
     ///
-    /// `AllocError` where there is no memory for it.
+    /// `AllocError` if there is no memory for it.
     pub(crate) fn for_events(alloc: Global, events: usize, shown: u64) -> Result<Log, AllocError>
         requires { events ≤ 65536 }
         ensures lines { IfOk result (λ log. log.lines.lines ≡ []) }

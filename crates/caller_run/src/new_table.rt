@@ -4,7 +4,7 @@ ghost use Rattle.key_names.specs.Texts.ScriptGrammar.{WellFormed};
 ghost use Rattle.lane_table.specs.declared.view.View.{View};
 ghost use Rattle.caller_run.specs.Laws.{LawfulRuns};
 
-use crate::children::Children;
+use crate::children::{Children, stack_for};
 use crate::plans::Plan;
 use crate::run::run_plan;
 use crate::shared::Shared;
@@ -16,11 +16,11 @@ use std::sync::Wait;
 use std::thread::Threads;
 use transcript_text::Transcript;
 
-/// Runs all callers of a script on a new table. All memory is taken before the first event, but for threads.
+/// Runs all callers of a script on a new table. All memory but that of threads is taken before the first event.
 ///
 /// # Errors
 ///
-/// `AllocError` where there is no memory for the plan or the table. Nothing ran then.
+/// `AllocError` if there is no memory for the plan, the table, or the first caller's stack. No caller ran then.
 pub fn run_on_new_table<R: Threads + Wait + Sync, G: Gate>(
     rt: &R,
     alloc: Global,
@@ -33,7 +33,18 @@ pub fn run_on_new_table<R: Threads + Wait + Sync, G: Gate>(
     run_new(rt, alloc, script, gate, Children::InThreads)
 }
 
-/// The same, where the children run so.
+/// The bytes that a thread's start takes apart from its stack, and those by which its stack may be rounded up.
+const THREAD_BYTES: usize = 256 * 1024;
+
+// Fails if there is no memory for the first caller's stack (tested). A stack that cannot grow ends the program by a
+// signal, so this test comes after all other memory was taken, and before the first caller starts in a thread or here.
+fn need_stack(alloc: Global, script: &Script) -> Result<(), AllocError> {
+    let bytes = stack_for(script, 0).saturating_add(THREAD_BYTES);
+    let _stack: Vec<u8> = Vec::with_capacity(alloc, bytes)?;
+    Ok(())
+}
+
+/// The same; `children` is where the children run.
 ///
 /// # Errors
 ///
@@ -50,6 +61,7 @@ pub fn run_new<R: Threads + Wait + Sync, G: Gate>(
 {
     let plan = Plan::make(alloc, script)?;
     let (lanes, pass) = Lanes::start(alloc, script.cpus(), 0)?;
+    need_stack(alloc, script)?;
     let shared = Shared {
         rt,
         lanes: &lanes,

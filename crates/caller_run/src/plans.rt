@@ -1,4 +1,4 @@
-//! Plans: all memory of a run, taken before it, and the lines of all callers behind it.
+//! Plans: all memory of a run, taken before it, and the lines of all callers after it.
 ghost use Rattle.std.specs.Prelude.{◌≡◌, ◌<◌, ◌≤◌, length, IfOk};
 ghost use Rattle.key_names.specs.Texts.ScriptGrammar.{Script, WellFormed};
 ghost use Rattle.caller_run.specs.Grove.{told_by};
@@ -8,6 +8,7 @@ ghost use Rattle.caller_run.specs.Ways.{IsNewSheet};
 
 use crate::logs::{Log, Needs};
 use crate::rooms::{Room, Sheet};
+use crate::states::States;
 use event_script::Script;
 use key_names::Event;
 use std::alloc::{AllocError, Global};
@@ -34,7 +35,7 @@ impl Sheet {
         })
     }
 
-    // The lines, and nothing else.
+    // The lines without the rest.
     fn into_lines(self) -> CallerLines
         ensures { result ≡ self.log.lines }
     {
@@ -70,7 +71,8 @@ impl Room {
             }
             rest = front;
         }
-        Ok(Room::with(caller, sheet, kids))
+        let states = States::boxed(alloc)?;
+        Ok(Room::with(caller, sheet, kids, states))
     }
 }
 
@@ -79,7 +81,7 @@ impl Plan {
     ///
     /// # Errors
     ///
-    /// `AllocError` where there is no memory for it.
+    /// `AllocError` if there is no memory for it.
     pub fn make(alloc: Global, script: &Script) -> Result<Plan, AllocError>
         requires { WellFormed script.now }
         ensures { IfOk result (λ plan. IsPlanFor script.now plan) }
@@ -106,7 +108,7 @@ pub(crate) fn gather(slots: &mut [CallerLines], room: Room)
     requires { HaveSlots (length slots.old) (told_by (plot room)) }
     ensures { lines_in slots.new ≡ put_in (lines_in slots.old) (told_by (plot room)) }
 {
-    let (caller, sheet, mut kids) = room.open();
+    let (caller, sheet, mut kids, _states) = room.open();
     slots[caller as usize] = sheet.into_lines();
     while let Some(kid) = kids.pop() {
         gather(slots, kid);

@@ -1,4 +1,4 @@
-//! What a call told, beside its steps.
+//! The reply of a call: the answer and the data of its line.
 ghost use Rattle.std.specs.Prelude.{◌≡◌, ◌≤◌, ℕ, List, length, if◌then◌else◌};
 ghost use Rattle.key_names.specs.declared.events.Answer.TheVariants.{Unused};
 ghost use Rattle.key_names.specs.SeenLine.{bytes_or_none, no_data};
@@ -8,7 +8,7 @@ ghost use Rattle.caller_run.specs.Says.{shown_by, IsNoCount};
 
 use key_names::{Answer, Errno};
 
-/// What a line shows of a call.
+/// The data of a call's line.
 #[derive(Clone, Copy)]
 pub(crate) enum Shows {
     Nothing,
@@ -17,7 +17,7 @@ pub(crate) enum Shows {
     Count(u32),
 }
 
-/// What a call answered, and what its line shows.
+/// The answer of a call, and the data of its line.
 #[derive(Clone, Copy)]
 pub(crate) struct Reply {
     pub(crate) answer: Answer,
@@ -36,7 +36,7 @@ fn answer_of(errno: Errno) -> Answer
 }
 
 impl Reply {
-    /// An answer and nothing else.
+    /// An answer without data.
     pub(crate) fn only(answer: Answer) -> Reply
         ensures { result ≡ record { answer = answer; shows = Shows.Nothing } }
     {
@@ -78,7 +78,7 @@ impl Reply {
         }
     }
 
-    /// An act inside a vread: it was not done where the call did not come to its point.
+    /// An act inside a vread. It is not done if the call does not come to its point.
     pub(crate) fn of_act(done: bool, ended: Result<(), Errno>) -> Reply
         ensures answer { result.answer ≡ (if done then result_answer ended else Unused) }
         ensures shows { (served : List ℕ) → shown_by served result.shows
@@ -92,7 +92,7 @@ impl Reply {
         }
     }
 
-    /// What a line that shows no count shows of the bytes that were served.
+    /// The bytes that a line without a count shows, out of those that were served.
     pub(crate) fn bytes<'a>(&self, served: &'a [u8]) -> &'a [u8]
         requires { IsNoCount self.now.shows }
         ensures shown { bytes_or_none result.now ≡ shown_by served.now self.now.shows }

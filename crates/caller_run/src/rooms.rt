@@ -1,10 +1,11 @@
-//! Rooms: what a caller fills, with the rooms of those that it forks.
+//! Rooms: the memory that a caller fills, with the rooms of those that it forks.
 ghost use Rattle.std.specs.Prelude.{◌≡◌, map};
 ghost use Rattle.caller_run.specs.Plots.{plot, plot_by};
 
 use crate::logs::Log;
+use crate::states::States;
 
-/// What one caller fills, and where its calls serve.
+/// The memory that one caller fills, with the buffers for the bytes of its calls.
 #[derive(Drop)]
 pub(crate) struct Sheet {
     pub(crate) log: Log,
@@ -18,29 +19,33 @@ pub(crate) struct Sheet {
 pub struct Room {
     pub(crate) caller: u32,
     pub(crate) sheet: Sheet,
-    // The first that is forked stands last.
+    // The last is forked first.
     pub(crate) kids: Vec<Room>,
+    // Their content does not matter: the caller wipes them first.
+    pub(crate) states: Box<States>,
 }
 
 impl Room {
-    pub(crate) fn open(self) -> (u32, Sheet, Vec<Room>)
+    pub(crate) fn open(self) -> (u32, Sheet, Vec<Room>, Box<States>)
         ensures { plot self ≡ plot_by result.0 result.1 (map plot result.2.items) }
     {
         let Room {
             caller,
             sheet,
             kids,
+            states,
         } = self;
-        (caller, sheet, kids)
+        (caller, sheet, kids, states)
     }
 
-    pub(crate) fn with(caller: u32, sheet: Sheet, kids: Vec<Room>) -> Room
+    pub(crate) fn with(caller: u32, sheet: Sheet, kids: Vec<Room>, states: Box<States>) -> Room
         ensures { plot result ≡ plot_by caller sheet (map plot kids.items) }
     {
         Room {
             caller,
             sheet,
             kids,
+            states,
         }
     }
 }

@@ -1,4 +1,4 @@
-//! The run of callers: each to its end, beside those that it forks, and all callers of a script.
+//! The run of callers: each to its end, with those that it forks, and all callers of a script.
 ghost use Rattle.std.specs.Prelude.{◌≡◌, ◌<◌, ◌^◌, []};
 ghost use Rattle.std.specs.Thread.{IsSync};
 ghost use Rattle.key_names.specs.Texts.ScriptGrammar.{WellFormed};
@@ -9,7 +9,7 @@ ghost use Rattle.caller_run.specs.Plans.{IsPlanFor, IsNewRoom};
 ghost use Rattle.caller_run.specs.Plots.{plot};
 ghost use Rattle.caller_run.specs.Ways.{CanAdvanceOn, CanPart, CanRun, IsFirst, Returned, WentBeside, WentOn, WholeRan, start_of};
 
-use crate::children::{Child, Children};
+use crate::children::{Child, Children, stack_for};
 use crate::here::run_here;
 use crate::plans::{Plan, gather};
 use crate::rooms::Room;
@@ -26,10 +26,11 @@ use std::thread;
 use std::thread::Threads;
 use transcript_text::Transcript;
 
-/// Runs a caller from its start to its end, and joins all that it forks. It takes no memory, but for threads.
+/// Runs a caller from its start to its end, and joins all that it forks. Only threads take memory.
 ///
-/// The caller starts where `set` is, with wiped vgetrandom states, and fills the room. A child gets a thread where
-/// children run in threads, or is run here where none can be made. The gate is called before each event.
+/// The caller starts with the CPU, the moment and the hardware words of `set`, at event 0 and with wiped vgetrandom
+/// states. It fills the room. A child gets a thread if children run in threads, and runs here if no thread can be made.
+/// The gate is called before each event.
 pub fn run_caller<R: Threads + Wait + Sync, G: Gate>(
     shared: &Shared<'_, R, G>,
     pass: Pass,
@@ -61,20 +62,20 @@ fn run_family<R: Threads + Wait + Sync, G: Gate>(
     ensures { Returned shared.now.lanes.now shared.now.script.now (start_of set pass) (plot room) result.0
         (plot result.1) }
 {
-    let (caller, sheet, kids) = room.open();
+    let (caller, sheet, kids, states) = room.open();
     let events = shared.script.events(caller);
-    let way = Way::starting(pass, set, sheet, kids);
+    let way = Way::starting(pass, set, sheet, kids, states);
     let way = run_from(shared, events, way);
     let Way {
         caller: at,
         sheet,
         kids,
     } = way;
-    (at.pass, Room::with(caller, sheet, kids))
+    (at.pass, Room::with(caller, sheet, kids, at.states))
 }
 
-// Runs a caller from where it is to its end, with all that it forks. It is one function, since forks nest: each part of
-// it would hold another `Way` on the stack.
+// Runs a caller on to its end, and every caller that it forks. It is one function because forks nest: if it were split,
+// each part would hold another `Way` on the stack.
 #[cycle(callers)]
 fn run_from<R: Threads + Wait + Sync, G: Gate>(
     shared: &Shared<'_, R, G>,
@@ -121,6 +122,7 @@ fn run_from<R: Threads + Wait + Sync, G: Gate>(
             };
             match children.start(
                 scope,
+                stack_for(script, child),
                 promise,
                 move || -> (Pass, Room)
                     requires { IsSync R.row × CanRun lanes.now script.now set theirs (plot kid) }
@@ -165,10 +167,66 @@ fn run_from<R: Threads + Wait + Sync, G: Gate>(
     way
 }
 
-/// Runs all callers of a script, and gathers their lines. It takes no memory beyond the plan's, but for threads.
+// Runs a script's first caller, and all that it forks, in a further thread. Its stack has the size that they need,
+// whatever the stack of the program's first thread is, and is taken before any of them starts. If no thread can be
+// made, they run here.
+fn run_first<R: Threads + Wait + Sync, G: Gate>(
+    shared: &Shared<'_, R, G>,
+    pass: Pass,
+    set: Setting,
+    room: Room,
+) -> (Pass, Room)
+    requires { CanRun shared.now.lanes.now shared.now.script.now set pass (plot room) }
+    ensures { Returned shared.now.lanes.now shared.now.script.now (start_of set pass) (plot room) result.0
+        (plot result.1) }
+{
+    let (rt, lanes, script) = (shared.rt, shared.lanes, shared.script);
+    let (gate, children) = (shared.gate, shared.children);
+    thread::scope(
+        thread::scope_env(),
+        rt,
+        move |scope| -> (Pass, Room)
+            requires { IsSync R.row × CanRun lanes.now script.now set pass (plot room) }
+            ensures { Returned lanes.entry.now script.entry.now (start_of set pass) (plot room) result.0
+                (plot result.1) }
+        {
+            let promise = Child {
+                lanes,
+                script,
+                set,
+                pass: Snapshot::of(&pass),
+                room: Snapshot::of(&room),
+            };
+            match children.start(
+                scope,
+                stack_for(script, set.caller),
+                promise,
+                move || -> (Pass, Room)
+                    requires { IsSync R.row × CanRun lanes.now script.now set pass (plot room) }
+                    ensures { Returned lanes.entry.now script.entry.now (start_of set pass) (plot room) result.0
+                        (plot result.1) }
+                {
+                    let shared = Shared {
+                        rt,
+                        lanes,
+                        script,
+                        gate,
+                        children,
+                    };
+                    run_family(&shared, pass, set, room)
+                },
+            ) {
+                Ok(handle) => handle.join(rt),
+                Err(refused) => (refused.value)(),
+            }
+        },
+    )
+}
+
+/// Runs all callers of a script, and gathers their lines. Only threads take memory beyond the plan's.
 ///
-/// The pass is caller 0's, and may have any share of the table. Where it is the only one of a new table, the lines are a
-/// lawful transcript of the script, whatever the callers' calls did to each other.
+/// The pass is caller 0's, and may have any share of the table. If it is the only pass of a new table, the lines are a
+/// lawful transcript of the script, however the callers' calls interleave.
 pub fn run_all<R: Threads + Wait + Sync, G: Gate>(
     rt: &R,
     lanes: &Lanes,
@@ -196,7 +254,7 @@ pub fn run_all<R: Threads + Wait + Sync, G: Gate>(
     run_plan(&shared, pass, plan)
 }
 
-/// The same, over what the callers share.
+/// The same, over the callers' shared values.
 pub(crate) fn run_plan<R: Threads + Wait + Sync, G: Gate>(
     shared: &Shared<'_, R, G>,
     pass: Pass,
@@ -212,7 +270,7 @@ pub(crate) fn run_plan<R: Threads + Wait + Sync, G: Gate>(
         → WholeRan shared.now.script.now result.1 (view result.0) }
 {
     let Plan { root, mut slots } = plan;
-    let (mut pass, room) = run_family(shared, pass, Setting::first(0), root);
+    let (mut pass, room) = run_first(shared, pass, Setting::first(0), root);
     shared.lanes.settle(&mut pass);
     gather(&mut slots, room);
     (pass, Transcript::of(slots))

@@ -1,4 +1,4 @@
-//! What a caller sets, and its number of events.
+//! A caller's setting, and the number of its event.
 ghost use Rattle.std.specs.Prelude.{◌≡◌, ◌<◌, ◌^◌, ◌+◌, ◌-◌};
 ghost use Rattle.key_names.specs.Calls.{setting_after};
 ghost use Rattle.key_names.specs.Meaning.{caller_after};
@@ -9,7 +9,7 @@ use crate::caller::Caller;
 use key_names::Event;
 use rng_core::Setting;
 
-// The setting behind an event.
+// The setting after an event.
 #[inline(always)]
 fn set_by(set: &mut Setting, event: &Event)
     ensures setting { setting_of set.new ≡ setting_after (setting_of set.old) event.now }
@@ -25,10 +25,10 @@ fn set_by(set: &mut Setting, event: &Event)
 }
 
 impl Caller {
-    /// The caller goes on behind an event.
+    /// The caller goes on after an event.
     pub(crate) fn go_on(&mut self, event: &Event)
         requires number { self.old.set.event < 2 ^ 32 - 1 }
-        requires current { self.old.states.current < 16 }
+        requires current { self.old.states.value.current < 16 }
         ensures stand { stand self.new ≡ caller_after (stand self.old) event.now }
         ensures caller { self.new.set.caller ≡ self.old.set.caller }
         ensures event { self.new.set.event ≡ self.old.set.event + 1 }

@@ -1,11 +1,11 @@
-//! What the callers of a run share.
+//! The shared values of a run's callers.
 
 use crate::children::Children;
 use event_script::Script;
 use lane_table::Lanes;
 
-/// What all callers of a run share: the handles, the table, the script, the gate that is called before each event, and
-/// where children run.
+/// The values that all callers of a run share: the handles, the table, the script, the gate that is called before each
+/// event, and where children run.
 #[derive(Drop)]
 pub struct Shared<'a, R, G> {
     pub rt: &'a R,

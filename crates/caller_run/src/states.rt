@@ -1,15 +1,16 @@
 //! The vgetrandom states of a caller.
-ghost use Rattle.std.specs.Prelude.{◌≡◌, ◌<◌, replicate, slice_set};
+ghost use Rattle.std.specs.Prelude.{◌≡◌, ◌<◌, IfOk, replicate, slice_set};
 ghost use Rattle.key_names.specs.Calls.{Setting, setting_after};
 ghost use Rattle.key_names.specs.Meaning.{caller_after};
 ghost use Rattle.key_names.specs.VgetrandomState.{wiped_state};
 ghost use Rattle.caller_run.specs.Calling.{caller_at};
 
 use key_names::Event;
+use std::alloc::{AllocError, Global};
 use std::array;
 use vdso_state::VState;
 
-/// The sixteen vgetrandom states of a caller, and which of them it reads from.
+/// The sixteen vgetrandom states of a caller, and the number of the one that it reads from.
 #[derive(Drop)]
 pub(crate) struct States {
     pub(crate) all: [VState; 16],
@@ -17,7 +18,7 @@ pub(crate) struct States {
 }
 
 impl States {
-    /// Sixteen wiped states, of which the first is current.
+    /// Sixteen wiped states; the first is current.
     pub(crate) fn wiped() -> States
         ensures { result ≡ record { all = replicate 16 wiped_state; current = 0 } }
     {
@@ -27,6 +28,27 @@ impl States {
         }
     }
 
+    /// The same, on the heap.
+    ///
+    /// # Errors
+    ///
+    /// `AllocError` if there is no memory for them.
+    // Not inlined: no caller of it has the states on its stack, and one of these calls itself.
+    #[inline(never)]
+    pub(crate) fn boxed(alloc: Global) -> Result<Box<States>, AllocError>
+        ensures { IfOk result (λ states. states.value ≡ record { all = replicate 16 wiped_state; current = 0 }) }
+    {
+        Ok(Box::new(alloc, States::wiped())?)
+    }
+
+    /// Wipes all states, and makes the first current.
+    #[inline(never)]
+    pub(crate) fn wipe(&mut self)
+        ensures { self.new ≡ record { all = replicate 16 wiped_state; current = 0 } }
+    {
+        *self = States::wiped();
+    }
+
     fn wipe_current(&mut self)
         requires { self.old.current < 16 }
         ensures { self.new ≡ record self.old { all = slice_set self.old.all self.old.current wiped_state } }
@@ -34,7 +56,7 @@ impl States {
         self.all[self.current as usize].wipe();
     }
 
-    /// The states behind an event by itself: `drop` wipes the current one, and `state` makes another one current.
+    /// The states after an event alone: `drop` wipes the current one, and `state` makes another one current.
     pub(crate) fn go_on(&mut self, event: &Event)
         requires { self.old.current < 16 }
         ensures { (set : Setting)

@@ -15,7 +15,8 @@ use lane_table::Lanes;
 use rng_core::{Bound, LaneHost, Site, vread, vread_inside};
 use std::sync::Wait;
 
-/// What a read out of a state is asked: its flags, where it puts its bytes, and where acts inside put theirs.
+/// The arguments of a read out of a state: its flags, the buffer for its bytes, and the one for the bytes of acts
+/// inside.
 #[derive(Drop)]
 pub(crate) struct ReadInto<'a> {
     pub(crate) flags: u32,
@@ -34,7 +35,7 @@ fn flags_of(event: &Event) -> u32
 }
 
 impl Caller {
-    /// A read out of the current state, of as many bytes as `served` has, with no act inside.
+    /// A read out of the current state, of as many bytes as `served` has, without acts inside.
     pub(crate) fn vread_alone<'x, R: Wait>(
         &mut self,
         rt: &'x R,
@@ -49,7 +50,8 @@ impl Caller {
         requires new { trace.old ≡ [] }
         ensures { StateRead lanes.now (length served.old) flags self.old self.new result served.new trace.new [] [] }
     {
-        let state = &mut self.states.all[self.states.current as usize];
+        let states = &mut *self.states;
+        let state = &mut states.all[states.current as usize];
         let site = Site {
             lanes,
             pass: &mut self.pass,
@@ -76,7 +78,8 @@ impl Caller {
         if acts.is_empty() {
             return self.vread_alone(rt, lanes, trace, into.served, into.flags);
         }
-        let st = &mut self.states.all[self.states.current as usize];
+        let states = &mut *self.states;
+        let st = &mut states.all[states.current as usize];
         let site = Site {
             lanes,
             pass: &mut self.pass,
@@ -87,7 +90,7 @@ impl Caller {
         Reply::read(vread_inside(&mut host, st, into.served, into.flags))
     }
 
-    /// A read out of the current state, with the acts inside that waited for it. Their lines are told anew.
+    /// A read out of the current state, with the acts inside that waited for it. Their lines are replaced.
     pub(crate) fn read_state<R: Wait, G>(
         &mut self,
         shared: &Shared<'_, R, G>,

@@ -28,7 +28,7 @@ use lane_table::{Lanes, Pass};
 use rng_core::Setting;
 use std::sync::Wait;
 
-/// A caller on its way, with what it fills.
+/// A caller on its way, with the memory that it fills.
 #[derive(Drop)]
 pub(crate) struct Way {
     pub(crate) caller: Caller,
@@ -37,27 +37,27 @@ pub(crate) struct Way {
 }
 
 impl Way {
-    /// A caller at its start, with wiped states.
-    pub(crate) fn starting(pass: Pass, set: Setting, sheet: Sheet, kids: Vec<Room>) -> Way
-        ensures caller { result.caller ≡ record {
-          pass = pass;
-          set = set;
-          states = record { all = replicate 16 wiped_state; current = 0 };
-        } }
+    /// A caller at its start. It wipes these states.
+    pub(crate) fn starting(
+        pass: Pass,
+        set: Setting,
+        sheet: Sheet,
+        kids: Vec<Room>,
+        mut states: Box<States>,
+    ) -> Way
+        ensures caller { result.caller ≡ record { pass = pass; set = set; states = result.caller.states } }
+        ensures states { result.caller.states.value ≡ record { all = replicate 16 wiped_state; current = 0 } }
         ensures rest { (result.sheet ≡ sheet) × (result.kids ≡ kids) }
     {
+        states.wipe();
         Way {
-            caller: Caller {
-                pass,
-                set,
-                states: States::wiped(),
-            },
+            caller: Caller { pass, set, states },
             sheet,
             kids,
         }
     }
 
-    /// Goes through the events up to the next fork, and answers the child and the events behind the fork.
+    /// Makes the events up to the next fork, and returns the child and the events after the fork.
     pub(crate) fn run_plain<'a, R: Wait, G: Gate>(
         &mut self,
         shared: &Shared<'_, R, G>,

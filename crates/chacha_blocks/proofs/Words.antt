@@ -1,4 +1,4 @@
--- What the generator writes is the keystream.
+-- The generator writes the keystream.
 use Rattle.std.proofs.Common.{zero, suc, ◌+◌, ◌*◌, ◌/◌, ◌%◌, ◌^◌, ◌<◌, ◌≤◌, ◌++◌, ap, ap₂, sym, ◌∙◌, arith, ◌≡◌, ℕ, List, length, map, refl, w32}
 use Rattle.std.specs.List.{flat_map, range_with_len}
 use Rattle.std.specs.Int.{to_le_bytes}
@@ -99,7 +99,7 @@ fill_via_u32-generator_at key w n within =
     let enough : n ≤ 4 * ((n + 3) / 4) = omega arith in
     rw (word_bytes-generator_at key w ((n + 3) / 4) words, take-keystream key (4 * w) (4 * ((n + 3) / 4)) n enough) refl
 
--- what a fill wrote, and the generator after it
+-- the bytes that a fill wrote, and the generator after it
 pub bytes_of_fill : (key : List ℕ) (w n : ℕ) (rng rest : ChaCha) (bytes : List ℕ) → rng ≡ generator_at key w →
     (bytes, rest) ≡ fill_via_u32 (next_word 10) n rng → w + n < 2 ^ 67 → bytes ≡ keystream key (4 * w) n
 bytes_of_fill key w n rng rest bytes begins wrote within =

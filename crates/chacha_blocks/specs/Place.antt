@@ -1,4 +1,4 @@
--- A place in a key's stream, and the generator that stands there.
+-- A place in a key's stream, and the generator at that place.
 use Rattle.std.specs.Prelude.{ℕ, List}
 use Rattle.rand_chacha.specs.ChaCha.{ChaCha, of_seed}
 

@@ -39,7 +39,7 @@ fn xor_rotate(a: u32x4, b: u32x4, k: u32) -> u32x4
     (x << u32x4::splat(k)) | (x >> u32x4::splat(32 - k))
 }
 
-// A round on the columns: the quarter round, on one word of each at a time.
+// A round on the columns: the quarter round, on one word of each column at a time.
 #[inline(always)]
 fn column_round(rows: Rows) -> Rows
     ensures { state_of result ≡ column_round (state_of rows) }
@@ -56,7 +56,7 @@ fn column_round(rows: Rows) -> Rows
     [a2, b2, c2, d2]
 }
 
-// A row with its first word behind the others.
+// A row with its first word moved to the end.
 #[inline(always)]
 fn turned_once(row: u32x4) -> u32x4
     ensures { result ≡ slice_index row 1 ∷ slice_index row 2 ∷ slice_index row 3 ∷ slice_index row 0 ∷ [] }
@@ -64,7 +64,7 @@ fn turned_once(row: u32x4) -> u32x4
     row.rotate_elements_left::<1>()
 }
 
-// The rows turned to the left by none, one, two and three words, so that the diagonals are columns.
+// The rows turned to the left by none, one, two and three words, so that each diagonal is a column.
 #[inline(always)]
 fn turned(rows: Rows) -> Rows
     ensures { state_of result ≡ turned (state_of rows) }
@@ -100,7 +100,7 @@ fn diagonal_round(rows: Rows) -> Rows
     turned_back(column_round(turned(rows)))
 }
 
-// Four words of the key, from this one on.
+// Four words of the key, from word `first` on.
 #[inline(always)]
 fn key_row(key: &[u8; 32], first: usize) -> u32x4
     requires { first ≤ 4 }
@@ -131,7 +131,7 @@ fn start_rows(key: &[u8; 32], number: u64) -> Rows
     ]
 }
 
-// Each word, and the word that it began as, added: row by row.
+// Each word added to the word that it began as, row by row.
 #[inline(always)]
 fn summed(rows: Rows, start: Rows) -> [u32; 16]
     ensures { result ≡ zip2 add32 (state_of rows) (state_of start) }
@@ -161,8 +161,8 @@ pub(crate) fn block(key: &[u8; 32], number: u64) -> [u8; BLOCK_BYTES]
     bytes
 }
 
-/// Block `number` and the one after it. Neither waits for the other, so a processor makes both in little more time than
-/// one.
+/// Block `number` and the one after it. Neither depends on the other, so a processor makes both in
+/// little more time than one.
 pub(crate) fn two_blocks(key: &[u8; 32], number: u64) -> [u8; 2 * BLOCK_BYTES]
     requires { number + 1 < 2 ^ 64 }
     ensures { result ≡ keystream key.now (64 * number) 128 }

@@ -9,13 +9,13 @@ use crate::stream::fill_from_block;
 
 const KEY_BYTES: usize = 32;
 
-/// What the block of an erasure has over beside the new key, and what it and the block behind it have over.
+/// The bytes left beside the new key in the block of an erasure, and in that block and the next together.
 pub(crate) const REST_OF_BLOCK: usize = BLOCK_BYTES - KEY_BYTES;
 
 const REST_OF_PAIR: usize = 2 * BLOCK_BYTES - KEY_BYTES;
 
-/// A key and the number of the block that its next bytes come from. It is what a long read goes on with after the key
-/// was erased where it was kept, as the kernel's `chacha_state` on the stack.
+/// A key and the number of the block that its next bytes come from. A long read continues from it after the stored key
+/// was erased, as from the kernel's `chacha_state` on the stack.
 #[derive(Drop)]
 pub struct Detached {
     pub key: [u8; 32],
@@ -23,7 +23,7 @@ pub struct Detached {
 }
 
 impl Detached {
-    /// The key at this block.
+    /// The key, with this block next.
     pub fn of(key: [u8; 32], next_block: u64) -> Detached
         ensures key { result.key ≡ key }
         ensures next_block { result.next_block ≡ next_block }
@@ -31,8 +31,8 @@ impl Detached {
         Detached { key, next_block }
     }
 
-    /// Writes the keystream over all of `buf` from the start of the next block, and goes past each block that it began.
-    /// What a last block has over is given up. The block's number and the length together are below 2^40.
+    /// Writes the keystream over all of `buf` from the start of the next block, and moves past each block that it
+    /// began. The unused bytes of the last block are lost. The block's number and the length together are below 2^40.
     pub fn more(&mut self, buf: &mut [u8])
         requires { self.old.next_block + length buf.old < 2 ^ 40 }
         ensures bytes { buf.new ≡ keystream self.old.key (64 * self.old.next_block) (length buf.old) }
@@ -44,9 +44,9 @@ impl Detached {
     }
 }
 
-/// Replaces the key by bytes 0 to 32 of its own keystream, fills `out` with the bytes from 32 on, and gives the
-/// replaced key at block 1. This is the kernel's `crng_fast_key_erasure`: `out` is what the caller takes of the rest of
-/// block 0, 32 bytes at most.
+/// Replaces the key by bytes 0 to 32 of its own keystream, fills `out` with the bytes from 32 on, and returns the
+/// replaced key at block 1. This is the kernel's `crng_fast_key_erasure`. `out` is the caller's part of the rest of
+/// block 0, at most 32 bytes.
 pub fn erase(key: &mut [u8; 32], out: &mut [u8]) -> Detached
     requires { length out.old ≤ 32 }
     ensures erased { key.new ≡ keystream key.old 0 32 }
@@ -61,9 +61,9 @@ pub fn erase(key: &mut [u8; 32], out: &mut [u8]) -> Detached
     Detached::of(old, 1)
 }
 
-/// Replaces the key by bytes 0 to 32 of its own keystream, and fills `buf` with the bytes from 32 on, of any number
-/// below 2^40 - 32. It is a kernel read whole (`_get_random_bytes`): what [`erase`] writes to the first 32 bytes and
-/// [`Detached::more`] to the rest. For no bytes the key is erased all the same; the kernel's then does nothing.
+/// Replaces the key by bytes 0 to 32 of its own keystream, and fills `buf`, of fewer than 2^40 - 32 bytes, with the
+/// bytes from 32 on. It is a whole kernel read (`_get_random_bytes`): [`erase`] writes the first 32 bytes, and
+/// [`Detached::more`] the rest. For no bytes the key is still erased, while the kernel's function does nothing.
 pub fn erase_and_fill(key: &mut [u8; 32], buf: &mut [u8])
     requires { 32 + length buf.old < 2 ^ 40 }
     ensures erased { key.new ≡ keystream key.old 0 32 }
@@ -81,8 +81,8 @@ pub fn erase_and_fill(key: &mut [u8; 32], buf: &mut [u8])
     }
 }
 
-/// Replaces the key by bytes 0 to 32 of its own keystream, and gives bytes 32 to 64 as the key of somebody else: a
-/// CPU's new key out of the base key, or the key of one read that is longer than the rest of a block.
+/// Replaces the key by bytes 0 to 32 of its own keystream, and returns bytes 32 to 64 as another key: a CPU's new key
+/// from the base key, or the key of one read that is longer than the rest of a block.
 pub fn derive_key(key: &mut [u8; 32]) -> [u8; 32]
     ensures erased { key.new ≡ keystream key.old 0 32 }
     ensures derived { result ≡ keystream key.old 32 32 }

@@ -8,10 +8,10 @@ use rand_core::SeedableRng;
 use rand_core::utils::fill_bytes_via_u32;
 use std::marker::Model;
 
-/// A key and a place in its keystream: the number, from 0, of the word of 4 bytes that the next read begins at.
+/// A key and a place in its keystream: the number, from 0, of the word of 4 bytes at which the next read begins.
 ///
-/// The cipher makes four blocks at a time, so a caller that needs several runs of one key's bytes, one after another,
-/// reads them all from one reader.
+/// The cipher makes four blocks at a time. A caller that needs several runs of one key's bytes, one after another,
+/// should read them all from one reader.
 #[derive(Drop)]
 pub(crate) struct Reader {
     key: [u8; 32],
@@ -30,8 +30,8 @@ impl Model for Reader {
 }
 
 impl Reader {
-    /// The key's stream from this word on. Nothing is computed before the first read, unless the word stands inside a
-    /// block.
+    /// The key's stream from this word on. Nothing is computed before the first read, unless
+    /// the word is inside a block.
     #[inline]
     pub(crate) fn at(key: &[u8; 32], word: u64) -> Reader
         ensures { result ≡ record { key = key.now; word = word } }
@@ -43,8 +43,8 @@ impl Reader {
         Reader { key: *key, rng }
     }
 
-    /// Writes the next bytes of the stream over all of `buf`. The place then is the first word that was not begun: what
-    /// a last word has over is given up.
+    /// Writes the next bytes of the stream over all of `buf`. The place is then the next whole word: the unused bytes
+    /// of the last word are lost.
     #[inline]
     pub(crate) fn read(&mut self, buf: &mut [u8])
         requires { self.old.word + length buf.old < 2 ^ 66 }

@@ -8,13 +8,13 @@ use crate::reader::Reader;
 
 const BLOCK_WORDS: u64 = 16;
 
-/// Bytes of two blocks, and of the four that a [`Reader`] makes at a time.
+/// The bytes of two blocks, and of the four that a [`Reader`] makes at a time.
 const PAIR_BYTES: usize = 2 * BLOCK_BYTES;
 
 const RUN_BYTES: usize = 4 * BLOCK_BYTES;
 
-/// Writes the keystream of `key` from byte position `from` over all of `buf`. Position and length together are below
-/// 2^40.
+/// Writes the keystream of `key` from byte position `from` over all of `buf`. The position and the length
+/// together are below 2^40.
 pub fn fill(key: &[u8; 32], from: u64, buf: &mut [u8])
     requires { from + length buf.old < 2 ^ 40 }
     ensures { buf.new ≡ keystream key.now from (length buf.old) }
@@ -26,7 +26,7 @@ pub fn fill(key: &[u8; 32], from: u64, buf: &mut [u8])
     fill_from_block(key, next, rest);
 }
 
-// From any position, up to the end of its block.
+// Fills `buf` from any position, up to the end of its block.
 fn fill_in_block(key: &[u8; 32], from: u64, buf: &mut [u8])
     requires { from % 64 + length buf.old ≤ 64 }
     ensures { buf.new ≡ keystream key.now from (length buf.old) }
@@ -37,8 +37,8 @@ fn fill_in_block(key: &[u8; 32], from: u64, buf: &mut [u8])
     }
 }
 
-/// Writes the keystream of `key` from the start of block `first` over all of `buf`: whole runs of four blocks by a
-/// reader, and what is left in pairs, since a reader makes all four even where fewer are wanted.
+/// Writes the keystream of `key` from the start of block `first` over all of `buf`. A reader makes each full run of
+/// four blocks. Pairs of blocks make the rest, since a reader would compute four blocks even if fewer are needed.
 pub(crate) fn fill_from_block(key: &[u8; 32], first: u64, buf: &mut [u8])
     requires { first + length buf.old < 2 ^ 40 }
     ensures { buf.new ≡ keystream key.now (64 * first) (length buf.old) }
@@ -60,7 +60,7 @@ fn fill_by_runs(key: &[u8; 32], first: u64, buf: &mut [u8])
     }
 }
 
-/// Writes the keystream of `key` from the start of block `first` over all of `buf`, which is two blocks or less.
+/// Writes the keystream of `key` from the start of block `first` over all of `buf`, which is at most two blocks.
 fn fill_by_pair(key: &[u8; 32], first: u64, buf: &mut [u8])
     requires near { first < 2 ^ 41 }
     requires short { length buf.old ≤ 128 }

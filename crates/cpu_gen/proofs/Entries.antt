@@ -1,4 +1,4 @@
--- For callers: a CPU's generator goes on along its list entry by entry.
+-- For callers: a CPU's generator along its list, entry by entry.
 use Rattle.std.proofs.Common.{◌≡◌, ℕ, true, false, Option, Some, None, List, refl, ap}
 use Rattle.key_names.specs.declared.entries.CpuEntry.{CpuEntry}
 use Rattle.key_names.specs.declared.entries.CpuEntry.TheVariants.{Read, Int, Irq, Dump, Prepare, Online}
@@ -8,11 +8,11 @@ use Rattle.key_names.specs.KeyInUse.{base_call_value, call_value_or, cpu_value_s
 use Rattle.key_names.specs.Book.{Lists}
 use Rattle.cpu_gen.specs.CpuValue.{CpuValue, erased, refilled, after_entry, cpu_at}
 
--- what the base hands over at a place
+-- the key and the generation that the base hands over at a place
 abbrev pub handed_at : Lists → ℕ → CpuValue
 handed_at lists b = record { key = base_call_value lists b; generation = generation_at lists.base b }
 
--- what is handed to an entry is what the refill that it names hands over
+-- the generator that is handed to an entry is the one that the base hands over in the refill that the entry names
 abbrev pub HandsRefill : Lists → CpuEntry → CpuValue → Type 0
 HandsRefill lists e handed = (place : ℕ) → base_refill_of e ≡ Some place → handed ≡ handed_at lists place
 

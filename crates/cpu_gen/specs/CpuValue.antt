@@ -1,4 +1,4 @@
--- What contracts see of a CPU's generator, and what an entry of the CPU's list makes of it.
+-- What contracts see of a CPU's generator, and how an entry of the CPU's list changes it.
 use Rattle.std.specs.Prelude.{ℕ, true, false, Option, Some, None, List}
 use Rattle.key_names.specs.declared.entries.CpuEntry.{CpuEntry}
 use Rattle.key_names.specs.declared.entries.CpuEntry.TheVariants.{Read, Int, Irq, Dump, Prepare, Online}
@@ -10,7 +10,7 @@ use Rattle.key_names.specs.Book.{Lists}
 pub record CpuValue : Type 0 where
   -- the 32 bytes of the key
   pub key : List ℕ
-  -- that of the base as the key came from there, or 0
+  -- the base's generation when the key came from it, or 0
   pub generation : ℕ
 
 abbrev pub start : CpuValue
@@ -20,16 +20,17 @@ start = record { key = zero_key; generation = 0 }
 abbrev pub erased : CpuValue → CpuValue
 erased c = record c { key = keystream c.key 0 32 }
 
--- the CPU is prepared: its key counts as no generation's
+-- the CPU is prepared: its key belongs to no generation
 abbrev pub prepared : CpuValue → CpuValue
 prepared c = record c { generation = 0 }
 
--- what the base handed over in the refill that is named, or else the generator before
+-- the key and generation that the base handed over in the named refill, or else the generator as it was
 abbrev pub refilled : Option ℕ → CpuValue → CpuValue → CpuValue
 refilled None handed c = c
 refilled (Some place) handed c = handed
 
--- the generator after an entry, given what the base handed over in the refill that the entry names
+-- the generator after an entry, given the key and generation that the base handed over in the
+-- refill that the entry names
 abbrev pub after_entry : CpuEntry → CpuValue → CpuValue → CpuValue
 after_entry (Read look refill taken) handed c = erased (refilled refill handed c)
 after_entry (Int look refill width true) handed c = erased (refilled refill handed c)
@@ -39,7 +40,7 @@ after_entry (Dump now) handed c = c
 after_entry Prepare handed c = prepared c
 after_entry Online handed c = c
 
--- the generator of a CPU whose list is in this state, with the value of its key
+-- the generator of a CPU whose list is in this state, with this value of its key
 abbrev pub cpu_at : CpuState → List ℕ → CpuValue
 cpu_at s value = record { key = value; generation = s.generation }
 

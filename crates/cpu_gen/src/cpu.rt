@@ -11,7 +11,7 @@ use std::marker::Model;
 
 /// One CPU's generator (`struct crng`). Each read erases the key.
 ///
-/// Generation 0 is that of no base: the CPU was never given a key, or it was prepared since.
+/// Generation 0 is no generation of the base: the CPU was never given a key, or it was prepared since.
 #[derive(Drop)]
 pub struct Cpu {
     key: [u8; 32],
@@ -34,22 +34,22 @@ impl Cpu {
         Cpu::with([0; 32], 0)
     }
 
-    /// A CPU with this key of this generation.
+    /// A CPU with this key at this generation.
     pub fn with(key: [u8; 32], generation: u64) -> Cpu
         ensures { result ≡ record { key = key; generation = generation } }
     {
         Cpu { key, generation }
     }
 
-    /// The generation that the base had when the key came from it, or 0.
+    /// The base's generation when the key came from it, or 0.
     pub fn generation(&self) -> u64
         ensures { result ≡ self.now.generation }
     {
         self.generation
     }
 
-    /// Whether the key is not of generation `g`, so that a read at `g` has to refill first. It is for a caller of this
-    /// crate alone: the core compares [`Cpu::generation`], which its entries tell.
+    /// Whether the key is not of generation `g`, so that a read at `g` has to refill first. It is for callers of this
+    /// crate alone: the core compares [`Cpu::generation`], which its entries record.
     pub fn needs(&self, g: u64) -> bool
         ensures { MatchBool result (self.now.generation ≢ g) (self.now.generation ≡ g) }
     {
@@ -63,7 +63,7 @@ impl Cpu {
         *self = Cpu::with(key, g);
     }
 
-    /// Erases the key, and hands out the key of one user's read that is longer than 32 bytes (`get_random_bytes_user`).
+    /// Erases the key, and returns the key of one user's read of more than 32 bytes (`get_random_bytes_user`).
     pub fn call_key(&mut self) -> [u8; 32]
         ensures state { self.new ≡ erased self.old }
         ensures key { result ≡ keystream self.old.key 32 32 }
@@ -71,8 +71,8 @@ impl Cpu {
         derive_key(&mut self.key)
     }
 
-    /// Erases the key, and hands out the first bytes that its block has over, at most 32, and the old key from block 1
-    /// on (`crng_fast_key_erasure`).
+    /// Erases the key (`crng_fast_key_erasure`). Writes the first bytes that the rest of its block has, at most 32, to
+    /// `out`, and returns the old key from block 1 on.
     pub fn front(&mut self, out: &mut [u8]) -> Detached
         requires { length out.old ≤ 32 }
         ensures state { self.new ≡ erased self.old }
@@ -83,8 +83,8 @@ impl Cpu {
         erase(&mut self.key, out)
     }
 
-    /// Fills `buf`, of any number of bytes below 2^40 - 32, for the kernel (`_get_random_bytes`): erases the key, unless
-    /// no byte is wanted. It is [`Cpu::front`] and [`Detached::more`] in one.
+    /// Fills `buf`, of fewer than 2^40 - 32 bytes, for the kernel (`_get_random_bytes`), and erases the key unless
+    /// `buf` is empty. It is [`Cpu::front`] and [`Detached::more`] in one.
     pub fn kernel_read(&mut self, buf: &mut [u8])
         requires { 32 + length buf.old < 2 ^ 40 }
         ensures none { length buf.old ≡ 0 → self.new ≡ self.old }
@@ -96,8 +96,8 @@ impl Cpu {
         }
     }
 
-    /// The CPU is about to come online (`random_prepare_cpu`): its key counts as old by generation 0, the kernel's
-    /// `ULONG_MAX`, and stays until it is replaced.
+    /// The CPU is about to come online (`random_prepare_cpu`): generation 0, the kernel's `ULONG_MAX`, marks its key as
+    /// old. The key stays until it is replaced.
     pub fn prepare(&mut self)
         ensures { self.new ≡ prepared self.old }
     {

@@ -1,4 +1,4 @@
--- Chains of words, and what was rejected, with one more word.
+-- One more word after a chain of words, or after some rejected ones.
 use Rattle.std.proofs.Common.{◌≡◌, ◌≢◌, ◌<◌, ◌+◌, ◌*◌, ◌/◌, ◌%◌, ℕ, List, [], ◌∷◌, ◌++◌, length, refl, subst, sym, ap, ◌∙◌, nat_le, true, false, length-append}
 use Rattle.std.specs.List.{AllByRecursion}
 use Rattle.std.proofs.lemmas.Bool.{ne_eqb}
@@ -13,7 +13,7 @@ all_more : (P : ℕ → Type 0) (rs : List ℕ) (r : ℕ) → AllByRecursion P r
 all_more P [] r a p = (p, a)
 all_more P (x ∷ rs) r a p = (a.0, all_more P rs r a.1 p)
 
--- what a draw keeps while it rejects words
+-- the invariant of a draw while it rejects words
 abbrev pub Rejects : {W : Type 0} → (W → ℕ → W → Type 0) → ℕ → W → List ℕ → W → ℕ → Type 0
 Rejects gives c w rs u n = (length rs ≡ n) × AllByRecursion (IsRejected c) rs × Takes gives w rs u
 

@@ -1,4 +1,4 @@
--- What draws one after another make of the words that they took.
+-- The answers of successive draws from the words that they took.
 use Rattle.std.proofs.Common.{◌≡◌, ◌≢◌, ◌<◌, ◌+◌, ◌-◌, lit<, ℕ, suc, List, [], ◌∷◌, ◌++◌, length, refl, ap, sym, ◌∙◌, arith, append_assoc, append-nil, map, option_map, Option, Some, None, true, false, cond, nat_eq, ⊎_elim, length-append}
 use Rattle.std.specs.List.{AllByRecursion}
 use Rattle.std.proofs.lemmas.Bool.{ne_eqb, cases_eq}
@@ -55,7 +55,7 @@ no_draw : (c : ℕ) → draws_in c 0 0 [] ≡ Some []
 unfolding draws_in
 no_draw c = refl
 
--- behind these answers
+-- after these answers
 pub behind : List ℕ → Option (List (Option ℕ)) → Option (List (Option ℕ))
 behind answers draws = option_map (λ more. map Some answers ++ more) draws
 
@@ -73,12 +73,12 @@ behind_one_more answers answer (Some draws) =
     (sym (append_assoc (map Some answers) (Some answer ∷ []) draws)
     ∙ ap (λ l. l ++ draws) (sym (map-append Some answers (answer ∷ []))))
 
--- m draws made these answers of these words, whatever comes behind them
+-- m draws gave these answers from these words, whatever words follow
 abbrev pub Answered : ℕ → ℕ → List ℕ → List ℕ → Type 0
 Answered c m words answers =
     (n : ℕ) (rest : List ℕ) → draws_in c (m + n) 0 (words ++ rest) ≡ behind answers (draws_in c n 0 rest)
 
--- what a source has given when m draws were answered
+-- the words that a source gave for m answered draws
 abbrev pub IsAnswered : {W : Type 0} → (W → ℕ → W → Type 0) → ℕ → W → W → ℕ → List ℕ → Type 0
 IsAnswered gives c w u m answers =
     (words : List ℕ) × Takes gives w words u × (length answers ≡ m) × Answered c m words answers
@@ -123,7 +123,7 @@ all_answered gives c w u m count answers all had = (
       ∙ ap (λ l. draws_in c (m + 0) 0 l) (sym (append-nil had.0)) ∙ had.3 0 [] ∙ ap (behind answers) (no_draw c),
 )
 
--- the draw behind the answers was spent
+-- the draw after the answers was spent
 pub then_spent : {W : Type 0} (gives : W → ℕ → W → Type 0) (c : ℕ) (w u v : W) (m count : ℕ) (answers : List ℕ)
     (rejected : List ℕ) → m < count → IsAnswered gives c w u m answers → Spends gives c u rejected v →
     (taken : List ℕ) × Takes gives w taken v × (draws_in c count 0 taken ≡ Some (map Some answers ++ None ∷ []))

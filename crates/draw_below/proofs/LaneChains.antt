@@ -1,4 +1,4 @@
--- Words out of the lanes: the source stays over the same pass, and each word was read of what the pass knew.
+-- Words out of the lanes: the source keeps its pass, and each word comes from a call of that pass.
 use Rattle.std.proofs.Common.{ℕ, List, [], ◌∷◌, refl, ap, ◌∙◌, subst}
 use Rattle.lane_table.specs.Calls.{view}
 use Rattle.rng_core.specs.declared.setting.Setting.{Setting}

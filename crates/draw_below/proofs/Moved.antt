@@ -1,10 +1,10 @@
--- Where an item stands after an exchange.
+-- The place of an item after an exchange.
 use Rattle.std.proofs.Common.{◌≡◌, ◌≢◌, ◌<◌, ℕ, List, length, get_or, cond, nat_eq, refl, ap, sym, ◌∙◌, subst, eq-eqb, ⊎_elim}
 use Rattle.std.proofs.lemmas.Bool.{cases_eq, ne_eqb}
 use Rattle.std.proofs.lemmas.List.Edits.{swapped_from_swap}
 use Rattle.std.specs.List.{swap}
 
--- the other of two places, and each place but these two itself
+-- for each of the two places the other one, and any other place itself
 abbrev pub moved : ℕ → ℕ → ℕ → ℕ
 moved a b i = cond (nat_eq i a) b (cond (nat_eq i b) a i)
 
@@ -19,7 +19,7 @@ moved_second a b =
 pub moved_other : (a b i : ℕ) → i ≢ a → i ≢ b → moved a b i ≡ i
 moved_other a b i n m = rw (ne_eqb i a n) (rw (ne_eqb i b m) refl)
 
--- what holds of either place and of each other holds of all
+-- a property of both places and of each other place holds of all
 by_place : (a b i : ℕ) (P : ℕ → Type 0) → P a → P b → (i ≢ a → i ≢ b → P i) → P i
 by_place a b i P first second other =
     ⊎_elim (λ e. subst P (sym e) first) (λ n. ⊎_elim (λ e. subst P (sym e) second) (λ m. other n m) (cases_eq i b))

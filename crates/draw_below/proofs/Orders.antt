@@ -1,4 +1,4 @@
--- Two lists of draws lead to two orders, and no order of different items is left out.
+-- Two lists of draws lead to two orders, and each order of different items has a list of draws.
 use Rattle.std.proofs.Common.{◌≡◌, ◌<◌, ◌≤◌, ◌-◌, ℕ, zero, suc, List, [], ◌∷◌, length, get_or, refl, ap, sym, ◌∙◌, subst, arith, ⊎_elim}
 use Rattle.std.specs.List.{swap}
 use Rattle.std.specs.List.Sorted.{IsPermutation}
@@ -20,7 +20,7 @@ different_swap xs a b p q apart i j h k same =
     (sym (get_moved xs a b i p q) ∙ same ∙ get_moved xs a b j p q) in
     sym (moved_back a b i) ∙ ap (moved a b) one ∙ moved_back a b j
 
--- behind the places that are drawn for nothing moves
+-- places above those of the draws do not change
 untouched : (last : ℕ) (ds xs : List ℕ) (k : ℕ) → last < k → k < length xs → AreDraws last ds →
     get_or (exchanged last ds xs) k 0 ≡ get_or xs k 0
 untouched last [] xs k above low drawn = refl
@@ -30,7 +30,7 @@ untouched last (d ∷ ds) xs k above low drawn =
     ∙ get_moved xs last d k (omega arith) (omega (arith, drawn.0))
     ∙ ap (λ m. get_or xs m 0) (moved_other last d k (omega arith) (omega (arith, drawn.0)))
 
--- the last place is done by its own draw
+-- its own draw determines the last place
 last_item : (last d : ℕ) (ds xs : List ℕ) → 0 < last → last < length xs → AreDraws last (d ∷ ds) →
     get_or (exchanged last (d ∷ ds) xs) last 0 ≡ get_or xs d 0
 last_item last d ds xs some low drawn =
@@ -39,7 +39,7 @@ last_item last d ds xs some low drawn =
     ∙ get_moved xs last d last low (omega (arith, drawn.0))
     ∙ ap (λ m. get_or xs m 0) (moved_first last d)
 
--- lists of draws that make the same are the same
+-- lists of draws with the same result are equal
 one_list : (last : ℕ) (xs ds es : List ℕ) → AreDifferent xs → last < length xs → length ds ≤ last →
     length ds ≡ length es → AreDraws last ds → AreDraws last es → exchanged last ds xs ≡ exchanged last es xs → ds ≡ es
 one_list last xs [] [] apart low short n p q same = refl
@@ -59,15 +59,15 @@ one_list last xs (d ∷ ds) (e ∷ es) apart low short n p q same =
     (one_list (last - 1) (swap xs last d) ds es (different_swap xs last d low d_low apart) (omega arith) (omega arith)
     (omega arith) p.1 q.1 again)
 
--- each item of ys stands in xs
+-- each item of ys is in xs
 abbrev Covers : List ℕ → List ℕ → Type 0
 Covers xs ys = (k : ℕ) → k < length ys → (p : ℕ) × (p < length xs) × (get_or xs p 0 ≡ get_or ys k 0)
 
--- behind a place the two are the same
+-- the two lists agree above a place
 abbrev AgreeBehind : ℕ → List ℕ → List ℕ → Type 0
 AgreeBehind last xs ys = (k : ℕ) → last < k → k < length xs → get_or xs k 0 ≡ get_or ys k 0
 
--- where the item of ys at a place stands in xs, where they are the same behind it
+-- the place in xs of an item of ys, if the lists agree above the item's own place
 place_of : (last : ℕ) (xs ys : List ℕ) → last < length xs → length xs ≡ length ys → AreDifferent ys → Covers xs ys →
     AgreeBehind last xs ys → (p : ℕ) × (p ≤ last) × (get_or xs p 0 ≡ get_or ys last 0)
 place_of last xs ys low n apart covers agree =
@@ -124,7 +124,7 @@ some_draws (suc last) xs ys low n apart covers agree =
       subst (λ z. exchanged z rest.0 swapped ≡ ys) before rest.3,
     )
 
--- the draws that make an order of a list with an item
+-- the draws for an order of a list that is not empty
 ends : (xs ys : List ℕ) → 0 < length xs → AreDifferent xs → IsPermutation xs ys →
     (ds : List ℕ) × Makes xs ds ys
 ends xs ys some apart order =

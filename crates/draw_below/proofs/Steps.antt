@@ -1,4 +1,4 @@
--- What a shuffle keeps from one draw to the next.
+-- The invariant of a shuffle from one draw to the next.
 use Rattle.std.proofs.Common.{◌≡◌, ◌<◌, ◌≤◌, ◌+◌, ◌-◌, ◌*◌, ◌%◌, ℕ, List, [], ◌∷◌, ◌++◌, length, refl, ap, sym, ◌∙◌, subst, arith, length-append, true≢false}
 use Rattle.std.specs.List.{AllByRecursion, swap}
 use Rattle.std.specs.List.Sorted.{IsPermutation}
@@ -31,13 +31,13 @@ exchanged_more last (e ∷ ds) d xs =
     exchanged_more (last - 1) ds d (swap xs last e)
     ∙ ap (λ n. swap (exchanged (last - 1) ds (swap xs last e)) n d) (omega arith)
 
--- below 2 every word is accepted
+-- for the bound 2 every word is accepted
 none_rejected : (rs : List ℕ) → AllByRecursion (IsRejected 2) rs → rs ≡ []
 none_rejected [] all = refl
 none_rejected (r ∷ rs) all = absurd (true≢false (sym (leb-zero (2 * r % 4294967296)) ∙ all.0))
 
--- what a shuffle keeps: the draws so far, one fewer than the number of the next, and that the last of them rejected these
--- words
+-- the invariant of a shuffle: the draws so far, one fewer than the number of the next, and the words that the last
+-- of them rejected
 abbrev pub IsSoFar : {W : Type 0} → (W → ℕ → W → Type 0) → List ℕ → W → List ℕ → W → List ℕ → ℕ → Type 0
 IsSoFar gives before w now u rejected done =
     (ds : List ℕ) × (length ds + 1 ≡ done) × (length ds ≤ length before - 1) × Shuffles gives before w ds now u

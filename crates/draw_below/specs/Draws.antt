@@ -1,4 +1,4 @@
--- Which words a draw accepts, what it answers, and how often each answer comes.
+-- The words that a draw accepts, its answer, and how often each answer comes.
 use Rattle.std.specs.Prelude.{◌≡◌, ◌<◌, ◌≤◌, ◌==◌, ◌+◌, ◌-◌, ◌*◌, ◌/◌, ◌%◌, ◌^◌, ℕ, zero, suc, Bool, true, false, List, [], ◌∷◌, ◌++◌, if◌then◌else◌, nat_le, length, Result, Ok, Err}
 use Rattle.std.specs.List.{AllByRecursion}
 use Rattle.draw_below.specs.declared.draws.DrawSpent.{DrawSpent}
@@ -7,20 +7,20 @@ use Rattle.draw_below.specs.declared.draws.DrawSpent.{DrawSpent}
 abbrev pub accepts : ℕ → ℕ → Bool
 accepts c r = if c == 0 then true else nat_le (2 ^ 32 % c) (c * r % 2 ^ 32)
 
--- what the word r gives for the bound c
+-- the value of the word r for the bound c
 abbrev pub value_of : ℕ → ℕ → ℕ
 value_of c r = if c == 0 then r else c * r / 2 ^ 32
 
--- whether the word r is accepted for the bound c, and gives the value v
+-- whether the word r is accepted for the bound c, with the value v
 abbrev pub gives_value : ℕ → ℕ → ℕ → Bool
 gives_value c v r = if accepts c r then value_of c r == v else false
 
--- how many of the words 0, 1, .. below n are accepted for the bound c and give the value v
+-- how many of the words 0, 1, .. below n are accepted for the bound c with the value v
 unfoldable pub count : ℕ → ℕ → ℕ → ℕ
 count c v zero = 0
 count c v (suc r) = count c v r + (if gives_value c v r then 1 else 0)
 
--- every value below the bound has equally many accepted words of 32 bits: as many as the bound goes into 2^32
+-- each value below the bound has the same number of accepted 32-bit words: 2^32 divided by the bound, rounded down
 abbrev pub EachValueIsAsLikely : Type 0
 EachValueIsAsLikely = (c v : ℕ) → v < c → c < 2 ^ 32 → count c v (2 ^ 32) ≡ 2 ^ 32 / c
 
@@ -32,7 +32,7 @@ abbrev pub Takes : {W : Type 0} → (W → ℕ → W → Type 0) → W → List 
 Takes gives w [] u = w ≡ u
 Takes {W} gives w (r ∷ rs) u = (v : W) × gives w r v × Takes gives v rs u
 
--- a draw took the words that it rejected, fewer than 128, and then the first that it accepts, and answered its value
+-- a draw took fewer than 128 words that it rejected, then the first that it accepts, and returned that word's value
 pub record Draws {W : Type 0} (gives : W → ℕ → W → Type 0) (c : ℕ) (w : W) (rejected : List ℕ) (answer : ℕ) (u : W)
     : Type 0 where
   pub few : length rejected < 128
@@ -43,18 +43,18 @@ pub record Draws {W : Type 0} (gives : W → ℕ → W → Type 0) (c : ℕ) (w 
   pub takes : Takes gives w (rejected ++ word ∷ []) u
   pub answers : answer ≡ value_of c word
 
--- a draw took 128 words, and rejected them all
+-- a draw took 128 words, and rejected all of them
 pub record Spends {W : Type 0} (gives : W → ℕ → W → Type 0) (c : ℕ) (w : W) (rejected : List ℕ) (u : W) : Type 0 where
   pub all : length rejected ≡ 128
   pub rejects : AllByRecursion (IsRejected c) rejected
   pub takes : Takes gives w rejected u
 
--- how a draw below c ended
+-- the end of a draw below c
 abbrev pub IsDraw : {W : Type 0} → (W → ℕ → W → Type 0) → ℕ → W → List ℕ → Result ℕ DrawSpent → W → Type 0
 IsDraw gives c w rejected (Ok answer) u = Draws gives c w rejected answer u
 IsDraw gives c w rejected (Err spent) u = Spends gives c w rejected u
 
--- how a draw among n numbers from lo on ended; c is n, or 0 where n is 2^32
+-- the end of a draw among n numbers from lo on; c is n, or 0 if n is 2^32
 abbrev pub IsDrawFrom : {W : Type 0} → (W → ℕ → W → Type 0) → ℕ → ℕ → W → List ℕ → Result ℕ DrawSpent → W → Type 0
 IsDrawFrom gives lo n w rejected (Ok answer) u =
     (lo ≤ answer) × (answer < lo + n) × Draws gives (n % 2 ^ 32) w rejected (answer - lo) u

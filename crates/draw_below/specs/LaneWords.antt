@@ -1,4 +1,4 @@
--- Words that are integers of the core.
+-- Integers of the core as words.
 use Rattle.std.specs.Prelude.{◌≡◌, ℕ, List, []}
 use Rattle.std.specs.Int.{from_le_bytes, w32}
 use Rattle.key_names.specs.declared.names.Step.{Step}
@@ -12,7 +12,7 @@ use Rattle.rng_core.specs.Traces.{knowing}
 use Rattle.rng_core.specs.Makes.{Makes, IsOutcomeOf, setting_of}
 use Rattle.draw_below.specs.declared.lane_words.LaneWords.{LaneWords}
 
--- an integer of 4 bytes was read in a call with a trace of its own, and the word is its bytes, the lowest first
+-- a call with its own trace read an integer of 4 bytes, and the word is its bytes, the lowest first
 pub record ReadsWord (set : Setting) (before : View) (word : ℕ) (after : View) : Type 0 where
   pub bytes : List ℕ
   pub steps : List Step
@@ -20,7 +20,7 @@ pub record ReadsWord (set : Setting) (before : View) (word : ℕ) (after : View)
       (knowing before []) (knowing after steps)
   pub word_is : word ≡ from_le_bytes w32 bytes
 
--- it is over the same lanes, with the same pass and setting
+-- the source has the same lanes, pass and setting
 pub record SameSource (before after : LaneWords) : Type 0 where
   pub lanes : after.lanes.now ≡ before.lanes.now
   pub pass : after.pass.ghost_name ≡ before.pass.ghost_name

@@ -1,17 +1,17 @@
--- What a shuffle makes of a list.
+-- The effect of a shuffle on a list.
 use Rattle.std.specs.Prelude.{◌≡◌, ◌<◌, ◌≤◌, ◌+◌, ◌-◌, ℕ, List, [], ◌∷◌, length, slice_index, Result, Ok, Err}
 use Rattle.std.specs.List.{swap}
 use Rattle.std.specs.List.Sorted.{IsPermutation}
 use Rattle.draw_below.specs.declared.draws.DrawSpent.{DrawSpent}
 use Rattle.draw_below.specs.Draws.{Draws, Spends}
 
--- the item at `last` was exchanged with the item at the first number, the item before it with that at the next, and so
--- on
+-- the item at `last` was exchanged with the item at the first number, the item before it with that at the next
+-- number, and so on
 abbrev pub exchanged : ℕ → List ℕ → List ℕ → List ℕ
 exchanged last [] items = items
 exchanged last (d ∷ ds) items = exchanged (last - 1) ds (swap items last d)
 
--- numbers that can be drawn for the places last, last - 1, ..: none is above its place
+-- numbers that can be drawn for the places last, last - 1, ..: each is at most its place
 abbrev pub AreDraws : ℕ → List ℕ → Type 0
 AreDraws last [] = Unit {0}
 AreDraws last (d ∷ ds) = (d ≤ last) × AreDraws (last - 1) ds
@@ -22,15 +22,15 @@ DrawsEach gives last w [] u = w ≡ u
 DrawsEach {W} gives last w (d ∷ ds) u =
     (v : W) × (rejected : List ℕ) × Draws gives (last + 1) w rejected d v × DrawsEach gives (last - 1) v ds u
 
--- a shuffle went so far: numbers were drawn for the last places, and their items exchanged
+-- a shuffle up to some place: numbers were drawn for the last places, and their items exchanged
 pub record Shuffles {W : Type 0} (gives : W → ℕ → W → Type 0) (before : List ℕ) (w : W) (draws : List ℕ)
     (after : List ℕ) (u : W) : Type 0 where
   pub drawn : DrawsEach gives (length before - 1) w draws u
   pub none_above : AreDraws (length before - 1) draws
   pub exchanges : after ≡ exchanged (length before - 1) draws before
 
--- how a shuffle ended: with a draw for each place but the first, the last of which rejects nothing, or behind some draws
--- with one that was spent
+-- the end of a shuffle: each place but the first had a draw, and the last draw rejected no word; or a draw was spent
+-- after some draws
 abbrev pub IsShuffle : {W : Type 0} → (W → ℕ → W → Type 0) → List ℕ → W → List ℕ → Result (Unit {0}) DrawSpent →
     List ℕ → W → Type 0
 IsShuffle gives before w rejected (Ok done) after u =
@@ -44,12 +44,12 @@ abbrev pub AreDifferent : List ℕ → Type 0
 AreDifferent items =
     (i j : ℕ) → i < length items → j < length items → slice_index items i ≡ slice_index items j → i ≡ j
 
--- these draws make one list of the other
+-- these draws turn the first list into the other
 abbrev pub Makes : List ℕ → List ℕ → List ℕ → Type 0
 Makes before draws after = (length draws ≡ length before - 1) × AreDraws (length before - 1) draws
     × (exchanged (length before - 1) draws before ≡ after)
 
--- to each order of different items leads one list of draws, and no other
+-- each order of different items has exactly one list of draws
 abbrev pub EachOrderHasItsDraws : Type 0
 EachOrderHasItsDraws = (items order : List ℕ) → AreDifferent items → IsPermutation items order →
     (draws : List ℕ) × Makes items draws order × ((others : List ℕ) → Makes items others order → others ≡ draws)

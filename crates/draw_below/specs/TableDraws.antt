@@ -1,4 +1,4 @@
--- Draws of one caller on a new table, behind its first sample.
+-- Draws of one caller on a new table, after its first sample.
 use Rattle.std.specs.Prelude.{◌≡◌, ◌==◌, ◌++◌, ℕ, zero, suc, List, [], ◌∷◌, Option, Some, None, if◌then◌else◌, map, option_map, length}
 use Rattle.std.specs.List.{flat_map, range_with_len}
 use Rattle.std.specs.Int.{from_le_bytes, w32}
@@ -16,14 +16,14 @@ use Rattle.rng_core.specs.Settings.{first_setting}
 use Rattle.draw_below.specs.Draws.{accepts, value_of}
 use Rattle.draw_below.specs.declared.table_draws.Drawn.{Drawn}
 
--- a draw that is spent is the last, and no word is left
+-- a spent draw is the last, and no word is left
 abbrev pub spent_before : List ℕ → Option (List (Option ℕ))
 spent_before [] = Some (None ∷ [])
 spent_before (r ∷ rs) = None
 
--- what n draws below c make of these words, of which the first `tried` words of the first draw were rejected already:
--- each draw its answer, or none where it was spent, which is then the last; nothing where the words are too few for so
--- many draws, or one is left over
+-- the results of n draws below c from these words, after the first draw rejected `tried` words already: each draw
+-- has its answer, or `None` if it was spent, and then it is the last. The whole is `None` if there are too few words
+-- for n draws, or if a word is left over
 unfoldable pub draws_in : ℕ → ℕ → ℕ → List ℕ → Option (List (Option ℕ))
 draws_in c n tried [] = if n == 0 then Some [] else None
 draws_in c zero tried (r ∷ rs) = None
@@ -31,12 +31,12 @@ draws_in c (suc n) tried (r ∷ rs) =
     if accepts c r then option_map (λ draws. Some (value_of c r) ∷ draws) (draws_in c n 0 rs)
     else (if tried == 127 then spent_before rs else draws_in c (suc n) (suc tried) rs)
 
--- how the draws ended
+-- the results of the draws
 abbrev pub ends_of : Drawn → List (Option ℕ)
 ends_of drawn = map Some drawn.answers.items ++ (if drawn.spent then None ∷ [] else [])
 
--- in these lists the steps are those of a call that read an integer of 4 bytes, and the word is its bytes, the lowest
--- first
+-- in these lists the steps are those of a call that read an integer of 4 bytes, and the word is its bytes, the
+-- lowest first
 pub record IsWordCall (lists : Lists) (word : ℕ) (steps : List Step) : Type 0 where
   pub bytes : List ℕ
   pub fulfils : IsOutcomeOf (setting_of (first_setting 0)) Int32 Done (bytes_or_none bytes) (deeds_of lists steps)
@@ -49,12 +49,12 @@ AreWordCalls lists [] (steps ∷ calls) = ⊥
 AreWordCalls lists (word ∷ words) [] = ⊥
 AreWordCalls lists (word ∷ words) (steps ∷ calls) = IsWordCall lists word steps × AreWordCalls lists words calls
 
--- the visits that these calls made, each call with steps of its own
+-- the visits of these calls, with the steps of each numbered from 0
 abbrev pub marks_of : List (List Step) → List MarkBy
 marks_of calls = flat_map (marks_from 0 0 0) calls
 
--- the visits of a lawful and disjoint book of one CPU are those of one `add`, which makes the core ready, and then of an
--- integer read for each word, in order; it has no others
+-- a lawful and disjoint book of one CPU has exactly these visits: those of one `add`, which makes the core ready,
+-- and then those of an integer read for each word, in order
 pub record AreTableWords (words : List ℕ) : Type 0 where
   pub book : Book
   pub cpus : length book.cpus ≡ 1
@@ -69,7 +69,7 @@ pub record AreTableWords (words : List ℕ) : Type 0 where
   pub last : ℕ
   pub in_order : Climbs 0 (map (λ by. by.mark.stamp) (marks_of (added ∷ reads))) last
 
--- the draws are what n draws below c make of such words, all of them
+-- the draws are the results of n draws below c from such words, which they use up
 pub record AreTableDraws (c n : ℕ) (draws : List (Option ℕ)) : Type 0 where
   pub words : List ℕ
   pub table : AreTableWords words

@@ -1,4 +1,4 @@
-//! A number below a bound, each as likely as every other.
+//! A number below a bound, each with the same probability.
 ghost use Rattle.std.specs.Prelude.{◌≡◌, ◌<◌, ◌≤◌, ◌+◌, ◌-◌, ◌%◌, ◌^◌, nat_le, IfOk};
 ghost use Rattle.draw_below.specs.Draws.{IsDraw, IsDrawFrom};
 
@@ -6,14 +6,14 @@ use crate::rejected::{MOST_REJECTED, Rejected};
 use crate::words::Words;
 use std::sync::Wait;
 
-/// How many words of 32 bits there are.
+/// The number of 32-bit words.
 const WORDS: u64 = 1 << 32;
 
-/// The first 128 words of a draw were all rejected.
+/// A draw rejected its first 128 words.
 #[derive(Clone, Copy, Debug, PartialEq, Eq)]
 pub struct DrawSpent;
 
-// Whether the word with this product is accepted. The division is made only where the low bits are below the bound.
+// Whether the word with this product is accepted. It divides only if the low bits are below the bound.
 fn is_accepted(c: u32, low: u32) -> bool
     requires { 0 < c }
     ensures { result ≡ nat_le (2 ^ 32 % c) low }
@@ -21,16 +21,15 @@ fn is_accepted(c: u32, low: u32) -> bool
     low >= c || low >= c.wrapping_neg() % c
 }
 
-/// A number below `c`, and each as likely as every other where every word is, as `__get_random_u32_below` of the
-/// kernel's drivers/char/random.c makes it; for `c` 0 the next word itself.
+/// A number below `c`, as `__get_random_u32_below` of the kernel's drivers/char/random.c makes it. Each number is as
+/// likely as any other if each word is. For `c` 0 the result is the next word itself.
 ///
-/// A word times `c` has 64 bits. Their high half is the answer, and their low half says whether the word is accepted:
-/// it is where that half is no less than 2^32 mod `c`. `rejected` then holds the words that were taken before the
-/// accepted one.
+/// A word times `c` has 64 bits. The high half is the result. The word is accepted if and only if the low half is at
+/// least 2^32 mod `c`. `rejected` then holds the words that were taken before the accepted one.
 ///
 /// # Errors
 ///
-/// The first 128 words were all rejected. `rejected` then holds them. The kernel draws on.
+/// The draw rejected its first 128 words. `rejected` then holds them. The kernel goes on drawing.
 pub fn below<W: Words, R: Wait>(
     rt: &R,
     words: &mut W,

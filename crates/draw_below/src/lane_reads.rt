@@ -1,4 +1,4 @@
-//! How a word is read of the core.
+//! The read of a word from the core.
 ghost use Rattle.draw_below.specs.LaneWords.{GivesInt};
 
 use crate::lane_words::LaneWords;

@@ -1,11 +1,11 @@
-//! Numbers below a bound out of 32-bit words, each as likely as every other where every word is, as the kernel's
-//! `__get_random_u32_below` (drivers/char/random.c) makes them.
+//! Numbers below a bound from 32-bit words, made as the kernel's `__get_random_u32_below` (drivers/char/random.c)
+//! makes them. Each number is as likely as any other if each word is.
 //!
-//! [`below`] answers the value of the first word that it accepts, and takes the words up to it and no more. [`between`]
-//! and [`shuffle`] are made of such draws. The words come out of a list, or are the integers that a caller reads by the
-//! calls of `rng_core`: [`Words`] says what a source is. [`laws`] has why this is fair: each value has as many accepted
-//! words as each other, and to each order of different items leads one list of draws alone. That words are random is
-//! not claimed. No call takes memory, but for the table of [`draw_on_new_table`].
+//! [`below`] returns the value of the first word that it accepts, and takes no word after it. [`between`] and
+//! [`shuffle`] are made of such draws. The words come out of a list, or are the integers that a caller reads by the
+//! calls of `rng_core`; the trait [`Words`] defines a source. [`laws`] proves that this is fair: each value has the
+//! same number of accepted words, and each order of different items has exactly one list of draws. Not claimed: that
+//! words are random. Only [`draw_on_new_table`] allocates, for its table.
 #![tactic(auto)]
 
 pub mod draws;

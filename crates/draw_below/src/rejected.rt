@@ -3,7 +3,7 @@ ghost use Rattle.std.specs.Prelude.{◌≡◌, ◌<◌, ◌++◌, ◌∷◌, [],
 
 use std::marker::Model;
 
-/// The most words that one draw rejects.
+/// The most words that one draw can reject.
 pub const MOST_REJECTED: u32 = 128;
 
 /// The words that a draw rejected, in order: at most 128.
@@ -34,7 +34,7 @@ impl Rejected {
         }
     }
 
-    /// How many words there are.
+    /// The number of words.
     pub fn len(&self) -> u32
         ensures { result ≡ length self.now }
     {

@@ -1,4 +1,4 @@
-//! Lists in an order that is as likely as every other.
+//! Lists in an order that is as likely as any other.
 ghost use Rattle.std.specs.Prelude.{◌≡◌, ◌≤◌, ◌^◌, length};
 ghost use Rattle.std.specs.List.Sorted.{IsPermutation};
 ghost use Rattle.draw_below.specs.Orders.{IsShuffle};
@@ -8,14 +8,15 @@ use crate::rejected::Rejected;
 use crate::words::Words;
 use std::sync::Wait;
 
-/// Puts a list of at most 65,536 items into an order, each order as likely as every other, where every word is.
+/// Puts a list of at most 65,536 items into an order. Each order is as likely as any other if each word is.
 ///
-/// From the last place down to the second, a number up to the place is drawn, and the place's item is exchanged with
-/// the item at that number. `rejected` is empty then, since the last of these draws, which is below 2, rejects no word.
+/// For each place from the last down to the second, it draws a number up to the place, and exchanges the place's
+/// item with the item at that number. `rejected` is empty after success, since the last of these draws has the bound
+/// 2 and rejects no word.
 ///
 /// # Errors
 ///
-/// A draw was spent: `rejected` then holds its 128 words. The exchanges that were made stand.
+/// A draw was spent: `rejected` then holds its 128 words. The exchanges made before it stay.
 pub fn shuffle<W: Words, R: Wait>(
     rt: &R,
     words: &mut W,

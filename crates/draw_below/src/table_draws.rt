@@ -1,4 +1,4 @@
-//! Draws below one bound, one after another, and those of a caller on a new table.
+//! Successive draws below one bound, and those of a caller on a new table.
 ghost use Rattle.std.specs.Prelude.{◌≡◌, ◌^◌, ◌<◌, ◌≤◌, ℕ, [], List, Some, IfOk};
 ghost use Rattle.lane_table.specs.Calls.{view};
 ghost use Rattle.lane_table.specs.Hands.{HoldsLanes};
@@ -19,15 +19,15 @@ use std::sync::Wait;
 /// The most draws of one [`draw_each`].
 pub const MOST_DRAWS: usize = 1000;
 
-/// The answers of some draws in order, and whether the draw behind the last of them was spent.
+/// The answers of some draws in order, and whether the draw after the last of them was spent.
 #[derive(Drop)]
 pub struct Drawn {
     pub answers: ArrayVec<u32, MOST_DRAWS>,
     pub spent: bool,
 }
 
-/// Draws so many numbers below `c`, at most 1,000; for `c` 0 the words themselves are the numbers. It stops at a draw that
-/// is spent.
+/// Draws `count` numbers below `c`, at most 1,000; for `c` 0 the words themselves are the numbers. It stops at a
+/// spent draw.
 pub fn draw_each<W: Words, R: Wait>(rt: &R, words: &mut W, c: u32, count: u32) -> Drawn
     requires { count ≤ 1000 }
     ensures { (taken : List ℕ) × Takes W.gives words.old taken words.new
@@ -52,7 +52,7 @@ pub fn draw_each<W: Words, R: Wait>(rt: &R, words: &mut W, c: u32, count: u32) -
     }
 }
 
-// The same out of the words that a pass reads.
+// The same from the words that a pass reads.
 fn draw_from<R: Wait>(rt: &R, words: &mut LaneWords<'_>, c: u32, count: u32) -> Drawn
     requires { count ≤ 1000 }
     ensures source { SameSource words.old words.new }
@@ -82,14 +82,14 @@ fn draw_by_pass<R: Wait>(
     draw_from(rt, &mut words, c, count)
 }
 
-/// Makes a core with one CPU ready by a first sample, 32 bytes that count up from 0 and are credited with 256 bits.
-/// Then it draws so many numbers below `c`, at most 1,000, out of the integers of 4 bytes that caller 0 reads; for `c` 0
-/// these themselves are the numbers. It stops at a draw that is spent. All calls have CPU 0, the moment 0 and hardware
-/// words 0.
+/// Makes a core with one CPU ready by a first sample, 32 bytes that count up from 0 with a credit of 256 bits. Then
+/// it draws `count` numbers below `c`, at most 1,000, from the integers of 4 bytes that caller 0 reads; for `c` 0
+/// these themselves are the numbers. It stops at a spent draw. All calls have CPU 0, the moment 0 and hardware words
+/// 0.
 ///
 /// # Errors
 ///
-/// There is no memory for the table. Nothing else takes any.
+/// Memory for the table ran out. The call allocates no other memory.
 pub fn draw_on_new_table<R: Wait>(
     rt: &R,
     alloc: Global,

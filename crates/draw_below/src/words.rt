@@ -1,4 +1,4 @@
-//! Where the words of draws come from.
+//! Sources of words for draws.
 ghost use Rattle.std.specs.Prelude.{◌≡◌, ℕ, slice_index, drop};
 
 use std::marker::Model;
@@ -6,7 +6,7 @@ use std::sync::Wait;
 
 /// A source of 32-bit words.
 pub trait Words {
-    /// The source gives a word: the source before the call, the word, and the source after it.
+    /// The relation of a call of `next`: the source before it, the word, and the source after it.
     ghost gives: { Self → ℕ → Self → Type 0 };
 
     /// The next word.

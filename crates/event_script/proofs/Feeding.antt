@@ -1,4 +1,4 @@
--- A text that is fed piece by piece.
+-- A text that is read piece by piece.
 use Rattle.std.proofs.Common.{◌≡◌, ℕ, ◌+◌, ◌<◌, ◌≤◌, true, false, ltb, length, arith, ◌==◌, List, [], ◌∷◌, ◌++◌, append_assoc, append-nil, refl, sym, ap, subst, ◌∙◌, inl, inr, Err}
 use Rattle.std.proofs.lemmas.Bool.{cases_lt, le-ltb, lt-ltb}
 use Rattle.std.proofs.lemmas.List.{length-append}
@@ -22,7 +22,7 @@ behind_is_whole lines end b whole cut =
     rest_is_whole lines whole (omega (arith, ap length (cut_joins lines end b cut), length-append end (10 ∷ b))) b
     (sym (ap behind cut))
 
--- the bytes of the first line, and those behind it
+-- the bytes of the first line, and those after it
 regroup : (rest lines end b more : List ℕ) → lines ≡ end ++ 10 ∷ b
     → rest ++ (lines ++ more) ≡ ((rest ++ end) ++ 10 ∷ []) ++ (b ++ more)
 regroup rest lines end b more is =
@@ -31,7 +31,7 @@ regroup rest lines end b more is =
     ∙ sym (append_assoc rest end (10 ∷ (b ++ more)))
     ∙ sym (append_assoc (rest ++ end) (10 ∷ []) (b ++ more))
 
--- a line was read whose front the reader had, and whole lines behind it
+-- the reader had the start of the first line; it reads the rest of that line, and whole lines after it
 pub lines_read : (text lines end b more line : List ℕ) (r next : Reader) (mid : Stage)
     → parts 10 lines ≡ end ∷ parts 10 b → line ≡ (r.rest.items ++ end) ++ 10 ∷ [] → next.rest.items ≡ []
     → LeadsTo r.stage line mid [] → LeadsTo mid b next.stage []
@@ -85,7 +85,7 @@ is_over text piece r fed many = elim (cases_lt 16777216 (length text)) [
 
 -- ---- one piece
 
--- more text is there, of which nothing was read
+-- there is more text, and none of it is read yet
 piece_begins : (text piece : List ℕ) (r : Reader) → IsBehind text r [] → IsBehind (text ++ piece) r piece
 piece_begins text piece r at = record {
   same = λ later. ap (λ x. script_of_lines (parts 10 x)) (append_assoc text piece later) ∙ at.same (piece ++ later);
@@ -93,7 +93,7 @@ piece_begins text piece r at = record {
   number = omega (arith, at.number, length-append text piece);
 }
 
--- what is left is the front of a line
+-- the rest is the start of a line
 front_kept : (text front : List ℕ) (r next : Reader) → IsBehind text r front → Lacks 10 front → next.stage ≡ r.stage
     → next.rest.items ≡ r.rest.items ++ front → IsBehind text next []
 front_kept text front r next at clean same rest = record {
@@ -106,7 +106,7 @@ front_kept text front r next at clean same rest = record {
   number = omega (arith, at.number, ap number_of same, ap length rest, length-append r.rest.items front);
 }
 
--- IsBehind is of the stage and the rest alone
+-- IsBehind depends on the stage and the rest alone
 same_place : (text unread : List ℕ) (r next : Reader) → next.stage ≡ r.stage → next.rest.items ≡ r.rest.items
     → IsBehind text r unread → IsBehind text next unread
 same_place text unread r next stage rest at = record {
@@ -115,7 +115,7 @@ same_place text unread r next stage rest at = record {
   number = rw (stage, rest) at.number;
 }
 
--- a piece of a text that is not too long was read
+-- a piece was read, and the text is not too long
 pub piece_read : (text piece lines front : List ℕ) (r begun read next : Reader) → HasFed text r
     → length text + length piece ≤ 16777216 → piece ≡ lines ++ front → Lacks 10 front
     → begun.stage ≡ r.stage → begun.rest.items ≡ r.rest.items
@@ -135,7 +135,7 @@ piece_read text piece lines front r begun read next fed short is clean stage res
           clean same kept;
     }
 
--- of a text that is too long no more is read
+-- nothing more is read of a text that is too long
 pub too_long_now : (text piece : List ℕ) (r next : Reader) → HasFed text r → 16777216 < length text + length piece
     → 16777216 < next.len → HasFed (text ++ piece) next
 too_long_now text piece r next fed many long =

@@ -1,4 +1,4 @@
--- The first line of a text, and the script that goes on with it.
+-- The first line of a text, and how the script goes on after it.
 use Rattle.std.proofs.Common.{◌≡◌, ℕ, ◌+◌, ◌<◌, length, arith, true, false, Ok, Err, List, [], ◌∷◌, refl, sym, ap, ◌∙◌}
 use Rattle.std.specs.List.{join_with_byte, list_any}
 use Rattle.std.proofs.lemmas.List.Splits.{join_with_byte-slice_split}
@@ -23,7 +23,7 @@ unfolding script_from
 one_step d n [] some = absurd (let e = some.is in cc)
 one_step d n (line ∷ more) some = refl
 
--- what the first line makes of the script that goes on with a text
+-- the first line is added, and the script goes on with the other lines
 pub step_of : (d : Draft) (n : ℕ) (text : List ℕ)
     → script_from d n (parts 10 text)
     ≡ (at_line n (line_of (parts 10 text) >>= behind_line d) >>= by_next
@@ -39,14 +39,14 @@ not_alone n ((b ∷ tail) ∷ []) not = refl
 not_alone n ([] ∷ next ∷ more) not = refl
 not_alone n ((b ∷ tail) ∷ next ∷ more) not = refl
 
--- some text behind the end is at fault
+-- any text after the end has a fault
 pub more_behind : (n : ℕ) (text : List ℕ) → 0 < length text → nothing_behind n (parts 10 text) ≡
     at_line n (line_of (parts 10 text) >>= λ line. Err UnknownWord)
 more_behind n text some =
     not_alone n (parts 10 text) (λ e. omega
     (arith, ap length (sym (join_with_byte-slice_split 10 text) ∙ ap (join_with_byte 10) e)))
 
--- ---- what the first line makes of the whole
+-- ---- the first line determines the whole
 
 pub goes_on : (d later : Draft) (n : ℕ) (text rest : List ℕ) → behind_first d (parts 10 text) ≡ Ok (GoesOn later)
     → parts 10 rest ≡ behind (parts 10 text) → script_from d n (parts 10 text) ≡ script_from later (n + 1)

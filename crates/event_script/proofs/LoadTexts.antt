@@ -1,4 +1,4 @@
--- How long the text of a script is whose events are short.
+-- The text of a script with short events is short.
 use Rattle.std.proofs.Common.{◌≡◌, ℕ, suc, ◌+◌, ◌*◌, ◌≤◌, List, [], ◌∷◌, ◌++◌, length, map, ap, arith}
 use Rattle.std.specs.List.{AllByRecursion}
 use Rattle.std.specs.Prelude.{codes, decimal, sum_by}
@@ -11,7 +11,7 @@ use Rattle.key_names.specs.Texts.ScriptGrammar.{Script, block_lines, event_field
 use Rattle.key_names.specs.Texts.Spelling.{lined, spaced}
 use Rattle.key_names.proofs.Lists.Each.{each_append}
 
--- what fields take on a line, each with one byte behind it
+-- the length of fields on a line, each with one byte after it
 abbrev pub fields_len : List (List ℕ) → ℕ
 fields_len [] = 0
 fields_len (field ∷ fields) = length field + suc (fields_len fields)

@@ -44,14 +44,14 @@ sum_at_most f most (x ∷ xs) all =
 
 -- ---- one event
 
--- an event that a script of so many CPUs may have, and that adds little to it
+-- an event that a script with this many CPUs may have, and that adds little to it
 pub record Light (cpus : ℕ) (event : Event) : Type 0 where
   pub range : InRange 1 cpus event
   pub acts : (waiting : ℕ) → acts_after waiting event ≤ waiting
   pub read : bytes_read event ≤ 100
   pub short : IsShort (event_fields event)
 
--- an event that forks nobody
+-- an event that forks no caller
 record ForksNone (event : Event) : Type 0 where
   none : (number : ℕ) → is_fork_of number event ≡ false
   above : (caller : ℕ) → IsForkAbove caller event
@@ -189,7 +189,7 @@ forks_none number (event ∷ events) all =
     let here = all.0.none number in
     sum_by-cons (λ e. cond (is_fork_of number e) 1 0) event events ∙ rw here (omega arith)
 
--- forks of numbers in a row fork no other number
+-- forks of consecutive numbers fork no other number
 forks_others : (number from n : ℕ) → ((k : ℕ) → from ≤ k → k < from + n → k ≡ number → ⊥) →
     count_by (is_fork_of number) (map Fork (range_with_len from n)) ≡ 0
 forks_others number from zero others = refl
@@ -216,7 +216,7 @@ forks_among number from (suc n) low high =
           split ∙ rw (ne_eqb from number other) (omega arith)
     ]
 
--- what a caller does behind its opening
+-- the events of a caller after its opening fork no caller
 calls_fork_none : (start caller count : ℕ) →
     AllByRecursion ForksNone (On caller ∷ map (call start caller) (range_with_len 0 count))
 calls_fork_none start caller count = (
@@ -224,7 +224,7 @@ calls_fork_none start caller count = (
   each_from ForksNone (call start caller) 0 count (λ k low high. call_forks_none start caller k),
 )
 
--- how often the events of a caller fork a number: as often as the opening
+-- the events of a caller fork a number as often as its opening does
 opening_forks : (start callers count caller number : ℕ) →
     count_by (is_fork_of number) (load_events start callers count caller) ≡ count_by (is_fork_of number)
     (opening callers caller)
@@ -263,7 +263,7 @@ above_from f from (suc n) each =
     let next : from + 1 ≡ suc from = omega arith in
     (each from, subst (λ k. ForksAbove k (map f (range_with_len (from + 1) n))) next (above_from f (from + 1) n each))
 
--- callers behind the first fork nobody
+-- callers after the first fork no caller
 later_fork_none : (start callers count from n number : ℕ) → 1 ≤ from →
     times_forked (map (load_events start callers count) (range_with_len from n)) number ≡ 0
 later_fork_none start callers count from n number later =
@@ -278,7 +278,7 @@ later_fork_none start callers count from n number later =
 forked_first : (number n : ℕ) → number ≡ 0 → ◌≡◌ {A = ℕ} (if nat_lt 0 number && nat_lt number n then 1 else 0) 0
 forked_first number n first = rw first refl
 
--- caller 0 forks each number from 1 on once, up to the last caller's
+-- caller 0 forks each number from 1 to the last caller's once
 opening_count : (number others : ℕ) →
     count_by (is_fork_of number) (opening (suc others) 0) ≡
     (if nat_lt 0 number && nat_lt number (suc others) then 1 else 0)

@@ -1,4 +1,4 @@
--- Behind a number there is no other field.
+-- No other field follows a number.
 use Rattle.std.proofs.Common.{◌≡◌, ℕ, ◌≤◌, ◌^◌, Some, Ok, Err, List, [], ◌∷◌, refl, sym, arith}
 use Rattle.key_names.specs.declared.events.Event.{Event}
 use Rattle.key_names.specs.declared.faults.FaultKind.TheVariants.{UnknownWord}

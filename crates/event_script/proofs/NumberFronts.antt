@@ -1,4 +1,4 @@
--- A number that a text begins with is read in one way, where no digit follows.
+-- A number at the start of a text is read in one way, if no digit follows it.
 use Rattle.std.proofs.Common.{◌≡◌, ℕ, zero, suc, ◌+◌, ◌*◌, ◌^◌, ◌<◌, ◌≤◌, List, [], ◌∷◌, ◌++◌, length, get_or, take, drop, Some, None, inl, inr, refl, sym, ap, subst, ◌∙◌, append-nil, arith}
 use Rattle.std.specs.Prelude.{decimal}
 use Rattle.std.specs.Char.{digit_value}
@@ -13,7 +13,7 @@ use Rattle.key_names.specs.Texts.ScriptFaults.{number_below}
 use Rattle.key_names.proofs.Script.Numbers.{IsNumber, IsNumber-decimal, number_again, number_good, number_none, number_takes, value_of_decimal}
 use Rattle.event_script.specs.ValueFronts.{BeginsDigits, EndsNumber, IsDigits, IsFront, NoFront}
 
--- ---- digits one after the other
+-- ---- digits in sequence
 
 all_within : (k : ℕ) (digits other : List ℕ) → AllDigits 10 (take k (digits ++ other)) → k ≤ length (digits ++ other)
     → EndsNumber other → k ≤ length digits
@@ -38,14 +38,14 @@ module _ (text : List ℕ) (value len : ℕ) (so_far : BeginsDigits text value l
   pub digits_end : len < length text → (digit_value (get_or text len 0) < 10 → ⊥) → IsDigits text value len
   digits_end lt not = record { begins = so_far; ends = rw (drop_more text len 0 lt) not }
 
-  -- a few digits are a small number
+  -- the value of few digits is small
   pub few_digits : len ≤ 18 → value < 10 ^ 18
   few_digits few =
       let small = digits_value_short (numerals_by_value (AllDigits 10) tells_digits) (take len text) 18 so_far.digits
       (omega (arith, length-take len text)) in
       omega (arith, small, so_far.value_is)
 
-  -- a number in front of the text takes all of these digits
+  -- a number at the start of the text has all of these digits
   digits_within : (n : ℕ) (other : List ℕ) → EndsNumber other → text ≡ decimal n ++ other → len ≤ length (decimal n)
   digits_within n other ends e =
       all_within len (decimal n) other (subst (λ (t : List ℕ). AllDigits 10 (take len t)) e so_far.digits)
@@ -129,7 +129,7 @@ module _ (most : ℕ) (text : List ℕ) (value len : ℕ) (wide : most < 2 ^ 64)
             (decimal_injective n value (omega arith) (omega arith) (sym same.0 ∙ is), same.1);
       }
 
--- ---- nothing behind the number
+-- ---- nothing after the number
 
 pub whole_number : (most n : ℕ) (text rest : List ℕ) → most < 2 ^ 64 → IsFront decimal (λ m. m ≤ most) text n rest
     → rest ≡ [] → Some n ≡ number_below (most + 1) text

@@ -1,4 +1,4 @@
--- A field in which no word of its own length is spelt is no word.
+-- A field that spells no word of its own length is no word.
 use Rattle.std.proofs.Common.{◌≡◌, ℕ, ◌≤◌, ◌==◌, leb, Bool, true, false, inl, inr, None, Some, Option, List, [], ◌∷◌, length, refl, sym, ap, ◌∙◌, arith}
 use Rattle.std.specs.List.{AllByRecursion, find, list_all}
 use Rattle.std.specs.Prelude.{◌&&◌, codes}
@@ -39,7 +39,7 @@ no_word : (n : ℕ) (field : List ℕ) → length field ≡ n → AllByRecursion
     → None ≡ word_of field
 no_word n field is none = sym (word_of_length n field is ∙ none_of field (of_length n all_words) none)
 
--- the word of its own length that a field is, is the word that it is
+-- the word of its own length that a field spells is its word
 pub among : (n : ℕ) (field : List ℕ) (found : Option Word) → length field ≡ n → IsAmong n field found →
     found ≡ word_of field
 among n field None is none = no_word n field is none

@@ -1,4 +1,4 @@
--- What the first lines of a text make of a script, whatever follows.
+-- The first lines of a text determine the start of its script, whatever follows.
 use Rattle.std.proofs.Common.{◌≡◌, ℕ, ◌+◌, ◌<◌, length, arith, Ok, Err, List, ◌++◌, refl, sym, ap, ◌∙◌}
 use Rattle.std.proofs.lemmas.List.{length-append}
 use Rattle.key_names.specs.declared.faults.FaultKind.{FaultKind}
@@ -20,7 +20,7 @@ use Rattle.event_script.specs.declared.stage.Stage.TheVariants.{Version, Cpus, S
 use Rattle.event_script.proofs.FirstOfLines.{faults, goes_on, more_behind, step_of}
 use Rattle.event_script.proofs.WholeLines.{line_stays, rest_is_whole, rest_stays}
 
--- ---- one after another
+-- ---- stages in sequence
 
 pub leads_on : (s t u : Stage) (text rest last : List ℕ) → LeadsTo s text t rest → LeadsTo t rest u last
     → LeadsTo s text u last
@@ -62,7 +62,7 @@ module _ (text : List ℕ) (whole : IsWhole text) (some : 0 < length text) where
       (ap (λ r. r >>= behind_line (draft_as draft)) (line_stays text whole some later) ∙ is)
   line_fails draft number Memory is = tt
 
-  -- whatever stands behind the end is at fault
+  -- any text after the end has a fault
   pub end_fails : (number : ℕ) (later : List ℕ) → nothing_behind number (parts 10 (text ++ later))
       ≡ at_line number (line_of (parts 10 text) >>= λ line. Err UnknownWord)
   end_fails number later =
@@ -115,7 +115,7 @@ module _ (text : List ℕ) (whole : IsWhole text) (some : 0 < length text) where
       number = omega (arith, shorter);
     }
 
--- ---- the end of a text, where no line ends
+-- ---- the end of a text, in an incomplete line
 
 module _ (front : List ℕ) (clean : Lacks 10 front) where
   cut_off : line_of (parts 10 front) ≡ Err Unfinished

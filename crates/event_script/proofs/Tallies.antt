@@ -1,4 +1,4 @@
--- What is counted, with one more event or block.
+-- The counts with one more event or block.
 use Rattle.std.proofs.Common.{◌≡◌, ℕ, ◌+◌, ◌<◌, ◌≤◌, ltb, leb, Bool, true, false, ◌||◌, inl, inr, Option, Some, None, List, [], ◌∷◌, ◌++◌, ◌-◌, drop, replicate, get_or, set, length, refl, sym, ap, ◌∙◌, arith}
 use Rattle.std.specs.List.{list_any}
 use Rattle.std.specs.Prelude.{count_by, fold, sum_by}
@@ -16,7 +16,7 @@ use Rattle.key_names.specs.Texts.ScriptFaults.{Draft, blocks_of, has_orphan, is_
 use Rattle.key_names.proofs.Script.Drafts.{forks_of, lengths, no_orphan, orphanless, reads, times_with, total_block, total_split}
 use Rattle.event_script.specs.Tally.{IsLight, Tallied, fork_in, is_over}
 
--- the flags behind an event
+-- the flags after an event
 abbrev pub marked : List Bool → Option ℕ → List Bool
 marked forked None = forked
 marked forked (Some child) = set forked child true
@@ -164,7 +164,7 @@ tallied_start forked is = record {
   waiting = omega arith;
 }
 
--- ---- an event of which only its number counts
+-- ---- an event that changes only the number of events
 
 pub light_within : (d : Draft) (e : Event) (count read acts : ℕ) (forked : List Bool) →
     Tallied (blocks_of d) d.events count read acts forked

@@ -1,4 +1,4 @@
--- Texts of whole lines, and what stands behind their first.
+-- Texts of whole lines, and the rest after the first line.
 use Rattle.std.proofs.Common.{◌≡◌, ℕ, ◌<◌, ◌==◌, Bool, true, false, length, arith, List, [], ◌∷◌, ◌++◌, append_assoc, append-nil, refl, sym, ap, subst, ◌∙◌, inl, inr, Ok, Err}
 use Rattle.std.specs.Prelude.{if◌then◌else◌}
 use Rattle.std.specs.List.{join_with_byte, list_any}
@@ -74,7 +74,7 @@ module _ (text : List ℕ) (whole : IsWhole text) (some : 0 < length text) where
     pub rest_is_whole : IsWhole rest
     rest_is_whole = let h = has_line text whole some in subst IsWhole (sym (rest_is h)) h.whole
 
-    -- and so is what stands behind it
+    -- and so is the rest after it
     pub rest_stays : (later : List ℕ) → behind (parts 10 (text ++ later)) ≡ parts 10 (rest ++ later)
     rest_stays later =
         let h = has_line text whole some in
@@ -91,7 +91,7 @@ no_lines text (inr front) one =
       ap length (first_part 10 (h.rest ++ [])).is,
     ))
 
--- a text from its first part and what is behind it
+-- a text is its first part, the separator and the rest
 pub cut_joins : (text line rest : List ℕ) → parts 10 text ≡ line ∷ parts 10 rest → text ≡ line ++ 10 ∷ rest
 cut_joins text line rest cut =
     let two = (first_part 10 rest).is in

@@ -1,4 +1,4 @@
--- The words of the events that bring bytes.
+-- The words of events that have a field of bytes.
 use Rattle.std.specs.Prelude.{Bool, true, false}
 use Rattle.key_names.specs.declared.events.Word.{Word}
 use Rattle.key_names.specs.declared.events.Word.TheVariants.{Hw, Device, Write, Add, Vmfork}

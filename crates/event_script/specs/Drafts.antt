@@ -1,4 +1,4 @@
--- A draft as the definitions see it.
+-- A draft in the terms of the definitions.
 use Rattle.std.specs.Prelude.{map}
 use Rattle.key_names.specs.Texts.ScriptFaults as faults
 use Rattle.event_script.specs.declared.draft.Draft.{Draft}

@@ -1,4 +1,4 @@
--- How far a script's text was read, and how the script goes on.
+-- How far a script's text was read, and which script it becomes with more lines.
 use Rattle.std.specs.Prelude.{ℕ, ◌≡◌, ◌⊎◌, ◌+◌, ◌<◌, ◌≤◌, ⊤, List, [], ◌∷◌, ◌++◌, All, Result, Ok, Err, ◌==◌, false, length}
 use Rattle.std.specs.Borrow.{Bor}
 use Rattle.key_names.specs.declared.faults.ScriptFault.{ScriptFault}
@@ -11,11 +11,11 @@ use Rattle.event_script.specs.declared.script_error.ScriptError.TheVariants.{Fau
 use Rattle.event_script.specs.declared.stage.Stage.{Stage}
 use Rattle.event_script.specs.declared.stage.Stage.TheVariants.{Version, Cpus, Start, Lines, Ended, Faulty}
 
--- a text of whole lines: behind the last one nothing stands
+-- the text is empty or ends with a line end
 abbrev pub IsWhole : List ℕ → Type 0
 IsWhole text = (text ≡ []) ⊎ ((front : List ℕ) × (text ≡ front ++ 10 ∷ []))
 
--- the script that goes on with these lines at this stage
+-- the script, or the first fault, of what was read up to this stage and of these lines after it
 abbrev pub goes : Stage → List (List ℕ) → Result Script ScriptFault
 goes Version lines = script_of_lines lines
 goes (Cpus version) lines = do
@@ -38,7 +38,7 @@ number_of (Lines draft number) = number
 number_of (Ended draft number) = number
 number_of (Faulty fault line) = 0
 
--- from a text at one stage the script goes on as from the rest of it at the next, whatever follows
+-- whatever follows, the text read at the first stage gives the same script or fault as its rest read at the next stage
 pub record LeadsTo (stage : Stage) (text : List ℕ) (next : Stage) (rest : List ℕ) : Type 0 where
   pub same : (later : List ℕ) → goes stage (parts 10 (text ++ later)) ≡ goes next (parts 10 (rest ++ later))
   pub whole : IsWhole rest
@@ -49,19 +49,19 @@ abbrev pub FailsFrom : Stage → List ℕ → ScriptError → Type 0
 FailsFrom stage text (Fault fault) = (later : List ℕ) → goes stage (parts 10 (text ++ later)) ≡ Err fault
 FailsFrom stage text NoMemory = ⊤
 
--- what the first lines of a text lead to
+-- the result of reading the first lines of a text: the next stage and the rest, or the first fault
 abbrev pub Leads : Stage → List ℕ → Result (Stage × Bor (List ℕ)) ScriptError → Type 0
 Leads stage text (Ok both) = LeadsTo stage text both.0 both.1.now × (length both.1.now < length text)
 Leads stage text (Err error) = FailsFrom stage text error
 
--- the text begins with the lines that were read, and goes on with the rest and with what is unread
+-- the reader has read the text up to the incomplete line that it keeps and the unread bytes
 pub record IsBehind (text : List ℕ) (reader : Reader) (unread : List ℕ) : Type 0 where
   pub same : (later : List ℕ) → script_of_lines (parts 10 (text ++ later))
       ≡ goes reader.stage (parts 10 (reader.rest.items ++ (unread ++ later)))
   pub clean : All (λ b. (b == 10) ≡ false) reader.rest.items
   pub number : number_of reader.stage + length reader.rest.items + length unread ≤ length text + 1
 
--- the reader was fed this text; of one that is too long no more is known
+-- the reader was fed this text; if the text is too long, nothing more is claimed
 pub record HasFed (text : List ℕ) (reader : Reader) : Type 0 where
   pub len : length text ≤ 16777216 → reader.len ≡ length text
   pub long : 16777216 < length text → 16777216 < reader.len

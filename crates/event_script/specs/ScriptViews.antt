@@ -1,4 +1,4 @@
--- What a reader of lines answered, beside what the definitions give.
+-- The answer of a reader of lines, compared with the definitions.
 use Rattle.std.specs.Prelude.{◌≡◌, ℕ, Bool, true, false, ⊤, List, Some, Result, Ok, Err}
 use Rattle.key_names.specs.declared.faults.ScriptFault.{ScriptFault}
 use Rattle.key_names.specs.Texts.ScriptFaults.{first_fault, Draft, Next, GoesOn, Ends}
@@ -8,7 +8,7 @@ use Rattle.event_script.specs.declared.script_error.ScriptError.{ScriptError}
 use Rattle.event_script.specs.declared.script_error.ScriptError.TheVariants.{Fault, NoMemory}
 use Rattle.event_script.specs.declared.script_error.Unread.{Unread}
 
--- what is wrong with a line, with its number
+-- the fault of a line, with the line's number
 abbrev pub script_error : ℕ → LineError → ScriptError
 script_error n (Kind kind) = Fault (record { line = n; kind = kind })
 script_error n Memory = NoMemory
@@ -17,12 +17,12 @@ abbrev pub FailsAt : {Y : Type 0} → ScriptError → Result Y ScriptFault → T
 FailsAt (Fault fault) given = given ≡ Err fault
 FailsAt NoMemory given = ⊤
 
--- the answer, seen by view, is what is given, unless memory ran out
+-- the answer, seen through view, is the given one, unless memory ran out
 abbrev pub GivesScript : {X Y : Type 0} → (X → Y) → Result X ScriptError → Result Y ScriptFault → Type 0
 GivesScript view (Ok x) given = given ≡ Ok (view x)
 GivesScript view (Err e) given = FailsAt e given
 
--- the same of an answer that tells the faulty line too
+-- the same for an answer that also has the faulty line
 abbrev pub GivesUnread : {X Y : Type 0} → (X → Y) → Result X Unread → Result Y ScriptFault → Type 0
 GivesUnread view (Ok x) given = given ≡ Ok (view x)
 GivesUnread view (Err unread) given = FailsAt unread.error given

@@ -6,13 +6,13 @@ use Rattle.key_names.specs.declared.events.Word.TheVariants.{At, Credit, Bits, I
 use Rattle.event_script.specs.declared.short.Numbers.{Numbers}
 use Rattle.event_script.specs.declared.short.Numbers.TheVariants.{None, One, Two}
 
--- what stands between a word and the line end
+-- the bytes between a word and the line end
 abbrev pub behind_word : Numbers → List ℕ
 behind_word None = []
 behind_word (One a) = 32 ∷ decimal a
 behind_word (Two a b) = 32 ∷ (decimal a ++ 32 ∷ decimal b)
 
--- an event has this word and these numbers, whatever the version and the CPUs
+-- an event has this word and these numbers, whatever the version and the number of CPUs
 abbrev pub IsShort : Word → Numbers → Type 0
 IsShort Bits None = ⊤
 IsShort Int8 None = ⊤

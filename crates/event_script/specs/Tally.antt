@@ -1,11 +1,11 @@
--- What is counted of the events so far.
+-- The counts of the events so far.
 use Rattle.std.specs.Prelude.{◌≡◌, ℕ, ◌<◌, ◌≤◌, Bool, false, ◌||◌, nat_le, nat_lt, Option, Some, None, List, [], ◌∷◌, ◌++◌, fold, length, map, slice_index_or, sum_by}
 use Rattle.std.specs.Global.{Vec}
 use Rattle.key_names.specs.declared.events.Event.{Event}
 use Rattle.key_names.specs.declared.events.Event.TheVariants.{Fork}
 use Rattle.key_names.specs.Texts.ScriptGrammar.{acts_after, bytes_read, times_forked}
 
--- the blocks that are done, and the last one
+-- the finished blocks, and the last one
 abbrev pub blocks_in : List (Vec Event) → List Event → List (List Event)
 blocks_in done events = map (λ block. block.items) done ++ events ∷ []
 
@@ -13,13 +13,13 @@ abbrev pub fork_in : Event → Option ℕ
 fork_in (Fork child) = Some child
 fork_in _ = None
 
--- an event reads nothing, forks nobody and leaves as many acts waiting
+-- an event reads nothing, forks no caller and leaves the number of waiting acts as it is
 pub record IsLight (event : Event) : Type 0 where
   pub unread : bytes_read event ≡ 0
   pub unforked : fork_in event ≡ None
   pub waiting : (acts : ℕ) → acts_after acts event ≡ acts
 
--- so many events, bytes that they read, and acts that wait leave no room for one more event of theirs
+-- whether one more event exceeds a limit: after count events, with this many bytes read and this many acts waiting
 abbrev pub is_over : ℕ → ℕ → ℕ → Bool
 is_over count read acts = nat_le 65536 count || nat_lt 16777216 read || nat_lt 8 acts
 

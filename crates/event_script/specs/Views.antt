@@ -1,4 +1,4 @@
--- What a function answered, beside what the definitions give.
+-- The answer of a function, compared with the definitions.
 use Rattle.std.specs.Prelude.{◌≡◌, ℕ, ⊤, List, [], Option, Some, None, Result, Ok, Err}
 use Rattle.std.specs.Borrow.{Bor}
 use Rattle.key_names.specs.declared.faults.FaultKind.{FaultKind}
@@ -6,7 +6,7 @@ use Rattle.key_names.specs.Texts.ScriptFaults.{parts}
 use Rattle.event_script.specs.declared.error.LineError.{LineError}
 use Rattle.event_script.specs.declared.error.LineError.TheVariants.{Memory, Kind}
 
--- the answer, seen by view, is what is given
+-- the answer, seen through view, is the given one
 abbrev pub Tells : {X Y : Type 0} → (X → Y) → Result X FaultKind → Result Y FaultKind → Type 0
 Tells view (Ok x) given = given ≡ Ok (view x)
 Tells view (Err kind) given = given ≡ Err kind
@@ -15,12 +15,12 @@ abbrev pub Fails : {Y : Type 0} → LineError → Result Y FaultKind → Type 0
 Fails Memory given = ⊤
 Fails (Kind kind) given = given ≡ Err kind
 
--- the answer, seen by view, is what is given, unless memory ran out
+-- the answer, seen through view, is the given one, unless memory ran out
 abbrev pub Gives : {X Y : Type 0} → (X → Y) → Result X LineError → Result Y FaultKind → Type 0
 Gives view (Ok x) given = given ≡ Ok (view x)
 Gives view (Err e) given = Fails e given
 
--- the fields behind a word: none, or those of the text behind the space
+-- the fields after a word: none, or the parts of the text after the space
 abbrev pub fields_of : Option (Bor (List ℕ)) → List (List ℕ)
 fields_of None = []
 fields_of (Some text) = parts 32 text.now

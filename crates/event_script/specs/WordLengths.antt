@@ -9,11 +9,11 @@ use Rattle.key_names.specs.Texts.ScriptFaults.{all_words}
 abbrev pub of_length : ℕ → List Word → List Word
 of_length n ws = filter (λ w. length (word_text w) == n) ws
 
--- the word is not what the field spells
+-- the field does not spell the word
 abbrev pub Misspelt : List ℕ → Word → Type 0
 Misspelt field w = bytes_eq (word_text w) field ≡ false
 
--- the word of n bytes that a field is, or that it is none of them
+-- the found word is the field's spelling, or no word of n bytes is
 abbrev pub IsAmong : ℕ → List ℕ → Option Word → Type 0
 IsAmong n field None = AllByRecursion (Misspelt field) (of_length n all_words)
 IsAmong n field (Some word) = field ≡ word_text word

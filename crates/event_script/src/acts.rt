@@ -1,4 +1,4 @@
-//! What is done inside a `vread`.
+//! The acts that a script binds to a `vread`.
 
 ghost use Rattle.std.specs.Prelude.{◌≡◌};
 ghost use Rattle.event_script.specs.Views.{Tells, fields_of};
@@ -34,7 +34,7 @@ fn vread_act(at: &[u8], len: &[u8]) -> Result<Event, FaultKind>
     })
 }
 
-/// What is done inside a call, and at which point of it.
+/// The act of an `inside` line, with its point in the call.
 pub(crate) fn inside(rest: Option<&[u8]>) -> Result<Event, FaultKind>
     ensures { Tells (λ event. event) result (inside_of (fields_of rest.entry)) }
 {

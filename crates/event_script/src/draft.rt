@@ -1,4 +1,4 @@
-//! The script so far.
+//! A script that is still being read.
 
 ghost use Rattle.std.specs.Prelude.{◌≡◌, ◌<◌, ◌≤◌, ◌+◌, [], IfOk, map, vec_len};
 ghost use Rattle.std.specs.Bool.{OnTrue};
@@ -21,11 +21,11 @@ const MOST_READ: u64 = 16_777_216;
 
 const MOST_ACTS: u32 = 8;
 
-/// How many events a block has room for before it grows. A list of this size has pages of its own, which the system moves
-/// as it grows, where the events of a smaller one are copied.
+/// A block has room for this many events before it grows. A list of this size has pages of its own, and the system
+/// moves them when it grows; the events of a smaller list are copied.
 const FIRST_ROOM: usize = 6144;
 
-/// The blocks that are done, the events of the last one, and what is counted of them.
+/// The finished blocks, the events of the last one, and counts of all of them.
 #[derive(Drop)]
 pub(crate) struct Draft {
     pub(crate) head: Head,
@@ -39,14 +39,14 @@ pub(crate) struct Draft {
     ghost few_blocks: { vec_len done < 64 },
 }
 
-/// The events of a block that begins.
+/// The empty list of events of a new block.
 fn no_events(alloc: Global) -> Result<Vec<Event>, AllocError>
     ensures { IfOk result (λ events. events.items ≡ []) }
 {
     Vec::with_capacity(alloc, FIRST_ROOM)
 }
 
-/// How many acts wait for a `vread` behind an event.
+/// The number of acts that wait for a `vread` after an event.
 fn waiting_after(waiting: u32, event: &Event) -> u32
     requires { waiting ≤ 8 }
     ensures { result ≡ acts_after waiting event.now }
@@ -68,7 +68,7 @@ fn fork_of(event: &Event) -> Option<u32>
     }
 }
 
-/// Whether an event is one of many that read nothing, fork nobody and leave as many acts waiting.
+/// If true, the event reads nothing, forks no caller and leaves the number of waiting acts as it is.
 fn is_light(event: &Event) -> bool
     ensures { OnTrue result (IsLight event.now) }
 {
@@ -91,7 +91,7 @@ fn is_light(event: &Event) -> bool
 impl Draft {
     ghost use Rattle.event_script.specs.Drafts.{draft_as};
 
-    /// The empty block of caller 0.
+    /// A draft that has only the empty block of caller 0.
     pub(crate) fn new(alloc: Global, head: Head) -> Result<Draft, AllocError>
         ensures { IfOk result (λ draft.
             draft_as draft ≡ record { version = head.version; cpus = head.cpus; done = []; events = [] }) }
@@ -121,7 +121,7 @@ impl Draft {
         }
     }
 
-    /// Whether there is no room for one more event, that reads so many bytes and behind which so many acts wait.
+    /// Whether one more event would exceed a limit. The event reads `bytes` bytes, and `acts` acts wait after it.
     fn is_past_limits(&self, bytes: u32, acts: u32) -> bool
         ensures { result ≡ is_over self.now.event_count (self.now.bytes_read + bytes) acts }
     {
@@ -130,7 +130,8 @@ impl Draft {
             || acts > MOST_ACTS
     }
 
-    /// One more event of the last block, which reads nothing, forks nobody and leaves as many acts waiting.
+    /// Adds an event to the last block. The event reads nothing, forks no caller and leaves the number of waiting acts
+    /// as it is.
     #[inline(always)]
     pub(crate) fn add_light(&mut self, event: Event) -> Result<(), LineError>
         requires range { InRange self.old.head.version self.old.head.cpus event }
@@ -146,7 +147,7 @@ impl Draft {
         Ok(())
     }
 
-    /// One more event of the last block.
+    /// Adds an event to the last block.
     pub(crate) fn add_event(&mut self, event: Event) -> Result<(), LineError>
         requires { InRange self.old.head.version self.old.head.cpus event }
         ensures next { Gives (λ _. GoesOn (draft_as self.new)) result (after (draft_as self.old) (SaysEvent event)) }
@@ -174,7 +175,7 @@ impl Draft {
         Ok(())
     }
 
-    /// The next block, if this is its number.
+    /// Begins the next block, if this is its number.
     pub(crate) fn add_block(&mut self, alloc: Global, number: u32) -> Result<(), LineError>
         requires { number < 64 }
         ensures next { Gives (λ _. GoesOn (draft_as self.new)) result (after (draft_as self.old) (SaysCaller number)) }
@@ -200,7 +201,7 @@ impl Draft {
         is_any_set(&self.forked[self.done.len() + 1..])
     }
 
-    /// The blocks, the last one among them.
+    /// All blocks, including the last one.
     pub(crate) fn into_blocks(self) -> Result<Vec<Vec<Event>>, AllocError>
         ensures { IfOk result (λ blocks. map (λ block. block.items) blocks.items ≡ blocks_of (draft_as self)) }
     {

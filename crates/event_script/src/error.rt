@@ -6,7 +6,7 @@ ghost use Rattle.event_script.specs.declared.error.LineError.TheVariants.{Memory
 use key_names::FaultKind;
 use std::alloc::{AllocError, AllocFailed};
 
-/// What is wrong with one line, or that there was no memory for it.
+/// The fault of one line, or a lack of memory for it.
 #[derive(Debug, Drop)]
 pub(crate) enum LineError {
     Memory,

@@ -1,4 +1,4 @@
-//! The event that a line says.
+//! The event of a line.
 
 ghost use Rattle.std.specs.Prelude.{◌<◌, ◌≤◌, ◌^◌, ◌≡◌, MatchResult, false};
 ghost use Rattle.event_script.specs.ByteWords.{has_bytes};
@@ -161,7 +161,7 @@ fn fork(rest: Option<&[u8]>) -> Result<Event, FaultKind>
     })
 }
 
-/// Whether a version has what came with version `first`.
+/// Refuses a version before `first`, which introduced the event.
 fn known_since(first: u32, version: u32) -> Result<(), FaultKind>
     ensures { MatchResult result (λ _. first ≤ version) (λ kind. (version < first) × (kind ≡ FaultKind.UnknownWord)) }
 {
@@ -208,7 +208,7 @@ fn state(version: u32, rest: Option<&[u8]>) -> Result<Event, FaultKind>
     Ok(Event::State { number })
 }
 
-/// The event of a word, whose fields spell no bytes.
+/// The event of a word without a field of bytes.
 fn event_without_bytes(head: Head, word: Word, rest: Option<&[u8]>) -> Result<Event, FaultKind>
     requires { has_bytes word ≡ false }
     ensures { Tells (λ event. event) result (event_of head.version head.cpus word (fields_of rest.entry)) }
@@ -234,7 +234,7 @@ fn event_without_bytes(head: Head, word: Word, rest: Option<&[u8]>) -> Result<Ev
     }
 }
 
-/// The event of a word and the fields behind it.
+/// The event of a word and the fields after it.
 pub(crate) fn event_of(
     alloc: Global,
     head: Head,

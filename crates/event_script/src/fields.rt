@@ -1,4 +1,4 @@
-//! The fields of a line, which single spaces part.
+//! The fields of a line, separated by single spaces.
 
 ghost use Rattle.std.specs.Prelude.{◌≡◌, MatchOption, IfSome, Some, ◌+◌, ◌∷◌, [], length};
 ghost use Rattle.std.specs.Str.{bytes_eq};
@@ -8,14 +8,14 @@ ghost use Rattle.key_names.specs.Texts.ScriptFaults.{parts, no_field, one_field,
 use key_names::FaultKind;
 use memchr::memchr;
 
-/// Whether a field is this text.
+/// Whether a field equals this text.
 pub(crate) fn spells(field: &[u8], text: &[u8]) -> bool
     ensures { result ≡ bytes_eq field.now text.now }
 {
     field == text
 }
 
-/// What stands before the first of these bytes, and what stands behind it.
+/// The text before the first `byte`, and the text after it.
 pub(crate) fn cut(byte: u8, text: &[u8]) -> Option<(&[u8], &[u8])>
     ensures parts { MatchOption result (parts byte text.now ≡ text.now ∷ [])
         (λ both. parts byte text.now ≡ both.0.now ∷ parts byte both.1.now) }
@@ -27,7 +27,7 @@ pub(crate) fn cut(byte: u8, text: &[u8]) -> Option<(&[u8], &[u8])>
     }
 }
 
-/// No field.
+/// Checks that the word has no field.
 pub(crate) fn none(rest: Option<&[u8]>) -> Result<(), FaultKind>
     ensures { Tells (λ _. []) result (no_field (fields_of rest.entry)) }
 {
@@ -37,7 +37,7 @@ pub(crate) fn none(rest: Option<&[u8]>) -> Result<(), FaultKind>
     }
 }
 
-/// The one field that stands behind a word.
+/// The only field after a word.
 pub(crate) fn one(rest: Option<&[u8]>) -> Result<&[u8], FaultKind>
     ensures { Tells (λ field. field.now) result (one_field (fields_of rest.entry)) }
 {
@@ -50,7 +50,7 @@ pub(crate) fn one(rest: Option<&[u8]>) -> Result<&[u8], FaultKind>
     }
 }
 
-/// The two fields that stand behind a word.
+/// The two fields after a word.
 pub(crate) fn two(rest: Option<&[u8]>) -> Result<(&[u8], &[u8]), FaultKind>
     ensures { Tells (λ both. (both.0.now, both.1.now)) result (two_fields (fields_of rest.entry)) }
 {
@@ -66,7 +66,7 @@ pub(crate) fn two(rest: Option<&[u8]>) -> Result<(&[u8], &[u8]), FaultKind>
     }
 }
 
-/// The four fields that stand behind a word.
+/// The four fields after a word.
 pub(crate) fn four(rest: Option<&[u8]>) -> Result<((&[u8], &[u8]), (&[u8], &[u8])), FaultKind>
     ensures { Tells (λ all. ((all.0.0.now, all.0.1.now), (all.1.0.now, all.1.1.now))) result
         (four_fields (fields_of rest.entry)) }

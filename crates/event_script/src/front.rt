@@ -1,12 +1,12 @@
-//! A script that stands in front of something else.
+//! A script at the start of a longer text.
 
 ghost use Rattle.std.specs.Prelude.{◌≡◌, ◌≤◌, length, take};
 ghost use Rattle.key_names.specs.Texts.ScriptFaults.{front};
 
 use crate::fields::{cut, spells};
 
-/// How many bytes of a text belong to a script in front of it: those of its first line `end` are the last. Where no
-/// line is `end`, all of them do.
+/// The number of bytes of the script at the start of a text. The script ends with the first line `end`. Without such a
+/// line the whole text belongs to it.
 pub(crate) fn front_len(text: &[u8]) -> usize
     ensures within { result ≤ length text.now }
     ensures front { take result text.now ≡ front text.now }

@@ -1,4 +1,4 @@
-//! What the first two lines of a script say.
+//! The content of a script's first two lines.
 
 ghost use Rattle.std.specs.Prelude.{◌<◌, ◌≤◌};
 

@@ -1,11 +1,11 @@
-//! Scripts: what callers are to do, as a text. A text is read exactly by the grammar, or its first fault is told.
+//! Scripts: the text that lists the calls of each caller. The reader accepts exactly the texts of the grammar, and
+//! returns the first fault of any other.
 //!
-//! `read` reads a whole text, and `read_front` a script that stands in front of something else. Both promise a script
-//! exactly where the text is the one spelling of it, and otherwise the fault that the definition finds first.
-//! [`Script`] also makes the script of a load. `words` and `numbers` read the words and numbers of transcripts and
-//! command lines too.
+//! `read` reads a whole text, and `read_front` a script at the start of a longer text. Both return a script exactly if
+//! the text is the one spelling of it, and otherwise the first fault by the definition. [`Script`] also makes the
+//! script of a load. `words` and `numbers` also read the words and numbers of transcripts and command lines.
 //!
-//! It stands on the grammar and the faults of `key_names` (`specs/Texts`), and on `memchr` for line ends.
+//! The contracts use the grammar and the faults of `key_names` (`specs/Texts`). `memchr` finds line ends.
 #![tactic(auto)]
 
 mod acts;

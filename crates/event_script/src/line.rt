@@ -1,4 +1,4 @@
-//! What one line says.
+//! One line as a statement: an event, a caller or the end.
 
 ghost use Rattle.std.specs.Prelude.{◌≡◌, ◌<◌, ◌≤◌, ◌∷◌, IfOk};
 ghost use Rattle.std.specs.List.{list_any};
@@ -15,7 +15,7 @@ use crate::words::word_of;
 use key_names::{Event, FaultKind, Word};
 use std::alloc::Global;
 
-/// A line behind the first two.
+/// A line after the first two.
 #[derive(Drop)]
 pub(crate) enum Said {
     Event(Event),
@@ -69,7 +69,7 @@ fn said_by(alloc: Global, head: Head, first: &[u8], rest: Option<&[u8]>) -> Resu
     Ok(Said::Caller(number as u32))
 }
 
-/// What a line says, or the first thing that is wrong with its word and its fields.
+/// The statement of a line, or the first fault of its word and its fields.
 pub(crate) fn line_says(alloc: Global, head: Head, line: &[u8]) -> Result<Said, LineError>
     ensures value { Gives said_as result (said head.version head.cpus line.now) }
     ensures range { IfOk result (λ what. SaidInRange head.version head.cpus (said_as what)) }

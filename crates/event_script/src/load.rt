@@ -1,4 +1,4 @@
-//! The script of a load: each caller, on a CPU of its own, makes eight kinds of calls in turn.
+//! The script of a load: each caller, on its own CPU, makes eight kinds of calls in turn.
 
 ghost use Rattle.std.specs.Prelude.{◌≡◌, ◌<◌, ◌≤◌, IfOk, map};
 ghost use Rattle.std.specs.Int.{w64, to_le_bytes};
@@ -60,7 +60,7 @@ fn call(alloc: Global, start: u32, caller: u32, number: u32) -> Result<Event, Al
     }
 }
 
-/// What a caller begins with: caller 0 makes the core ready, and forks all others.
+/// The first events of a caller: caller 0 makes the core ready and forks all others.
 fn opening(alloc: Global, callers: u32, caller: u32) -> Result<Vec<Event>, AllocError>
     ensures { IfOk result (λ events. events.items ≡ opening callers caller) }
 {
@@ -97,7 +97,7 @@ fn load_events(
     Ok(events)
 }
 
-/// The events of all callers, each of whom makes so many calls.
+/// The events of all callers, each with this many calls.
 pub(crate) fn load_blocks(
     alloc: Global,
     start: u32,

@@ -1,4 +1,4 @@
-//! Numbers in front of a text, and fields that are numbers.
+//! Numbers at the start of a text, and fields that are numbers.
 
 ghost use Rattle.std.specs.Prelude.{◌≡◌, ℕ, ◌+◌, ◌<◌, ◌≤◌, ◌↔◌, IsTrue, IfOk, IfSome, MatchOption, decimal, length};
 ghost use Rattle.event_script.specs.ValueFronts.{BeginsDigits, EndsNumber, IsDigits, IsFront, NoFront};
@@ -9,10 +9,10 @@ ghost use Rattle.key_names.specs.Texts.ScriptFaults.{binary, number_below, numbe
 use crate::fields::cut;
 use key_names::FaultKind;
 
-/// So many digits are the number of a `u64`, whatever they are.
+/// Any number of this many digits fits in a `u64`.
 const SAFE_DIGITS: usize = 19;
 
-/// So many digits are looked at in a loop whose length is known, so that the compiler writes out its turns.
+/// A loop of constant length reads this many digits, so that the compiler unrolls it.
 const NEAR_DIGITS: usize = 8;
 
 fn ends_number(text: &[u8]) -> bool
@@ -24,7 +24,7 @@ fn ends_number(text: &[u8]) -> bool
     }
 }
 
-/// The number of all digits that a text begins with, so many of this value, and what stands behind them.
+/// The number that a text begins with, and the text after it. The text begins with exactly `len` digits, of this value.
 #[inline(always)]
 fn cut_number(most: u64, value: u64, len: usize, text: &[u8]) -> Option<(u64, &[u8])>
     requires { IsDigits text.now value len }
@@ -44,7 +44,7 @@ fn cut_number(most: u64, value: u64, len: usize, text: &[u8]) -> Option<(u64, &[
     Some((value, &text[len..]))
 }
 
-/// The number that a longer text begins with, of which the first digits have this value. At most one digit more fits.
+/// The number at the start of a longer text, of which the first 19 digits have this value. At most one more digit fits.
 #[inline(never)]
 fn long_number(most: u64, value: u64, text: &[u8]) -> Option<(u64, &[u8])>
     requires digits { BeginsDigits text.now value 19 }
@@ -64,7 +64,7 @@ fn long_number(most: u64, value: u64, text: &[u8]) -> Option<(u64, &[u8])>
     cut_number(most, next, SAFE_DIGITS + 1, text)
 }
 
-/// The number that a text begins with, read on behind the digits that were seen, which have this value.
+/// The number at the start of a text. The first `seen` digits have this value, and the function reads on after them.
 #[inline(never)]
 fn read_on(most: u64, value: u64, seen: usize, text: &[u8]) -> Option<(u64, &[u8])>
     requires digits { BeginsDigits text.now value seen }
@@ -86,8 +86,9 @@ fn read_on(most: u64, value: u64, seen: usize, text: &[u8]) -> Option<(u64, &[u8
     cut_number(most, value, text.len(), text)
 }
 
-/// As `read_on`, for a number that mostly ends before.
-// Where a function begins, the room for what its calls answer is cleared. So a number that ends before clears none.
+/// Like `read_on`, for numbers that mostly end before.
+// A function clears the room for its calls' results as it starts. This function is apart, so that a number that ends
+// before clears none.
 #[inline(always)]
 fn read_on_apart(most: u64, value: u64, seen: usize, text: &[u8]) -> Option<(u64, &[u8])>
     requires digits { BeginsDigits text.now value seen }
@@ -100,9 +101,9 @@ fn read_on_apart(most: u64, value: u64, seen: usize, text: &[u8]) -> Option<(u64
     Some((number, rest))
 }
 
-/// The number up to `most` that a text begins with, in decimal and without leading zeros, and what stands behind it.
+/// The number up to `most` at the start of a text, in decimal and without leading zeros, and the text after it.
 ///
-/// `None` where the text begins with no digit, or with a zero and another digit, and where all digits that it begins with
+/// `None` if the text begins with no digit, if it begins with a zero and another digit, or if its first digits together
 /// spell more than `most`.
 #[inline(always)]
 pub fn number_front(most: u64, text: &[u8]) -> Option<(u64, &[u8])>
@@ -157,7 +158,7 @@ pub(crate) fn number_from(least: u64, most: u64, field: &[u8]) -> Result<u64, Fa
     Ok(value)
 }
 
-/// The one number that stands behind a word, at most `most`.
+/// The only number after a word, at most `most`.
 pub(crate) fn one_number(most: u64, rest: Option<&[u8]>) -> Result<u64, FaultKind>
     ensures value { (make : ℕ → Event) → Tells make result (unary (number (most + 1)) make (fields_of rest.entry)) }
     ensures range { IfOk result (λ n. n ≤ most) }
@@ -174,7 +175,7 @@ pub(crate) fn one_number(most: u64, rest: Option<&[u8]>) -> Result<u64, FaultKin
     }
 }
 
-/// The one number that stands behind a word, below `limit`.
+/// The only number after a word, below `limit`.
 pub(crate) fn one_below(limit: u32, rest: Option<&[u8]>) -> Result<u32, FaultKind>
     requires { 0 < limit }
     ensures value { (make : ℕ → Event) → Tells make result (unary (number limit) make (fields_of rest.entry)) }
@@ -184,7 +185,7 @@ pub(crate) fn one_below(limit: u32, rest: Option<&[u8]>) -> Result<u32, FaultKin
     Ok(value as u32)
 }
 
-/// The two numbers that stand behind a word, at most `most` and at most `next`.
+/// The two numbers after a word, at most `most` and at most `next`.
 pub(crate) fn two_numbers(
     most: u64,
     next: u64,

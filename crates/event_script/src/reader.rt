@@ -1,4 +1,4 @@
-//! A script whose text is read piece by piece.
+//! A script that is read piece by piece.
 ghost use Rattle.std.specs.Prelude.{◌≡◌, ◌+◌, ◌<◌, ◌^◌, ◌++◌, ◌==◌, ℕ, [], All, List, false, length, OnOk};
 ghost use Rattle.key_names.specs.Texts.ScriptFaults.{script_of, script_of_draft};
 ghost use Rattle.event_script.specs.Drafts.{draft_as};
@@ -18,18 +18,18 @@ use std::mem;
 /// The most bytes of a script's text.
 const MOST_BYTES: usize = 16_777_216;
 
-/// A reader that is fed the text of a script, in pieces of any length. Of the text it keeps no more than a line that is
-/// not whole yet, or the one that is faulty.
+/// A reader for the text of a script, in pieces of any length. It buffers at most one incomplete line, or the faulty
+/// line.
 #[derive(Drop)]
 pub struct Reader {
     stage: Stage,
-    // How many bytes were fed.
+    // The number of bytes so far.
     len: usize,
-    // The front of a line whose end is to come.
+    // The start of a line without its end.
     rest: Vec<u8>,
 }
 
-/// The whole lines of a text, and the front of a line behind them.
+/// The whole lines of a text, and the start of a line after them.
 fn whole_lines(text: &[u8]) -> (&[u8], &[u8])
     ensures all { text.now ≡ result.0.now ++ result.1.now }
     ensures whole { IsWhole result.0.now }
@@ -42,7 +42,7 @@ fn whole_lines(text: &[u8]) -> (&[u8], &[u8])
 }
 
 impl Reader {
-    /// A reader that was fed nothing.
+    /// A reader that has read nothing.
     pub fn new(alloc: Global) -> Reader
         ensures { HasFed [] result }
     {
@@ -53,7 +53,7 @@ impl Reader {
         }
     }
 
-    // The end of the line of which the front was fed, and whole lines behind it.
+    // Reads the end of the line whose start is kept, and the whole lines after it.
     fn read_lines(&mut self, alloc: Global, lines: &[u8]) -> Result<(), AllocError>
         requires whole { IsWhole lines.now }
         requires short { number_of self.old.stage + length self.old.rest.items + length lines.now < 2 ^ 32 }
@@ -73,12 +73,12 @@ impl Reader {
         Ok(())
     }
 
-    /// One more piece of the text.
+    /// Reads one more piece of the text.
     ///
     /// # Errors
     ///
-    /// `AllocError` where there is no memory for what it says, or for a line that is not whole yet. The reader is of no
-    /// use then.
+    /// `AllocError` if there is no memory for the script, or for an incomplete line. The reader must not be used after
+    /// that.
     pub fn feed(&mut self, alloc: Global, piece: &[u8]) -> Result<(), AllocError>
         requires { (text : List ℕ) × HasFed text self.old }
         ensures { OnOk result ((text : List ℕ) → HasFed text self.old → HasFed (text ++ piece.now) self.new) }
@@ -93,7 +93,7 @@ impl Reader {
         Ok(())
     }
 
-    /// The script that the text is, its last block open.
+    /// The script of the whole text. Its last block is still open.
     pub(crate) fn into_draft(self) -> Result<Draft, Unread>
         requires { (text : List ℕ) × HasFed text self }
         ensures { (text : List ℕ) → HasFed text self

@@ -21,7 +21,7 @@ use crate::short::{irq_in_front, short_event, short_line};
 use key_names::{Event, FaultKind, ScriptFault};
 use std::alloc::Global;
 
-/// The first line of a text, and what stands behind it.
+/// The first line of a text, and the text after it.
 fn first_line(text: &[u8]) -> Result<(&[u8], &[u8]), FaultKind>
     ensures line { Tells (λ both. both.0.now) result (line_of (parts 10 text.now)) }
     ensures rest { IfOk result (λ both. parts 10 both.1.now ≡ behind (parts 10 text.now)) }
@@ -74,8 +74,8 @@ fn cpus_of(version: u32, line: &[u8]) -> Result<u32, FaultKind>
     }
 }
 
-/// What the first line of a text says by its fields, and what stands behind the line.
-// A function of its own, so that the loop over the lines keeps their text in registers.
+/// The statement of a text's first line, read by its fields, and the text after the line.
+// A separate function, so that the loop over the lines keeps their text in registers.
 #[inline(never)]
 fn said_by_fields(alloc: Global, head: Head, text: &[u8]) -> Result<(Said, &[u8]), LineError>
     ensures value { Gives (λ both. said_as both.0) result (said_first head.version head.cpus (parts 10 text.now)) }
@@ -87,7 +87,7 @@ fn said_by_fields(alloc: Global, head: Head, text: &[u8]) -> Result<(Said, &[u8]
     Ok((line_says(alloc, head, line)?, rest))
 }
 
-/// What the first line of a text says, and what stands behind the line.
+/// The statement of a text's first line, and the text after the line.
 fn next_said(alloc: Global, head: Head, text: &[u8]) -> Result<(Said, &[u8]), LineError>
     ensures value { Gives (λ both. said_as both.0) result (said_first head.version head.cpus (parts 10 text.now)) }
     ensures range { IfOk result (λ both. SaidInRange head.version head.cpus (said_as both.0)) }
@@ -100,7 +100,7 @@ fn next_said(alloc: Global, head: Head, text: &[u8]) -> Result<(Said, &[u8]), Li
     said_by_fields(alloc, head, text)
 }
 
-/// What is said in a line is added to a script. Answers whether more lines may follow.
+/// Adds the statement of a line to a script. Returns whether more lines may follow.
 fn add_said(alloc: Global, draft: &mut Draft, said: Said) -> Result<bool, LineError>
     requires { SaidInRange draft.old.head.version draft.old.head.cpus (said_as said) }
     ensures next { Gives (λ more. next_as more (draft_as draft.new)) result (after (draft_as draft.old) (said_as said)) }
@@ -140,7 +140,7 @@ pub(crate) fn at_line(line: u32, error: LineError) -> ScriptError
     }
 }
 
-/// The version of a text, and what stands behind its line.
+/// The version of a text, and the text after its line.
 pub(crate) fn read_version(text: &[u8]) -> Result<(u32, &[u8]), FaultKind>
     ensures version { Tells (λ both. both.0) result (version_in (parts 10 text.now)) }
     ensures rest { IfOk result (λ both. parts 10 both.1.now ≡ behind (parts 10 text.now)) }
@@ -151,7 +151,7 @@ pub(crate) fn read_version(text: &[u8]) -> Result<(u32, &[u8]), FaultKind>
     Ok((version, rest))
 }
 
-/// The number of CPUs, and what stands behind its line.
+/// The number of CPUs, and the text after its line.
 pub(crate) fn read_cpus(version: u32, text: &[u8]) -> Result<(u32, &[u8]), FaultKind>
     ensures cpus { Tells (λ both. both.0) result (cpus_in version (parts 10 text.now)) }
     ensures range { IfOk result (λ both. (0 < both.0) × (both.0 ≤ 256)) }
@@ -163,7 +163,7 @@ pub(crate) fn read_cpus(version: u32, text: &[u8]) -> Result<(u32, &[u8]), Fault
     Ok((cpus, rest))
 }
 
-/// The empty block of caller 0, and what stands behind its line.
+/// The empty block of caller 0, and the text after its line.
 pub(crate) fn read_start(
     alloc: Global,
     head: Head,
@@ -180,7 +180,7 @@ pub(crate) fn read_start(
     }
 }
 
-/// What the next line adds to a script, whether more lines may follow, and what stands behind the line.
+/// Adds the next line to a script. Returns whether more lines may follow, and the text after the line.
 pub(crate) fn read_line<'a>(
     alloc: Global,
     draft: &mut Draft,
@@ -202,7 +202,7 @@ pub(crate) fn read_line<'a>(
     Ok((more, rest))
 }
 
-/// What is wrong with the first line behind the line `end`.
+/// The fault of the first line after the line `end`.
 pub(crate) fn kind_behind_end(text: &[u8]) -> FaultKind
     requires whole { IsWhole text.now }
     requires some { 0 < length text.now }

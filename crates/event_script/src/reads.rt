@@ -1,11 +1,11 @@
-//! How many bytes events read.
+//! The number of bytes that an event reads.
 
 ghost use Rattle.std.specs.Prelude.{◌≡◌};
 ghost use Rattle.key_names.specs.Texts.ScriptGrammar.{bytes_read};
 
 use key_names::{Event, InsideAct};
 
-/// How many bytes an event reads, as it asks for them; 0 for one that is no read.
+/// The number of bytes that an event asks for; 0 if it is no read.
 pub fn bytes_read(event: &Event) -> u32
     ensures { result ≡ bytes_read event.now }
 {

@@ -14,9 +14,9 @@ use key_names::Event;
 use std::alloc::{AllocError, Global};
 use std::marker::Model;
 
-/// What callers are to do: a version, a number of CPUs, and the events of each caller.
+/// A script: a version, a number of CPUs, and the events of each caller.
 ///
-/// A script has at least one caller, and is well-formed: its text is read without fault.
+/// A script has at least one caller, and is well-formed: its text is read without a fault.
 #[derive(Drop)]
 pub struct Script {
     version: u32,
@@ -45,14 +45,13 @@ impl Script {
     ghost use Rattle.key_names.specs.Texts.ScriptGrammar.{WellFormed};
     ghost use Rattle.event_script.specs.LoadScript.{load_script};
 
-    /// The script of a load, of version 1: on as many CPUs as callers, caller 0 makes the core ready and forks all
-    /// others, and each caller makes so many calls on its own CPU, eight kinds of them in turn. `start` says which
-    /// kind is the first, and how long the reads are. There are 1 to 64 callers; `events` is the calls of each, 1 to
-    /// 1,000.
+    /// The script of a load, of version 1, with as many CPUs as callers. Caller 0 makes the core ready and forks all
+    /// others. Each caller makes `events` calls on its own CPU, eight kinds of them in turn. `start` determines the
+    /// first kind and the lengths of the reads. There are 1 to 64 callers, with 1 to 1,000 calls each.
     ///
     /// # Errors
     ///
-    /// `AllocError` where there is no memory for the events.
+    /// `AllocError` if there is no memory for the events.
     pub fn load(alloc: Global, start: u32, callers: u32, events: u32) -> Result<Script, AllocError>
         requires callers { (1 ≤ callers) × (callers ≤ 64) }
         requires events { (1 ≤ events) × (events ≤ 1000) }
@@ -98,12 +97,12 @@ impl Script {
 }
 
 impl Reader {
-    /// The script whose text was fed.
+    /// The script of the text that was fed.
     ///
     /// # Errors
     ///
-    /// `Fault` with the text's first fault, where it is no script, and the faulty line. `NoMemory` where there is no memory
-    /// for the script.
+    /// `Fault` with the text's first fault if it is no script, and with the faulty line. `NoMemory` if there is no
+    /// memory for the script.
     pub fn finish(self) -> Result<Script, Unread>
         requires { (text : List ℕ) × HasFed text self }
         ensures found { (text : List ℕ) → HasFed text self → IfOk result (λ script. IsScript script text) }
@@ -129,13 +128,13 @@ impl Reader {
 ///
 /// # Errors
 ///
-/// `Fault` with the text's first fault, where it is no script. `NoMemory` where there is no memory for the script.
+/// `Fault` with the text's first fault if it is no script. `NoMemory` if there is no memory for the script.
 pub fn read(alloc: Global, text: &[u8]) -> Result<Script, ScriptError>
-    // What is read is spelt so.
+    // The text is the spelling of the script.
     ensures found { IfOk result (λ script. IsScript script text.now) }
-    // A script's text is read, unless memory runs out.
+    // Every script's text is read, unless memory runs out.
     ensures only { (script : Spelt) → IsScript script text.now → GivesScript (λ read. read) result (Ok script) }
-    // Which fault it is.
+    // The error has the first fault.
     ensures fault { IfErr result (λ error. IsFirstFault error text.now) }
     // A text with a fault is no script, so it is not read.
     ensures faulted { (fault : ScriptFault) → first_fault text.now ≡ Some fault → IsErr result }
@@ -148,13 +147,13 @@ pub fn read(alloc: Global, text: &[u8]) -> Result<Script, ScriptError>
     }
 }
 
-/// Reads the script in front of a text, which its first line `end` ends. Where no line is `end`, all of the text is
-/// taken for the script. Answers the script and how many bytes it has.
+/// Reads the script at the start of a text, up to and including the first line `end`. Without such a line the whole
+/// text is read as the script. Returns the script and the number of its bytes.
 ///
 /// # Errors
 ///
-/// `Fault` with the first fault of the bytes that the script would have, where they are no script. `NoMemory` where
-/// there is no memory for the script.
+/// `Fault` with the first fault of the script's bytes if they are no script. `NoMemory` if there is no memory for the
+/// script.
 pub fn read_front(alloc: Global, text: &[u8]) -> Result<(Script, u64), ScriptError>
     ensures found { IfOk result (λ both. IsScript both.0 (front text.now)) }
     ensures place { IfOk result (λ both. take both.1 text.now ≡ front text.now) }

@@ -1,4 +1,4 @@
-//! Why a text is no script, or was not read.
+//! Why a text is no script, or could not be read.
 
 ghost use Rattle.std.specs.Prelude.{◌≡◌};
 ghost use Rattle.event_script.specs.declared.script_error.ScriptError.TheVariants.{Fault, NoMemory};
@@ -23,11 +23,11 @@ impl From<AllocError> for ScriptError {
     }
 }
 
-/// Why a text that came piece by piece was not read.
+/// Why a text that came in pieces could not be read.
 #[derive(Drop)]
 pub struct Unread {
     pub error: ScriptError,
-    /// The faulty line, or what there is of it, where there was memory to keep it (tested).
+    /// The faulty line, or the part of it that was read, if there was memory to keep it (tested).
     pub line: Option<Vec<u8>>,
 }
 

@@ -1,8 +1,8 @@
-//! Events of a word and at most two numbers, read where they stand.
+//! Events of a word and at most two numbers, read in place.
 //!
-//! Most lines of a long script say such events. They are looked at once, byte by byte, and neither their line end nor
-//! their fields are searched for first. `None` says nothing of a text: its first line is then read by its fields, as
-//! each line with a fault is.
+//! Most lines of a long script have such events. They are read in one pass, byte by byte, without a search for the line
+//! end or the fields. `None` allows no conclusion about a text: its first line is then read by its fields, like each
+//! line with a fault.
 
 ghost use Rattle.std.specs.Prelude.{◌≡◌, ℕ, ◌∷◌, ◌++◌, IfSome};
 ghost use Rattle.std.specs.Bool.{OnTrue};
@@ -18,11 +18,11 @@ use crate::events::LAST_MOMENT;
 use crate::numbers::number_front;
 use key_names::{Event, Word};
 
-/// The bytes of the longest word that is read here. A shorter text is left to the fields, so that its length is looked
-/// at once for all words.
+/// The length of the longest word that is read here. A shorter text is left to the fields, so that one check of the
+/// length serves all words.
 const LONGEST_WORD: usize = 6;
 
-/// The numbers behind a word.
+/// The numbers after a word.
 #[derive(Clone, Copy)]
 pub(crate) enum Numbers {
     None,
@@ -30,7 +30,7 @@ pub(crate) enum Numbers {
     Two(u64, u64),
 }
 
-/// The word in front of a text, and what stands behind it.
+/// The word at the start of a text, and the text after it.
 fn word_in_front(text: &[u8]) -> Option<(Word, &[u8])>
     ensures { IfSome result (λ both. text.now ≡ word_text both.0 ++ both.1.now) }
 {
@@ -58,8 +58,8 @@ fn word_in_front(text: &[u8]) -> Option<(Word, &[u8])>
     })
 }
 
-/// The number in front of a line end, behind a first number, and what stands behind the line end.
-// This and the next one are asked in two ways. Without the hints they would be calls.
+/// The second number of a line, before the line end, and the text after the line end.
+// This function and the next one are called from two places. Without the hints they would not be inlined.
 #[inline(always)]
 fn second_in_front(first: u64, text: &[u8]) -> Option<(Numbers, &[u8])>
     ensures { IfSome result (λ both.
@@ -71,7 +71,7 @@ fn second_in_front(first: u64, text: &[u8]) -> Option<(Numbers, &[u8])>
     }
 }
 
-/// One or two numbers in front of a line end, and what stands behind the line end.
+/// One or two numbers before a line end, and the text after the line end.
 #[inline(always)]
 fn some_in_front(text: &[u8]) -> Option<(Numbers, &[u8])>
     ensures { IfSome result (λ both. 32 ∷ text.now ≡ behind_word both.0 ++ 10 ∷ both.1.now) }
@@ -83,7 +83,7 @@ fn some_in_front(text: &[u8]) -> Option<(Numbers, &[u8])>
     }
 }
 
-/// What stands between a word and the line end, if it is numbers, and what stands behind the line end.
+/// The numbers between a word and the line end, if there is nothing else, and the text after the line end.
 fn numbers_in_front(text: &[u8]) -> Option<(Numbers, &[u8])>
     ensures { IfSome result (λ both. text.now ≡ behind_word both.0 ++ 10 ∷ both.1.now) }
 {
@@ -94,8 +94,8 @@ fn numbers_in_front(text: &[u8]) -> Option<(Numbers, &[u8])>
     }
 }
 
-/// The numbers of the interrupt that the first line says, and what stands behind the line.
-// It is looked for before other words, and its event is made at once: a machine that runs has many.
+/// The numbers of the interrupt on the first line, and the text after the line.
+// The reader looks for it before other words and makes its event at once, since a running machine has many.
 pub(crate) fn irq_in_front(text: &[u8]) -> Option<(u64, u64, &[u8])>
     ensures spelt { IfSome result (λ all. text.now ≡ word_text Irq ++ (behind_word (Two all.0 all.1) ++ 10 ∷ all.2.now)) }
     ensures short { IfSome result (λ all. IsShort Irq (Two all.0 all.1)) }
@@ -109,7 +109,7 @@ pub(crate) fn irq_in_front(text: &[u8]) -> Option<(u64, u64, &[u8])>
     }
 }
 
-/// Whether a word and numbers say an event.
+/// If true, an event has this word and these numbers.
 fn is_short(word: Word, numbers: Numbers) -> bool
     ensures { OnTrue result (IsShort word numbers) }
 {
@@ -140,7 +140,7 @@ fn is_short(word: Word, numbers: Numbers) -> bool
     }
 }
 
-/// The word and the numbers of the first line, if they say an event, and what stands behind the line.
+/// The word and the numbers of the first line, if an event has them, and the text after the line.
 pub(crate) fn short_line(text: &[u8]) -> Option<(Word, Numbers, &[u8])>
     ensures spelt { IfSome result (λ all. text.now ≡ word_text all.0 ++ (behind_word all.1 ++ 10 ∷ all.2.now)) }
     ensures short { IfSome result (λ all. IsShort all.0 all.1) }
@@ -212,7 +212,7 @@ fn with_two(word: Word, first: u64, second: u64) -> Event
     }
 }
 
-/// The event that a word and numbers say.
+/// The event of a word and its numbers.
 pub(crate) fn short_event(word: Word, numbers: Numbers) -> Event
     requires { IsShort word numbers }
     ensures spelt { spaced (event_fields result) ≡ word_text word ++ behind_word numbers }

@@ -1,4 +1,4 @@
-//! How far a script's text is read.
+//! How far the text of a script was read.
 ghost use Rattle.std.specs.Prelude.{◌≡◌, ◌+◌, ◌<◌, ◌^◌, ◌==◌, ℕ, [], All, false, IfOk, length};
 ghost use Rattle.key_names.specs.Texts.ScriptFaults.{parts, script_of_draft};
 ghost use Rattle.event_script.specs.Drafts.{draft_as};
@@ -17,20 +17,20 @@ use crate::script_error::{ScriptError, Unread};
 use key_names::{FaultKind, ScriptFault};
 use std::alloc::{AllocError, Global};
 
-/// How far a text is read, and what was read.
+/// How far a text was read, with the content of that part.
 #[derive(Drop)]
 pub(crate) enum Stage {
-    /// Its first line is to come.
+    /// The first line comes next.
     Version,
-    /// Its second line is to come.
+    /// The second line comes next.
     Cpus {
         version: u32,
     },
-    /// The first block is to begin.
+    /// The first block begins next.
     Start {
         head: Head,
     },
-    /// Events and blocks may follow, or the line `end`. The next line has this number.
+    /// Events and blocks may follow, or the line `end`. `number` is the number of the next line.
     Lines {
         draft: Draft,
         number: u32,
@@ -40,7 +40,7 @@ pub(crate) enum Stage {
         draft: Draft,
         number: u32,
     },
-    /// It has this first fault, whatever follows. The faulty line is kept where there was memory for it.
+    /// The text has this first fault, whatever follows. The faulty line is kept if there was memory for it.
     Faulty {
         fault: ScriptFault,
         line: Option<Vec<u8>>,
@@ -86,7 +86,7 @@ fn behind_start(alloc: Global, head: Head, text: &[u8]) -> Result<(Stage, &[u8])
 }
 
 /// Reads lines up to the line `end`, or all of them.
-// Within its caller, the loop's place in the text would lie on the stack.
+// Inlined into its caller, the loop would keep its place in the text on the stack.
 #[inline(never)]
 fn behind_lines<'a>(
     alloc: Global,
@@ -116,7 +116,7 @@ fn behind_lines<'a>(
 }
 
 impl Stage {
-    /// The number of the next line, or 0 where it is of no account.
+    /// The number of the next line, or 0 after a fault.
     pub(crate) fn number(&self) -> u32
         ensures { result ≡ number_of self.now }
     {
@@ -129,7 +129,7 @@ impl Stage {
         }
     }
 
-    /// The stage behind the first line of a text, or behind more of them, and what stands behind those.
+    /// The stage after the first line of a text, or after more of its lines, and the text after those.
     fn behind(self, alloc: Global, text: &[u8]) -> Result<(Stage, &[u8]), ScriptError>
         requires whole { IsWhole text.now }
         requires some { 0 < length text.now }
@@ -148,11 +148,11 @@ impl Stage {
         }
     }
 
-    /// The stage behind a text of whole lines.
+    /// The stage after a text of whole lines.
     ///
     /// # Errors
     ///
-    /// `AllocError` where there is no memory for what they say.
+    /// `AllocError` if there is no memory for their content.
     pub(crate) fn read(self, alloc: Global, text: &[u8]) -> Result<Stage, AllocError>
         requires whole { IsWhole text.now }
         requires short { number_of self + length text.now < 2 ^ 32 }
@@ -174,8 +174,8 @@ impl Stage {
         Ok(stage)
     }
 
-    /// The script of a text that ends with the front of a line, or with a line where that is empty; its last block is
-    /// open.
+    /// The script of a text that goes on with this incomplete line and then ends. The text is a script only if the line
+    /// is empty. The last block is still open.
     pub(crate) fn finish(self, front: Vec<u8>) -> Result<Draft, Unread>
         requires { All (λ b. (b == 10) ≡ false) front.items }
         ensures { GivesUnread (λ d. script_of_draft (draft_as d)) result (goes self (parts 10 front.items)) }
@@ -203,7 +203,7 @@ fn unfinished(number: u32, front: Vec<u8>) -> Unread
     Unread::at(fault(number, FaultKind::Unfinished), Some(front))
 }
 
-/// The line behind so many others, where there is memory for it.
+/// The line after `before` others, if there is memory for it.
 fn faulty_line(alloc: Global, text: &[u8], before: u32) -> Option<Vec<u8>> {
     let line = text.split(|byte| *byte == b'\n').nth(before as usize)?;
     let mut kept = Vec::new(alloc);

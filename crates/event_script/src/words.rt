@@ -1,4 +1,4 @@
-//! The words that begin lines, and the events of those that stand alone.
+//! The words that begin lines, and the events of words without fields.
 
 ghost use Rattle.std.specs.Prelude.{◌≡◌, ℕ, IfSome, IsOk, List, [], length};
 ghost use Rattle.event_script.specs.WordLengths.{IsAmong};
@@ -7,7 +7,7 @@ ghost use Rattle.key_names.specs.Texts.ScriptFaults.{event_of, plain, word_of};
 
 use key_names::{Event, Word};
 
-// A match for each length, so that the proof of each is about few words.
+// One match for each length, so that each proof is about few words.
 
 fn of_two(field: &[u8]) -> Option<Word>
     requires { length field.now ≡ 2 }
@@ -92,7 +92,7 @@ fn of_seven(field: &[u8]) -> Option<Word>
     }
 }
 
-/// The word that a field is.
+/// The word that a field spells.
 #[tactic(auto, using(crate::proofs::Spellings::among))]
 pub fn word_of(field: &[u8]) -> Option<Word>
     ensures value { result ≡ word_of field.now }
@@ -109,7 +109,7 @@ pub fn word_of(field: &[u8]) -> Option<Word>
     }
 }
 
-/// The event of a word that stands alone.
+/// The event of a word without fields.
 pub(crate) fn alone(word: Word) -> Event
     requires { IsOk (event_of 1 1 word []) }
     ensures { (version cpus : ℕ) (fields : List (List ℕ)) → event_of version cpus word fields ≡ plain result fields }

@@ -1,4 +1,4 @@
--- What calls one after another made of a pass.
+-- The effect of successive calls on a pass.
 use Rattle.std.proofs.Common.{ℕ, List, [], ◌∷◌, ◌++◌, sym, subst}
 use Rattle.std.proofs.lemmas.Grind.{flat_map-append}
 use Rattle.key_names.specs.declared.names.Step.{Step}
@@ -16,7 +16,7 @@ pub course_did : {P : List Deed → Type 0} (caller : ℕ) (v w : View) (steps :
 course_did caller v w steps k = course_then v w w (marks_from caller 0 0 steps) []
     (course_told (first_setting caller) v w steps k.made_steps k.told) (course_none w)
 
--- calls behind calls
+-- calls after calls
 pub course_calls : (caller : ℕ) (u v w : View) (xs ys : List (List Step)) → Course u v (marks_of caller xs) →
     Course v w (marks_of caller ys) → Course u w (marks_of caller (xs ++ ys))
 course_calls caller u v w xs ys a b = subst (Course u w) (sym (flat_map-append (marks_from caller 0 0) xs ys))

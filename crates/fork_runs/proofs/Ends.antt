@@ -1,4 +1,4 @@
--- A fork on a new table, in the words of its book.
+-- A fork on a new table, in its book.
 use Rattle.std.proofs.Common.{◌≡◌, ℕ, ◌+◌, ◌-◌, ◌^◌, ◌<◌, ◌≤◌, false, true, List, [], ◌∷◌, ◌++◌, length, refl, sym, ap, ◌∙◌, subst, arith}
 use Rattle.std.proofs.lemmas.List.{length-map, map-append}
 use Rattle.std.proofs.lemmas.List.FromFn.{length-range_with_len}
@@ -78,7 +78,7 @@ stamps_up : (low high : ℕ) (stamps : List ℕ) → Climbs low stamps high → 
 stamps_up low high [] h = omega arith
 stamps_up low high (stamp ∷ stamps) h = let a = h.0 in let b = stamps_up stamp high stamps h.1 in omega arith
 
--- visits are those of a book whatever lists of states it has
+-- the visits of a book do not depend on its lists of states
 module _ (book : Book) (callers : StateLists) where
   same_at : (lane : LaneId) (place : ℕ) → stamped_at book lane place ≡
       stamped_at (record book { callers = callers }) lane place
@@ -111,7 +111,7 @@ module _ (lanes : ℕ) (visits : ℕ → List Visit) (callers : StateLists) wher
   abbrev book : Lists
   book = book_lists lanes visits callers
 
-  -- what a call did is what stands behind its steps
+  -- a call's effect is given by the deeds of its steps
   shown_in : {P : List Deed → Type 0} (set : Setting) (v w : View) (own : List Step) → DidAll P set v own w →
       Continues lanes w visits → P (deeds_of book own)
   shown_in {P} set v w own k c = subst (λ (l : List Step). P (deeds_of book l)) (sym k.told.trace)
@@ -173,7 +173,7 @@ module _ (lanes : ℕ) (visits : ℕ → List Visit) (callers : StateLists) wher
     shown = shown_in (first_setting caller) v w own k.did c;
   }
 
--- What the steps before the stop took, and read
+-- The reads that the steps before the stop took as keys
 
 module _ (lists : Lists) (n : ℕ) where
   abbrev shown_by : List HostStep → List Step → Type 0
@@ -219,7 +219,7 @@ module _ (lists : Lists) (n : ℕ) where
           own_takes k.later.before k.more k.shown_more,
         )
 
--- caller 0 called on a new table behind a sample, and forked
+-- caller 0 made a call on a new table after a sample, and forked
 module _ (turn : Turn) (point : Point) (n : ℕ) (p q w x : View) (left : Stage) (out : List ℕ) (t : VgetrandomState)
     (parent child : List ℕ) (new : p ≡ start)
     (sampled : (own : List Step)
@@ -256,7 +256,7 @@ module _ (turn : Turn) (point : Point) (n : ℕ) (p q w x : View) (left : Stage)
   abbrev half : View
   half = steps.child mid
 
-  -- what the child's pass knows that took in the parent's
+  -- the view of the child's pass after it took in the parent's
   abbrev pub both : View
   both = both_of half over.parent_end
 
@@ -356,7 +356,7 @@ module _ (turn : Turn) (point : Point) (n : ℕ) (p q w x : View) (left : Stage)
         let f = marks_both lane parents_marks rest_marks in
         omega arith
 
-    -- The stamps climb, from each to the next
+    -- The stamps climb from each part to the next
 
     later : both.stamp ≡ over.parent_end.stamp
     later = let up = stamps_up mid.stamp over.parent_end.stamp (stamps_of rest_marks) parent_course.climbs in omega arith
@@ -437,7 +437,7 @@ module _ (turn : Turn) (point : Point) (n : ℕ) (p q w x : View) (left : Stage)
     child_climbs = host_climbs_append reached.stop.place.published (published_by (floor both)) (published_by (floor x)) []
         over.child_ends.steps both_knows over.child_ends.climbs
 
-    -- What the parts of the call did
+    -- The parts of the call
 
     abbrev the_way : Way lists n turn point reached.stop.before reached.calls
     the_way = way_in (length x.lanes) (known_of x) callers n turn point reached.stop.before q w reached.calls reached.ran
@@ -477,7 +477,7 @@ module _ (turn : Turn) (point : Point) (n : ℕ) (p q w x : View) (left : Stage)
         (reads_both (cpu_list lists) reached.stop.before (at_point point true ∷ child_is.steps) way_reads
         (own_reads lists n child_is.steps child_is.own child_is.shown)) child_call)).1
 
-    -- No place of a lane is visited twice
+    -- Each place of a lane is visited at most once
 
     marked_once : (lane : LaneId) (p : ℕ) →
         calls_have lane p reached.calls + mark_takes lane p over.parents + mark_takes lane p over.childs ≤ 1
@@ -493,7 +493,7 @@ module _ (turn : Turn) (point : Point) (n : ℕ) (p q w x : View) (left : Stage)
           calls_append lane p reached.calls (over.forked ∷ []),
         )
 
-    -- nor is a read taken twice, or taken and given out
+    -- each read is taken as a key or given out at most once
     taken_once : (c p : ℕ) → takes c p parents_entries + ending_takes c p parent_is.outcome.ending
         + (takes c p childs_entries + ending_takes c p child_is.outcome.ending) ≤ 1
     taken_once c p =
@@ -600,7 +600,7 @@ module _ (turn : Turn) (point : Point) (n : ℕ) (p q w x : View) (left : Stage)
       childs_rest = child_later;
     }
 
--- the same by what the calls were made with
+-- the same for the arguments of the calls
 module _ (set : Setting) (n m k f g : ℕ) (s : VgetrandomState) (plain : set ≡ first_setting 0) (same : m ≡ n)
     (again : k ≡ m) (none : f ≡ 0) (none_again : g ≡ f) (wiped : s ≡ wiped_state) where
   pub plain_sample : (p q : View) → ((own : List Step)

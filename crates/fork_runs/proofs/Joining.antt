@@ -1,4 +1,4 @@
--- What a child's pass knows that took in its parent's.
+-- The knowledge of a child's pass after it took in its parent's.
 use Rattle.std.proofs.Common.{◌≡◌, ℕ, ◌+◌, ◌*◌, ◌-◌, ◌^◌, ◌≤◌, ◌⊎◌, inl, inr, Bool, true, false, max, List, length, refl, sym, ap, ◌∙◌, arith}
 use Rattle.std.specs.Prelude.{if◌then◌else◌, nat_lt}
 use Rattle.std.proofs.Math.ListN.{get_or-map}
@@ -33,7 +33,7 @@ one_of_them xs ys = go (nat_lt (length xs) (length ys))
     go true = inr refl
     go false = inl refl
 
--- what both know, both together know
+-- a generation that both have seen published, the joined view has too
 pub joined_floor : (low : ℕ) (v w : View) → length v.lanes ≡ length w.lanes → low ≤ published_by (floor v) →
     low ≤ published_by (floor w) → low ≤ published_by (floor (both_of v w))
 joined_floor low v w long first second =

@@ -1,9 +1,13 @@
+pub mod Coming
 pub mod Courses
 pub mod Ends
 pub mod Joining
 pub mod Lines
 pub mod Looks
 pub mod Marks
+pub mod Paths
 pub mod Reaching
+pub mod Readiness
+pub mod Serving
 pub mod Stretching
 pub mod TwoStops

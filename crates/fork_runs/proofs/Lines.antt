@@ -1,4 +1,4 @@
--- The two lines of a fork show named bytes, in a book whose states are the parent's and the child's.
+-- The two lines of a fork show named bytes, in a book with the states of the parent and the child.
 use Rattle.std.proofs.Common.{◌≡◌, ℕ, zero, suc, ◌+◌, ◌≤◌, ◌⊎◌, inl, inr, Bool, true, false, List, [], ◌∷◌, ◌++◌, Some, refl, sym, subst, ap, ◌∙◌, arith, append-nil, length}
 use Rattle.std.specs.Prelude.{◌||◌}
 use Rattle.std.specs.List.{AllByRecursion, list_any}
@@ -43,7 +43,7 @@ module _ (lists : Lists) (ps cs : List VEntry) (callers_are : lists.callers ≡ 
   pub childs_list : state_list lists 1 0 ≡ cs
   childs_list = ap (λ (callers : List (List (List VEntry))). list_at (list_at callers 1) 0) callers_are
 
-  -- a read that is taken as a key is one of the two states'
+  -- a read that is taken as a key is taken by one of the two states
   or_false : (b : Bool) → (b || false) ≡ true → b ≡ true
   or_false true is = refl
   or_false false is = is
@@ -60,7 +60,7 @@ module _ (lists : Lists) (ps cs : List VEntry) (callers_are : lists.callers ≡ 
             let one = any_entry c p cs (or_false (any cs) (or_false (any cs || false) second)) in omega arith
       ]
 
-  -- where an entry takes a read, it is one of the two lists'
+  -- an entry that takes a read is in one of the two lists
   record TakenIn (caller state place c p : ℕ) (number : ℕ) (es : List VEntry) : Type 0 where
     caller_is : caller ≡ number
     state_is : state ≡ 0
@@ -140,7 +140,7 @@ module _ (lists : Lists) (ps cs : List VEntry) (callers_are : lists.callers ≡ 
 
 -- The lines
 
--- a line as a transcript has it
+-- a line in the form of a transcript
 abbrev line_of : ℕ → List Step → List ℕ → SeenLine
 line_of caller own out = record {
   caller = caller;
@@ -208,7 +208,7 @@ module _ (lists : Lists) (named : VisitsServeNamed lists) (caller : ℕ) (es : L
 
 -- No byte is in both
 
--- a call as a transcript has it
+-- a call in the form of a transcript
 abbrev meaning_of : List VEntry → CallMeaning
 meaning_of es = record {
   own = unused_line;

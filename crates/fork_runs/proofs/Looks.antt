@@ -1,5 +1,6 @@
--- What calls behind a ready core's look did: they published generations, and read keys that CPUs handed over.
-use Rattle.std.proofs.Common.{◌≡◌, ℕ, zero, suc, ◌≤◌, Bool, List, [], ◌∷◌, ◌++◌, map, refl, sym, subst, ap, arith}
+-- The steps of calls after the look of a ready core: they published generations, and read keys that CPUs handed
+-- over.
+use Rattle.std.proofs.Common.{◌≡◌, ℕ, zero, suc, ◌≤◌, Bool, true, List, [], ◌∷◌, ◌++◌, map, refl, sym, subst, ap, arith}
 use Rattle.key_names.specs.declared.names.Step.{Step}
 use Rattle.key_names.specs.declared.point.Point.{Point}
 use Rattle.key_names.specs.declared.entries.CpuEntry.{CpuEntry}
@@ -16,13 +17,16 @@ use Rattle.lane_table.specs.declared.view.Visit.{Visit}
 use Rattle.lane_table.specs.Advances.{floor, step_of}
 use Rattle.lane_table.specs.BookLaws.{Continues}
 use Rattle.lane_table.specs.BookLists.{StateLists, book_lists}
+use Rattle.vcall_fork.specs.declared.stage.Stage.{Stage}
+use Rattle.vcall_fork.specs.declared.stage.Stage.TheVariants.{New, At, Over}
+use Rattle.vcall_fork.specs.Stages.{is_stopped, published_or}
 use Rattle.rng_core.specs.declared.setting.Setting.{Setting}
 use Rattle.rng_core.specs.Makes.{setting_of}
 use Rattle.rng_core.proofs.ActRuns.{Risen, sees_risen}
 use Rattle.rng_core.proofs.Readings.{never_fall, same_looks}
 use Rattle.fork_runs.specs.Runs.{DidAll}
 
--- a published generation that is not 0 was found
+-- a published generation other than 0 was found as at least 1
 pub found_some : (g : ℕ) → 1 ≤ published_by g → 1 ≤ g
 found_some zero h = absurd (omega arith)
 found_some (suc g) h = omega arith
@@ -30,6 +34,13 @@ found_some (suc g) h = omega arith
 pub publishes_some : (g : ℕ) → 1 ≤ g → 1 ≤ published_by g
 publishes_some zero h = absurd (omega arith)
 publishes_some (suc g) h = omega arith
+
+-- a caller that has seen the generation of a stopped call has seen the core ready
+pub seen_ready : (seen : ℕ) (stage : Stage) → 1 ≤ published_or 1 stage → is_stopped stage ≡ true →
+    published_or 0 stage ≤ published_by seen → 1 ≤ seen
+seen_ready seen New ready stands known = absurd (cc stands)
+seen_ready seen (At place) ready stands known = found_some seen (omega arith)
+seen_ready seen Over ready stands known = absurd (cc stands)
 
 pub good_both : (lists : Lists) (xs ys : List HostStep) → Good lists xs → Good lists ys → Good lists (xs ++ ys)
 good_both lists [] ys a b = b
@@ -45,7 +56,7 @@ reads_both cpus (system_call n flags answer ∷ xs) ys a b = (a.0, reads_both cp
 reads_both cpus (at_point point wiped ∷ xs) ys a b = reads_both cpus xs ys a b
 
 module _ (lists : Lists) (caller k : ℕ) where
-  -- a call whose first look is in its first part
+  -- a call with its first look in its first part
   pub good_parts : (before after : List HostStep) (point : Point) (wiped : Bool) → GoodBehind lists caller k before →
       Good lists after → GoodBehind lists caller k (before ++ at_point point wiped ∷ after)
   good_parts [] after point wiped good rest g steps is some = cc
@@ -82,7 +93,7 @@ module _ (lanes : ℕ) (visits : ℕ → List Visit) (callers : StateLists) wher
         (never_fall (floor v) (floor v ∷ looks_of deeds) (floor w) (omega arith, rises))
         (floor v, deeds, refl, (refl, shows)) g steps refl (publishes_some (floor v) some)
 
-    -- with one that its own first look found
+    -- with a core that its own first look found ready
     pub good_first : (caller k : ℕ) → GoodBehind book caller k steps
     good_first caller k = good_behind book (setting_of set) steps deeds there
         (never_fall (floor v) (looks_of deeds) (floor w) rises) shows

@@ -1,4 +1,4 @@
--- Marks whose stamps climb: no place of a lane is among them twice.
+-- Marks with climbing stamps: they have each place of a lane at most once.
 use Rattle.std.proofs.Common.{◌≡◌, ℕ, suc, ◌+◌, ◌<◌, ◌≤◌, ◌⊎◌, inl, inr, Bool, true, false, List, [], ◌∷◌, ◌++◌, Some, Option, refl, sym, ap, ◌∙◌, arith, eqb-true}
 use Rattle.std.specs.Prelude.{◌==◌, if◌then◌else◌}
 use Rattle.std.specs.List.{AllByRecursion}
@@ -18,9 +18,9 @@ use Rattle.fork_runs.specs.TableForks.{marks_of, stamps_of}
 abbrev pub IsAt : Book → MarkBy → Type 0
 IsAt book by = stamped_at book by.mark.lane by.mark.place ≡ Some (by.mark.stamp, by.who)
 
--- lane and p name a place of a lane
+-- lane and p are a place of a lane
 module _ (lane : LaneId) (p : ℕ) where
-  -- how many marks have it
+  -- how many marks have this place
   abbrev pub hits : List MarkBy → ℕ
   hits [] = 0
   hits (by ∷ marks) = lane_takes lane p by.mark.lane by.mark.place + hits marks
@@ -35,7 +35,7 @@ module _ (lane : LaneId) (p : ℕ) where
   hits_steps caller event i (Marked mark ∷ steps) =
       ap (λ n. lane_takes lane p mark.lane mark.place + n) (hits_steps caller event (suc i) steps)
 
-  -- how many the steps of some calls have
+  -- how many steps of some calls have it
   abbrev pub calls_have : List (List Step) → ℕ
   calls_have [] = 0
   calls_have (steps ∷ calls) = mark_takes lane p steps + calls_have calls
@@ -72,7 +72,7 @@ module _ (lane : LaneId) (p : ℕ) where
     abbrev stamp_of : Option (ℕ × Who) → ℕ
     stamp_of o = option_map_or (λ (x : ℕ × Who). x.0) o 0
 
-    -- behind a mark of the place there is none of it
+    -- after a mark of the place no other mark has it
     no_more : (stamp low high : ℕ) (who : Who) (marks : List MarkBy) → stamped_at book lane p ≡ Some (stamp, who) →
         stamp ≤ low → Climbs low (stamps_of marks) high → AllByRecursion (IsAt book) marks → hits marks ≡ 0
     no_more stamp low high who [] is below climbs all = refl

@@ -1,4 +1,4 @@
--- A new call that came to its stop.
+-- A new call that reached its stop.
 use Rattle.std.proofs.Common.{◌≡◌, ℕ, ◌≤◌, List, [], ◌∷◌, refl, sym, subst, ap, ◌∙◌, arith, length}
 use Rattle.key_names.specs.declared.events.Answer.TheVariants.{Ok as Done}
 use Rattle.key_names.specs.declared.events.Event.TheVariants.{Reseed}
@@ -29,14 +29,14 @@ use Rattle.fork_runs.specs.Runs.{DidAll, ReachedStop}
 use Rattle.fork_runs.proofs.Joining.{floor_child, joined_floor}
 use Rattle.fork_runs.proofs.TwoStops.{stop_then}
 
--- what was published stays known
+-- published generations stay known
 pub known_on : {P : List Deed → Type 0} (set : Setting) (left : Stage) (v w : View) (own : List Step) →
     published_or 0 left ≤ published_by (floor v) → DidAll P set v own w →
     published_or 0 left ≤ published_by (floor w)
 known_on set left v w own low did =
     let a = published_more (floor v) (floor w) (did_floor set (knowing v []) (knowing w own) did) in omega arith
 
--- by both passes behind a fork
+-- they stay known to both passes after a fork
 pub parent_known : (stage : Stage) (v before w : View) → published_or 0 stage ≤ published_by (floor v) →
     floor v ≤ floor before → w ≡ halved before → published_or 0 stage ≤ published_by (floor w)
 parent_known stage v before w low up is =
@@ -56,7 +56,7 @@ child_known stage again v before half parents both low up half_is same long pare
     (subst (λ (x : Stage). published_or 0 x ≤ published_by (floor (both_of half parents))) (sym same)
     (joined_floor (published_or 0 stage) half parents long own parents_low))
 
--- from v to w a caller ran a call to a stop, with steps of its own
+-- from v to w a caller ran a call to a stop, with its own trace
 abbrev pub Stopping : Setting → ℕ → ℕ → Stage → List ℕ → VgetrandomState → Turn → Point → Stage → List ℕ →
     VgetrandomState → View → View → Type 0
 Stopping set n flags stage held s turn point left out t v w =

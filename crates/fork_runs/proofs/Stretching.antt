@@ -1,8 +1,9 @@
--- What a host over the lanes did in a stretch of a call, in the words of the caller.
-use Rattle.std.proofs.Common.{◌≡◌, ℕ, ◌<◌, ◌≤◌, arith, Bool, true, false, List, [], ◌∷◌, length, refl, sym, ap, ◌∙◌, subst}
+-- The work of a host over the lanes in a part of a call, as steps of the caller.
+use Rattle.std.proofs.Common.{◌≡◌, ℕ, ◌<◌, ◌≤◌, arith, Bool, true, false, List, [], ◌∷◌, length, refl, ap, ◌∙◌, subst}
 use Rattle.std.specs.Prelude.{◌&&◌, Result}
 use Rattle.key_names.specs.declared.errno.Errno.{Errno}
 use Rattle.key_names.specs.declared.point.Point.{Point}
+use Rattle.key_names.specs.Flags.{is_bad}
 use Rattle.key_names.specs.Vgetrandom.{read, failed, HostStep, publishes, system_call, at_point, Ending, no_bytes, by_batch, by_system}
 use Rattle.key_names.specs.VgetrandomState.{VgetrandomState}
 use Rattle.key_names.specs.VreadSteps.{Shows, published_by}
@@ -15,7 +16,8 @@ use Rattle.vdso_state.specs.Call.{EndsAs}
 use Rattle.vdso_state.specs.Host.{DoesAll}
 use Rattle.vdso_state.specs.Places.{Climbs, Ends}
 use Rattle.vcall_fork.specs.declared.stage.Stage.{Stage}
-use Rattle.vcall_fork.specs.Stops.{RestOfCall, Stopped}
+use Rattle.vcall_fork.specs.Stages.{is_stopped, turns_begun}
+use Rattle.vcall_fork.specs.Stops.{EndedBefore, RestOfCall, Stopped}
 use Rattle.lane_table.specs.declared.lanes.Lanes.{Lanes}
 use Rattle.rng_core.specs.declared.setting.Setting.{Setting}
 use Rattle.rng_core.specs.declared.vdso.lane_host.LaneHost.{LaneHost}
@@ -27,8 +29,9 @@ use Rattle.rng_core.specs.Hosting.{standing, SameLoans, hosting}
 use Rattle.rng_core.proofs.ActRuns.{Own}
 use Rattle.rng_core.proofs.Acting.{acted_own, host_acts}
 use Rattle.rng_core.proofs.Hosting.{none_left, free_has}
-use Rattle.fork_runs.specs.Ending.{gives}
-use Rattle.fork_runs.specs.Stretches.{AreUnwiped, StoppedOver, GivesBytes, FinishedOver}
+use Rattle.fork_runs.specs.Coming.{IsGiven}
+use Rattle.fork_runs.specs.Stretches.{AreUnwiped, AreServed, StoppedOver, MissedOver, GivesBytes, FinishedOver}
+use Rattle.fork_runs.proofs.Serving.{all_served, rest_gives}
 
 pub climbs_up : (low high : ℕ) (steps : List HostStep) → Climbs low high steps → low ≤ high
 climbs_up low high [] h = h
@@ -40,7 +43,7 @@ never_both : (b : Bool) → (b && false) ≡ false
 never_both true = refl
 never_both false = refl
 
--- without acts nothing is wiped
+-- without acts no point wipes the state
 unwiped : (steps : List HostStep) (s t : ActStand) → s.asks ≡ [] → DoesAll acting s steps t → AreUnwiped steps
 unwiped [] s t none does = tt
 unwiped (publishes g ∷ steps) s t none does = unwiped steps does.0 t (does.1.acts.asks ∙ none) does.2
@@ -79,18 +82,22 @@ module _ {R : Type 0} (h last : LaneHost R) (steps : List HostStep) (does : Does
     pub stays_unwiped : AreUnwiped steps
     stays_unwiped = unwiped steps (standing h) (standing last) none acted
 
+  -- a core that was seen to be ready serves
+  pub serves : 1 ≤ floor (view h.site.pass.now) → AreServed steps
+  serves ready = all_served steps (standing h) (standing last) ready acted
+
 module _ {R : Type 0} (h last : LaneHost R) (idle : length h.acts.now ≡ 0) (two : 1 < length (view h.site.pass.now).lanes)
     (n flags : ℕ) (stage : Stage) (held : List ℕ) (s : VgetrandomState) where
   abbrev floor_of : LaneHost R → ℕ
   floor_of k = published_by (floor (view k.site.pass.now))
 
-  pub stopped_over : (turn : Turn) (point : Point) (begun look : ℕ) (left : Stage) (looks calls : ℕ)
-      (t : VgetrandomState) (out : List ℕ) →
-      Stopped hosting floor_of (RestOfCall stage n flags held s) n flags turn point begun look left looks calls h last t
-      out →
+  pub stopped_over : (turn : Turn) (point : Point) (look : ℕ) (left : Stage) (looks calls : ℕ)
+      (t : VgetrandomState) (out : List ℕ) → 1 ≤ floor (view h.site.pass.now) →
+      Stopped hosting floor_of (RestOfCall stage n flags held s) n flags turn point (turns_begun stage) look left looks
+      calls h last t out →
       StoppedOver h.site.set n flags stage held s turn point left out t (moment h.site.pass.now h.site.trace.now)
       (moment last.site.pass.now last.site.trace.now)
-  stopped_over turn point begun look left looks calls t out k = record {
+  stopped_over turn point look left looks calls t out ready k = record {
     stop = record {
       place = k.place;
       turn_is = k.turn_is;
@@ -107,27 +114,48 @@ module _ {R : Type 0} (h last : LaneHost R) (idle : length h.acts.now ≡ 0) (tw
     held_is = refl;
     state_is = refl;
     known = k.may.known;
+    misses = k.misses;
+    served = serves h last k.leads.steps k.leads.does ready;
+    climbs = k.leads.climbs;
     did = did_own h last k.leads.steps k.leads.does idle two;
   }
 
-  gives_bytes : (ending : Ending) (result : Result VEnd Errno) (out : List ℕ) → EndsAs ending result out →
-      gives result ≡ true → GivesBytes ending out
-  gives_bytes no_bytes result out is met = (let no : true ≡ false = sym met ∙ ap gives is in absurd (cc no))
-  gives_bytes (by_batch bytes) result out is met = is.1
-  gives_bytes (by_system (read bytes visit)) result out is met = is.1
-  gives_bytes (by_system (failed errno)) result out is met = (let no : true ≡ false = sym met ∙ ap gives is in absurd (cc no))
+  pub missed_over : (turn : Turn) (point : Point) (left : Stage) (result : Result VEnd Errno) (t : VgetrandomState)
+      (out : List ℕ) → 1 ≤ floor (view h.site.pass.now) →
+      EndedBefore hosting floor_of (RestOfCall stage n flags held s) turn point (turns_begun stage) left result h last t
+      out →
+      MissedOver n flags stage held s turn point (view h.site.pass.now) (view last.site.pass.now)
+  missed_over turn point left result t out ready k = record {
+    steps = k.ends.runs.steps;
+    outcome = k.ends.runs.outcome;
+    rest = k.ends.runs.relates;
+    unwiped = stays_unwiped h last k.ends.runs.steps k.ends.runs.does idle two;
+    misses = k.misses;
+    served = serves h last k.ends.runs.steps k.ends.runs.does ready;
+    climbs = k.ends.climbs;
+  }
 
-  pub finished_over : (t : VgetrandomState) (result : Result VEnd Errno) (out : List ℕ) →
+  gives_bytes : (ending : Ending) (result : Result VEnd Errno) (out : List ℕ) → EndsAs ending result out →
+      IsGiven ending → GivesBytes ending out
+  gives_bytes no_bytes result out is given = absurd given
+  gives_bytes (by_batch bytes) result out is given = is.1
+  gives_bytes (by_system (read bytes visit)) result out is given = is.1
+  gives_bytes (by_system (failed errno)) result out is given = absurd given
+
+  pub finished_over : (t : VgetrandomState) (result : Result VEnd Errno) (out : List ℕ) → is_stopped stage ≡ true →
+      flags ≡ 0 → 1 ≤ floor (view h.site.pass.now) →
       Ends hosting floor_of (RestOfCall stage n flags held s) h last
-      (record { state = t; result = result; buf = out }) → gives result ≡ true →
+      (record { state = t; result = result; buf = out }) →
       FinishedOver h.site.set n flags stage held s out (moment h.site.pass.now h.site.trace.now)
       (moment last.site.pass.now last.site.trace.now)
-  finished_over t result out k met = record {
+  finished_over t result out stands plain ready k = record {
     steps = k.runs.steps;
     outcome = k.runs.outcome;
     rest = k.runs.relates;
     unwiped = stays_unwiped h last k.runs.steps k.runs.does idle two;
     climbs = k.climbs;
-    gives = gives_bytes k.runs.outcome.ending result out k.runs.ends met;
+    gives = gives_bytes k.runs.outcome.ending result out k.runs.ends
+        (rest_gives n flags (ap is_bad plain) stage held s k.runs.steps k.runs.outcome stands
+        (serves h last k.runs.steps k.runs.does ready) k.runs.relates);
     did = did_own h last k.runs.steps k.runs.does idle two;
   }

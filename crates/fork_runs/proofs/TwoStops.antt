@@ -1,4 +1,4 @@
--- A stop behind another, and what a fork at a stop leaves to parent and child.
+-- A stop after another, and the effect of a fork at a stop on the parent's and the child's call.
 use Rattle.std.proofs.Common.{◌≡◌, ℕ, false, true, List, [], ◌∷◌, ◌++◌, refl, sym, subst, append_assoc}
 use Rattle.std.specs.List.{AllByRecursion}
 use Rattle.key_names.specs.declared.entries.VEntry.{VEntry}

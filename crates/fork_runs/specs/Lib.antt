@@ -1,4 +1,4 @@
-pub mod Ending
+pub mod Coming
 pub mod Runs
 pub mod Stretches
 pub mod TableForks

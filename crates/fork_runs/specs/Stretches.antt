@@ -1,28 +1,41 @@
--- A vgetrandom call whose host is a caller over the lanes: to a point where it stops, and from there to its end.
-use Rattle.std.specs.Prelude.{ℕ, ◌≡◌, ◌≤◌, false, List, ◌++◌}
+-- A vgetrandom call with a caller over the lanes as its host: to a point where it stops, and from there to its end.
+use Rattle.std.specs.Prelude.{ℕ, ◌≡◌, ◌≤◌, ⊤, false, List, ◌++◌}
 use Rattle.std.specs.List.{AllByRecursion}
 use Rattle.key_names.specs.declared.entries.VEntry.{VEntry}
 use Rattle.key_names.specs.declared.point.Point.{Point}
-use Rattle.key_names.specs.Vgetrandom.{read, failed, HostStep, Ending, no_bytes, by_batch, by_system, Outcome, outcome_behind}
+use Rattle.key_names.specs.Flags.{is_bad}
+use Rattle.key_names.specs.Vgetrandom.{read, failed, HostStep, publishes, system_call, at_point, Ending, no_bytes, by_batch, by_system, Outcome, outcome_behind}
 use Rattle.key_names.specs.VgetrandomState.{VgetrandomState}
 use Rattle.key_names.specs.VreadSteps.{Shows, points_of, published_by}
+use Rattle.lane_table.specs.declared.view.View.{View}
 use Rattle.lane_table.specs.Advances.{floor}
 use Rattle.vdso_state.specs.declared.place.Turn.{Turn}
 use Rattle.vdso_state.specs.declared.place.Place.{Place}
 use Rattle.vdso_state.specs.Places.{AtPlace, Climbs}
 use Rattle.vcall_fork.specs.declared.stage.Stage.{Stage}
 use Rattle.vcall_fork.specs.declared.stage.Stage.TheVariants.{At}
-use Rattle.vcall_fork.specs.Stops.{RestOfCall}
+use Rattle.vcall_fork.specs.Stages.{turns_begun}
+use Rattle.vcall_fork.specs.Stops.{Misses, RestOfCall}
 use Rattle.rng_core.specs.declared.setting.Setting.{Setting}
+use Rattle.rng_core.specs.Hosted.{IsRead}
 use Rattle.rng_core.specs.Traces.{Moment}
 use Rattle.rng_core.specs.Makes.{Makes, setting_of}
 
--- no point wiped the state
+-- the state was not wiped at any point
 abbrev pub AreUnwiped : List HostStep → Type 0
 AreUnwiped steps = AllByRecursion (λ reached. reached.wiped ≡ false) (points_of steps)
 
--- what From relates, of a call for n bytes, came to a point of an attempt: the steps before it, and what the call had in
--- its buffer and its state there
+-- each system call with good flags read its bytes
+abbrev pub IsServed : HostStep → Type 0
+IsServed (publishes g) = ⊤
+IsServed (system_call n flags answer) = is_bad flags ≡ false → IsRead answer
+IsServed (at_point point wiped) = ⊤
+
+abbrev pub AreServed : List HostStep → Type 0
+AreServed steps = AllByRecursion IsServed steps
+
+-- a call for n bytes, with rest `From`, reached a point of an attempt: the steps before the point, and the call's
+-- buffer and state there
 pub record Stop (From : List HostStep → Outcome → Type 0) (n flags : ℕ) (turn : Turn) (point : Point) : Type 0 where
   pub place : Place
   pub turn_is : place.turn ≡ turn
@@ -36,7 +49,7 @@ pub record Stop (From : List HostStep → Outcome → Type 0) (n flags : ℕ) (t
   pub leads : (rest : List HostStep) (outcome : Outcome) → AtPlace n flags place held state rest outcome →
       From (before ++ rest) (outcome_behind entries outcome)
 
--- from l to m a caller ran a call there, which was at this stage, with this in its buffer and this state, and left those
+-- from l to m a caller ran a call to a stop, from this stage, buffer and state to those
 pub record StoppedOver (set : Setting) (n flags : ℕ) (stage : Stage) (held : List ℕ) (s : VgetrandomState)
     (turn : Turn) (point : Point) (left : Stage) (out : List ℕ) (t : VgetrandomState) (l m : Moment) : Type 0 where
   pub stop : Stop (RestOfCall stage n flags held s) n flags turn point
@@ -44,16 +57,30 @@ pub record StoppedOver (set : Setting) (n flags : ℕ) (stage : Stage) (held : L
   pub held_is : out ≡ stop.held
   pub state_is : t ≡ stop.state
   pub known : stop.place.published ≤ published_by (floor m.view)
+  pub misses : Misses turn point (turns_begun stage) stop.before
+  pub served : AreServed stop.before
+  pub climbs : Climbs (published_by (floor l.view)) (published_by (floor m.view)) stop.before
   pub did : Makes (Shows (setting_of set) stop.before) set l m
 
--- a call that ended so gave these bytes
+-- from v to w a caller ran a call to its end, and the call never reached this point of this attempt
+pub record MissedOver (n flags : ℕ) (stage : Stage) (held : List ℕ) (s : VgetrandomState) (turn : Turn) (point : Point)
+    (v w : View) : Type 0 where
+  pub steps : List HostStep
+  pub outcome : Outcome
+  pub rest : RestOfCall stage n flags held s steps outcome
+  pub unwiped : AreUnwiped steps
+  pub misses : Misses turn point (turns_begun stage) steps
+  pub served : AreServed steps
+  pub climbs : Climbs (published_by (floor v)) (published_by (floor w)) steps
+
+-- a call with this ending gave these bytes
 abbrev pub GivesBytes : Ending → List ℕ → Type 0
 GivesBytes no_bytes out = ⊥
 GivesBytes (by_batch bytes) out = out ≡ bytes
 GivesBytes (by_system (read bytes visit)) out = out ≡ bytes
 GivesBytes (by_system (failed errno)) out = ⊥
 
--- from l to m a caller ran what was left of a call to its end, which gave these bytes
+-- from l to m a caller ran the rest of a call to its end, and it gave these bytes
 pub record FinishedOver (set : Setting) (n flags : ℕ) (stage : Stage) (held : List ℕ) (s : VgetrandomState)
     (out : List ℕ) (l m : Moment) : Type 0 where
   pub steps : List HostStep

@@ -1,4 +1,5 @@
--- A vgetrandom call of caller 0 on a new table that forks at a point, and what it then is of parent and child.
+-- A vgetrandom call of caller 0 on a new table that forks at a point, and its two ends in the parent and in the
+-- child.
 use Rattle.std.specs.Prelude.{ℕ, ◌≡◌, true, false, List, [], ◌∷◌, ◌++◌, length, map}
 use Rattle.std.specs.List.{flat_map, range_with_len}
 use Rattle.key_names.specs.declared.entries.BaseEntry.TheVariants.{Fork}
@@ -30,11 +31,11 @@ use Rattle.rng_core.specs.Makes.{IsOutcomeOf, setting_of}
 use Rattle.rng_core.specs.Settings.{first_setting}
 use Rattle.fork_runs.specs.Stretches.{AreUnwiped, Stop, GivesBytes}
 
--- the steps of the caller's calls are what its host did
+-- the steps of the caller's calls are those of its host
 abbrev pub IsShown : Lists → ℕ → List HostStep → List Step → Type 0
 IsShown lists caller steps own = Shows (setting_of (first_setting caller)) steps (deeds_of lists own)
 
--- a stop in the second attempt: the call was stopped at the point Serve of the first one too, the core was reseeded
+-- a stop in the second attempt: the call was also stopped at the point Serve of the first one, the core was reseeded
 -- there, and the call went on
 pub record WayBySecond (lists : Lists) (n : ℕ) (point : Point) (before : List HostStep) (calls : List (List Step))
     : Type 0 where
@@ -49,13 +50,13 @@ pub record WayBySecond (lists : Lists) (n : ℕ) (point : Point) (before : List 
   pub reseeds : IsOutcomeOf (setting_of (first_setting 0)) Reseed Done no_data (deeds_of lists reseeded)
   pub shown_more : IsShown lists 0 later.before more
 
--- how the steps before a stop show in the parent's calls
+-- the steps before a stop, in the parent's calls
 abbrev pub Way : Lists → ℕ → Turn → Point → List HostStep → List (List Step) → Type 0
 Way lists n First point before calls = (own : List Step) × (calls ≡ own ∷ []) × IsShown lists 0 before own
 Way lists n Second point before calls = WayBySecond lists n point before calls
 
--- an end of the call: from its point on, with this in the buffer and this state, a caller came to the call's end by
--- these steps of its own, and it gave these bytes
+-- one end of the call: from its point on, with this buffer and this state, a caller ran it to its end by its own
+-- steps, and it gave these bytes
 pub record IsEnd (lists : Lists) (caller n : ℕ) (place : Place) (held : List ℕ) (s : VgetrandomState) (out : List ℕ)
     : Type 0 where
   pub steps : List HostStep
@@ -66,33 +67,33 @@ pub record IsEnd (lists : Lists) (caller n : ℕ) (place : Place) (held : List �
   pub own : List Step
   pub shown : IsShown lists caller steps own
 
--- the entries that a call left in the list of a caller's first state, where no call was before it
+-- the entries of a call in the list of a caller's first state, with no call before it
 abbrev pub call_entries : ℕ → List VEntry → StateEntries
 call_entries caller entries = record { caller = caller; state = 0; from = 0; count = length entries }
 
--- a line shows these bytes as a transcript's line does: they are those of the spans that entries of its own serve, each
--- span's by the name of its key, by the last visit of its steps or by some of the entries that its call left
+-- a line shows these bytes as a transcript's line does: they are the bytes that these origins serve, each span by
+-- the name of its key. The origins are none, the last visit of the line's steps, or some of the entries of its call
 pub record ShowsNamed (lists : Lists) (own : StateEntries) (steps : List Step) (out : List ℕ) : Type 0 where
   pub origins : List Origin
   pub by : PrintsBy own steps origins
   pub shown : out ≡ served_in lists (origins_uses lists origins)
 
--- one vgetrandom state of the parent, with the entries of its whole call, and one of the child, which starts wiped, with
--- those of its end of the call
+-- one vgetrandom state of the parent, with the entries of its whole call, and one of the child, which starts wiped,
+-- with those of its end of the call
 abbrev pub two_states : List VEntry → List VEntry → List (List (List VEntry))
 two_states parents childs = (parents ∷ []) ∷ (childs ∷ []) ∷ []
 
--- the visits that a caller's calls made, each call with steps of its own
+-- the visits of a caller's calls, with the steps of each call numbered from 0
 abbrev pub marks_of : ℕ → List (List Step) → List MarkBy
 marks_of caller calls = flat_map (marks_from caller 0 0) calls
 
 abbrev pub stamps_of : List MarkBy → List ℕ
 stamps_of marks = map (λ by. by.mark.stamp) marks
 
--- the visits of a lawful and disjoint book of one CPU are those of one `add`, which makes the core ready, of the parent's
--- vgetrandom call as far as its stop, of the fork, of what is left of the parent's call, and of the child's; it has no
--- others. Its states are the parent's and the child's. What parent and child give out are the bytes in which these two
--- calls end; they are those of named spans, and no byte of a key is in both
+-- a lawful and disjoint book of one CPU has exactly these visits: those of one `add`, which makes the core ready, of
+-- the parent's vgetrandom call up to its stop, of the fork, of the rest of the parent's call, and of the child's.
+-- Its states are the parent's and the child's. The bytes of the parent and the child are those that end the two
+-- calls. They are bytes of named spans, and no byte of a key is in both
 pub record AreForkedBytes (turn : Turn) (point : Point) (n : ℕ) (parent child : List ℕ) : Type 0 where
   pub book : Book
   pub cpus : length book.cpus ≡ 1
@@ -109,24 +110,24 @@ pub record AreForkedBytes (turn : Turn) (point : Point) (n : ℕ) (parent child 
   pub parent_end : IsEnd (lists_of book) 0 n stop.place stop.held stop.state parent
   pub child_end : IsEnd (lists_of book) 1 n stop.place stop.held wiped_state child
   pub callers_are : book.callers ≡ two_states (stop.entries ++ parent_end.outcome.entries) child_end.outcome.entries
-  -- the parent's call is one that nobody stopped
+  -- the parent's call is one without a stop
   pub parent_call : IsCall n 0 wiped_state (stop.before ++ at_point point false ∷ parent_end.steps)
       (outcome_behind stop.entries parent_end.outcome)
-  -- the child's is one that was wiped at the point, with the parent's steps before it
+  -- the child's call is one that was wiped at the point, with the parent's steps before it
   pub child_call : IsCall n 0 wiped_state (stop.before ++ at_point point true ∷ child_end.steps)
       (outcome_behind stop.entries (outcome_behind (Wipe ∷ []) child_end.outcome))
-  -- a child that gives out bytes of its state read a key behind the fork, in the attempt that gave them
+  -- a child that gives bytes of its state read a key after the fork, in the attempt that gave them
   pub child_keyed : (bytes : List ℕ) → child_end.outcome.ending ≡ by_batch bytes →
       takes_key false child_end.steps ≡ true
-  -- both lines show named bytes, each of entries of its own call, and of all these entries no two put the same byte of a
-  -- key to use: so no byte is shown twice, by one line or by both
+  -- both lines show named bytes, each from entries of its own call. No two of all these entries use the same byte of
+  -- a key, so no byte is shown twice, by one line or by both
   pub parent_line : ShowsNamed (lists_of book) (call_entries 0 (stop.entries ++ parent_end.outcome.entries))
       parent_end.own parent
   pub child_line : ShowsNamed (lists_of book) (call_entries 1 child_end.outcome.entries) child_end.own child
   pub apart : Disjoint (origins_uses (lists_of book) (parent_line.origins ++ child_line.origins))
   pub visits : VisitsAre book (marks_of 0 (added ∷ calls ++ forked ∷ []) ++ marks_of 0 (parent_end.own ∷ [])
       ++ marks_of 1 (child_end.own ∷ []))
-  -- the stamps climb: first to the fork, then to the end of the parent's call, and from there to the child's
+  -- the stamps climb: to the fork, then to the end of the parent's call, and then to the end of the child's
   pub at_fork : ℕ
   pub parents_last : ℕ
   pub childs_last : ℕ

@@ -1,20 +1,21 @@
-//! A vgetrandom call that forks at one of its points, over the lanes of a new table: what parent and child then give out.
+//! A vgetrandom call that forks at one of its points, over the lanes of a new table, and the bytes of the parent and
+//! the child.
 //!
-//! The call is that of `vcall_fork`, and its host is the caller itself. [`fork_on_new_table`] runs one to a point of an
-//! attempt, splits off the child there, and lets both go on to the end, the child with a pass of its own.
+//! The call is that of `vcall_fork`, with the caller itself as its host. [`fork_on_new_table`] runs it to a point of
+//! an attempt and splits off the child there. Then the parent and the child each run it to its end, the child with
+//! its own pass.
 //!
-//! It is promised that their bytes are those that end the two calls, over one lawful book which has the visits of the
-//! sample, of the calls and of the fork, and no others, the child's after the parent's. Both are bytes of named spans, and
-//! no byte of a key is in both. That a call comes to its stop is tested and not promised: a run that does not is made anew.
+//! The crate promises that the call reaches the stop, and that the bytes are those that end the two calls. One
+//! lawful book has exactly the visits of the sample, of the calls and of the fork, with the child's after the
+//! parent's. Both results are bytes of named spans, and no byte of a key is in both. Not promised: that a lane's
+//! turn comes.
 //!
-//! It stands on `vcall_fork` for the call, on `rng_core` for its host, and on `lane_table` for the book.
+//! The call comes from `vcall_fork`, its host from `rng_core`, and the book from `lane_table`.
 #![tactic(auto)]
 
+pub mod laws;
 mod stretches;
 mod table_forks;
 
 pub use table_forks::{ForkedBytes, fork_on_new_table};
 pub use vcall_fork::{Point, Turn};
-
-#[cfg(test)]
-mod tests;

@@ -1,5 +1,5 @@
-//! Stretches of a call over the lanes: to a point, and to the end.
-ghost use Rattle.std.specs.Prelude.{◌≡◌, ◌<◌, ◌≤◌, true, [], List, length};
+//! The parts of a call over the lanes: to a point, and to the end.
+ghost use Rattle.std.specs.Prelude.{◌≡◌, ◌<◌, ◌≤◌, true, false, [], List, length};
 ghost use Rattle.key_names.specs.declared.names.Step.{Step};
 ghost use Rattle.key_names.specs.VreadSteps.{published_by};
 ghost use Rattle.lane_table.specs.Calls.{view};
@@ -8,38 +8,37 @@ ghost use Rattle.lane_table.specs.Advances.{floor};
 ghost use Rattle.rng_core.specs.Hosting.{SameLoans};
 ghost use Rattle.rng_core.specs.Traces.{moment};
 ghost use Rattle.vcall_fork.specs.Stages.{is_open, is_stopped, published_or};
-ghost use Rattle.fork_runs.specs.Ending.{gives};
-ghost use Rattle.fork_runs.specs.Stretches.{StoppedOver, FinishedOver};
+ghost use Rattle.fork_runs.specs.Stretches.{StoppedOver, MissedOver, FinishedOver};
 
-use key_names::{Errno, Trace};
+use key_names::Trace;
 use lane_table::{Lanes, Pass};
 use rng_core::{LaneHost, Setting, Site};
 use std::sync::Wait;
-use vcall_fork::{Point, Progress, Turn, VCall, VEnd};
+use vcall_fork::{Point, Progress, Turn, VCall};
 use vdso_state::VState;
 
-/// A caller on a table, and what it has set.
+/// A caller on a table, and its setting.
 #[derive(Drop)]
 pub(crate) struct Caller<'a> {
     pub(crate) lanes: &'a Lanes,
     pub(crate) set: Setting,
 }
 
-/// A call that is under way, and the state of the caller that makes it.
+/// A call in progress, and the vgetrandom state of its caller.
 #[derive(Drop)]
 pub(crate) struct HeldCall {
     pub(crate) call: VCall,
     pub(crate) st: VState,
 }
 
-/// Where a call is to stop: at a point of an attempt.
+/// The stop of a call: a point of an attempt.
 #[derive(Clone, Copy)]
 pub(crate) struct StopAt {
     pub(crate) attempt: Turn,
     pub(crate) point: Point,
 }
 
-// To a point of an attempt.
+// Runs to a point of an attempt.
 fn run_on_host<R: Wait>(
     host: &mut LaneHost<'_, R>,
     call: &mut VCall,
@@ -54,6 +53,7 @@ fn run_on_host<R: Wait>(
     requires open { is_open call.old.stage ≡ true }
     requires length { length buf.old ≡ call.old.len }
     requires known { published_or 0 call.old.stage ≤ published_by (floor (view host.old.site.pass.now)) }
+    requires ready { 1 ≤ floor (view host.old.site.pass.now) }
     ensures loans { SameLoans host.old host.new }
     ensures has { HoldsLanes host.old.site.lanes.now host.old.site.set.caller [] host.new.site.pass.now }
     ensures len { call.new.len ≡ call.old.len }
@@ -61,6 +61,8 @@ fn run_on_host<R: Wait>(
     ensures stopped { result ≡ true → StoppedOver host.old.site.set call.old.len call.old.flags call.old.stage buf.old
         st.old attempt point call.new.stage buf.new st.new
         (moment host.old.site.pass.now host.old.site.trace.now) (moment host.new.site.pass.now host.new.site.trace.now) }
+    ensures missed { result ≡ false → MissedOver call.old.len call.old.flags call.old.stage buf.old st.old attempt point
+        (view host.old.site.pass.now) (view host.new.site.pass.now) }
 {
     match call.run_to(host, st, buf, attempt, point) {
         Progress::At => true,
@@ -68,7 +70,8 @@ fn run_on_host<R: Wait>(
     }
 }
 
-/// Runs a call to a point of an attempt. The answer is whether it stands there now: otherwise it is over.
+/// Runs a call to a point of an attempt, on a core that its caller has seen to be ready. Returns whether it is
+/// stopped there; if not, it is over and never reached the point.
 pub(crate) fn run_to<'x, R: Wait>(
     rt: &'x R,
     caller: &Caller<'x>,
@@ -82,12 +85,15 @@ pub(crate) fn run_to<'x, R: Wait>(
     requires open { is_open held.old.call.stage ≡ true }
     requires length { length buf.old ≡ held.old.call.len }
     requires known { published_or 0 held.old.call.stage ≤ published_by (floor (view pass.old)) }
+    requires ready { 1 ≤ floor (view pass.old) }
     ensures has { HoldsLanes caller.now.lanes.now caller.now.set.caller [] pass.new }
     ensures len { held.new.call.len ≡ held.old.call.len }
     ensures flags { held.new.call.flags ≡ held.old.call.flags }
     ensures stopped { result ≡ true → (steps : List Step) × StoppedOver caller.now.set held.old.call.len
         held.old.call.flags held.old.call.stage buf.old held.old.st stop.attempt stop.point held.new.call.stage buf.new
         held.new.st (moment pass.old []) (moment pass.new steps) }
+    ensures missed { result ≡ false → MissedOver held.old.call.len held.old.call.flags held.old.call.stage buf.old
+        held.old.st stop.attempt stop.point (view pass.old) (view pass.new) }
 {
     let mut trace = Trace::empty();
     let site = Site {
@@ -107,55 +113,41 @@ pub(crate) fn run_to<'x, R: Wait>(
     )
 }
 
-// Whether a call that ended so gave bytes.
-fn gave_bytes(ended: Result<VEnd, Errno>) -> bool
-    ensures { result ≡ gives ended }
-{
-    match ended {
-        Ok(VEnd::Batch | VEnd::System) => true,
-        Ok(VEnd::Zero) | Err(_) => false,
-    }
-}
-
-// To the end.
-fn finish_on_host<R: Wait>(
-    host: &mut LaneHost<'_, R>,
-    call: VCall,
-    st: &mut VState,
-    buf: &mut [u8],
-) -> bool
+// Runs to the end.
+fn finish_on_host<R: Wait>(host: &mut LaneHost<'_, R>, call: VCall, st: &mut VState, buf: &mut [u8])
     requires looks { 5 ≤ host.old.looks }
     requires calls { 3 ≤ host.old.calls }
     requires idle { length host.old.acts.now ≡ 0 }
     requires stopped { is_stopped call.stage ≡ true }
+    requires plain { call.flags ≡ 0 }
     requires length { length buf.old ≡ call.len }
     requires known { published_or 0 call.stage ≤ published_by (floor (view host.old.site.pass.now)) }
     ensures loans { SameLoans host.old host.new }
     ensures has { HoldsLanes host.old.site.lanes.now host.old.site.set.caller [] host.new.site.pass.now }
     ensures seen { published_by (floor (view host.old.site.pass.now)) ≤ published_by (floor (view host.new.site.pass.now)) }
-    ensures finished { result ≡ true → FinishedOver host.old.site.set call.len call.flags call.stage buf.old st.old
+    ensures finished { FinishedOver host.old.site.set call.len call.flags call.stage buf.old st.old
         buf.new (moment host.old.site.pass.now host.old.site.trace.now) (moment host.new.site.pass.now host.new.site.trace.now) }
 {
-    let ended = call.finish(host, st, buf);
-    gave_bytes(ended)
+    let _ended = call.finish(host, st, buf);
 }
 
-/// Runs a call that stands at a point to its end. The answer is whether it gave bytes.
+/// Runs a stopped call without flags to its end, where it gives bytes.
 pub(crate) fn finish<'x, R: Wait>(
     rt: &'x R,
     caller: &Caller<'x>,
     pass: &mut Pass,
     held: &mut HeldCall,
     buf: &mut [u8],
-) -> bool
+)
     requires has { HoldsLanes caller.now.lanes.now caller.now.set.caller [] pass.old }
     requires cpu { caller.now.set.cpu < caller.now.lanes.now.cpus }
     requires stopped { is_stopped held.old.call.stage ≡ true }
+    requires plain { held.old.call.flags ≡ 0 }
     requires length { length buf.old ≡ held.old.call.len }
     requires known { published_or 0 held.old.call.stage ≤ published_by (floor (view pass.old)) }
     ensures has { HoldsLanes caller.now.lanes.now caller.now.set.caller [] pass.new }
     ensures seen { published_by (floor (view pass.old)) ≤ published_by (floor (view pass.new)) }
-    ensures finished { result ≡ true → (steps : List Step) × FinishedOver caller.now.set held.old.call.len
+    ensures finished { (steps : List Step) × FinishedOver caller.now.set held.old.call.len
         held.old.call.flags held.old.call.stage buf.old held.old.st buf.new (moment pass.old []) (moment pass.new steps) }
 {
     let mut trace = Trace::empty();

@@ -1,18 +1,23 @@
 //! A fork inside a call, on a new table.
 ghost use Rattle.std.specs.Prelude.{◌≡◌, ◌<◌, ◌≤◌, ◌^◌, true, [], List, IfOk, length};
-ghost use Rattle.key_names.specs.declared.events.Event.TheVariants.{Reseed};
+ghost use Rattle.std.specs.List.{range_with_len};
+ghost use Rattle.key_names.specs.declared.events.Event.TheVariants.{Add, Reseed};
 ghost use Rattle.key_names.specs.declared.events.Answer.TheVariants.{Ok as Done};
 ghost use Rattle.key_names.specs.declared.names.Step.{Step};
 ghost use Rattle.key_names.specs.SeenLine.{no_data};
+ghost use Rattle.key_names.specs.VgetrandomState.{wiped_state};
 ghost use Rattle.key_names.specs.VreadSteps.{published_by};
-ghost use Rattle.lane_table.specs.Calls.{view};
+ghost use Rattle.lane_table.specs.Calls.{plan_of, view};
 ghost use Rattle.lane_table.specs.Hands.{HoldsLanes};
 ghost use Rattle.lane_table.specs.Advances.{floor};
+ghost use Rattle.lane_table.specs.Steps.{first_view};
 ghost use Rattle.rng_core.specs.Traces.{moment};
 ghost use Rattle.rng_core.specs.Makes.{Makes, IsOutcomeOf, setting_of};
+ghost use Rattle.rng_core.specs.Settings.{first_setting};
 ghost use Rattle.vcall_fork.specs.declared.stage.Stage.TheVariants.{New};
 ghost use Rattle.vcall_fork.specs.Stages.{is_stopped, published_or};
 ghost use Rattle.fork_runs.specs.Runs.{ReachedStop, ForkedOver};
+ghost use Rattle.fork_runs.specs.Stretches.{StoppedOver};
 ghost use Rattle.fork_runs.specs.TableForks.{AreForkedBytes};
 
 use crate::stretches::{Caller, HeldCall, StopAt, finish, run_to};
@@ -25,19 +30,38 @@ use vcall_fork::laws::{child_takes_key, forks_are_told};
 use vcall_fork::{Point, Turn, VCall};
 use vdso_state::VState;
 
-/// The bytes that the two ends of a forked call give out.
+/// The bytes of the two ends of a forked call.
 #[derive(Drop)]
 pub struct ForkedBytes {
     pub parent: Vec<u8>,
     pub child: Vec<u8>,
 }
 
-// Reseeds the core. The answer is whether it was ready.
-fn reseed_once<R: Wait>(rt: &R, caller: &Caller, pass: &mut Pass) -> bool
+// Adds the first sample to a new table of one CPU. After that the core is ready, since no other caller visits the
+// lanes.
+fn make_ready<R: Wait>(rt: &R, lanes: &Lanes, pass: &mut Pass, set: Setting)
+    requires has { HoldsLanes lanes.now set.caller [] pass.old }
+    requires first { set ≡ first_setting 0 }
+    requires one { lanes.now.cpus ≡ 1 }
+    requires new { view pass.old ≡ first_view (plan_of 3 0) }
+    ensures has { HoldsLanes lanes.now set.caller [] pass.new }
+    ensures ready { 1 ≤ floor (view pass.new) }
+    ensures did { (steps : List Step) × Makes (IsOutcomeOf (setting_of set) (Add (range_with_len 0 32) 256) Done no_data)
+        set (moment pass.old []) (moment pass.new steps) }
+{
+    add_first_sample(rt, lanes, pass, set);
+    lanes.settle(pass);
+}
+
+// Reseeds the core, which its caller has seen to be ready. So the generation rises above each one that the caller
+// had seen.
+fn reseed_once<R: Wait>(rt: &R, caller: &Caller, pass: &mut Pass)
     requires has { HoldsLanes caller.now.lanes.now caller.now.set.caller [] pass.old }
     requires moment { caller.now.set.now < 2 ^ 40 }
+    requires ready { 1 ≤ floor (view pass.old) }
     ensures has { HoldsLanes caller.now.lanes.now caller.now.set.caller [] pass.new }
-    ensures did { result ≡ true → (steps : List Step) × Makes (IsOutcomeOf (setting_of caller.now.set)
+    ensures rises { floor (view pass.old) < floor (view pass.new) }
+    ensures did { (steps : List Step) × Makes (IsOutcomeOf (setting_of caller.now.set)
         Reseed Done no_data) caller.now.set (moment pass.old []) (moment pass.new steps) }
 {
     let mut trace = Trace::empty();
@@ -47,11 +71,46 @@ fn reseed_once<R: Wait>(rt: &R, caller: &Caller, pass: &mut Pass) -> bool
         trace: &mut trace,
         set: caller.set,
     };
-    reseed(rt, &mut site).is_ok()
+    match reseed(rt, &mut site) {
+        Ok(()) => {}
+        Err(_) => unreachable!(),
+    }
 }
 
-// Runs a new call to a stop in its second attempt. The core is reseeded at the point Serve of the first one, so that
-// there is a second.
+// Runs a new call to a stop in its first attempt. Its state is wiped, so the attempt has each point.
+fn reach_first<R: Wait>(
+    rt: &R,
+    caller: &Caller,
+    pass: &mut Pass,
+    held: &mut HeldCall,
+    buf: &mut [u8],
+    point: Point,
+)
+    requires has { HoldsLanes caller.now.lanes.now caller.now.set.caller [] pass.old }
+    requires cpu { caller.now.set.cpu < caller.now.lanes.now.cpus }
+    requires ready { 1 ≤ floor (view pass.old) }
+    requires new { held.old.call.stage ≡ New }
+    requires plain { held.old.call.flags ≡ 0 }
+    requires some { 1 ≤ held.old.call.len }
+    requires wiped { held.old.st ≡ wiped_state }
+    requires length { length buf.old ≡ held.old.call.len }
+    ensures has { HoldsLanes caller.now.lanes.now caller.now.set.caller [] pass.new }
+    ensures len { held.new.call.len ≡ held.old.call.len }
+    ensures flags { held.new.call.flags ≡ held.old.call.flags }
+    ensures stopped { (steps : List Step) × StoppedOver caller.now.set held.old.call.len held.old.call.flags
+        held.old.call.stage buf.old held.old.st Turn.First point held.new.call.stage buf.new held.new.st
+        (moment pass.old []) (moment pass.new steps) }
+{
+    let stop = StopAt {
+        attempt: Turn::First,
+        point,
+    };
+    if !run_to(rt, caller, pass, held, buf, stop) {
+        unreachable!()
+    }
+}
+
+// Runs a new call to a stop in its second attempt. A reseed at the point Serve of the first one causes the second.
 fn reach_second<R: Wait>(
     rt: &R,
     caller: &Caller,
@@ -59,37 +118,35 @@ fn reach_second<R: Wait>(
     held: &mut HeldCall,
     buf: &mut [u8],
     point: Point,
-) -> bool
+)
     requires has { HoldsLanes caller.now.lanes.now caller.now.set.caller [] pass.old }
     requires cpu { caller.now.set.cpu < caller.now.lanes.now.cpus }
     requires moment { caller.now.set.now < 2 ^ 40 }
+    requires ready { 1 ≤ floor (view pass.old) }
     requires new { held.old.call.stage ≡ New }
+    requires plain { held.old.call.flags ≡ 0 }
+    requires some { 1 ≤ held.old.call.len }
+    requires wiped { held.old.st ≡ wiped_state }
     requires length { length buf.old ≡ held.old.call.len }
     ensures has { HoldsLanes caller.now.lanes.now caller.now.set.caller [] pass.new }
     ensures len { held.new.call.len ≡ held.old.call.len }
     ensures flags { held.new.call.flags ≡ held.old.call.flags }
-    ensures reached { result ≡ true → ReachedStop caller.now.set held.old.call.len held.old.call.flags held.old.st
+    ensures reached { ReachedStop caller.now.set held.old.call.len held.old.call.flags held.old.st
         Turn.Second point held.new.call.stage buf.new held.new.st (view pass.old) (view pass.new) }
 {
-    let serve = StopAt {
-        attempt: Turn::First,
-        point: Point::Serve,
-    };
-    if !run_to(rt, caller, pass, held, buf, serve) {
-        return false;
-    }
-    if !reseed_once(rt, caller, pass) {
-        return false;
-    }
+    reach_first(rt, caller, pass, held, buf, Point::Serve);
+    reseed_once(rt, caller, pass);
     forks_are_told();
     let stop = StopAt {
         attempt: Turn::Second,
         point,
     };
-    run_to(rt, caller, pass, held, buf, stop)
+    if !run_to(rt, caller, pass, held, buf, stop) {
+        unreachable!()
+    }
 }
 
-// Runs a new call to a stop. The answer is whether it stands there.
+// Runs a new call on a wiped state to a stop.
 fn reach_stop<R: Wait>(
     rt: &R,
     caller: &Caller,
@@ -97,26 +154,30 @@ fn reach_stop<R: Wait>(
     held: &mut HeldCall,
     buf: &mut [u8],
     stop: StopAt,
-) -> bool
+)
     requires has { HoldsLanes caller.now.lanes.now caller.now.set.caller [] pass.old }
     requires cpu { caller.now.set.cpu < caller.now.lanes.now.cpus }
     requires moment { caller.now.set.now < 2 ^ 40 }
+    requires ready { 1 ≤ floor (view pass.old) }
     requires new { held.old.call.stage ≡ New }
+    requires plain { held.old.call.flags ≡ 0 }
+    requires some { 1 ≤ held.old.call.len }
+    requires wiped { held.old.st ≡ wiped_state }
     requires length { length buf.old ≡ held.old.call.len }
     ensures has { HoldsLanes caller.now.lanes.now caller.now.set.caller [] pass.new }
     ensures len { held.new.call.len ≡ held.old.call.len }
     ensures flags { held.new.call.flags ≡ held.old.call.flags }
-    ensures reached { result ≡ true → ReachedStop caller.now.set held.old.call.len held.old.call.flags held.old.st
+    ensures reached { ReachedStop caller.now.set held.old.call.len held.old.call.flags held.old.st
         stop.attempt stop.point held.new.call.stage buf.new held.new.st (view pass.old) (view pass.new) }
 {
     match stop.attempt {
-        Turn::First => run_to(rt, caller, pass, held, buf, stop),
+        Turn::First => reach_first(rt, caller, pass, held, buf, stop.point),
         Turn::Second => reach_second(rt, caller, pass, held, buf, stop.point),
     }
 }
 
-// Forks where the call stands, and ends it in the parent and then in the child, whose pass takes in the parent's first.
-// The answer is that pass, and whether both gave bytes.
+// Forks the call at its stop, and ends it in the parent and then in the child. The child's pass first takes in the
+// parent's, and is returned.
 fn fork_at_stop<R: Wait>(
     rt: &R,
     caller: &Caller,
@@ -124,16 +185,17 @@ fn fork_at_stop<R: Wait>(
     held: &mut HeldCall,
     buf: &mut [u8],
     child_buf: &mut [u8],
-) -> (Pass, bool)
+) -> Pass
     requires has { HoldsLanes caller.now.lanes.now caller.now.set.caller [] pass }
     requires cpu { caller.now.set.cpu < caller.now.lanes.now.cpus }
     requires stopped { is_stopped held.old.call.stage ≡ true }
+    requires plain { held.old.call.flags ≡ 0 }
     requires length { length buf.old ≡ held.old.call.len }
     requires child_length { length child_buf.old ≡ held.old.call.len }
     requires known { published_or 0 held.old.call.stage ≤ published_by (floor (view pass)) }
-    ensures has { HoldsLanes caller.now.lanes.now 1 [] result.0 }
-    ensures forked { result.1 ≡ true → ForkedOver caller.now.set held.old.call.len held.old.call.flags
-        held.old.call.stage buf.old held.old.st buf.new child_buf.new (view pass) (view result.0) }
+    ensures has { HoldsLanes caller.now.lanes.now 1 [] result }
+    ensures forked { ForkedOver caller.now.set held.old.call.len held.old.call.flags
+        held.old.call.stage buf.old held.old.st buf.new child_buf.new (view pass) (view result) }
 {
     let mut trace = Trace::empty();
     let mut site = Site {
@@ -144,56 +206,19 @@ fn fork_at_stop<R: Wait>(
     };
     let mut child_pass = fork(rt, &mut site, 1);
     let (call, st) = held.call.fork_call(buf, child_buf);
-    let parent_gave = finish(rt, caller, &mut pass, held, buf);
+    finish(rt, caller, &mut pass, held, buf);
     caller.lanes.join(&mut child_pass, pass);
     let child = Caller {
         lanes: caller.lanes,
         set: Setting::first(1),
     };
     let mut childs = HeldCall { call, st };
-    let child_gave = finish(rt, &child, &mut child_pass, &mut childs, child_buf);
-    (child_pass, parent_gave && child_gave)
+    finish(rt, &child, &mut child_pass, &mut childs, child_buf);
+    child_pass
 }
 
-// A run on a new table. The answer is whether the call was stopped and both ends gave bytes.
-fn fork_once<R: Wait>(
-    rt: &R,
-    alloc: Global,
-    stop: StopAt,
-    parent: &mut [u8],
-    child: &mut [u8],
-) -> Result<bool, AllocError>
-    requires some { 1 ≤ length parent.old }
-    requires short { length parent.old ≤ 2 ^ 20 }
-    requires child_length { length child.old ≡ length parent.old }
-    ensures { IfOk result (λ gave. gave ≡ true
-        → AreForkedBytes stop.attempt stop.point (length parent.old) parent.new child.new) }
-{
-    let (lanes, mut pass) = Lanes::start(alloc, 1, 0)?;
-    let caller = Caller {
-        lanes: &lanes,
-        set: Setting::first(0),
-    };
-    add_first_sample(rt, &lanes, &mut pass, caller.set);
-    let mut held = HeldCall {
-        call: VCall::begin(parent.len() as u32, 0),
-        st: VState::wiped(),
-    };
-    if !reach_stop(rt, &caller, &mut pass, &mut held, parent, stop) {
-        return Ok(false);
-    }
-    let (pass, gave) = fork_at_stop(rt, &caller, pass, &mut held, parent, child);
-    if !gave {
-        return Ok(false);
-    }
-    let _visits = lanes.close(pass);
-    forks_are_told();
-    child_takes_key();
-    Ok(true)
-}
-
-// Runs until the call was stopped and both ends gave bytes: a run in which it was not is made anew.
-fn fork_until<R: Wait>(
+// The fork on a new table.
+fn fork_at<R: Wait>(
     rt: &R,
     alloc: Global,
     stop: StopAt,
@@ -205,27 +230,38 @@ fn fork_until<R: Wait>(
     requires child_length { length child.old ≡ length parent.old }
     ensures { IfOk result (λ done. AreForkedBytes stop.attempt stop.point (length parent.old) parent.new child.new) }
 {
-    for _ in rt.forever() {
-        if fork_once(rt, alloc, stop, parent, child)? {
-            return Ok(());
-        }
-    }
-    unreachable!()
+    let (lanes, mut pass) = Lanes::start(alloc, 1, 0)?;
+    let caller = Caller {
+        lanes: &lanes,
+        set: Setting::first(0),
+    };
+    make_ready(rt, &lanes, &mut pass, caller.set);
+    let mut held = HeldCall {
+        call: VCall::begin(parent.len() as u32, 0),
+        st: VState::wiped(),
+    };
+    reach_stop(rt, &caller, &mut pass, &mut held, parent, stop);
+    let pass = fork_at_stop(rt, &caller, pass, &mut held, parent, child);
+    let _visits = lanes.close(pass);
+    forks_are_told();
+    child_takes_key();
+    Ok(())
 }
 
-/// Makes a core with one CPU ready by a first sample, 32 bytes that count up from 0 and are credited with 256 bits. On
-/// it caller 0, whose state is wiped, wants so many bytes of vgetrandom, from 1 to 2^20, without flags. The call is
-/// held at the point of the attempt, and caller 1 forked there. A second attempt is had by a reseed while the first one
-/// stands at Serve. First the parent's call is ended. Then the child's pass takes in the parent's and ends the child's
-/// call, so that its visits come after. All of it is done on CPU 0, at moment 0, with hardware words of zeros.
+/// Makes a core with one CPU ready by a first sample, 32 bytes that count up from 0 with a credit of 256 bits. Then
+/// caller 0, with a wiped state, calls vgetrandom for `len` bytes, 1 to 2^20, without flags. The call is stopped at
+/// the point of the attempt, and forks caller 1 there. For a second attempt, the core is reseeded while the first
+/// one is stopped at Serve. The parent ends its call first. Then the child's pass takes in the parent's and ends the
+/// child's call, so that its visits come after. All of this runs on CPU 0, at moment 0, with zeros as hardware
+/// words.
 ///
-/// Both answers are the bytes of named spans of keystream, and no byte of a key is in both.
+/// Both results are the bytes of named spans of keystream, and no byte of a key is in both.
 ///
-/// A run whose call is over before the stop, or that gives no bytes, is made anew: none is known.
+/// The call reaches each of the eight stops, and gives bytes in both callers.
 ///
 /// # Errors
 ///
-/// There is no memory for the bytes or the table. Nothing else takes any.
+/// Memory for the bytes or the table ran out. The call allocates no other memory.
 pub fn fork_on_new_table<R: Wait>(
     rt: &R,
     alloc: Global,
@@ -243,6 +279,6 @@ pub fn fork_on_new_table<R: Wait>(
     let mut parent = vec![in alloc; 0; len as usize]?;
     let mut child = vec![in alloc; 0; len as usize]?;
     let stop = StopAt { attempt, point };
-    fork_until(rt, alloc, stop, &mut parent, &mut child)?;
+    fork_at(rt, alloc, stop, &mut parent, &mut child)?;
     Ok(ForkedBytes { parent, child })
 }

@@ -1,4 +1,4 @@
--- For callers: which entry of the list a mix and a credit make, one after the other.
+-- For callers: which entry of the list a mix makes, and a mix with the credit after it.
 use Rattle.std.proofs.Common.{◌≡◌, ◌≢◌, ℕ, ◌<◌, ◌≤◌, List, ◌++◌, arith, append_assoc, refl, ◌∙◌, w32, w64}
 use Rattle.std.proofs.lemmas.Bool.{lt-ltb, le-ltb, ne_eqb}
 use Rattle.std.specs.Int.{to_le_bytes}
@@ -7,7 +7,7 @@ use Rattle.key_names.specs.InputTimer.{input_number, input_timer_after, timer_bi
 use Rattle.key_names.specs.PoolList.{PoolState, credit, crossing, pool_step}
 use Rattle.input_pool.specs.PoolStands.{PoolParts, PoolStands}
 
--- the state after bytes that were mixed, and then credited
+-- the state after bytes were mixed, and after they were also credited
 abbrev pub mixed : PoolState → List ℕ → PoolState
 mixed s text = pool_step s (Mix text 0)
 
@@ -34,7 +34,7 @@ PoolStands-mix pool s text bits stands = record {
   capped = omega arith;
 }
 
--- and cross what the entry crosses
+-- the two together cross the bound that the entry crosses
 pub crossing-mix : (before between after : PoolParts) (s : PoolState) (text : List ℕ) (bits : ℕ) → PoolStands before s
     → PoolStands between (mixed s text) → PoolStands after (mixed_and_credited s text bits)
     → crossing between.bits after.bits ≡ crossing s.bits (pool_step s (Mix text bits)).bits
@@ -47,7 +47,8 @@ crossing-mix before between after s text bits first second third =
 abbrev pub input_bytes : ℕ → ℕ → ℕ → ℕ → List ℕ
 input_bytes word kind code value = to_le_bytes w64 word ++ to_le_bytes w32 (input_number kind code value)
 
--- an input event with another value, while the bits are below 256, is a mix and a credit of what the timer gives
+-- an input event with another value, while the bits are below 256, is a mix, and a credit of the
+-- bits that the timer gives
 pub pool_step-timed : (s : PoolState) (word kind code value now : ℕ) → value ≢ s.value → s.bits < 256
     → pool_step s (Input word kind code value now) ≡ record s {
       text = s.text ++ input_bytes word kind code value;
@@ -71,7 +72,7 @@ PoolStands-timed pool s word kind code value now fresh room stands =
       capped = entry.capped;
     })
 
--- and a mix alone where they are 256
+-- once 256 bits are credited, an input event whose value differs from the last one only mixes
 pub pool_step-untimed : (s : PoolState) (word kind code value now : ℕ) → value ≢ s.value → 256 ≤ s.bits
     → pool_step s (Input word kind code value now)
     ≡ record s { text = s.text ++ input_bytes word kind code value; value = value }

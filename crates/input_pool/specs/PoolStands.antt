@@ -1,4 +1,4 @@
--- What a pool keeps of the list of its entries.
+-- What contracts see of a pool, and how it matches the list of its entries.
 use Rattle.std.specs.Prelude.{◌≡◌, ℕ, ◌≤◌}
 use Rattle.key_names.specs.PoolList.{PoolState, Crossing, ready, early, none}
 use Rattle.blake2s_core.specs.Hash.{Hash, Stands}
@@ -10,14 +10,14 @@ pub record PoolParts : Type 0 where
   pub hash : Hash
   pub bits : ℕ
 
--- the pool stands for the state of a list: its hash for the key and the text, its bits for the bits. The state's input
--- value and timer stand elsewhere
+-- the pool matches the state of a list: its hash the key and the text, its bits the bits. The state's input value and
+-- timer are kept elsewhere
 pub record PoolStands (pool : PoolParts) (s : PoolState) : Type 0 where
   pub hashed : Stands pool.hash s.key s.text
   pub credited : pool.bits ≡ s.bits
   pub capped : s.bits ≤ 256
 
--- the crossing that an answer names
+-- the crossing that the code's answer names
 abbrev pub crossing_of : Answered → Crossing
 crossing_of None = none
 crossing_of Early = early

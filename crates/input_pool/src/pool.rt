@@ -1,4 +1,4 @@
-//! The hash that samples are mixed into, with the bits that they were credited.
+//! The hash that samples are mixed into, with the bits that they were credited with.
 
 ghost use Rattle.std.specs.Prelude.{◌≡◌, ℕ};
 ghost use Rattle.key_names.specs.Blake2s.{blake2s};
@@ -10,27 +10,27 @@ use blake2s_core::Blake2s;
 use std::marker::Model;
 use std::mem;
 
-/// The bits at which the pool is full and the core becomes ready (`POOL_READY_BITS`), and nothing more is credited.
+/// The credit at which the pool is full and the core becomes ready (`POOL_READY_BITS`). Nothing is credited above it.
 const READY_BITS: u32 = 256;
 
-/// The bits at which the core is seeded early (`POOL_EARLY_BITS`).
+/// The credit at which the core is seeded early (`POOL_EARLY_BITS`).
 const EARLY_BITS: u32 = 128;
 
-/// Which bound a credit crossed, as `_credit_init_bits` acts on it. Where it crossed both, it is `Ready`.
+/// The bound that a credit crossed, as `_credit_init_bits` acts on it. If it crossed both, it is `Ready`.
 #[derive(Clone, Copy, Debug, PartialEq, Eq)]
 pub enum Crossing {
     /// Neither bound was crossed.
     None,
-    /// The bits were below 128, and are 128 to 255 now: a base key may be made before the core is ready.
+    /// The bits were below 128, and are now 128 to 255: a base key may be made before the core is ready.
     Early,
-    /// The bits were below 256, and are 256 now: the core becomes ready.
+    /// The bits were below 256, and are now 256: the core becomes ready.
     Ready,
 }
 
 /// The kernel's `input_pool`: a BLAKE2s hash that every sample is mixed into, and the bits of credit, 0 to 256.
 ///
-/// Contracts see it as the parts of a pool of specs/. `PoolStands pool s` says that these are the key, the text and the
-/// bits of a state of the pool's list; a call speaks of every state for which the pool stood.
+/// Contracts see it as the parts of a pool of specs/. `PoolStands pool s` means that these match the key, the text and
+/// the bits of a state `s` of the pool's list. A call's clause holds for every state that the pool matched before.
 #[derive(Drop)]
 pub struct Pool {
     hash: Blake2s,
@@ -48,7 +48,7 @@ impl Model for Pool {
     ghost invariant = { λ p. p.bits ≤ 256 };
 }
 
-// The hash of the hardware's bytes and a counter, under the seed.
+// The hash, under the seed, of the hardware's bytes and a counter.
 fn counted(seed: &[u8; 32], hw: &[u8; 32], counter: u64) -> [u8; 32]
     ensures { result ≡ blake2s (Some seed.now) (seed_block hw.now counter) }
 {
@@ -61,7 +61,7 @@ fn counted(seed: &[u8; 32], hw: &[u8; 32], counter: u64) -> [u8; 32]
 impl Pool {
     ghost use Rattle.input_pool.specs.PoolStands.{crossing_of};
 
-    /// An unkeyed hash of no bytes, and no bits.
+    /// A pool of no samples: an unkeyed hash of no bytes, and no bits.
     pub fn start() -> Pool
         ensures { PoolStands result pool_start }
     {
@@ -78,7 +78,8 @@ impl Pool {
         self.hash.update(text);
     }
 
-    /// Credits bits for what was mixed, up to 256 in all, and says which bound they crossed (`_credit_init_bits`).
+    /// Credits bits for the bytes that were mixed, up to 256 in all, and returns the bound that they
+    /// crossed (`_credit_init_bits`).
     pub fn credit(&mut self, bits: u32) -> Crossing
         ensures credited { (s : PoolState) → PoolStands self.old s
             → PoolStands self.new (record s { bits = credit s.bits bits }) }
@@ -102,9 +103,9 @@ impl Pool {
         self.bits
     }
 
-    /// Takes a root of 32 bytes out of the pool, and goes on with a hash of no bytes under the next key
-    /// (`extract_entropy`). The hash of the pool is the seed; under it the next key is the hash of the hardware's bytes
-    /// and a counter of 0, and the root that with a counter of 1. The bits stay.
+    /// Returns a root of 32 bytes, and starts a hash of no bytes under the next key (`extract_entropy`). The hash of
+    /// the pool is the seed. Under the seed, the next key is the hash of the hardware's bytes and a counter of 0, and
+    /// the root is the hash of those bytes and a counter of 1. The bits of credit stay.
     pub fn extract(&mut self, hw: &[u8; 32]) -> [u8; 32]
         ensures root { (s : PoolState) → PoolStands self.old s → result ≡ root_of_extraction s hw.now }
         ensures rekeyed { (s : PoolState) (place : ℕ) → PoolStands self.old s

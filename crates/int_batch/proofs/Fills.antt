@@ -1,4 +1,4 @@
--- For callers: a batch that is filled from a key and served entry by entry is what the CPU's list says of it.
+-- For callers: a batch that is filled from a key and served entry by entry matches the CPU's list.
 use Rattle.std.proofs.Common.{◌≡◌, ℕ, suc, ◌+◌, ◌-◌, ◌*◌, ◌/◌, ◌<◌, ◌≤◌, Bool, None, List, ◌++◌, refl, ap, sym, ◌∙◌, arith, length, take, drop, replicate, length-append, length-drop, drop-drop}
 use Rattle.std.specs.Prelude.{◌==◌, not, ◌||◌, slice_range}
 use Rattle.std.proofs.lemmas.Bool.{le-leb}
@@ -8,11 +8,11 @@ use Rattle.key_names.specs.Batches.{Fill, must_fill, batched_int, with_zeros}
 use Rattle.key_names.proofs.Standards.Keystreams.{length-keystream, slice_range-keystream}
 use Rattle.int_batch.specs.BatchValue.{BatchValue, start, wants, filled, next_bytes, after_serving, IsBatchOf}
 
--- a new batch wants to be filled exactly where its list says so
+-- a new batch has to be filled exactly if its list says so
 pub wants-start : (look width : ℕ) → wants look width (start width) ≡ must_fill look width None
 wants-start look width = ap (λ (b : Bool). b || not (look == 0)) (le-leb (96 / width) (96 / width) (omega arith))
 
--- filled from the key's stream
+-- a batch filled from the key's stream is one of that key
 pub IsBatchOf-filled : (width : ℕ) (key : List ℕ) (fill : Fill) → fill.count ≡ 0 →
     IsBatchOf width key fill (filled (keystream key 32 96) fill.look)
 IsBatchOf-filled width key fill none = record {
@@ -22,11 +22,11 @@ IsBatchOf-filled width key fill none = record {
   rest = refl;
 }
 
--- where an integer ends
+-- an integer that is served ends within the 96 bytes
 room : (width position : ℕ) → position < 96 / width → width * position + width ≤ 96
 room width position below = grind arith
 
--- what is served
+-- the integer that is served is the list's
 pub next_bytes-batched_int : (width : ℕ) (key : List ℕ) (fill : Fill) (b : BatchValue) → IsBatchOf width key fill b →
     fill.count < 96 / width → next_bytes width b ≡ batched_int key width fill.count
 next_bytes-batched_int width key fill b is below =
@@ -38,7 +38,7 @@ next_bytes-batched_int width key fill b is below =
     ∙ slice_range-keystream key 32 96 from (from + width) (omega arith) fits
     ∙ ap (keystream key (32 + from)) len
 
--- and what is left
+-- the batch that is left is one of the same key
 length_front : (from width : ℕ) (bytes : List ℕ) → from ≤ length bytes →
     length (take from bytes ++ replicate width 0) ≡ from + width
 length_front from width bytes within =

@@ -1,4 +1,4 @@
--- What contracts see of a batch, and what its calls make of it.
+-- What contracts see of a batch, and how its calls change it.
 use Rattle.std.specs.Prelude.{ℕ, ◌≡◌, ◌+◌, ◌*◌, ◌/◌, Bool, Some, None, MatchBool, List, length, drop, replicate, slice_range}
 use Rattle.key_names.specs.Keystream.{keystream}
 use Rattle.key_names.specs.Batches.{Fill, must_fill, with_zeros}
@@ -11,11 +11,11 @@ pub record BatchValue : Type 0 where
   -- the generation of the last fill
   pub generation : ℕ
 
--- used up, for integers of this many bytes
+-- a batch that is used up, for integers of this many bytes
 abbrev pub start : ℕ → BatchValue
 start width = record { bytes = replicate 96 0; position = 96 / width; generation = 0 }
 
--- what a batch keeps of its last fill; its key and its place are not kept
+-- the part of its last fill that a batch keeps: the count and the generation, without the key and the place
 abbrev pub last_fill : BatchValue → Fill
 last_fill b = record { key = None; place = 0; count = b.position; look = b.generation }
 
@@ -23,7 +23,7 @@ last_fill b = record { key = None; place = 0; count = b.position; look = b.gener
 abbrev pub wants : ℕ → ℕ → BatchValue → Bool
 wants g width b = must_fill g width (Some (last_fill b))
 
--- filled with bytes at a generation
+-- the batch after a fill with these bytes at a generation
 abbrev pub filled : List ℕ → ℕ → BatchValue
 filled bytes g = record { bytes = bytes; position = 0; generation = g }
 
@@ -31,25 +31,25 @@ filled bytes g = record { bytes = bytes; position = 0; generation = g }
 abbrev pub next_bytes : ℕ → BatchValue → List ℕ
 next_bytes width b = slice_range b.bytes (width * b.position) (width * b.position + width)
 
--- the next integer was served
+-- the batch after its next integer was served
 abbrev pub after_serving : ℕ → BatchValue → BatchValue
 after_serving width b = record b {
   bytes = with_zeros (width * b.position) width b.bytes;
   position = b.position + 1;
 }
 
--- this integer was served, and this is left
+-- this integer was served, and this batch is left
 abbrev pub Serves : ℕ → BatchValue → List ℕ → BatchValue → Type 0
 Serves width b entry after = (entry ≡ next_bytes width b) × (after ≡ after_serving width b)
 
--- an integer was served at generation g: where the batch had to be filled, of bytes as Fills says
+-- an integer was served at generation g. If the batch had to be filled, it was served from bytes that Fills allows
 abbrev pub ServesAt : ℕ → ℕ → (List ℕ → Type 0) → BatchValue → List ℕ → BatchValue → Type 0
 ServesAt width g Fills b entry after =
     MatchBool (wants g width b) ((bytes : List ℕ) × Fills bytes × Serves width (filled bytes g) entry after)
     (Serves width b entry after)
 
--- the batch has 96 bytes, of which those that are to be served come from the key of this fill, and it serves as many
--- more as the fill's count says
+-- the batch has 96 bytes; those not served yet come from the key of this fill, and the count and the
+-- generation are the fill's
 pub record IsBatchOf (width : ℕ) (key : List ℕ) (fill : Fill) (b : BatchValue) : Type 0 where
   pub position : b.position ≡ fill.count
   pub generation : b.generation ≡ fill.look

@@ -6,11 +6,11 @@ ghost use Rattle.int_batch.specs.BatchValue.{start, wants, filled, next_bytes, a
 
 use std::marker::Model;
 
-/// The bytes of a batch: what three half blocks have (`CHACHA_BLOCK_SIZE * 3 / 2`).
+/// The bytes of a batch: one and a half blocks (`CHACHA_BLOCK_SIZE * 3 / 2`).
 const BATCH_BYTES: usize = 96;
 
 /// A batch of integers of `W` bytes (`struct batch_u8` to `batch_u64`): bytes that a key made at some generation, and
-/// how many integers of them were served. The bytes of a served integer are zeros.
+/// the number of integers served from them. The bytes of a served integer are zeros.
 #[derive(Drop)]
 pub struct Batch<const W: usize> {
     bytes: [u8; 96],
@@ -30,7 +30,7 @@ impl<const W: usize> Model for Batch<W> {
 }
 
 impl<const W: usize> Batch<W> {
-    /// A batch that has nothing to serve. `W` is 1 to 96.
+    /// A batch that is used up. `W` is 1 to 96.
     pub fn start() -> Batch<W>
         requires some { 0 < W }
         requires fits { W ≤ 96 }
@@ -43,15 +43,15 @@ impl<const W: usize> Batch<W> {
         }
     }
 
-    /// Whether the batch has to be filled before an integer is served at generation `g`: it is used up, or its
-    /// generation is another.
+    /// Whether the batch has to be filled before an integer is served at generation `g`: it is used up, or
+    /// its generation is another.
     pub fn wants(&self, g: u64) -> bool
         ensures { result ≡ wants g W self.now }
     {
         self.position >= BATCH_BYTES / W || g != self.generation
     }
 
-    /// Takes over these bytes, made at generation `g`.
+    /// Replaces the bytes by these, made at generation `g`.
     pub fn refill(&mut self, bytes: &[u8; 96], g: u64)
         ensures { self.new ≡ filled bytes.now g }
     {
@@ -74,9 +74,10 @@ impl<const W: usize> Batch<W> {
         entry
     }
 
-    /// Serves the next integer at generation `g`. Where the batch wants it, `fill` makes new bytes first; elsewhere it
-    /// is not called. This is [`Batch::wants`], [`Batch::refill`] and [`Batch::serve`] in one, for a caller of this crate
-    /// alone; a proof that has to know what `fill` left in what it captured calls the three, as the core does.
+    /// Serves the next integer at generation `g`. If the batch has to be filled, `fill` makes new bytes first;
+    /// otherwise it is not called. This is [`Batch::wants`], [`Batch::refill`] and [`Batch::serve`] in one, for callers
+    /// of this crate alone. If a proof needs the state that `fill` left in its captures, the caller calls the three
+    /// instead, as the core does.
     pub fn next<F: FnOnce(&mut [u8; 96])>(&mut self, g: u64, fill: F) -> [u8; W]
         requires { IsTrue (wants g W self.old) → F.IsAlwaysCallable fill }
         ensures { ServesAt W g (FnOnceReturnsAtMut F.FnOnce fill self.old.bytes tt) self.old result self.new }
@@ -89,8 +90,8 @@ impl<const W: usize> Batch<W> {
         self.serve()
     }
 
-    /// Makes the batch as at the start, as when its CPU is prepared (`random_prepare_cpu`); the kernel leaves the bytes,
-    /// and only marks them as used up.
+    /// Empties the batch, as when its CPU is prepared (`random_prepare_cpu`): it is as at the start. The kernel leaves
+    /// the bytes, and only marks them as used up.
     pub fn drop_rest(&mut self)
         ensures { self.new ≡ start W }
     {

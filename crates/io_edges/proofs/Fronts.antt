@@ -1,9 +1,9 @@
--- A call of a source in memory cuts the front off what is left.
+-- A call of a source in memory takes a prefix of the bytes left.
 use Rattle.std.proofs.Common.{◌≡◌, ℕ, ◌+◌, List, ◌++◌, length, take, drop, sym, ap₂, subst, ◌∙◌}
 use Rattle.std.proofs.lemmas.List.{take-append-drop, drop-drop}
 use Rattle.std.proofs.Math.Seq.{take-append_seam}
 
--- the bytes that a buffer got, and what is left behind them
+-- the bytes that a buffer got, and then the bytes that are left
 pub front_and_rest : (bytes front behind : List ℕ) (at n : ℕ) → length front ≡ n → front ≡ take n (drop at bytes)
     → drop at bytes ≡ take n (front ++ behind) ++ drop (at + n) bytes
 front_and_rest bytes front behind at n len is =

@@ -1,10 +1,10 @@
--- Counts that never fall, and that stand still at the highest number of a `u64`.
+-- Counts that never fall, and stop at the highest number of a `u64`.
 use Rattle.std.specs.Prelude.{ℕ, ◌+◌, ◌-◌, ◌^◌, ◌≤◌, min}
 
 -- one more, up to the highest
 abbrev pub next_count : ℕ → ℕ
 next_count n = min (n + 1) (2 ^ 64 - 1)
 
--- the count has risen since, or it stood at the highest already
+-- the count rose between these moments, or it was at the highest already
 abbrev pub Rose : ℕ → ℕ → Type 0
 Rose before after = (before ≤ after) × (next_count before ≤ after)

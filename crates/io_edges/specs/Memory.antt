@@ -1,13 +1,14 @@
--- What a source and a sink in memory do at each call.
+-- How each call changes a source and a sink in memory.
 use Rattle.std.specs.Prelude.{ℕ, ◌-◌, ◌≡◌, ◌==◌, ◌<◌, ◌⊎◌, Bool, IsTrue, min, List, ◌++◌, length, take, drop}
 use Rattle.std.specs.List.{list_any}
 use Rattle.io_edges.specs.Faults.{next_count}
 
--- whether a call of this number fails
+-- whether a call with this number fails
 abbrev pub is_listed : ℕ → List ℕ → Bool
 is_listed number fails = list_any (λ k. k == number) fails
 
--- a source in memory: what is left, the most that a call gives, and the numbers of the calls that fail
+-- a source in memory: the bytes left, the most that a call gives, the numbers of the calls that fail, and the counts
+-- of calls and faults
 pub record SourceState : Type 0 where
   pub left : List ℕ
   pub step : ℕ
@@ -31,8 +32,8 @@ after_take s n = record s { left = drop n s.left; calls = next_count s.calls }
 abbrev pub after_failed_take : SourceState → SourceState
 after_failed_take s = record s { calls = next_count s.calls; faults = next_count s.faults }
 
--- a sink in memory: what it holds, the most that a put takes, the numbers of the puts that fail, whether a flush fails,
--- and its room
+-- a sink in memory: the bytes that it holds, the most that a put takes, the numbers of the puts that fail, whether
+-- flushes fail, its room, and the counts of puts and faults
 pub record SinkState : Type 0 where
   pub held : List ℕ
   pub step : ℕ
@@ -42,19 +43,19 @@ pub record SinkState : Type 0 where
   pub calls : ℕ
   pub faults : ℕ
 
--- its next call fails: its number is listed, or there is something to put and no room for it
+-- its next put fails: the number is listed, or there are bytes to put and no room
 abbrev pub PutFails : SinkState → List ℕ → Type 0
 PutFails s piece = IsTrue (is_listed (next_count s.calls) s.fails) ⊎ ((0 < length piece) × (s.room ≡ length s.held))
 
--- how many bytes a call takes of a piece of this length
+-- how many bytes a put takes of a piece of this length
 abbrev pub count_taken : SinkState → ℕ → ℕ
 count_taken s len = min len (min s.step (s.room - length s.held))
 
--- after a call that took n bytes of the piece
+-- after a put that took n bytes of the piece
 abbrev pub after_put : SinkState → List ℕ → ℕ → SinkState
 after_put s piece n = record s { held = s.held ++ take n piece; calls = next_count s.calls }
 
--- after a call that failed
+-- after a put that failed
 abbrev pub after_failed_put : SinkState → SinkState
 after_failed_put s = record s { calls = next_count s.calls; faults = next_count s.faults }
 

@@ -1,11 +1,11 @@
--- How far a text was put, or an input taken, when a call broke off.
+-- How far a text was put, or an input taken, before a call failed.
 use Rattle.std.specs.Prelude.{ℕ, ◌≤◌, List, Option, length, take}
 use Rattle.std.specs.Io.KnownBytes.{Appends, Consumes}
 
--- known bytes grew by the first n bytes of the text, for some n
+-- the known bytes grew by the first n bytes of the text, for some n
 abbrev pub AppendsPrefix : Option (List ℕ) → Option (List ℕ) → List ℕ → Type 0
 AppendsPrefix old new text = (n : ℕ) × (n ≤ length text) × Appends old new (take n text)
 
--- known bytes lost a front of at most so many bytes
+-- the known bytes lost a prefix of at most this length
 abbrev pub ConsumesUpTo : ℕ → Option (List ℕ) → Option (List ℕ) → Type 0
 ConsumesUpTo most old new = (front : List ℕ) × (length front ≤ most) × Consumes old new front

@@ -1,4 +1,4 @@
--- What clauses see of the adapters.
+-- The parts of the adapters that clauses see.
 use Rattle.std.specs.Prelude.{ℕ}
 use Rattle.std.specs.Global.{Global}
 use Rattle.std.specs.declared.io.buffered.BufWriter.{BufWriter}

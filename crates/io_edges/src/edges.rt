@@ -1,28 +1,28 @@
-//! What a source and a sink promise.
+//! The traits for input and output: what each source and each sink promises.
 ghost use Rattle.std.specs.Prelude.{◌≡◌, ◌<◌, [], ℕ, List, Option, length, take, IfOk, OnOk, OnErr};
 ghost use Rattle.std.specs.Io.{ReadsAtMost, WritesAtMost};
 ghost use Rattle.std.specs.Io.KnownBytes.{Keeps, Appends, Consumes, IsAtEnd};
 ghost use Rattle.io_edges.specs.Faults.{Rose};
 
-/// A source or a sink has failed in this call, and has counted it.
+/// A source or a sink failed in this call, and counted the failure.
 #[derive(Clone, Copy, Debug, PartialEq, Eq)]
 pub struct Failed;
 
-/// Where bytes come from.
+/// Gives bytes of an input.
 pub trait Source {
-    /// The bytes that are left, where the source tells them.
+    /// The bytes that are left, or `None` if the source does not expose them.
     ghost left: { Self → Option (List ℕ) };
 
-    /// How often it has failed. The count rises with a failure alone, and stands still at `u64::MAX`.
+    /// How often it has failed. The count rises only with a failure, and stops at `u64::MAX`.
     ghost faults: { Self → ℕ };
 
-    /// Takes bytes from the front of what is left into the front of `buf`, and answers how many.
-    /// Where it answers 0 for a buffer with room, the input is at its end. What stands in `buf` behind the bytes
-    /// taken, and all of it after a failure, is unspecified.
+    /// Takes bytes from the front of the input into the front of `buf`, and returns how many. If it returns 0 for a
+    /// buffer that is not empty, the input is at its end. The bytes of `buf` after those taken are unspecified, and
+    /// after a failure all of them.
     ///
     /// # Errors
     ///
-    /// `Failed` where the count of faults rose in this call, or stood at `u64::MAX` already. Nothing was taken.
+    /// `Failed` if the count of faults rose in this call, or was at `u64::MAX` already. The call took no bytes.
     fn take(&mut self, buf: &mut [u8]) -> Result<usize, Failed>
         ensures bound { ReadsAtMost result buf.new }
         ensures taken { IfOk result (λ n. Consumes (left self.old) (left self.new) (take n buf.new)) }
@@ -32,22 +32,23 @@ pub trait Source {
         ensures cause { OnErr result (Rose (faults self.old) (faults self.new)) };
 }
 
-/// Where bytes go. A sink may keep bytes back until it is flushed.
+/// Takes bytes of an output. A sink may buffer bytes until it is flushed.
 pub trait Sink {
-    /// The bytes that it holds, where the sink tells them.
+    /// The bytes that it holds, or `None` if the sink does not expose them.
     ghost held: { Self → Option (List ℕ) };
 
-    /// The bytes that it keeps back, as each sink says of itself: no clause here ties them to those that it holds.
+    /// The bytes that it buffers, as each sink defines them: no clause here connects them with `held`.
     ghost kept_back: { Self → List ℕ };
 
-    /// How often it has failed. The count rises with a failure alone, and stands still at `u64::MAX`.
+    /// How often it has failed. The count rises only with a failure, and stops at `u64::MAX`.
     ghost faults: { Self → ℕ };
 
-    /// Appends the front of `piece`, at least one byte of a piece that is not empty, and answers how many bytes.
+    /// Appends the front of `piece`, and returns how many bytes. Of a piece that is not empty it appends at least
+    /// one.
     ///
     /// # Errors
     ///
-    /// `Failed` where the count of faults rose in this call, or stood at `u64::MAX` already. Nothing was appended.
+    /// `Failed` if the count of faults rose in this call, or was at `u64::MAX` already. The call appended no bytes.
     fn put(&mut self, piece: &[u8]) -> Result<usize, Failed>
         ensures bound { WritesAtMost result piece.now }
         ensures some { IfOk result (λ n. 0 < length piece.now → 0 < n) }
@@ -56,12 +57,12 @@ pub trait Sink {
         ensures not_counted { OnOk result (faults self.new ≡ faults self.old) }
         ensures cause { OnErr result (Rose (faults self.old) (faults self.new)) };
 
-    /// Hands on what was kept back, as at the end of the output.
+    /// Hands on all buffered bytes, as at the end of the output.
     ///
     /// # Errors
     ///
-    /// `Failed` where the count of faults rose in this call, or stood at `u64::MAX` already. How much of what was kept
-    /// back was handed on is then not said; no byte that it holds is lost.
+    /// `Failed` if the count of faults rose in this call, or was at `u64::MAX` already. Any part of the buffered
+    /// bytes may have been handed on. The sink loses no byte that it holds.
     fn flush(&mut self) -> Result<(), Failed>
         ensures handed_on { OnOk result (kept_back self.new ≡ []) }
         ensures kept { Keeps (held self.old) (held self.new) }

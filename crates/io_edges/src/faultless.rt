@@ -4,8 +4,8 @@ ghost use Rattle.std.specs.Prelude.{◌≡◌, [], length, Some, None, IsOk};
 use crate::{Failed, Sink, Source};
 use std::marker::Model;
 
-/// A source over bytes in memory that never fails. Clauses see what is left. It is for a program that calls a run as a
-/// function: over it the clauses of `run` rule a fault out.
+/// A source over bytes in memory that never fails. Clauses see the bytes that are left. It is for a program that
+/// calls a run as a function: with it, the clauses of `run` exclude a fault.
 #[derive(Drop)]
 pub struct NoFaultSource {
     bytes: Vec<u8>,
@@ -46,7 +46,7 @@ impl Source for NoFaultSource {
     }
 }
 
-/// A sink that takes every piece whole and keeps none of the bytes, for a caller that wants the status alone.
+/// A sink that takes each piece whole and drops its bytes, for a caller that needs only the status.
 #[derive(Clone, Copy, Debug, PartialEq, Eq)]
 pub struct NoFaultSink;
 

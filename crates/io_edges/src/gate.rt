@@ -1,15 +1,15 @@
-//! Where a caller may be held before its events.
+//! A hook before the events of a caller, which can hold the caller back.
 
 use std::sync::Wait;
 
-/// What stands before each event of a caller.
+/// The hook before each event of a caller.
 pub trait Gate: Sync {
-    /// Is called in front of every event of a caller, which it is given with its place; a caller's end has no call
-    /// (tested).
+    /// Is called before each event, with the caller and the place of the event in its list. A caller's end has no
+    /// call (tested).
     fn before<R: Wait>(&self, rt: &R, caller: u32, event: u32);
 }
 
-/// A gate that holds nobody.
+/// A gate that holds no caller back.
 #[derive(Drop)]
 pub struct OpenGate;
 

@@ -1,12 +1,12 @@
-//! Where the program meets the outside: bytes in, bytes out, and how often that failed.
+//! Input and output: bytes in, bytes out, and how often either failed.
 //!
-//! The layers above take a `Source` and a `Sink` as type parameters, so that one contract speaks of standard
-//! input and output, of buffers in memory, and of a test's script of failures. A `Gate` stands before each event of a
-//! caller, where a test can hold it.
+//! The layers above take a `Source` and a `Sink` as type parameters. So one contract covers the standard streams,
+//! buffers in memory, and a test's planned failures. Each event of a caller comes after a call of a `Gate`, with
+//! which a test can hold the caller back.
 //!
-//! It promises that what was read is what the source had, that a sink holds just what was put, and that a fault is told
-//! only where the source or the sink counted one. It stands on std alone. That the standard streams are real files is not
-//! said.
+//! The crate promises that a source gives its bytes in order and without gaps, and that a sink holds exactly the
+//! bytes put into it. A call reports a fault only if its source or sink counted one. The crate uses only std.
+//! Whether the standard streams are real files is outside its contracts.
 #![tactic(auto)]
 
 mod edges;

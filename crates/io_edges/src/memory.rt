@@ -1,4 +1,4 @@
-//! A source and a sink in memory that give and take little at a time, and fail when they are told to.
+//! A source and a sink in memory that give and take little at a time, and fail at listed calls.
 ghost use Rattle.std.specs.Prelude.{◌≡◌, ◌<◌, ◌≤◌, ◌↔◌, ◌++◌, [], false, true, IsTrue, length, take, drop, Some, IfOk, OnOk, OnErr, IsErr};
 ghost use Rattle.std.specs.Io.{ReadsAtMost};
 ghost use Rattle.std.specs.Io.KnownBytes.{Consumes};
@@ -10,7 +10,7 @@ use crate::{Failed, NoMemory, Sink, Source};
 use std::alloc::Global;
 use std::marker::Model;
 
-// The calls so far, counted from 1, and those of them that fail.
+// A count of the calls, from 1, with the numbers of the calls that fail.
 #[derive(Drop)]
 struct Calls {
     fails: Vec<u64>,
@@ -29,7 +29,7 @@ impl Calls {
         }
     }
 
-    // Counts a call, and says whether it fails.
+    // Counts a call, and returns whether it fails.
     fn next_fails(&mut self) -> bool
         ensures calls { self.new ≡ record self.old { calls = next_count self.old.calls } }
         ensures answer { result ≡ is_listed (next_count self.old.calls) self.old.fails.items }
@@ -49,8 +49,8 @@ impl Calls {
 
 /// A source over bytes in memory that gives at most `step` bytes a call.
 ///
-/// Calls are numbered from 1 up to `u64::MAX`, which all later calls share. Those with a listed number fail, and no
-/// others.
+/// Calls are numbered from 1 up to `u64::MAX`, which all later calls share. A call fails if and only if its number
+/// is listed.
 #[derive(Drop)]
 pub struct MemSource {
     bytes: Vec<u8>,
@@ -77,7 +77,7 @@ impl Model for MemSource {
 }
 
 impl MemSource {
-    /// A source with these bytes left that gives at most `step` bytes a call. No call was made yet.
+    /// A source with these bytes left that gives at most `step` bytes a call. Its calls start at number 1.
     pub fn of(bytes: Vec<u8>, step: usize, fails: Vec<u64>) -> MemSource
         requires { 0 < step }
         ensures { result ≡ record { left = bytes.items; step = step; fails = fails.items; calls = 0; faults = 0 } }
@@ -122,10 +122,10 @@ impl Source for MemSource {
     }
 }
 
-/// A sink in memory that takes at most `step` bytes a put. It keeps nothing back.
+/// A sink in memory that takes at most `step` bytes a put. It buffers no bytes.
 ///
-/// Puts are numbered from 1 up to `u64::MAX`, which all later puts share. Those with a listed number fail, and those
-/// that have something to put where no room is left, and no others. Either all flushes fail or none.
+/// Puts are numbered from 1 up to `u64::MAX`, which all later puts share. A put fails if and only if its number is
+/// listed, or if it has bytes to put and no room is left. Either all flushes fail or none.
 #[derive(Drop)]
 pub struct MemSink {
     bytes: Vec<u8>,
@@ -155,11 +155,12 @@ impl Model for MemSink {
 }
 
 impl MemSink {
-    /// An empty sink with room for `room` bytes, all of it taken here, whose flushes do not fail. No call was made yet.
+    /// An empty sink with room for `room` bytes, allocated here. Its flushes succeed, and its calls start at number
+    /// 1.
     ///
     /// # Errors
     ///
-    /// `NoMemory` where there is no memory for so many bytes.
+    /// `NoMemory` if there is too little memory for the room.
     pub fn of(alloc: Global, step: usize, fails: Vec<u64>, room: usize) -> Result<MemSink, NoMemory>
         requires { 0 < step }
         ensures { IfOk result (λ s.
@@ -182,7 +183,7 @@ impl MemSink {
         })
     }
 
-    /// The same sink, but that all its flushes fail.
+    /// The same sink, except that all its flushes fail.
     pub fn failing_at_flush(self) -> MemSink
         ensures { result ≡ record self { flush_fails = true } }
     {
@@ -192,7 +193,7 @@ impl MemSink {
         }
     }
 
-    /// The bytes that it holds, in the order in which they were put.
+    /// The bytes that it holds, in the order of the puts.
     pub fn held(&self) -> &[u8]
         ensures { result.now ≡ self.now.held }
     {

@@ -9,7 +9,7 @@ ghost use Rattle.io_edges.specs.Standard.{source_reader, source_faults, sink_wri
 use crate::{Failed, Sink, Source};
 use std::io::{BufWriter, ErrorKind, Read, Write};
 
-/// A reader as a source. It tells what its reader tells, which is nothing for standard input.
+/// A reader as a source. It exposes its remaining bytes as its reader does; standard input exposes none.
 #[derive(Drop)]
 pub struct StdSource<I: Read + Drop> {
     reader: I,
@@ -17,7 +17,7 @@ pub struct StdSource<I: Read + Drop> {
 }
 
 impl<I: Read + Drop> StdSource<I> {
-    /// A source that takes from the reader, and has not failed.
+    /// A source that takes from the reader, with no fault counted.
     pub fn of(reader: I) -> StdSource<I>
         ensures reader { source_reader result ≡ reader }
         ensures faults { source_faults result ≡ 0 }
@@ -31,9 +31,9 @@ impl<I: Read + Drop> Source for StdSource<I> {
 
     ghost faults = { λ s. s.faults };
 
-    // A read that a signal interrupts is tried again. It is a fault only after 2^64 - 1 tries.
+    // It retries a read that a signal interrupts. After 2^64 - 1 tries that is a fault.
     fn take(&mut self, buf: &mut [u8]) -> Result<usize, Failed>
-        // A fault is counted exactly where the call fails.
+        // It counts a fault if and only if the call fails.
         ensures not_counted { OnOk result (source_faults self.new ≡ source_faults self.old) }
         ensures counted { OnErr result (source_faults self.new ≡ next_count (source_faults self.old)) }
 
@@ -59,9 +59,9 @@ impl<I: Read + Drop> Source for StdSource<I> {
     }
 }
 
-/// A writer as a sink. It tells what its writer tells, which is nothing for standard output. Puts are gathered in the
-/// writer's buffer, and one that is as long as the buffer goes past it. What is in the buffer is kept back, and is the
-/// last of what the sink holds.
+/// A writer as a sink. It exposes its bytes as its writer does; standard output exposes none. The writer's buffer
+/// gathers the puts, and a put as long as the buffer bypasses it. Buffered bytes are the last of the bytes that the
+/// sink holds.
 #[derive(Drop)]
 pub struct StdSink<O: Write + Drop> {
     writer: BufWriter<O>,
@@ -69,7 +69,7 @@ pub struct StdSink<O: Write + Drop> {
 }
 
 impl<O: Write + Drop> StdSink<O> {
-    /// A sink that puts to the writer, and has not failed.
+    /// A sink that puts to the writer, with no fault counted.
     pub fn of(writer: BufWriter<O>) -> StdSink<O>
         ensures writer { sink_writer result ≡ writer }
         ensures faults { sink_faults result ≡ 0 }
@@ -85,10 +85,10 @@ impl<O: Write + Drop> Sink for StdSink<O> {
 
     ghost faults = { λ s. s.faults };
 
-    // A write that a signal interrupts is tried again. Where bytes are left and none is taken, that is a fault: who
-    // goes on after short puts would never end.
+    // It retries a write that a signal interrupts. A write that takes no byte of a piece that is not empty is a
+    // fault: a caller that goes on after short puts would never end.
     fn put(&mut self, piece: &[u8]) -> Result<usize, Failed>
-        // A fault is counted exactly where the call fails.
+        // It counts a fault if and only if the call fails.
         ensures not_counted { OnOk result (sink_faults self.new ≡ sink_faults self.old) }
         ensures counted { OnErr result (sink_faults self.new ≡ next_count (sink_faults self.old)) }
 
@@ -113,7 +113,7 @@ impl<O: Write + Drop> Sink for StdSink<O> {
         Err(Failed)
     }
 
-    // A flush that a signal interrupts is tried again, as a write is.
+    // It retries a flush that a signal interrupts, as a write.
     fn flush(&mut self) -> Result<(), Failed>
         ensures not_counted { OnOk result (sink_faults self.new ≡ sink_faults self.old) }
         ensures counted { OnErr result (sink_faults self.new ≡ next_count (sink_faults self.old)) }

@@ -1,4 +1,4 @@
-//! Whole inputs and whole pieces, over sources that give little and sinks that take little at a time.
+//! Reads a whole input and puts a whole piece, over sources that give little and sinks that take little at a time.
 ghost use Rattle.std.specs.Prelude.{◌≡◌, ◌+◌, ◌-◌, ◌^◌, ◌<◌, ◌≤◌, take, vec_len, IfOk, IfSome, OnOk, OnErr, IsErrOf};
 ghost use Rattle.std.specs.Io.KnownBytes.{Appends, Consumes, IsAtEnd};
 ghost use Rattle.io_edges.specs.declared.whole.ReadError.TheVariants.{Fault, NoMemory as Refused};
@@ -8,15 +8,15 @@ ghost use Rattle.io_edges.specs.Pieces.{AppendsPrefix, ConsumesUpTo};
 use crate::{Failed, NoMemory, Sink, Source};
 use std::alloc::Global;
 
-/// How much is asked of a source at once, in bytes.
+/// The most that one call asks of a source, in bytes.
 const PIECE: usize = 64 * 1024;
 
-/// Why an input was not read.
+/// The reason why an input was not read.
 #[derive(Clone, Copy, Debug, PartialEq, Eq)]
 pub enum ReadError {
     /// The source failed.
     Fault,
-    /// There was no memory for the bytes.
+    /// Memory for the bytes ran out.
     NoMemory,
 }
 
@@ -36,13 +36,13 @@ impl From<NoMemory> for ReadError {
     }
 }
 
-/// Reads an input to its end, but never more than `limit + 1` bytes of it. An answer of `limit + 1` bytes tells that the
-/// input is too long; its rest stays in the source.
+/// Reads an input to its end, but at most `limit + 1` bytes of it. A result of `limit + 1` bytes means that the
+/// input is longer than the limit; its rest stays in the source.
 ///
 /// # Errors
 ///
-/// `Fault` where the source failed, which it has counted as a fault. `NoMemory` where the bytes find no room, and the
-/// source did not fail. Either way the bytes that were taken are lost.
+/// `Fault` if the source failed and counted a fault. `NoMemory` if memory for the bytes ran out; the source did not
+/// fail. Either way the bytes taken so far are lost.
 #[tactic(auto, using(crate::proofs::Pieces::ConsumesUpTo_kept))]
 pub fn read_to_limit<S: Source>(
     alloc: Global,
@@ -72,13 +72,12 @@ pub fn read_to_limit<S: Source>(
     Ok(bytes)
 }
 
-/// Puts all of a piece, and goes on after a short put. It takes no memory.
+/// Puts all of a piece, and goes on after a short put. It allocates no memory.
 ///
 /// # Errors
 ///
-/// `Failed` where the sink failed, which it has counted as a fault. What it got in this call is then a prefix of the
-/// piece.
-// Within its caller it is little more than a copy into a buffer.
+/// `Failed` if the sink failed and counted a fault. Then the sink got a prefix of the piece in this call.
+// Inlined, it is little more than a copy into a buffer.
 #[inline(always)]
 pub fn put_all<K: Sink>(sink: &mut K, piece: &[u8]) -> Result<(), Failed>
     ensures whole { OnOk result (Appends (K.held sink.old) (K.held sink.new) piece.now) }

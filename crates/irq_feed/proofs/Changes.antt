@@ -1,4 +1,4 @@
--- A function over feeders that is changed at one of them.
+-- A function over feeders with one changed value.
 use Rattle.std.proofs.Common.{◌≡◌, ◌≢◌, ◌⊎◌, inl, inr, ⊎_elim, ℕ, ◌==◌, cond, eq-eqb, ne_eqb, refl, ap}
 use Rattle.std.proofs.lemmas.Bool.Decides.{eqb_tells}
 

@@ -1,4 +1,4 @@
--- Samples are counted feeder by feeder.
+-- The number of samples, feeder by feeder.
 use Rattle.std.proofs.Common.{◌≡◌, ◌≢◌, ⊎_elim, ℕ, zero, suc, ◌+◌, ◌*◌, ◌<◌, ◌≤◌, ◌==◌, cond, Bool, true, false, List, [], ◌∷◌, ◌++◌, length, sym, refl, ap, ◌∙◌, subst, eq-eqb, ne_eqb, lt_of_not-le, arith, length-append, suc-mul, mul-le-mul_right}
 use Rattle.std.proofs.lemmas.Bool.Decides.{eqb_tells}
 use Rattle.std.proofs.lemmas.List.{append-nil}
@@ -20,7 +20,7 @@ sum_more zero g h e = omega arith
 sum_more (suc n) g h e =
     (let a = sum_more n g h (λ f low. e f (omega arith)) in let b = e n (omega arith) in omega arith)
 
--- terms that are at most others, with the same sum, are the others
+-- terms that are at most others, with the same sum, equal the others
 pub sum_tight : (n : ℕ) (g h : ℕ → ℕ) → ((f : ℕ) → f < n → g f ≤ h f) → sum_below n g ≡ sum_below n h
     → (f : ℕ) → f < n → g f ≡ h f
 sum_tight zero g h e s f low = absurd (omega arith)
@@ -86,7 +86,7 @@ none_behind x xs f e = ⊎_elim
     (λ (t : (x.feeder == f ≡ false) × (x.feeder ≢ f)). sym (of_else x xs f t.1) ∙ e)
     (eqb_tells x.feeder f)
 
--- where all samples are of feeders below n, they are as many as those of each feeder together
+-- if all samples are of feeders below n, their number is the sum over these feeders
 pub counted : (n : ℕ) (xs : List Sample) → ((f : ℕ) → n ≤ f → of_feeder f xs ≡ [])
     → length xs ≡ sum_below n (λ f. length (of_feeder f xs))
 counted n [] none = sym (sum_none n)
@@ -107,7 +107,7 @@ first_length s f (suc n) =
     (let a = first_length s f n in
     length-append (first_samples s f n) (sample s f n ∷ []) ∙ (let b = a in omega arith))
 
--- first samples are all of their feeder, and none of another
+-- first samples are all of their own feeder
 pub first_own : (s : Numbers) (f n : ℕ) → of_feeder f (first_samples s f n) ≡ first_samples s f n
 first_own s f zero = refl
 first_own s f (suc n) =
@@ -122,7 +122,7 @@ first_else s f g (suc n) differ =
     ∙ ap (λ l. l ++ of_feeder g (sample s f n ∷ [])) (first_else s f g n differ)
     ∙ of_else (sample s f n) [] g differ
 
--- a front part of first samples that is as long as all of them is all of them
+-- a prefix of first samples that is as long as all of them is all of them
 pub front_whole : (xs ys all : List Sample) → xs ++ ys ≡ all → length all ≤ length xs → xs ≡ all
 front_whole xs [] all e long = sym (append-nil xs) ∙ e
 front_whole xs (y ∷ ys) all e long =

@@ -1,4 +1,4 @@
--- Calls one after another on a table of three lanes: where their visits stand in the end.
+-- Successive calls on a table of three lanes: the places of their visits at the end.
 use Rattle.std.proofs.Common.{zero, lit<, ◌+◌, ◌≡◌, ℕ, suc, ◌<◌, ◌≤◌, ◌^◌, List, [], ◌∷◌, ◌++◌, length, refl, sym, ap, ◌∙◌, subst, arith, Bool, true, false, nat_eq, Some}
 use Rattle.std.specs.Prelude.{slice_get}
 use Rattle.std.specs.List.{AllByRecursion}
@@ -40,9 +40,9 @@ course_in event (x ∷ xs) v w (u, one, more) =
     (course_told (in_event (first_setting 0) event) v u one.steps one.did.made_steps one.did.told)
     (course_in (suc event) xs u w more)
 
--- ---- a table of three lanes in the end
+-- ---- a table of three lanes at its end
 
--- marks of climbing stamps are sorted, and so are those of a lane
+-- marks with climbing stamps are sorted, and so are those of one lane
 all_above : (low high : ℕ) (marks : List MarkBy) → Climbs low (stamps_of marks) high →
     AllByRecursion (λ by. low ≤ by.mark.stamp) marks
 all_above low high [] climbs = tt
@@ -73,7 +73,7 @@ sorted lane low high (by ∷ marks) climbs =
     )
     go false rest = rest
 
--- marks of visits that are known are, in one lane, those of its list
+-- marks of known visits in one lane are those of its list
 in_lane : (w : View) (lane : ℕ) (marks : List MarkBy) → AllByRecursion (IsKnown w) marks →
     AllByRecursion (MarksPlace (known_of w lane)) (lane_of lane marks)
 in_lane w lane [] all = tt

@@ -1,4 +1,4 @@
--- A dump behind each 1,024th interrupt of a CPU at one moment, and the bits of the pool behind these dumps.
+-- A dump after each 1,024th interrupt of a CPU at one moment, and the bits of the pool after these dumps.
 use Rattle.std.proofs.Common.{◌≡◌, inl, inr, ℕ, ◌+◌, ◌*◌, ◌/◌, ◌%◌, ◌<◌, ◌≤◌, ◌^◌, List, [], ◌∷◌, ◌++◌, length, map, refl, sym, ap, ◌∙◌, arith, true, false, cond, nat_le, ◌&&◌, ◌||◌, length-append, append_assoc, lit<}
 use Rattle.std.specs.Prelude.{nat_lt, min, max}
 use Rattle.std.specs.List.{fold}
@@ -27,7 +27,7 @@ dumps_append : (xs ys : List CpuEntry) → dumps_in (xs ++ ys) ≡ dumps_in xs +
 dumps_append [] ys = omega arith
 dumps_append (x ∷ xs) ys = (let rest = dumps_append xs ys in omega arith)
 
--- behind the interrupts of these samples at moment 0: r since the last of q dumps
+-- the lists after the interrupts of these samples at moment 0: r samples since the last of q dumps
 pub record Dumped (samples : List Sample) (cpu : List CpuEntry) (pool : List PoolEntry) : Type 0 where
   pub q : ℕ
   pub r : ℕ
@@ -118,7 +118,7 @@ module _ (samples : List Sample) (cpu : List CpuEntry) (pool : List PoolEntry) (
       ∙ ap (λ n. n + in_flight) (more_count f d.r d.count d.low ∙ last_one) in
       ap (λ c. max 1 (min 128 (c % 2 ^ 16 / 64))) count
 
-  -- the bits behind a dump's credit, whatever it crosses
+  -- the bits after a dump's credit, for any threshold that it crosses
   credit_more : (q : ℕ) → credit (min 256 (16 * q)) 16 ≡ min 256 (16 * (q + 1))
   credit_more q = elim (leb_tells (16 * q) 256) [
     | inl low ↦ (let under : 16 * q ≤ 256 = low.1 in

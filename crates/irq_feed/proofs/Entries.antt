@@ -1,4 +1,4 @@
--- Which entries of the CPU and of the pool stand behind steps: those at the places that the marks count up.
+-- The entries of the CPU and of the pool for some steps: those at the places that the marks count up.
 use Rattle.std.proofs.Common.{◌≡◌, ℕ, suc, ◌+◌, List, [], ◌∷◌, ◌++◌, length, refl, sym, ap, ◌∙◌, subst, arith, Bool, true, false, cond, nat_eq, append_assoc, Some, None, Option}
 use Rattle.std.specs.Prelude.{slice_get}
 use Rattle.std.proofs.lemmas.Bool.{eqb-true, ne_eqb}
@@ -33,7 +33,7 @@ pool_seen (at_base v ∷ ds) = pool_seen ds
 pool_seen (at_cpu v ∷ ds) = pool_seen ds
 pool_seen (nothing_there ∷ ds) = pool_seen ds
 
--- each step has something behind it
+-- each step has a deed
 abbrev pub AllThere : List Deed → Type 0
 AllThere [] = Unit {0}
 AllThere (looked g ∷ ds) = AllThere ds
@@ -71,7 +71,7 @@ parts_count i (x ∷ xs) ys c =
     let same : suc i + length xs ≡ i + suc (length xs) = omega arith in
     ((c.0, rest.0), subst (λ k. CountUp k ys) same rest.1)
 
--- marks of a lane, and the places and entries that deeds have of it
+-- marks of a lane, and the places and entries of their deeds
 pub record Seen {E : Type 0} (es : List E) (ms : List Mark) (xs : List (ℕ × E)) : Type 0 where
   pub counts : (i : ℕ) → CountUp i ms → Counts es i xs
   pub many : length ms ≡ length xs
@@ -83,7 +83,7 @@ one_seen es m e ms xs there rest = record {
   many = ap suc rest.many;
 }
 
--- a list is longer by the entry that stands behind its front
+-- a list is longer by the entry after a prefix
 pub next_entry : {E : Type 0} (es front rest : List E) (e : E) → es ≡ front ++ rest →
     slice_get es (length front) ≡ Some e → (more : List E) × (es ≡ (front ++ e ∷ []) ++ more)
 next_entry {E = E} es front rest e is there =
@@ -95,7 +95,7 @@ next_entry {E = E} es front rest e is there =
     go [] (y ∷ ys) at = let same : y ≡ e = cc in (ys, ap (λ x. x ∷ ys) same)
     go (x ∷ xs) ys at = go xs ys at
 
--- what stands at a place, if there is an entry
+-- the deed at a place, if an entry is there
 abbrev pool_deed : Lists → ℕ → Option PoolEntry → Deed
 pool_deed lists place o = deed_or (λ e. at_pool (pool_visit lists place e)) o
 

@@ -1,4 +1,4 @@
--- What the samples of some feeders leave on a new table.
+-- The book that the samples of some feeders leave on a new table.
 use Rattle.std.proofs.Common.{◌≡◌, ◌⊎◌, inl, inr, ⊎_elim, ℕ, suc, ◌+◌, ◌*◌, ◌/◌, ◌<◌, ◌≤◌, ◌^◌, List, [], ◌∷◌, ◌++◌, length, map, take, refl, sym, ap, ◌∙◌, subst, arith, true, false, cond, nat_eq, length-append, append_assoc, Some, None, lit<}
 use Rattle.std.specs.Prelude.{min, Bool, IsTrue}
 use Rattle.std.specs.List.{AllByRecursion, fold}
@@ -56,9 +56,9 @@ use Rattle.irq_feed.proofs.Entries.{AllThere, CountUp, Counts, count_up, cpu_her
 abbrev set : CallSetting
 set = setting_of (first_setting 0)
 
--- ---- what one call leaves
+-- ---- the effect of one call
 
--- what a credit crosses is no visit of the CPU, and leaves the bits as they are
+-- the steps after a credit are no visits of the CPU, and do not change the bits
 record Crossed (rest : List Deed) : Type 0 where
   there : AllThere rest
   no_cpu : cpu_seen rest ≡ []
@@ -110,7 +110,7 @@ true_of true t = refl
 true_of false t = absurd cc
 
 module _ (fast : ℕ → ℕ → FastPool) (x : Sample) (deeds : List Deed) (form : IrqForm set x.v1 x.v2 deeds) where
-  -- where no dump is due none is made
+  -- if no dump is due, none is made
   no_dump : AllByRecursion (IsQuiet fast) deeds → (form.rest ≡ []) ⊎ DumpForm set form.rest → QuietCall fast x deeds
   no_dump quiet (inl bare) =
       let whole : deeds ≡ at_cpu form.sample ∷ [] = form.deeds_are ∙ ap (λ l. at_cpu form.sample ∷ l) bare in
@@ -131,7 +131,7 @@ module _ (fast : ℕ → ℕ → FastPool) (x : Sample) (deeds : List Deed) (for
       (subst (AllByRecursion (IsQuiet fast)) whole quiet).1.0 in
       absurd (subst (EntryIsQuiet (fast d.dump.cpu d.dump.place)) d.dumps here)
 
-  -- where one is due it follows
+  -- if a dump is due, it follows
   module _ (d : Dumps fast (λ rest. AllByRecursion IsCrossing rest) deeds) where
     one_dump : (form.rest ≡ []) ⊎ DumpForm set form.rest → DueCall fast x deeds
     one_dump (inl bare) =
@@ -179,7 +179,7 @@ all_there : (fast : ℕ → ℕ → FastPool) (x : Sample) (deeds : List Deed) �
 all_there fast x deeds (inl c) = subst AllThere (sym c.deeds_are) tt
 all_there fast x deeds (inr c) = subst AllThere (sym c.deeds_are) c.crosses.there
 
--- ---- one call behind others
+-- ---- one call after others
 
 abbrev seconds : {E : Type 0} → List (ℕ × E) → List E
 seconds xs = map (λ x. x.1) xs
@@ -297,7 +297,7 @@ module _ (visits : ℕ → List Visit) where
       )
 
   module _ (fast_is : (i : ℕ) → i ≤ length (cpu_list lists 0) → fast 0 i ≡ fast_after (take i (cpu_list lists 0))) where
-    -- the lists begin with what some calls left
+    -- the lists begin with the entries of some calls
     record LeftBy (samples : List Sample) (cpu_long pool_long : ℕ) : Type 0 where
       pub cpu : List CpuEntry
       pub cpu_rest : List CpuEntry
@@ -377,7 +377,7 @@ module _ (visits : ℕ → List Visit) where
         subst (λ (t : List Sample × ℕ × ℕ). LeftBy t.0 t.1 t.2)
         (λ i. (append_assoc samples (x ∷ []) xs i, c i, p i)) all
 
--- ---- the table in the end
+-- ---- the table at its end
 
 front_is_all : {E : Type 0} (es front rest : List E) → es ≡ front ++ rest → length front ≡ length es → front ≡ es
 front_is_all es front [] is long = sym (append-nil front) ∙ sym is

@@ -37,7 +37,7 @@ marks_are : (event : ℕ) (calls : List (List Step)) → flat_map line_marks (li
 marks_are event [] = refl
 marks_are event (steps ∷ calls) = ap (λ (l : List MarkBy). marks_from 0 event 0 steps ++ l) (marks_are (suc event) calls)
 
--- no two lines have one event
+-- each line has a different event
 number_from : (event : ℕ) (calls : List (List Step)) (a : SeenLine) → IsIn a (lines event calls) → event ≤ a.event
 number_from event [] a here = absurd here
 number_from event (steps ∷ calls) a (inl is) = let e = ap (λ (l : SeenLine). l.event) is in omega arith

@@ -20,7 +20,7 @@ use Rattle.irq_feed.specs.Passes.{known, took, taken_of, AreNew, IsPassOf}
 use Rattle.irq_feed.specs.Fed.{mixed_in, is_direct, sum_below, through_queue, by_worker, done_so_far, IsAmong, HasBegun, CanStart, CanTakeBack, Front, HasDrained, HasRoom, AllMixed}
 use Rattle.irq_feed.proofs.Counting.{sum_small, products_small, sum_same, sum_tight, sum_plus, counted, none_behind, cons_not_nil, of_here, first_length, first_own, first_else, front_whole, front_none, front_short}
 
--- ---- what is done of a feeder
+-- ---- the samples of a feeder that are done
 
 low_or_high : (f n : ℕ) → (f < n) ⊎ (n ≤ f)
 low_or_high f n = by (nat_lt f n) refl
@@ -52,7 +52,7 @@ done_through : (feeds : Numbers) (d : ℕ → Bool) (n f : ℕ) → f < feeds.fe
     → done_so_far feeds d n f ≡ first_samples feeds f feeds.each
 done_through feeds d n f near direct = done_by feeds d n f true false (nat_lt f n) (lt-ltb f feeds.feeders near) direct refl
 
--- ---- what came through the queue
+-- ---- the samples that came through the queue
 
 module _ (feeds : Numbers) (d : ℕ → Bool) (taken items : List Sample) (pushed : ℕ → ℕ)
     (ordered : (f : ℕ) → of_feeder f (taken ++ items) ≡ first_samples feeds f (pushed f))
@@ -99,7 +99,7 @@ module _ (feeds : Numbers) (d : ℕ → Bool) (taken items : List Sample) (pushe
       by near true e = none_of f (ends f near e) ∙ sym (done_late feeds d 0 f near e (omega arith))
       by near false e = whole f near e ∙ sym (done_through feeds d 0 f near e)
 
--- the feeders of what came are not direct
+-- the samples that came through the queue are not of direct feeders
 came_through : (d : ℕ → Bool) (xs : List Sample) → ((f : ℕ) → d f ≡ true → of_feeder f xs ≡ [])
     → AllByRecursion (λ (x : Sample). d x.feeder ≡ false) xs
 came_through d [] none = tt
@@ -160,7 +160,7 @@ has_pass q feeds n owed w w' m near h of_queue is = (
   },
 )
 
--- who is direct, after a write
+-- after the flag of feeder n is written, n has the new flag and the feeders below it keep theirs
 pub now_is : (ds : List Bool) (n : ℕ) (b : Bool) → n < length ds → slice_index_or (set ds n b) n false ≡ b
 now_is ds n b low = get_or-set_same ds n b false low
 
@@ -168,7 +168,7 @@ pub still_is : (ds : List Bool) (n : ℕ) (b : Bool) (f : ℕ) → f < n
     → slice_index_or (set ds n b) f false ≡ slice_index_or ds f false
 still_is ds n b f low = get_or-set_other ds n f b false (λ e. absurd (omega arith))
 
--- the next number, with what is known of the feeder before it
+-- the next number, with the facts about the feeder before it
 module _ (q : FeedQueue) (feeds : Numbers) (n owed : ℕ) (w : FeedPass) (m m' : Mixed) (b : Bool)
     (h : CanTakeBack q feeds n owed w m) (samples : m'.samples ≡ m.samples) (here : is_direct m' n ≡ b)
     (same : (f : ℕ) → f < n → is_direct m' f ≡ is_direct m f) where
@@ -209,7 +209,7 @@ in_thread q feeds n owed owed' w m m' h samples here same more =
     goes_on q feeds n owed w m m' false h samples here same owed' w h.1.ends more h.1.of_queue h.1.knows h.1.direct
     (λ e. absurd (true≢false (sym e)))
 
--- the feeder's closure was called by the worker
+-- the worker called the feeder's closure
 pub taken_back : (q : FeedQueue) (feeds : Numbers) (n owed owed' pushed : ℕ) (w w' x : FeedPass) (m m' : Mixed) (b : Bool)
     → CanTakeBack q feeds n owed w m → m'.samples ≡ m.samples → is_direct m' n ≡ b
     → ((f : ℕ) → f < n → is_direct m' f ≡ is_direct m f)
@@ -221,7 +221,7 @@ taken_back q feeds n owed owed' pushed w w' x m m' b h samples here same of_queu
     (λ f low direct. among_more (ended f 0) h.1.ends (ended n pushed ∷ []) (h.1.direct f low direct))
     (λ e. subst (λ k. IsAmong (ended n 0) (h.1.ends ++ ended n k ∷ [])) (sym (none e)) (among_last (ended n 0) h.1.ends))
 
--- what comes through the queue is counted in 32 bits
+-- 32 bits suffice to count the samples of the queue
 pub owed_small : (q : FeedQueue) (feeds : Numbers) (n next owed : ℕ) (w : FeedPass) (m : Mixed)
     → HasBegun q feeds n next owed w m → owed ≤ 160000
 owed_small q feeds n next owed w m h =
@@ -234,7 +234,7 @@ owed_small q feeds n next owed w m h =
     at_most_each true = omega arith
     at_most_each false = omega arith
 
--- there is room for all of it
+-- the list has room for all of them
 pub owed_room : (q : FeedQueue) (feeds : Numbers) (n owed : ℕ) (w : FeedPass) (m : Mixed)
     → n ≡ feeds.feeders → HasBegun q feeds n n owed w m → owed ≤ vec_capacity m.samples
 owed_room q feeds n owed w m all h =
@@ -247,7 +247,7 @@ owed_room q feeds n owed w m all h =
     at_most_each true = omega arith
     at_most_each false = omega arith
 
--- ---- the end of what comes through the queue
+-- ---- the end of the samples from the queue
 
 pub drained : (q : FeedQueue) (feeds : Numbers) (n owed : ℕ) (w w' w'' : FeedPass) (m m' : Mixed) (items : List Sample)
     → n ≡ feeds.feeders → CanStart q feeds n owed w m → known w' ≡ with_taken (known w) (mixed_in m')
@@ -288,7 +288,7 @@ drained q feeds n owed w w' w'' m m' items all h knows count direct room of_queu
     none_direct feeds d xs each f is = each f ∙ ⊎_elim (λ near. done_late feeds d 0 f near is (omega arith))
         (λ high. done_out feeds d 0 f high) (low_or_high f feeds.feeders)
 
--- ---- what the worker mixes itself
+-- ---- the samples that the worker mixes itself
 
 all_behind : (d : ℕ → Bool) (xs ys : List Sample) → AllByRecursion (λ (x : Sample). d x.feeder ≡ true) xs
     → AllByRecursion (λ (x : Sample). d x.feeder ≡ true) ys → AllByRecursion (λ (x : Sample). d x.feeder ≡ true) (xs ++ ys)
@@ -301,7 +301,7 @@ firsts_direct d feeds n zero is = tt
 firsts_direct d feeds n (suc k) is =
     all_behind d (first_samples feeds n k) (sample feeds n k ∷ []) (firsts_direct d feeds n k is) (is, tt)
 
--- what is done of all other feeders is the same one number further
+-- the done samples of all other feeders are the same one number further
 done_else : (feeds : Numbers) (d : ℕ → Bool) (n f : ℕ) → f ≢ n → done_so_far feeds d (n + 1) f ≡ done_so_far feeds d n f
 done_else feeds d n f differ = ap (λ b. cond (nat_lt f feeds.feeders) (cond (d f && not b) [] (first_samples feeds f feeds.each)) [])
     (⊎_elim (λ low. lt-ltb f (n + 1) (omega arith) ∙ sym (lt-ltb f n low))
@@ -330,7 +330,7 @@ sum_step n (suc k) g low = ⊎_elim
     let a = sum_step n k g (let differ = t.1 in omega arith) in omega arith)
     (eqb_tells n k)
 
--- what a front says of who is direct
+-- the direct feeders of a front
 record Parts (feeds : Numbers) (n : ℕ) (through directly : List Sample) (m : Mixed) (d : ℕ → Bool) : Type 0 where
   came : AllByRecursion (λ (x : Sample). d x.feeder ≡ false) through
   behind : AllByRecursion (λ (x : Sample). d x.feeder ≡ true) directly
@@ -340,7 +340,7 @@ record Parts (feeds : Numbers) (n : ℕ) (through directly : List Sample) (m : M
 
 module _ (feeds : Numbers) (n : ℕ) (through : List Sample) (m : Mixed) (near : n < feeds.feeders)
     (h : Front feeds n through m) where
-  -- there is room for a direct feeder's samples
+  -- the list has room for a direct feeder's samples
   pub has_room : is_direct m n ≡ true → length (mixed_in m) + feeds.each ≤ feeds.feeders * feeds.each
   has_room direct =
       let d : ℕ → Bool = is_direct m in

@@ -1,4 +1,4 @@
--- Interrupts one after another, and what stands on the lanes then.
+-- Successive interrupts, and the lanes after them.
 use Rattle.std.proofs.Common.{◌≡◌, ⊎_elim, ℕ, suc, ◌+◌, ◌<◌, ◌==◌, List, [], ◌∷◌, ◌++◌, map, cond, true, false, Bool, length, sym, refl, ap, ◌∙◌, subst, append_assoc, add-zero, zero-add, add-one, length-append, ◌≤◌, arith}
 use Rattle.std.proofs.lemmas.List.{append-nil, map-append}
 use Rattle.key_names.specs.declared.names.Step.{Step}
@@ -31,7 +31,7 @@ use Rattle.irq_feed.specs.Rule.{IsWorker, Popped, with_taken}
 use Rattle.irq_feed.proofs.Counting.{first_length}
 use Rattle.irq_feed.specs.Mixing.{Interrupted, Mixes, Put, irq_at, irqs_of, irq_of, places_of}
 
--- ---- one after another
+-- ---- successive interrupts
 
 pub mixes_more : (set : Called) (event : ℕ) (xs : List Sample) (x : Sample) (v u w : View) → Mixes set event xs v u
     → Interrupted set (event + length xs) x u w → Mixes set event (xs ++ x ∷ []) v w
@@ -62,7 +62,7 @@ pub mixes_on : (set : Called) (xs ys zs : List Sample) (v u w : View) → zs ≡
 mixes_on set xs ys zs v u w is after before = subst (λ l. Mixes set 0 l v w) (sym is)
     (mixes_then set 0 xs ys v u w before (subst (λ n. Mixes set n ys u w) (sym (zero-add (length xs))) after))
 
--- the worker took one sample more, and made an interrupt of it
+-- the worker took one more sample, and made an interrupt of it
 pub one_more : (set : Called) (v₀ v₁ v₂ : Known) (xs ys : List Sample) (x : Sample) (v u w : View) → IsWorker v₀
     → v₁ ≡ with_taken v₀ xs → Popped v₁ x v₂ → ys ≡ xs ++ x ∷ [] → Mixes set 0 xs v u
     → Interrupted set (length xs) x u w → (v₂ ≡ with_taken v₀ ys) × Mixes set 0 ys v w
@@ -122,7 +122,7 @@ places_more lane (Marked mark ∷ xs) ys =
     either_more true p ps qs = refl
     either_more false p ps qs = refl
 
--- ---- interrupts behind the steps of one call
+-- ---- the interrupts among the steps of one call
 
 irqs_more : (xs ys : List Deed) → irqs_of (xs ++ ys) ≡ irqs_of xs ++ irqs_of ys
 irqs_more [] ys = refl
@@ -157,7 +157,7 @@ irq_one set v1 v2 deeds f =
     ∙ ap (λ l. (set.cpu, Irq v1 v2 set.now) ∷ l)
     (⊎_elim (λ (e : f.rest ≡ []). ap irqs_of e) (λ d. dump_none set f.rest d) f.dumps)
 
--- ---- what stands on the lanes
+-- ---- the visits of the lanes
 
 pub puts : (set : Called) (event : ℕ) (xs : List Sample) (v w : View) → Mixes set event xs v w → Put set xs v w
 puts set event [] v w same = record {

@@ -20,7 +20,7 @@ use Rattle.irq_feed.proofs.Changes.{same_or_not, changed, changed_here, changed_
 
 -- ---- lists of views
 
--- what a list has behind one more element
+-- a list with one more element at its end
 at_more : (l : List Known) (a u : Known) (j : ℕ) → get_elem? (l ++ a ∷ []) j ≡ some u
     → (get_elem? l j ≡ some u) ⊎ ((j ≡ length l) × (a ≡ u))
 at_more [] a u zero e = inr (refl, some-injective a u e)
@@ -55,7 +55,7 @@ of_one x f e = ap (λ b. cond b (x ∷ []) []) (eq-eqb x.feeder f e)
 of_none : (x : Sample) (f : ℕ) → x.feeder ≢ f → of_feeder f (x ∷ []) ≡ []
 of_none x f other = ap (λ b. cond b (x ∷ []) []) (ne_eqb x.feeder f other)
 
--- one more sample behind all others
+-- one more sample after all others
 ordered_more : (feeds : Numbers) (pushed : ℕ → ℕ) (xs : List Sample) (x : Sample) (number : ℕ)
     → ((f : ℕ) → of_feeder f xs ≡ first_samples feeds f (pushed f)) → x ≡ sample feeds number (pushed number)
     → (f : ℕ) → of_feeder f (xs ++ x ∷ []) ≡ first_samples feeds f (changed pushed number (suc (pushed number)) f)
@@ -78,7 +78,7 @@ ordered_more feeds pushed xs x number before is f =
 
 -- ---- the feeders that ended
 
--- what the worker knows of them stays where nothing changes at them
+-- the worker's knowledge of them stays right if none of them changes
 ends_kept : (next next' : ℕ) (seat seat' : ℕ → Option ℕ) (pushed pushed' : ℕ → ℕ) (es : List Ended) → next ≤ next'
     → ((f : ℕ) → f < next → seat f ≡ None → (seat' f ≡ None) × (pushed' f ≡ pushed f))
     → AllByRecursion (HasEnded next seat pushed) es → AllByRecursion (HasEnded next' seat' pushed') es
@@ -112,7 +112,7 @@ begins = record {
 
 -- ---- a push
 
--- what other passes know stays at a push of the feeder that has pass j
+-- the knowledge of other passes stays right when the feeder with pass j pushes
 push_kept : (feeds : Numbers) (worker : ℕ) (seat : ℕ → Option ℕ) (pushed : ℕ → ℕ) (taken : List Sample)
     (number j k : ℕ) → seat number ≡ Some j → k ≢ j → (u : Known) → Fits feeds worker seat pushed taken k u
     → Fits feeds worker seat (changed pushed number (suc (pushed number))) taken k u
@@ -177,7 +177,7 @@ pushes n pass (Feeder p) x may items views room h at =
 
 -- ---- a pop
 
--- what other passes know stays at a pop by the worker's pass
+-- the knowledge of other passes stays right when the worker's pass takes a sample
 pop_kept : (feeds : Numbers) (worker : ℕ) (seat : ℕ → Option ℕ) (pushed : ℕ → ℕ) (taken taken' : List Sample)
     (k : ℕ) → k ≢ worker → (u : Known) → Fits feeds worker seat pushed taken k u
     → Fits feeds worker seat pushed taken' k u
@@ -217,7 +217,7 @@ pops pass (Worker d) may x items views h at =
 
 -- ---- a split
 
--- what feeders know stays where a number without a pass gets one
+-- the knowledge of feeders stays right when a number without a pass gets one
 seat_kept : (feeds : Numbers) (worker : ℕ) (seat : ℕ → Option ℕ) (pushed : ℕ → ℕ) (taken : List Sample)
     (number : ℕ) (o : Option ℕ) (k : ℕ) → seat number ≡ None → k ≢ worker → (u : Known)
     → Fits feeds worker seat pushed taken k u → Fits feeds worker (changed seat number o) pushed taken k u
@@ -272,7 +272,7 @@ splits pass (Worker d) may items views h at =
           })) (at_more vs r u j e);
     }
 
--- the worker, which has taken nothing and given no number, is told its feeds
+-- the worker, which has taken no sample and given out no number, learns its feeds
 begin_kept : (feeds feeds' : Numbers) (worker : ℕ) (seat : ℕ → Option ℕ) (pushed : ℕ → ℕ) (taken : List Sample) (k : ℕ)
     → ((f : ℕ) → seat f ≡ None) → k ≢ worker → (u : Known) → Fits feeds worker seat pushed taken k u
     → Fits feeds' worker seat pushed taken k u
@@ -309,7 +309,7 @@ tells_feeds pass v feeds is items views h at =
 
 -- ---- a join
 
--- what feeders know stays where another number's pass is taken in
+-- the knowledge of feeders stays right when another number's pass is taken in
 free_kept : (feeds : Numbers) (worker : ℕ) (seat : ℕ → Option ℕ) (pushed : ℕ → ℕ) (taken : List Sample)
     (number j k : ℕ) → seat number ≡ Some j → k ≢ j → k ≢ worker → (u : Known)
     → Fits feeds worker seat pushed taken k u → Fits feeds worker (changed seat number None) pushed taken k u
@@ -321,7 +321,7 @@ free_kept feeds worker seat pushed taken number j k at away other (Feeder p) fit
 }
 free_kept feeds worker seat pushed taken number j k at away other Nobody fit = tt
 
--- a number that has a pass is below the next one
+-- a number with a pass is below the next one
 below_next : (seat : ℕ → Option ℕ) (pushed : ℕ → ℕ) (next number j : ℕ)
     → ((f : ℕ) → next ≤ f → (seat f ≡ None) × (pushed f ≡ 0)) → seat number ≡ Some j → number < next
 below_next seat pushed next number j free at =
@@ -377,7 +377,7 @@ joins pass (Worker d) other (Feeder p) may feeding items views h at two at' =
       fits = fit_set (Fits h.feeds h.worker seat h.pushed h.taken) vs other Nobody tt (λ j u away e. now j u e away);
     }
 
--- ---- what the worker learns
+-- ---- the worker's knowledge of the queue
 
 ends_learned : (next : ℕ) (seat : ℕ → Option ℕ) (pushed : ℕ → ℕ) (es : List Ended)
     → AllByRecursion (HasEnded next seat pushed) es → AllByRecursion (λ (e : Ended). pushed e.feeder ≡ e.pushed) es

@@ -1,4 +1,4 @@
--- What a call of `feed` comes to.
+-- The result of a call of `feed`.
 use Rattle.std.specs.Prelude.{◌≡◌, ℕ, zero, suc, ◌+◌, ◌*◌, ◌<◌, ◌≤◌, ◌^◌, ◌⊎◌, Bool, true, false, List, [], ◌∷◌, ◌++◌, length, slice_index_or, nat_lt, ◌&&◌, not, if◌then◌else◌, vec_capacity}
 use Rattle.std.specs.List.{AllByRecursion}
 use Rattle.lane_table.specs.declared.lanes.Lanes.{Lanes}
@@ -16,16 +16,16 @@ use Rattle.irq_feed.specs.Samples.{first_samples, of_feeder}
 use Rattle.irq_feed.specs.Rule.{desk, ended}
 use Rattle.irq_feed.specs.Passes.{known, took, IsPassOf}
 
--- the samples that were mixed, in order
+-- the mixed samples, in order
 abbrev pub mixed_in : Mixed → List Sample
 mixed_in m = m.samples.items
 
--- the worker mixed the feeder's samples itself, behind all others
+-- the worker mixed the feeder's samples itself, after all others
 abbrev pub is_direct : Mixed → ℕ → Bool
 is_direct m feeder = slice_index_or m.direct feeder false
 
--- all samples of each feeder were mixed, in order and each once. Those that came through the queue stand in front, in the
--- order in which the worker took them, and behind them those of the feeders that are direct
+-- all samples of each feeder were mixed, in order and each once. First come those from the queue, in the order in
+-- which the worker took them, and then those of the direct feeders
 pub record AllMixed (feeds : Numbers) (worker : FeedPass) (m : Mixed) : Type 0 where
   pub each : (feeder : ℕ) → feeder < feeds.feeders
       → of_feeder feeder (mixed_in m) ≡ first_samples feeds feeder feeds.each
@@ -35,21 +35,21 @@ pub record AllMixed (feeds : Numbers) (worker : FeedPass) (m : Mixed) : Type 0 w
   pub through : AllByRecursion (λ (x : Sample). is_direct m x.feeder ≡ false) (took worker)
   pub behind : AllByRecursion (λ (x : Sample). is_direct m x.feeder ≡ true) directly
 
--- Before the call, and on the way
+-- Before the call and during it
 
 -- the sum of g over all numbers below n
 abbrev pub sum_below : ℕ → (ℕ → ℕ) → ℕ
 sum_below zero g = 0
 sum_below (suc n) g = sum_below n g + g n
 
--- how many samples come through the queue of a feeder, and how many the worker mixes itself
+-- how many samples of a feeder come through the queue, and how many the worker mixes itself
 abbrev pub through_queue : ℕ → (ℕ → Bool) → ℕ → ℕ
 through_queue each direct feeder = if direct feeder then 0 else each
 
 abbrev pub by_worker : ℕ → (ℕ → Bool) → ℕ → ℕ
 by_worker each direct feeder = if direct feeder then each else 0
 
--- what is mixed of a feeder where the direct feeders below this number are already done
+-- the mixed samples of a feeder, once the direct feeders below this number are done
 abbrev pub done_so_far : Numbers → (ℕ → Bool) → ℕ → ℕ → List Sample
 done_so_far feeds direct number feeder =
     if nat_lt feeder feeds.feeders
@@ -70,12 +70,12 @@ abbrev pub IsAmong : Ended → List Ended → Type 0
 IsAmong e [] = ⊥
 IsAmong e (x ∷ xs) = (x ≡ e) ⊎ IsAmong e xs
 
--- the feeders that are direct pushed nothing, and their passes were taken in
+-- the direct feeders pushed no sample, and the worker took in their passes
 abbrev pub DirectEnded : (ℕ → Bool) → ℕ → List Ended → Type 0
 DirectEnded direct number es = (feeder : ℕ) → feeder < number → direct feeder ≡ true → IsAmong (ended feeder 0) es
 
--- feeders below this number were started, and so many samples will come through the queue; nothing was taken yet, and the
--- next feeder gets this number
+-- the feeders below this number were started, and `owed` samples will come through the queue; the worker took no
+-- sample yet, and the next feeder gets the number `next`
 pub record HasBegun (queue : FeedQueue) (feeds : Numbers) (number next owed : ℕ) (worker : FeedPass) (m : Mixed)
     : Type 0 where
   pub of_queue : IsPassOf queue worker
@@ -91,12 +91,13 @@ pub record HasBegun (queue : FeedQueue) (feeds : Numbers) (number next owed : �
 abbrev pub CanStart : FeedQueue → Numbers → ℕ → ℕ → FeedPass → Mixed → Type 0
 CanStart queue feeds number owed worker m = HasBegun queue feeds number number owed worker m
 
--- the same, where the feeder of this number has its pass
+-- the same, after the feeder with this number got its pass
 abbrev pub CanTakeBack : FeedQueue → Numbers → ℕ → ℕ → FeedPass → Mixed → Type 0
 CanTakeBack queue feeds number owed worker m =
     (number < feeds.feeders) × HasBegun queue feeds number (number + 1) owed worker m
 
--- these samples came through the queue, and the worker mixed those of the direct feeders below this number behind them
+-- these samples came through the queue, and after them the worker mixed those of the direct feeders below this
+-- number
 pub record Front (feeds : Numbers) (number : ℕ) (through : List Sample) (m : Mixed) : Type 0 where
   pub few : (feeds.feeders ≤ 16) × (feeds.each ≤ 10000)
   pub directly : List Sample
@@ -108,7 +109,7 @@ pub record Front (feeds : Numbers) (number : ℕ) (through : List Sample) (m : M
       + sum_below number (by_worker feeds.each (is_direct m))
   pub room : feeds.feeders * feeds.each ≤ vec_capacity m.samples
 
--- all that comes through the queue was mixed, and all feeders that had threads have ended
+-- all samples from the queue were mixed, and all feeders with threads have ended
 pub record HasDrained (queue : FeedQueue) (feeds : Numbers) (worker : FeedPass) (m : Mixed) : Type 0 where
   pub of_queue : IsPassOf queue worker
   pub ends : List Ended

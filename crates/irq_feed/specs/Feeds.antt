@@ -1,5 +1,5 @@
--- What feeds are made of: the first word of each feeder's first sample, how many feeders there are, and how many samples
--- each has.
+-- The data of feeds: the first word of each feeder's first sample, the number of feeders, and the number of samples
+-- of each.
 use Rattle.std.specs.Prelude.{ℕ}
 
 pub record Numbers : Type 0 where

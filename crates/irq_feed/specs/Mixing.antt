@@ -1,4 +1,4 @@
--- What the worker does with samples: one interrupt of each, one after another.
+-- The work of the worker: one interrupt for each sample, in order.
 use Rattle.std.specs.Prelude.{◌≡◌, ℕ, suc, ◌<◌, ◌==◌, List, [], ◌∷◌, ◌++◌, map, length, if◌then◌else◌}
 use Rattle.key_names.specs.declared.names.Step.{Step}
 use Rattle.key_names.specs.declared.names.Step.TheVariants.{Look, Visit as Marked}
@@ -24,20 +24,20 @@ use Rattle.irq_feed.specs.declared.samples.Sample.{Sample}
 abbrev pub in_event : Setting → ℕ → Setting
 in_event set event = record set { event = event }
 
--- from v to w the pass made one interrupt of this sample, and the steps tell it
+-- from v to w the pass made one interrupt of this sample, with these steps
 pub record Interrupted (set : Setting) (event : ℕ) (x : Sample) (v w : View) : Type 0 where
   pub steps : List Step
   pub did : MakesIn (Sampled (IsOutcomeOf (setting_of set) (IrqEvent x.v1 x.v2) Done no_data)) (in_event set event)
       (knowing v []) (knowing w steps)
 
--- from v to w it made one of each sample, in order, in events that are numbered from this one on
+-- from v to w it made one interrupt for each sample, in order, in events numbered from this one on
 abbrev pub Mixes : Setting → ℕ → List Sample → View → View → Type 0
 Mixes set event [] v w = w ≡ v
 Mixes set event (x ∷ xs) v w = (u : View) × Interrupted set event x v u × Mixes set (suc event) xs u w
 
--- What stands on the lanes then
+-- The lanes after that
 
--- the interrupts among what stands behind steps: their CPUs and entries
+-- the interrupts among the deeds of steps: their CPUs and entries
 abbrev pub irq_at : ℕ → CpuEntry → List (ℕ × CpuEntry)
 irq_at cpu (Read look refill taken) = []
 irq_at cpu (Int look refill width filled) = []
@@ -54,7 +54,7 @@ irqs_of (at_base visit ∷ deeds) = irqs_of deeds
 irqs_of (at_cpu visit ∷ deeds) = irq_at visit.cpu visit.entry ++ irqs_of deeds
 irqs_of (nothing_there ∷ deeds) = irqs_of deeds
 
--- the places of a lane at which steps made a visit
+-- the places of a lane's visits among some steps
 abbrev pub places_of : ℕ → List Step → List ℕ
 places_of lane [] = []
 places_of lane (Look g ∷ steps) = places_of lane steps
@@ -65,8 +65,8 @@ places_of lane (Marked mark ∷ steps) =
 abbrev pub irq_of : Setting → Sample → ℕ × CpuEntry
 irq_of set x = (set.cpu, Irq x.v1 x.v2 set.now)
 
--- from v to w the pass made these steps and no others; in all lists of visits that go on from what it knows then, the
--- interrupts behind these steps are those of the samples, in order
+-- from v to w the pass made exactly these steps; in all lists of visits that continue those that it knows then, the
+-- interrupts of these steps are those of the samples, in order
 pub record Put (set : Setting) (xs : List Sample) (v w : View) : Type 0 where
   pub steps : List Step
   pub all : (lane : ℕ) → lane < length v.lanes → (at lane w).places ≡ (at lane v).places ++ places_of lane steps

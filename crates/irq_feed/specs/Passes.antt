@@ -1,4 +1,4 @@
--- What a clause says of the queue's passes.
+-- The queue's passes in clauses.
 use Rattle.std.specs.Prelude.{◌≡◌, ℕ, List, []}
 use Rattle.crossbeam_queue.specs.Passes as ruled
 use Rattle.irq_feed.specs.declared.samples.Sample.{Sample}
@@ -9,7 +9,7 @@ use Rattle.irq_feed.specs.declared.queue.FeedPass.{FeedPass}
 use Rattle.irq_feed.specs.Feeds.{Numbers}
 use Rattle.irq_feed.specs.Rule.{begun, post}
 
--- what a pass knows
+-- the knowledge of a pass
 abbrev pub known : FeedPass → Known
 known w = ruled.view w.pass
 
@@ -35,10 +35,10 @@ took w = taken_of (known w)
 abbrev pub next_number : FeedPass → ℕ
 next_number w = next_of (known w)
 
--- the queue and the worker's pass were made together for these feeds; it has taken nothing, and the next number is 0
+-- the queue and the worker's pass are new, for these feeds: the worker has taken no sample, and the next number is 0
 abbrev pub AreNew : FeedQueue → Numbers → FeedPass → Type 0
 AreNew q feeds w = IsPassOf q w × (known w ≡ begun feeds)
 
--- a feeder's pass of this queue, with so many samples pushed
+-- a feeder's pass of this queue, after this number of pushed samples
 abbrev pub IsFeeder : FeedQueue → Numbers → ℕ → ℕ → FeedPass → Type 0
 IsFeeder q feeds number pushed w = IsPassOf q w × (known w ≡ Feeder (post feeds number pushed))

@@ -1,4 +1,5 @@
--- The rule of the queue: of each feeder, what the worker took and then what the queue holds are its first samples.
+-- The rule of the queue: for each feeder, the samples that the worker took, followed by those in the queue, are the
+-- feeder's first samples.
 use Rattle.std.specs.Prelude.{◌≡◌, ℕ, ◌+◌, ◌<◌, ◌≤◌, ⊤, List, [], ◌∷◌, ◌++◌, Option, Some, None}
 use Rattle.std.specs.List.{AllByRecursion}
 use mathlib.Core.Option.{some}
@@ -25,11 +26,12 @@ ended feeder pushed = record { feeder = feeder; pushed = pushed }
 
 -- The rule
 
--- the feeder has a number that was given, has no pass any more, and pushed so many samples
+-- the feeder has a number that was given out, has no pass any more, and pushed this number of samples
 abbrev pub HasEnded : ℕ → (ℕ → Option ℕ) → (ℕ → ℕ) → Ended → Type 0
 HasEnded next seat pushed e = (e.feeder < next) × (seat e.feeder ≡ None) × (pushed e.feeder ≡ e.pushed)
 
--- what the worker knows is so: it has the one pass that may take, and no feeder has the next number or a higher one
+-- the worker's knowledge is right: it has the one pass that may take, and no feeder has the next number or a higher
+-- one
 pub record IsDesk (feeds : Numbers) (seat : ℕ → Option ℕ) (pushed : ℕ → ℕ) (taken : List Sample) (d : Desk)
     : Type 0 where
   pub feeds_are : d.feeds ≡ feeds
@@ -37,7 +39,7 @@ pub record IsDesk (feeds : Numbers) (seat : ℕ → Option ℕ) (pushed : ℕ �
   pub free : (feeder : ℕ) → d.next ≤ feeder → (seat feeder ≡ None) × (pushed feeder ≡ 0)
   pub ends : AllByRecursion (HasEnded d.next seat pushed) d.ended
 
--- what a feeder knows is so: no other pass has its number
+-- a feeder's knowledge is right, and no other pass has its number
 pub record IsPost (feeds : Numbers) (seat : ℕ → Option ℕ) (pushed : ℕ → ℕ) (pass : ℕ) (p : Post) : Type 0 where
   pub feeds_are : p.feeds ≡ feeds
   pub mine : seat p.number ≡ Some pass
@@ -48,8 +50,8 @@ Fits feeds worker seat pushed taken pass (Worker d) = (pass ≡ worker) × IsDes
 Fits feeds worker seat pushed taken pass (Feeder p) = IsPost feeds seat pushed pass p
 Fits feeds worker seat pushed taken pass Nobody = ⊤
 
--- `seat` is the pass that each feeder has, if any, `pushed` how many samples it pushed, `taken` what the worker took, and
--- `worker` is the worker's pass
+-- `seat` has each feeder's pass, if any, `pushed` the number of samples that it pushed, `taken` the samples that the
+-- worker took, and `worker` the worker's pass
 pub record InOrder (items : List Sample) (views : List Known) : Type 0 where
   pub feeds : Numbers
   pub worker : ℕ
@@ -68,13 +70,13 @@ Pushed (Worker d) x w = ⊤
 Pushed (Feeder p) x w = w ≡ Feeder (post p.feeds p.number (p.pushed + 1))
 Pushed Nobody x w = ⊤
 
--- a pop: one more sample that the worker took
+-- a pop: the worker takes one more sample
 abbrev pub Popped : Known → Sample → Known → Type 0
 Popped (Worker d) x w = w ≡ Worker (desk d.feeds (d.taken ++ x ∷ []) d.next d.ended)
 Popped (Feeder p) x w = ⊤
 Popped Nobody x w = ⊤
 
--- a split: the next number is given to a new feeder
+-- a split: a new feeder gets the next number
 abbrev pub behind_split : Known → Known
 behind_split (Worker d) = Worker (desk d.feeds d.taken (d.next + 1) d.ended)
 behind_split (Feeder p) = Feeder p
@@ -85,7 +87,7 @@ new_feeder (Worker d) = Feeder (post d.feeds d.next 0)
 new_feeder (Feeder p) = Nobody
 new_feeder Nobody = Nobody
 
--- a join: the worker takes a feeder's pass in
+-- a join: the worker takes in a feeder's pass
 abbrev pub taken_in : Known → Known → Known
 taken_in (Worker d) (Worker e) = Worker d
 taken_in (Worker d) (Feeder p) = Worker (desk d.feeds d.taken d.next (d.ended ++ ended p.number p.pushed ∷ []))
@@ -99,7 +101,7 @@ with_taken (Worker d) xs = Worker (desk d.feeds xs d.next d.ended)
 with_taken (Feeder p) xs = Feeder p
 with_taken Nobody xs = Nobody
 
--- whose pass it is
+-- the kind of a pass
 abbrev pub IsWorker : Known → Type 0
 IsWorker (Worker d) = ⊤
 IsWorker (Feeder p) = ⊥
@@ -116,7 +118,7 @@ MayPush (Worker d) x = ⊥
 MayPush (Feeder p) x = (p.pushed < p.feeds.each) × (x ≡ sample p.feeds p.number p.pushed)
 MayPush Nobody x = ⊥
 
--- the worker's first view: of no feeds yet
+-- the worker's first view, without feeds
 abbrev pub no_feeds : Known
 no_feeds = Worker (desk (numbers 0 0 0) [] 0 [])
 
@@ -124,7 +126,7 @@ no_feeds = Worker (desk (numbers 0 0 0) [] 0 [])
 abbrev pub begun : Numbers → Known
 begun feeds = Worker (desk feeds [] 0 [])
 
--- What the worker learns of the queue at any moment
+-- The worker's knowledge of the queue at any moment
 
 pub record Learned (d : Desk) (items : List Sample) : Type 0 where
   pub pushed : ℕ → ℕ

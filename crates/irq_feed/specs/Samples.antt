@@ -17,6 +17,6 @@ abbrev pub first_samples : Numbers → ℕ → ℕ → List Sample
 first_samples s feeder zero = []
 first_samples s feeder (suc n) = first_samples s feeder n ++ sample s feeder n ∷ []
 
--- those of a list that are a feeder's
+-- the samples of one feeder in a list
 abbrev pub of_feeder : ℕ → List Sample → List Sample
 of_feeder feeder xs = filter (λ (x : Sample). x.feeder == feeder) xs

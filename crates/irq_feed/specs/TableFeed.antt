@@ -1,4 +1,4 @@
--- Feeders on a new table: what then stands on its lanes, in numbers too.
+-- Feeders on a new table: the visits of its lanes after them, and their numbers.
 use Rattle.std.specs.Prelude.{◌≡◌, ◌<◌, ◌*◌, ◌/◌, ◌+◌, ◌++◌, ℕ, suc, min, List, [], ◌∷◌, length, map}
 use Rattle.key_names.specs.declared.names.Step.{Step}
 use Rattle.key_names.specs.declared.entries.CpuEntry.{CpuEntry}
@@ -19,7 +19,7 @@ use Rattle.irq_feed.specs.declared.samples.Sample.{Sample}
 use Rattle.irq_feed.specs.declared.table_feed.FeedSums.{FeedSums}
 use Rattle.irq_feed.specs.Samples.{numbers, first_samples, of_feeder}
 
--- each call is the interrupt of its sample: behind its steps stands what such a call may do
+-- each call is the interrupt of its sample, by the deeds of its steps
 abbrev pub AreCalls : Lists → List Sample → List (List Step) → Type 0
 AreCalls lists [] [] = Unit {0}
 AreCalls lists [] (steps ∷ calls) = ⊥
@@ -28,12 +28,12 @@ AreCalls lists (x ∷ xs) (steps ∷ calls) =
     IsOutcomeOf (setting_of (first_setting 0)) (IrqEvent x.v1 x.v2) Done no_data (deeds_of lists steps)
     × AreCalls lists xs calls
 
--- the visits that these calls made, in events that are numbered from this one on
+-- the visits of these calls, in events numbered from this one on
 abbrev pub marks_of : ℕ → List (List Step) → List MarkBy
 marks_of event [] = []
 marks_of event (steps ∷ calls) = marks_from 0 event 0 steps ++ marks_of (suc event) calls
 
--- the interrupts of a CPU's list, and how many dumps it has
+-- the interrupts of a CPU's list, and its number of dumps
 abbrev pub irq_here : CpuEntry → List CpuEntry
 irq_here (Irq v1 v2 now) = Irq v1 v2 now ∷ []
 irq_here (Read look refill taken) = []
@@ -61,8 +61,8 @@ dumps_in (e ∷ es) = dump_here e + dumps_in es
 abbrev pub irq_entry : Sample → CpuEntry
 irq_entry x = Irq x.v1 x.v2 0
 
--- the one book of a table with one CPU: it is lawful, its samples too, and disjoint, and has the visits of one call for each
--- sample, one call behind the other, and no others
+-- a table's book with one CPU: it and its samples are lawful, and it is disjoint. Its visits are exactly those of
+-- one call for each sample, call after call
 pub record IsFedBook (samples : List Sample) (book : Book) : Type 0 where
   pub cpus : length book.cpus ≡ 1
   pub lawful : LawfulLanes (lists_of book)
@@ -74,8 +74,8 @@ pub record IsFedBook (samples : List Sample) (book : Book) : Type 0 where
   pub last : ℕ
   pub in_order : Climbs 0 (map (λ by. by.mark.stamp) (marks_of 0 calls)) last
 
--- all samples of so many feeders were mixed on a new table, those of each feeder in order and each once; the sums are those
--- of the table's book, and are the same for every order of the samples
+-- all samples of these feeders were mixed on a new table, those of each feeder in order and each once; the sums are
+-- those of the table's book, and are the same for every order of the samples
 pub record IsFed (start feeders each : ℕ) (sums : FeedSums) : Type 0 where
   pub samples : List Sample
   pub each_of : (feeder : ℕ) → feeder < feeders

@@ -12,14 +12,14 @@ use std::sync::Wait;
 use std::sync::atomic::{AtomicU32, Ordering};
 use std::thread::{Promise, PromisedHandle, Scope, SpawnError};
 
-/// What a feeder gives back: its pass, and how many samples it pushed.
+/// The result of a feeder: its pass, and the number of samples that it pushed.
 #[derive(Drop)]
 pub(crate) struct Fed {
     pub(crate) pass: FeedPass,
     pub(crate) pushed: u32,
 }
 
-/// What the worker and all feeders of a call share.
+/// The data that the worker and all feeders of a call share.
 #[derive(Drop)]
 pub(crate) struct Call<'a, G: Gate> {
     pub(crate) intake: &'a Intake<'a, G>,
@@ -28,7 +28,7 @@ pub(crate) struct Call<'a, G: Gate> {
     pub(crate) handed_back: AtomicU32,
 }
 
-/// The number of no feeder.
+/// The value of `handed_back` for no feeder.
 pub(crate) const NOBODY: u32 = u32::MAX;
 
 fn push<R: Wait>(rt: &R, queue: &FeedQueue, feeder: &mut FeedPass, sample: Sample)
@@ -47,8 +47,8 @@ fn push<R: Wait>(rt: &R, queue: &FeedQueue, feeder: &mut FeedPass, sample: Sampl
     unreachable!()
 }
 
-/// Pushes all samples of a feeder, and waits where the queue is full. Where the worker calls it, it pushes none: nobody
-/// would take them out.
+/// Pushes all samples of a feeder, and waits while the queue is full. If the worker itself calls it, it pushes none:
+/// the worker could not take them out meanwhile.
 pub(crate) fn push_all<R: Wait, G: Gate>(
     rt: &R,
     feeder: &Feeder,
@@ -71,17 +71,17 @@ pub(crate) fn push_all<R: Wait, G: Gate>(
     Fed { pass, pushed: each }
 }
 
-/// Where feeders run.
+/// The place where feeders run.
 #[derive(Clone, Copy, Drop)]
 pub enum Feeders {
-    /// Each in a thread of its own, where one can be made.
+    /// Each in its own thread, if one can be made.
     InThreads,
-    /// None in a thread, as where no thread can be made.
+    /// None in a thread, as if no thread could be made.
     Nowhere,
 }
 
 impl Feeders {
-    /// Starts a feeder's thread. The closure comes back where none can be made.
+    /// Starts a feeder's thread. Returns the closure if no thread can be made.
     pub(crate) fn start<
         's,
         E,
@@ -101,7 +101,7 @@ impl Feeders {
     }
 }
 
-/// A feeder. What its thread promises: the pass that it gives back is the feeder's, with as many samples pushed as it says.
+/// A feeder. Its thread promises to return the feeder's pass, with the number of pushed samples that it reports.
 #[derive(Drop)]
 pub(crate) struct Feeder<'a> {
     pub(crate) queue: &'a FeedQueue,

@@ -1,4 +1,4 @@
-//! What a call of `feed` is over.
+//! The data of a call of `feed`.
 
 use crate::queue::FeedQueue;
 use crate::samples::Feeds;
@@ -6,8 +6,8 @@ use io_edges::Gate;
 use lane_table::Lanes;
 use rng_core::Setting;
 
-/// Where samples are fed in: the table of the CPU, and what the caller has set for all its interrupts; what the feeders
-/// hand in, and the queue between them and the caller; the gate that is called before each sample.
+/// The input of a call: the table of the CPU, the caller's setting for all its interrupts, the feeders' samples, the
+/// queue between them and the caller, and the gate that is called before each sample.
 #[derive(Drop)]
 pub struct Intake<'a, G: Gate> {
     pub lanes: &'a Lanes,

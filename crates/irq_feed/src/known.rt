@@ -1,15 +1,15 @@
-//! What a pass knows of the queue. No value of these types is made.
+//! The knowledge of a pass about the queue. No code makes a value of these types.
 
 use crate::samples::{Feeds, Sample};
 use std::collections::LinkedList;
 
-/// A feeder whose pass was taken in, and how many samples it pushed.
+/// A feeder whose pass was taken in, with the number of samples that it pushed.
 pub struct Ended {
     pub feeder: u32,
     pub pushed: u32,
 }
 
-/// What the worker knows: the samples that it took, the number that the next feeder gets, and the feeders that ended.
+/// The knowledge of the worker: the samples that it took, the number of the next feeder, and the feeders that ended.
 pub struct Desk {
     pub feeds: Feeds,
     pub taken: LinkedList<Sample>,
@@ -17,14 +17,14 @@ pub struct Desk {
     pub ended: LinkedList<Ended>,
 }
 
-/// What a feeder knows: its number, and how many samples it pushed.
+/// The knowledge of a feeder: its number, and how many samples it pushed.
 pub struct Post {
     pub feeds: Feeds,
     pub number: u32,
     pub pushed: u32,
 }
 
-/// What a pass knows.
+/// The knowledge of a pass.
 pub enum Known {
     Worker(Desk),
     Feeder(Post),

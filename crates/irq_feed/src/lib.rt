@@ -1,15 +1,15 @@
 //! Interrupt samples of several feeders, handed to one worker through a queue.
 //!
-//! [`feed`] starts a thread for each feeder. A feeder pushes its samples into a bounded queue, in order; the caller is the
-//! worker, which alone visits a CPU: it takes each sample out and makes one interrupt (`rng_core::irq`) of it. What a
-//! feeder that got no thread would have pushed, the worker mixes itself, behind all others.
+//! [`feed`] starts a thread for each feeder. A feeder pushes its samples into a bounded queue, in order. The caller
+//! is the worker, and the only thread that visits a CPU: it takes each sample out and makes one interrupt
+//! (`rng_core::irq`) of it. If a feeder gets no thread, the worker mixes its samples itself, after all others.
 //!
-//! Whatever the threads did to each other, each sample of each feeder is mixed once, and those of one feeder in their
-//! order. That is promised of each call that returns. It is not promised that a call returns, that two feeders ever ran
-//! at once, or in which order the samples of different feeders come.
+//! For every interleaving of the threads, a call that returns has mixed each sample of each feeder once, and those
+//! of one feeder in their order. Not promised: that a call returns, that two feeders ever run at once, and in which
+//! order the samples of different feeders come.
 //!
-//! It stands on the rule of a queue of `crossbeam_queue`: what the worker took and what the queue holds are, for each
-//! feeder, its first samples. Both give clauses alone, as do the calls of `rng_core`.
+//! The proof rests on the rule of a queue of `crossbeam_queue`: for each feeder, the samples that the worker took
+//! and those in the queue are its first samples. The crate uses only the contracts of the queue and of `rng_core`.
 #![tactic(auto)]
 
 mod feeder;

@@ -1,4 +1,4 @@
-//! What was mixed, in which order.
+//! The mixed samples, in their order.
 ghost use Rattle.std.specs.Prelude.{◌≡◌, ◌*◌, ◌<◌, ◌≤◌, Some, [], IfOk, slice_get, vec_len, vec_capacity, length};
 ghost use Rattle.irq_feed.specs.declared.samples.Sample.{Sample};
 
@@ -18,7 +18,7 @@ pub struct Mixed {
 impl Mixed {
     ghost use Rattle.irq_feed.specs.Fed.{mixed_in, is_direct};
 
-    /// Nothing mixed yet, with space for all samples of the feeds.
+    /// An empty list with room for all samples of the feeds.
     pub(crate) fn with_room(alloc: Global, feeds: &Feeds) -> Result<Mixed, NoMemory>
         ensures none { IfOk result (λ m. mixed_in m ≡ []) }
         ensures room { IfOk result (λ m. vec_capacity m.samples ≡ feeds.now.feeders * feeds.now.each) }
@@ -31,7 +31,7 @@ impl Mixed {
         })
     }
 
-    /// How many samples were mixed.
+    /// The number of mixed samples.
     pub fn len(&self) -> u32
         ensures { result ≡ length (mixed_in self.now) }
     {
@@ -47,8 +47,8 @@ impl Mixed {
         (sample.feeder, sample.index)
     }
 
-    /// Whether the worker mixed the feeder's samples itself, behind all others. `feeder` is below 16. That it does so only
-    /// for one that got no thread is tested.
+    /// Whether the worker mixed the feeder's samples itself, after all others. `feeder` is below 16. A test checks
+    /// that it does so only for a feeder without a thread.
     pub fn direct(&self, feeder: u32) -> bool
         requires { feeder < 16 }
         ensures { result ≡ is_direct self.now feeder }

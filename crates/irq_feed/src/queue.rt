@@ -1,4 +1,4 @@
-//! The queue between feeders and worker, and its rule.
+//! The queue between the feeders and the worker, and its rule.
 ghost use Rattle.std.specs.Prelude.{◌≡◌, IfOk, List, MatchBool, MatchOption};
 ghost use Rattle.irq_feed.specs.declared.samples.Sample.{Sample};
 ghost use Rattle.irq_feed.specs.Feeds.{numbers};
@@ -13,10 +13,11 @@ use io_edges::NoMemory;
 use std::alloc::Global;
 use std::marker::{Brand, PhantomData};
 
-/// How many samples the queue holds at most.
+/// The most samples in the queue.
 pub const ROOM: usize = 64;
 
-/// The rule: of each feeder, what the worker took and what the queue holds are its first samples, in order.
+/// The rule: for each feeder, the samples that the worker took and those in the queue are its first samples, in
+/// order.
 pub struct Ordered;
 
 impl Protocol<Sample, Known> for Ordered {
@@ -45,7 +46,7 @@ impl Outcome<Sample, Known> for Pop {
     ghost then = { Popped };
 }
 
-/// The worker learns what was pushed.
+/// The worker learns which samples were pushed.
 struct Told;
 
 impl Lesson<Sample, Known> for Told {
@@ -74,7 +75,7 @@ impl Join<Known> for Next {
     ghost spent = { Nobody };
 }
 
-/// Which feeds a queue is for. The one call that has to know picks it.
+/// The feeds of a queue. Only `tell_feeds` needs to choose them.
 pub trait Naming {
     ghost use Rattle.irq_feed.specs.Feeds.{Numbers};
 
@@ -87,7 +88,7 @@ impl Naming for Brand {
     ghost feeds = { numbers 0 0 0 };
 }
 
-/// The worker is told the feeds.
+/// The worker learns the feeds.
 struct Begin<F: Naming> {
     of: PhantomData<F>,
 }
@@ -109,8 +110,8 @@ pub struct FeedQueue {
     line: Line,
 }
 
-/// The token of the worker or of a feeder. Of the worker's it is known which samples it took from the queue, and which
-/// number the next feeder gets.
+/// The token of the worker or of a feeder. The worker's pass knows which samples it took from the queue, and the
+/// number of the next feeder.
 #[derive(Drop)]
 pub struct FeedPass {
     pass: Pass<Sample, Known>,
@@ -125,11 +126,11 @@ fn tell_feeds<F: Naming>(queue: &FeedQueue, worker: &mut FeedPass, _feeds: &Feed
 }
 
 impl FeedQueue {
-    /// An empty queue for these feeds, and the worker's pass, which has taken nothing and gives number 0 next.
+    /// An empty queue for these feeds, and the worker's pass, which has taken no sample and gives out number 0 next.
     ///
     /// # Errors
     ///
-    /// `NoMemory` where there is no memory for 64 samples.
+    /// `NoMemory` if memory for 64 samples ran out.
     pub fn of(alloc: Global, feeds: &Feeds) -> Result<(FeedQueue, FeedPass), NoMemory>
         ensures { IfOk result (λ r. AreNew r.0 feeds.now r.1) }
     {
@@ -151,7 +152,7 @@ impl FeedQueue {
         }
     }
 
-    /// The worker takes in the pass of a feeder that is done.
+    /// Takes in the pass of a feeder that has ended.
     pub(crate) fn take_in(&self, worker: &mut FeedPass, feeder: FeedPass)
         requires worker { IsPassOf self.now worker.old × IsWorker (known worker.old) }
         requires feeder { IsPassOf self.now feeder × IsFeeding (known feeder) }
@@ -161,7 +162,7 @@ impl FeedQueue {
         self.line.absorb::<Next>(&mut worker.pass, pass);
     }
 
-    /// A feeder pushes its next sample. One attempt: it fails where the queue is full, or another thread is in the way.
+    /// Tries once to push a feeder's next sample. It fails if the queue is full or another thread interferes.
     pub(crate) fn try_push(&self, feeder: &mut FeedPass, sample: Sample) -> bool
         requires feeder { IsPassOf self.now feeder.old }
         requires next { MayPush (known feeder.old) sample }
@@ -173,8 +174,8 @@ impl FeedQueue {
             .is_ok()
     }
 
-    /// The worker takes the sample at the front. One attempt: it fails where the queue is empty, or another thread is in
-    /// the way.
+    /// Tries once to take the sample at the front for the worker. It fails if the queue is empty or another thread
+    /// interferes.
     pub(crate) fn try_pop(&self, worker: &mut FeedPass) -> Option<Sample>
         requires worker { IsPassOf self.now worker.old × IsWorker (known worker.old) }
         ensures worker { IsPassOf self.now worker.new }
@@ -184,7 +185,7 @@ impl FeedQueue {
         self.line.try_pop_as::<Pop>(&mut worker.pass)
     }
 
-    /// What the rule says of the queue at one moment.
+    /// Gives the worker the rule's facts about the queue at one moment.
     pub(crate) fn learn(&self, worker: &mut FeedPass)
         requires worker { IsPassOf self.now worker.old × IsWorker (known worker.old) }
         ensures worker { IsPassOf self.now worker.new × (known worker.new ≡ known worker.old) }

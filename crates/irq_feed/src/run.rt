@@ -24,18 +24,20 @@ use std::thread::{Scope, Threads};
 
 /// Hands the samples of all feeders to this caller, which makes an interrupt of each (`add_interrupt_randomness`).
 ///
-/// Each feeder is a thread of its own: it calls the gate before each sample and pushes it, and waits while the queue is
-/// full. The caller takes the samples out and makes one `irq` of each, at the setting's moment, on its CPU; the events are
-/// numbered from 0. The samples of a feeder that got no thread it mixes itself, behind all others, with the gate before
-/// each; that it does so only for one that got no thread is tested. Samples of one feeder keep their order; of different
-/// feeders any order may come. No memory is taken once the first feeder has started, but for threads. The call waits for
-/// the lanes and for its feeders. The worker's pass comes back in every case, after a call that mixed with all that it
-/// took from the queue.
+/// Each feeder has its own thread. It calls the gate before each sample, pushes the sample, and waits while the
+/// queue is full. The caller takes the samples out and makes one `irq` of each, at the setting's moment and on its
+/// CPU, with the events numbered from 0. If a feeder got no thread, the caller mixes its samples itself, after all
+/// others, with the gate before each; a test checks that it does so only then. Samples of one feeder keep their
+/// order, and those of different feeders may come in any order.
+///
+/// After the first feeder has started, only thread creation allocates. The call waits for the lanes and for its
+/// feeders. It always returns the worker's pass, and after success that pass knows all samples that it took from the
+/// queue.
 ///
 /// # Errors
 ///
-/// `NoMemory` where there is no memory for the list of what was mixed. Nothing was mixed then, and the worker's pass
-/// comes back as it was given, so that the call can be made again.
+/// `NoMemory` if memory for the list of mixed samples ran out. Then no sample was mixed, and the worker's pass comes
+/// back unchanged, so the call can be made again.
 pub fn feed<'a, R: Threads + Wait + Sync, G: Gate>(
     rt: &R,
     alloc: Global,
@@ -58,11 +60,11 @@ pub fn feed<'a, R: Threads + Wait + Sync, G: Gate>(
     feed_by(rt, alloc, intake, pass, worker, Feeders::InThreads)
 }
 
-/// The same, where the feeders run so.
+/// The same, with a choice of where the feeders run.
 ///
 /// # Errors
 ///
-/// Those of [`feed`].
+/// As [`feed`].
 pub fn feed_by<'a, R: Threads + Wait + Sync, G: Gate>(
     rt: &R,
     alloc: Global,
@@ -106,7 +108,7 @@ pub fn feed_by<'a, R: Threads + Wait + Sync, G: Gate>(
     (Ok(mixed), worker)
 }
 
-// Feeders and worker, until all that comes through the queue is mixed and each thread is joined.
+// Runs the feeders and the worker until all samples from the queue are mixed and each thread is joined.
 fn drain_feeders<R: Threads + Wait + Sync, G: Gate>(
     rt: &R,
     call: &Call<G>,
@@ -198,7 +200,7 @@ fn start_rest<'s, E, R: Threads + Wait + Sync, G: Gate>(
     }
 }
 
-// Takes in the pass of a feeder that got no thread, and notes that its samples are the worker's.
+// Takes in the pass of a feeder that got no thread, and notes that the worker has to mix its samples.
 fn take_back<G: Gate>(intake: &Intake<G>, hand: &mut Hand, number: u32, fed: Fed)
     requires start { CanTakeBack intake.now.queue.now intake.now.feeds.now number hand.old.owed hand.old.worker
         hand.old.mixed }
@@ -229,7 +231,7 @@ fn mix_rest<R: Wait, G: Gate>(rt: &R, intake: &Intake<G>, pass: &mut Pass, mixed
     }
 }
 
-// Mixes the samples of a feeder, where it got no thread.
+// Mixes the samples of a feeder if it got no thread.
 fn mix_if_direct<R: Wait, G: Gate>(
     rt: &R,
     intake: &Intake<G>,

@@ -1,4 +1,4 @@
-//! What the feeders hand in.
+//! The samples of the feeders.
 ghost use Rattle.std.specs.Prelude.{◌≡◌, ◌<◌, ◌≤◌, ◌^◌, IfOk};
 ghost use Rattle.irq_feed.specs.Samples.{numbers, sample};
 
@@ -6,7 +6,8 @@ use io_edges::NoMemory;
 use std::alloc::Global;
 use std::marker::Model;
 
-/// A sample of an interrupt: two words of the machine's state, the feeder that took them, and how many it took before.
+/// A sample of an interrupt: two words of the machine's state, the feeder that took them, and the number of its
+/// samples before this one.
 #[derive(Clone, Copy, Debug, PartialEq, Eq)]
 pub struct Sample {
     pub feeder: u32,
@@ -15,7 +16,7 @@ pub struct Sample {
     pub v2: u64,
 }
 
-/// The samples of 1 to 16 feeders, 1 to 10,000 of each. They are worked out where they are wanted.
+/// The samples of 1 to 16 feeders, 1 to 10,000 for each. Each sample is computed when it is needed.
 #[derive(Drop)]
 pub struct Feeds {
     start: u32,
@@ -40,7 +41,7 @@ impl Feeds {
     ///
     /// # Errors
     ///
-    /// None today, since the samples are worked out. The answer leaves room for feeds that are kept in memory.
+    /// None today, since samples are computed. The error type leaves room for feeds that are kept in memory.
     pub fn of(_alloc: Global, start: u32, feeders: u32, each: u32) -> Result<Feeds, NoMemory>
         requires feeders { (1 ≤ feeders) × (feeders ≤ 16) }
         requires each { (1 ≤ each) × (each ≤ 10000) }
@@ -53,7 +54,7 @@ impl Feeds {
         })
     }
 
-    /// How many feeders there are.
+    /// The number of feeders.
     pub fn feeders(&self) -> u32
         ensures feeders { result ≡ self.now.feeders }
         ensures few { (1 ≤ result) × (result ≤ 16) }
@@ -61,7 +62,7 @@ impl Feeds {
         self.feeders
     }
 
-    /// How many samples each feeder has.
+    /// The number of samples of each feeder.
     pub fn each(&self) -> u32
         ensures each { result ≡ self.now.each }
         ensures few { (1 ≤ result) × (result ≤ 10000) }

@@ -13,27 +13,27 @@ use std::alloc::Global;
 use std::sync::Wait;
 use std::thread::Threads;
 
-/// How many samples a CPU takes before it dumps them into the pool.
+/// The number of samples after which a CPU dumps them into the pool.
 const DUMP_AT: u32 = 1024;
 
-/// How many bits such a dump is credited with.
+/// The credit of such a dump, in bits.
 const DUMP_BITS: u32 = 16;
 
 /// The most bits of the pool.
 const MOST_BITS: u32 = 256;
 
-/// What came of the samples of some feeders.
+/// The sums over the samples of some feeders.
 #[derive(Clone, Copy, Debug, PartialEq, Eq)]
 pub struct FeedSums {
-    /// How many were mixed.
+    /// The number of mixed samples.
     pub samples: u32,
-    /// How many dumps of the CPU they made.
+    /// The number of the CPU's dumps.
     pub dumps: u32,
-    /// The bits of the pool behind them.
+    /// The bits of the pool after them.
     pub bits: u32,
 }
 
-// What so many samples come to.
+// The sums for this number of samples.
 fn sums(samples: u32) -> FeedSums
     ensures samples { result.samples ≡ samples }
     ensures dumps { result.dumps ≡ samples / 1024 }
@@ -47,13 +47,13 @@ fn sums(samples: u32) -> FeedSums
     }
 }
 
-/// Makes a table with one CPU, and feeds it the samples of so many feeders, so many of each, as [`feed`] does: at moment
-/// 0, by caller 0. Sample i of feeder f has the words `start` + i and f. The sums are worked out, and are proved to be
-/// those of the table's visits.
+/// Makes a table with one CPU, and feeds it the samples of `feeders` feeders, `each` of every one, as [`feed`] does:
+/// at moment 0, by caller 0. Sample i of feeder f has the words `start` + i and f. The sums are computed, and proved
+/// to be those of the table's visits.
 ///
 /// # Errors
 ///
-/// There is no memory for the table, for the queue, or for the list of what was mixed. No feeder has started then.
+/// Memory for the table, for the queue, or for the list of mixed samples ran out. Then no feeder has started.
 pub fn feed_on_new_table<R: Threads + Wait + Sync, G: Gate>(
     rt: &R,
     alloc: Global,

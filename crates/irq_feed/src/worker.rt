@@ -19,12 +19,12 @@ use lane_table::{Lanes, Pass};
 use rng_core::{Setting, Site, irq};
 use std::sync::Wait;
 
-/// What the worker has in hand.
+/// The worker's state.
 #[derive(Drop)]
 pub(crate) struct Hand {
     pub(crate) worker: FeedPass,
     pub(crate) mixed: Mixed,
-    /// How many samples of the feeders that were started come through the queue.
+    /// The number of samples that come through the queue from the feeders started so far.
     pub(crate) owed: u32,
 }
 
@@ -43,7 +43,7 @@ fn pop<R: Wait>(rt: &R, queue: &FeedQueue, worker: &mut FeedPass) -> Sample
     unreachable!()
 }
 
-// Makes an interrupt of a sample. The event's number is how many were made before it.
+// Makes an interrupt of a sample. The event's number is the number of interrupts made before it.
 fn mix<R: Wait>(
     rt: &R,
     lanes: &Lanes,
@@ -77,7 +77,7 @@ fn mix<R: Wait>(
     mixed.samples.push_reserved(sample);
 }
 
-/// Takes the samples out of the queue that are to come through it, and makes an interrupt of each.
+/// Takes all expected samples out of the queue, and makes an interrupt of each.
 pub(crate) fn drain<R: Wait, G: Gate>(rt: &R, intake: &Intake<G>, pass: &mut Pass, hand: &mut Hand)
     requires has { HoldsLanes intake.now.lanes.now intake.now.set.caller [] pass.old }
     requires set { (intake.now.set.cpu < intake.now.lanes.now.cpus) × (intake.now.set.now < 2 ^ 40) }

@@ -1,7 +1,7 @@
 //! Tests of the crates that judge transcripts.
 //!
-//! They stand apart because a crate with tests is proved twice. They promise nothing. They stand on contracts, as any
-//! caller does.
+//! They are a separate crate because a crate with tests is proved twice. They promise nothing, and use the contracts
+//! as any caller does.
 #![tactic(auto)]
 
 #[cfg(test)]

@@ -1,4 +1,4 @@
-//! A small transcript, and changed ones: which clause on lines and marks is the first that fails.
+//! A small transcript, and changed ones, each with the first clause about lines and marks that fails.
 use event_script::{Script, read};
 use line_orders::begin::{Begun, begin};
 use line_orders::clause::Clause;
@@ -10,7 +10,7 @@ use transcript_text::Transcript;
 const SCRIPT: &[u8] =
     b"rngscript 1\ncpus 1\ncaller 0\nwrite 616263\nfork 1\nbits\ncaller 1\nread 16 4\nend\n";
 
-// Each with the clause that fails, worked out by hand.
+// Each with the clause that fails, found by hand.
 const CASES: [(&[u8], Option<Clause>); 8] = [
     (
         b"rngtranscript 1\n0.0 write ok p:0@1 -\n0.1 fork ok b:0@2 -\n0.2 bits ok p:2@5 -\n0.3 end ok b:2@6 -\n1.0 read ok ~0,p:1@3,b:1@4 -\n1.1 end ok b:3@7 -\nend\n",
@@ -31,7 +31,7 @@ const CASES: [(&[u8], Option<Clause>); 8] = [
         b"rngtranscript 1\n0.0 write ok p:0@1 -\n0.1 fork ok b:0@2 -\n0.2 bits ok p:2@5 -\n0.3 end ok b:2@6 -\n1.0 read ok ~0,p:3@3,b:1@4 -\n1.1 end ok b:3@7 -\nend\n",
         Some(Clause::Marks),
     ),
-    // Along the base the stamps fall behind place 1.
+    // Along the base the stamps fall after place 1.
     (
         b"rngtranscript 1\n0.0 write ok p:0@1 -\n0.1 fork ok b:0@2 -\n0.2 bits ok p:2@5 -\n0.3 end ok b:2@6 -\n1.0 read ok ~0,p:1@3,b:1@7 -\n1.1 end ok b:3@8 -\nend\n",
         Some(Clause::Marks),
@@ -41,7 +41,7 @@ const CASES: [(&[u8], Option<Clause>); 8] = [
         b"rngtranscript 1\n0.0 write ok p:0@1 -\n0.1 fork ok b:0@4 -\n0.2 bits ok p:2@6 -\n0.3 end ok b:2@7 -\n1.0 read ok ~0,p:1@3,b:1@5 -\n1.1 end ok b:3@8 -\nend\n",
         Some(Clause::Marks),
     ),
-    // A CPU that is not there has places too.
+    // A CPU that does not exist has places too.
     (
         b"rngtranscript 1\n0.0 write ok p:0@1 -\n0.1 fork ok b:0@2 -\n0.2 bits ok p:2@5 -\n0.3 end ok b:2@6 -\n1.0 read ok ~0,p:1@3,b:1@4 -\n1.1 end ok b:3@7,c9:0@8 -\nend\n",
         None,
@@ -57,7 +57,7 @@ fn first_fault<'a>(
     script: &'a Script,
     transcript: &'a Transcript,
 ) -> Result<Option<Clause>, AllocError> {
-    // A script tells that it is well-formed, which `begin` asks for.
+    // This gives the fact that the script is well-formed, a precondition of `begin`.
     let _version = script.version();
     let lines = bare_callers(alloc, transcript)?;
     match begin(alloc, script, &lines)? {

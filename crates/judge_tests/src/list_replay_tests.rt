@@ -172,7 +172,7 @@ fn names_that_are_not_answered(rt: HostRuntime) -> Result<(), AllocError> {
     Ok(())
 }
 
-// An interrupt that makes a dump due, as it is the first more than a second after the start; and the dump.
+// An interrupt that makes a dump due, since it is the first more than a second after the start; and the dump.
 fn dumped<'a>(alloc: Global, dumps: bool, place: u64) -> Result<Told<'a>, AllocError>
     ensures { IfOk result (λ told. InRange (tables_of told)) }
 {

@@ -1,4 +1,4 @@
--- A mark more behind the marks of its lane.
+-- One mark more, after the marks of its lane.
 use Rattle.std.proofs.Common.{◌≡◌, ◌<◌, ◌+◌, ℕ, zero, suc, Bool, true, false, List, [], ◌∷◌, ◌++◌, length, get_or, refl, sym, ap, ◌∙◌, append-nil, length-append, arith}
 use Rattle.std.specs.Prelude.{◌==◌, if◌then◌else◌, slice_set}
 use Rattle.std.specs.Global.{Vec}
@@ -29,7 +29,7 @@ was_here [] k d low = absurd (omega arith)
 was_here (x ∷ cpus) zero d low = refl
 was_here (x ∷ cpus) (suc k) d low = was_here cpus k d (omega arith)
 
--- a moment more on one CPU
+-- one moment more on one CPU
 pub one_more : (cpus : List (Vec Moment)) (k : ℕ) (old lane : Vec Moment) (m : Moment) → k < length cpus →
     old ≡ get_or cpus k old → lane.items ≡ old.items ++ m ∷ [] → (c : ℕ) →
     list_at (moment_lists (slice_set cpus k lane)) c

@@ -1,8 +1,9 @@
--- What is told of a script and a transcript, as what their text calls for.
-use Rattle.std.proofs.Common.{ℕ, List, sym, subst, ◌∙◌, inl, inr}
-use Rattle.std.specs.Prelude.{Result, Ok, Err, IfOk}
+-- The outputs for a script and a transcript are those for their text.
+use Rattle.std.proofs.Common.{◌≡◌, ℕ, List, refl, sym, subst, ◌∙◌, inl, inr}
+use Rattle.std.specs.Prelude.{Option, Some, None, true, Result, Ok, Err, IfOk}
+use Rattle.std.specs.Option.{is_some}
 use Rattle.std.specs.Global.{Vec}
-use Rattle.key_names.specs.Book.{Book}
+use Rattle.key_names.specs.Book.{Book, Lists}
 use Rattle.key_names.specs.Calls.{Call}
 use Rattle.key_names.specs.Meaning.{CallMeaning}
 use Rattle.key_names.specs.SeenLine.{SeenLine}
@@ -16,10 +17,13 @@ use Rattle.tool_ends.specs.declared.status.Status.TheVariants.{Done, No, Usage, 
 use Rattle.tool_ends.proofs.Inputs.{IsLimited}
 use Rattle.tool_ends.proofs.Pairs.{too_long}
 use Rattle.key_audit.specs.declared.ask.Ask.{Ask}
-use Rattle.key_audit.specs.Live.{lists_behind}
-use Rattle.key_audit.specs.Outcome.{Calls, TellsHeld, TellsLive, ToldOf}
+use Rattle.state_entries.specs.declared.line_ends.LineEnd.{LineEnd}
+use Rattle.key_rows.specs.declared.moments.Line.{Line}
+use Rattle.key_audit.specs.Asked.{line_end}
+use Rattle.key_audit.specs.Live.{lists_after}
+use Rattle.key_audit.specs.Outcome.{Calls, TellsAfter, TellsHeld, TellsLive, ToldOf}
 
--- what is told of a transcript is told of its text
+-- an output for a transcript is one for its text
 pub of_pair : (ask : Ask) (input : List ℕ) (script : Script) (t : List (List SeenLine)) → IsPair input script t →
     (s : Status) (o : List ℕ) → ToldOf ask script t s o → Calls ask input s o
 of_pair ask input script t pair Done o told = record { script = script; t = t; pair = pair; told = told }
@@ -30,7 +34,7 @@ of_pair ask input script t pair ReadFault o told = absurd told
 of_pair ask input script t pair WriteFault o told = absurd told
 of_pair ask input script t pair NoMemory o told = absurd told
 
--- what is said of an input that is not read is said of its text
+-- the refusal of an input that is not read is an output for its text
 pub of_none : (ask : Ask) (input : List ℕ) (why : NotRead) → IsNoPair input why → (s : Status) (o : List ℕ) →
     RefusalOf why s o → Calls ask input s o
 of_none ask input SourceFails is s o said = absurd is
@@ -53,10 +57,24 @@ is_limited ask = record {
   };
 }
 
--- what is in memory was put to no use
-pub live_told : {E : Type 0} (stamp : ℕ) (callers : List (List Call)) (book : Book) (ms : List (List CallMeaning))
-    (r : Result (Vec ℕ) E) → HoldsUnused (lists_behind stamp callers book ms) →
-    IfOk r (λ text. TellsHeld stamp callers book ms text.items) →
-    IfOk r (λ text. TellsLive stamp callers book ms text.items)
-live_told stamp callers book ms (Ok text) unused told = record { told = told; unused = unused }
-live_told stamp callers book ms (Err e) unused told = tt
+-- the keys and rests in memory were not used
+pub live_told : {E : Type 0} (lists : Lists) (callers : List (List Call)) (book : Book) (ms : List (List CallMeaning))
+    (r : Result (Vec ℕ) E) → HoldsUnused lists → IfOk r (λ text. TellsHeld lists callers book ms text.items) →
+    IfOk r (λ text. TellsLive lists callers book ms text.items)
+live_told lists callers book ms (Ok text) unused told = record { told = told; unused = unused }
+live_told lists callers book ms (Err e) unused told = tt
+
+-- the same after a line
+pub after_told : {E : Type 0} (line : Line) (end : LineEnd) (callers : List (List Call)) (book : Book)
+    (ms : List (List CallMeaning)) (r : Result (Vec ℕ) E) → line_end callers line ≡ Some end →
+    HoldsUnused (lists_after line end callers book ms) →
+    IfOk r (λ text. TellsHeld (lists_after line end callers book ms) callers book ms text.items) →
+    IfOk r (λ text. TellsAfter line callers book ms text.items)
+after_told line end callers book ms (Ok text) is unused told =
+    record { end = end; is = is; live = record { told = told; unused = unused } }
+after_told line end callers book ms (Err e) is unused told = tt
+
+-- a line that exists has an end
+pub found_end : (o : Option LineEnd) → is_some o ≡ true → (end : LineEnd) × (o ≡ Some end)
+found_end None there = absurd cc
+found_end (Some end) there = (end, refl)

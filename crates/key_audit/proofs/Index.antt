@@ -29,7 +29,7 @@ named_within rows n key there =
 module _ (rows : List Row) (before after : BTreeMap KeyName ℕ) (n : ℕ) (key : KeyName)
     (there : name_at rows n ≡ Some key) (updates : Updates names.cmp before after key (Some n))
     (indexed : IsIndexTo n rows before) where
-  -- what was told of a key, and what is told of the new one
+  -- the numbers of keys after one more key: the new key has the new number, and the others keep theirs
   known : (k : KeyName) → (get names.cmp after k ≡ Some n) × (key ≡ k) ⊎ (get names.cmp after k ≡ get names.cmp before k)
   known k = elim (cases_Bool (is_at (names.cmp key) k)) [
     | inl same ↦ inl (updates.0 k ∙ rw same refl, found_name key k same)

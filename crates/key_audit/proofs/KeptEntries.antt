@@ -1,4 +1,4 @@
--- The entries that are kept of a book's lanes are those of its lists.
+-- The kept entries of a book's lanes are those of its lists.
 use Rattle.std.proofs.Common.{◌≡◌, ℕ, suc, Some, List, [], ◌∷◌, length, map, refl, ◌∙◌, arith}
 use Rattle.std.specs.Prelude.{slice_get}
 use Rattle.std.specs.Global.{Vec}
@@ -11,7 +11,7 @@ use Rattle.list_replay.specs.Kept.{Keeps}
 use Rattle.key_uses.specs.KeptEntries.{base_entries, cpu_entries}
 use Rattle.key_rows.specs.Told.{caller_lists, cpu_lists, HasEntries}
 
--- lists of one length whose elements stand for each other
+-- lists of one length, with equal entries at each place
 same_entries : {K E : Type 0} (entry : K → E) (kept : List K) (list : List E) → length kept ≡ length list →
     ((i : ℕ) (k : K) (e : E) → slice_get kept i ≡ Some k → slice_get list i ≡ Some e → entry k ≡ e) →
     map entry kept ≡ list

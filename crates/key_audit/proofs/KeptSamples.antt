@@ -1,4 +1,4 @@
--- Samples and bits by what is kept of the pool's visits are those of a book.
+-- The samples and bits of the kept visits of the pool are those of a book.
 use Rattle.std.proofs.Common.{◌≡◌, ℕ, zero, suc, ◌+◌, ◌<◌, Bool, true, false, Option, Some, None, List, [], ◌∷◌, length, take, refl, ap, ◌∙◌, arith}
 use Rattle.std.specs.Prelude.{filter, not, ◌&&◌, if◌then◌else◌, option_map, slice_get}
 use Rattle.std.specs.Option.{is_some}

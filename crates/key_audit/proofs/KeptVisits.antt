@@ -1,18 +1,22 @@
--- What is kept of a book's visits, with their moments.
+-- The kept visits of a book, with their moments.
 use Rattle.std.proofs.Common.{◌≡◌, ℕ, suc, ◌<◌, List, [], ◌∷◌, length, map, refl, sym, ap, ◌∙◌, arith}
+use Rattle.std.specs.Global.{Vec}
 use Rattle.std.proofs.lemmas.List.{length-map}
 use Rattle.key_names.specs.Book.{Book, Visit, entries_of, list_at, lists_of}
 use Rattle.key_names.specs.Calls.{Call}
-use Rattle.key_names.specs.IsTranscript.{MarkBy}
 use Rattle.key_names.specs.Meaning.{CallMeaning}
 use Rattle.key_names.specs.SeenLine.{SeenLine}
 use Rattle.line_orders.specs.Marks.{seen_mark}
+use Rattle.state_entries.specs.declared.entry.StateEntry.{StateEntry}
+use Rattle.state_entries.specs.Stamped.{all_kept, kept_lists}
+use Rattle.state_entries.specs.Told.{all_ends_in, ends_in}
 use Rattle.key_uses.proofs.Moments.{mapped_at}
 use Rattle.key_rows.specs.declared.moments.Moments.{Moments}
 use Rattle.key_rows.specs.Cut.{KeepsVisits, moment_lists, stamps_of, visit_stamps}
 use Rattle.key_audit.specs.declared.book.KeptBook.{KeptBook}
 use Rattle.key_audit.specs.Kept.{KeepsBook}
-use Rattle.key_audit.specs.Moments.{AreMoments, HasMarks, MarksVisits, visit_moments}
+use Rattle.key_audit.specs.EntryMoments.{all_moments, caller_moments, end_moment, entry_moments}
+use Rattle.key_audit.specs.Moments.{AreMoments, HasMarks, state_moments_in, visit_moments}
 use Rattle.key_audit.proofs.KeptEntries.{base_kept, cpus_kept}
 
 same_at : {A : Type 0} (xs ys : List (List A)) → length xs ≡ length ys →
@@ -34,30 +38,45 @@ all_stamps : {E : Type 0} (cpus : List (List (Visit E))) →
 all_stamps [] = refl
 all_stamps (visits ∷ cpus) = λ i. visits_stamps visits i ∷ all_stamps cpus i
 
--- the moments of a book's marks are those of its visits
-pub are_moments : (book : Book) (marks : List MarkBy) (count : ℕ) (moments : Moments) → MarksVisits book marks →
-    count ≡ length book.cpus → HasMarks count marks moments → AreMoments book moments
-are_moments book marks count moments visits cpus has = record {
-  pool = has.pool ∙ visits.pool;
-  base = has.base ∙ visits.base;
-  cpus = same_at (moment_lists moments.cpus.items) (map visit_moments book.cpus)
-      (length-map moments.cpus.items (λ lane. lane.items) ∙ has.count ∙ cpus ∙ sym (length-map book.cpus visit_moments))
-      (λ c lt. has.cpus c (let long = length-map moments.cpus.items (λ lane. lane.items) in
-      let n = has.count in omega arith)
-      ∙ visits.cpus c ∙ sym (mapped_at visit_moments refl book.cpus c));
-}
+-- ---- entries of vgetrandom states
+
+list_ends : (list : List StateEntry) → entry_moments list ≡ map end_moment (ends_in list)
+list_ends [] = refl
+list_ends (e ∷ list) = ap (λ ms. end_moment e.end ∷ ms) (list_ends list)
+
+caller_ends : (lists : List (Vec StateEntry)) → caller_moments lists ≡ map (map end_moment) (map ends_in (kept_lists lists))
+caller_ends [] = refl
+caller_ends (list ∷ lists) = λ i. list_ends list.items i ∷ caller_ends lists i
+
+all_ends_are : (callers : List (Vec (Vec StateEntry))) →
+    all_moments callers ≡ map (map (map end_moment)) (all_ends_in (all_kept callers))
+all_ends_are [] = refl
+all_ends_are (lists ∷ callers) = λ i. caller_ends lists.items i ∷ all_ends_are callers i
+
+-- ---- the kept book
 
 module _ (kept : KeptBook) (t : List (List SeenLine)) (callers : List (List Call)) (book : Book)
     (ms : List (List CallMeaning)) (keeps : KeepsBook kept t callers book ms) (moments : Moments) where
+  -- the moments of a book's marks are those of its visits
   pub kept_moments : HasMarks (length kept.lanes.cpus.items) (map seen_mark kept.marks.items) moments →
-      AreMoments book moments
-  kept_moments has = are_moments book (map seen_mark kept.marks.items) (length kept.lanes.cpus.items) moments
-      keeps.visits
-      (sym (length-map kept.lanes.cpus.items (λ lane. lane.items)) ∙ keeps.lanes.cpus.count
-      ∙ length-map book.cpus entries_of) has
+      state_moments_in moments.callers.items ≡ all_moments kept.states.items → AreMoments callers book ms moments
+  kept_moments has states =
+      let count : length kept.lanes.cpus.items ≡ length book.cpus =
+      sym (length-map kept.lanes.cpus.items (λ lane. lane.items)) ∙ keeps.lanes.cpus.count
+      ∙ length-map book.cpus entries_of in record {
+        pool = has.pool ∙ keeps.visits.pool;
+        base = has.base ∙ keeps.visits.base;
+        cpus = same_at (moment_lists moments.cpus.items) (map visit_moments book.cpus)
+            (length-map moments.cpus.items (λ lane. lane.items) ∙ has.count ∙ count
+            ∙ sym (length-map book.cpus visit_moments))
+            (λ c lt. has.cpus c (let long = length-map moments.cpus.items (λ lane. lane.items) in
+            let n = has.count in omega arith)
+            ∙ keeps.visits.cpus c ∙ sym (mapped_at visit_moments refl book.cpus c));
+        states = states ∙ all_ends_are kept.states.items ∙ ap (map (map (map end_moment))) keeps.ends;
+      }
 
-  -- so the visits are kept with their stamps
-  pub keeps_visits : AreMoments book moments → KeepsVisits book kept.lanes moments
+  -- so the kept visits have the stamps of the book's
+  pub keeps_visits : AreMoments callers book ms moments → KeepsVisits book kept.lanes moments
   keeps_visits are = record {
     base = base_kept kept.lanes (lists_of book) keeps.lanes;
     base_stamps = ap stamps_of are.base ∙ visits_stamps book.base;

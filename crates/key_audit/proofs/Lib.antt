@@ -4,6 +4,7 @@ pub mod CutStates
 pub mod Ends
 pub mod Index
 pub mod KeptEntries
+pub mod KeptLines
 pub mod KeptSamples
 pub mod KeptVisits
 pub mod Passes

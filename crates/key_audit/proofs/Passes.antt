@@ -1,4 +1,4 @@
--- Going along edges from known keys until no new one is found.
+-- Walks along edges from known keys, until no new key is found.
 use Rattle.std.proofs.Common.{◌≡◌, ◌<◌, ◌≤◌, ◌+◌, ◌⊎◌, ℕ, zero, suc, Bool, true, false, true≢false, cond, List, [], ◌∷◌, length, take, get_or, inl, inr, refl, sym, ap, subst, ◌∙◌, arith}
 use Rattle.std.specs.Prelude.{Contains, IsTrue, not, ◌↔◌, ◌||◌}
 use Rattle.std.specs.List.{list_any}
@@ -65,7 +65,7 @@ unfollowed edge old none = record {
 
 -- ---- along some of them
 
--- what going along the first edges leaves, so many, and whether one led to a new key
+-- the result of a walk along the first i edges, and whether one led to a new key
 pub record PassedTo (edges : List Edge) (i : ℕ) (old new : BTreeSet KeyName) (more : Bool) : Type 0 where
   pub stays : (key : KeyName) → Has old key → Has new key
   pub reached : (start : List KeyName) → ((key : KeyName) → Has old key → IsReached edges start key) →
@@ -187,7 +187,7 @@ module _ (old new : BTreeSet KeyName) (stays : (key : KeyName) → Has old key �
       go false true up rest = omega arith
       go false false up rest = omega arith
 
--- the known keys are some of those that are reached, and all of them once a pass finds no new one
+-- each known key is reached; all that are reached are known after a walk that finds no new one
 pub record ClosesUp (edges : List Edge) (start : List KeyName) (known : BTreeSet KeyName) (more : Bool) : Type 0 where
   pub begins : (key : KeyName) → Contains start key → Has known key
   pub reached : (key : KeyName) → Has known key → IsReached edges start key

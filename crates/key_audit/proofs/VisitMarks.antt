@@ -23,7 +23,7 @@ use Rattle.key_audit.specs.Moments.{MarksVisits, marks_on, moment_by, moments_on
 abbrev StandsIn : {E : Type 0} → List (Visit E) → MarkBy → Type 0
 StandsIn visits by = stamped visits by.mark.place ≡ Some (by.mark.stamp, by.who)
 
--- marks whose places count up from i are those of the visits from there on
+-- marks with places that count up from i are those of the visits from there on
 counted : {E : Type 0} (i : ℕ) (whole rest : List (Visit E)) (bys : List MarkBy) →
     ((j : ℕ) → stamped rest j ≡ stamped whole (i + j)) → length bys ≡ length rest →
     InOrder i (map (λ by. by.mark) bys) → AllByRecursion (StandsIn whole) bys → map moment_by bys ≡ visit_moments rest
@@ -57,7 +57,7 @@ module _ (lane : LaneId) where
       go true rest = ap (λ ms. by.mark ∷ ms) rest
       go false rest = rest
 
-  -- what holds of each mark with its lane holds of this lane's
+  -- a fact about each mark with its lane holds of this lane's
   all_on : (Q : LaneId → MarkBy → Type 0) (marks : List MarkBy) → AllByRecursion (λ by. Q by.mark.lane by) marks →
       AllByRecursion (λ by. Q lane by) (marks_on lane marks)
   all_on Q [] all = tt

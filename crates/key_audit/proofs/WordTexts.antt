@@ -1,17 +1,18 @@
--- What the words of a command line spell.
+-- The texts of the words of a command line.
 use Rattle.std.proofs.Common.{◌≡◌, ℕ, ◌<◌, ◌≤◌, true, List, [], ◌∷◌, ◌++◌, Option, Some, None, length, get_or, append_assoc, sym, subst, ap, ◌∙◌, arith}
-use Rattle.std.specs.Prelude.{Bool, IsSomeAnd, MatchOption, String, codes, decimal, map, slice_index_or, string_bytes}
+use Rattle.std.specs.Prelude.{Bool, IfSome, IsSomeAnd, MatchOption, String, codes, decimal, map, slice_index_or, string_bytes}
 use Rattle.std.specs.Str.{bytes_eq}
 use Rattle.std.proofs.lemmas.Slice.Eq.{bytes_eq-Decides}
 use Rattle.key_names.specs.Texts.ScriptFaults.{number_below}
 use Rattle.key_names.proofs.Script.Numbers.{number_again, number_takes}
 use Rattle.key_rows.specs.declared.moments.Line.{Line}
 use Rattle.transcript_text.specs.Reading.{lacks}
-use Rattle.transcript_text.proofs.Cutting.{not_lacking}
+use Rattle.transcript_text.proofs.Cutting.{lacks-decimal, not_lacking}
 use Rattle.transcript_text.proofs.LineTexts.{spells_numbers}
+use Rattle.transcript_text.proofs.StepTexts.{no_digit_below}
 use Rattle.key_audit.specs.declared.ask.Ask.{Ask}
-use Rattle.key_audit.specs.declared.ask.Ask.TheVariants.{Keys, Live, Line as OneLine}
-use Rattle.key_audit.specs.Commands.{AskTexts, LineFits}
+use Rattle.key_audit.specs.declared.ask.Ask.TheVariants.{Keys, Live, LiveAfter, Line as OneLine}
+use Rattle.key_audit.specs.Commands.{AskTexts, LineFits, LiveText}
 use Rattle.key_audit.specs.Texts.{line_text}
 
 pub not_cut : (text : List ℕ) → lacks 46 text ≡ true → (line : Line) → LineFits line → text ≡ line_text line → ⊥
@@ -26,7 +27,7 @@ halves_are text caller event cut lack line fits e =
     spells_numbers text caller event cut lack (record { caller = line.caller; event = line.event })
     (record { caller = fits.0; event = fits.1 }) e
 
--- a number that is not read is not spelt
+-- a word that is not read is the text of no number below 2^32
 pub not_spelt : (text : List ℕ) (n : ℕ) → n < 4294967296 → None ≡ number_below 4294967296 text → text ≡ decimal n → ⊥
 not_spelt text n small none e =
     let again : number_below 4294967296 text ≡ Some n = rw e (number_again 4294967296 n small (omega arith)) in cc
@@ -66,37 +67,75 @@ not_both : (word : List ℕ) → word ≡ codes "live" → word ≡ codes "line"
 not_both word live line =
     let third = ap (λ (xs : List ℕ). get_or xs 2 0) (sym live ∙ line) in absurd (omega (arith, third))
 
-live_only : (word with : List ℕ) (stamp : ℕ) → word ≡ codes "live" →
-    Some stamp ≡ number_below 18446744073709551616 with → (ask : Ask) → AskTexts (word ∷ with ∷ []) ask →
-    Some (Live stamp) ≡ Some ask
-live_only word with stamp is read Keys asks = absurd (keys_are_one word with asks)
-live_only word with stamp is read (Live n) asks =
-    let both = second word with (codes "live") (decimal n) asks.1 in
-    let again : number_below 18446744073709551616 with ≡ Some n =
-    rw both.1 (number_again 18446744073709551616 n asks.0 (omega arith)) in
+-- a number has no dot
+no_dot : (text : List ℕ) (n : ℕ) → n < 18446744073709551616 → text ≡ decimal n → (line : Line) → LineFits line →
+    text ≡ line_text line → ⊥
+no_dot text n small number line fits e =
+    not_cut text (subst (λ (x : List ℕ). lacks 46 x ≡ true) (sym number)
+    (lacks-decimal 46 n (no_digit_below 46 (omega arith)) (omega arith))) line fits e
+
+-- after live a line is tried first
+pub line_only : (text : List ℕ) (line : Line) → LineFits line → text ≡ line_text line →
+    ((other : Line) → LineFits other → text ≡ line_text other → Some line ≡ Some other) → (ask : Ask) →
+    LiveText text ask → Some (LiveAfter line) ≡ Some ask
+line_only text line fits is only Keys asks = absurd asks
+line_only text line fits is only (Live n) asks = absurd (no_dot text n asks.0 asks.1 line fits is)
+line_only text line fits is only (LiveAfter other) asks =
+    let again = only other asks.0 asks.1 in
+    let same : line ≡ other = cc in
+    ap (λ (l : Line). Some (LiveAfter l)) same
+line_only text line fits is only (OneLine other) asks = absurd asks
+
+stamp_only : (text : List ℕ) (stamp : ℕ) → Some stamp ≡ number_below 18446744073709551616 text → (ask : Ask) →
+    LiveText text ask → ((line : Line) → LineFits line → text ≡ line_text line → ⊥) → Some (Live stamp) ≡ Some ask
+stamp_only text stamp read Keys asks none = absurd asks
+stamp_only text stamp read (Live n) asks none =
+    let again : number_below 18446744073709551616 text ≡ Some n =
+    rw asks.1 (number_again 18446744073709551616 n asks.0 (omega arith)) in
     let same : stamp ≡ n = cc in
     ap (λ (k : ℕ). Some (Live k)) same
-live_only word with stamp is read (OneLine line) asks =
-    absurd (not_both word is (second word with (codes "line") (line_text line) asks.1).0)
+stamp_only text stamp read (LiveAfter line) asks none = absurd (none line asks.0 asks.1)
+stamp_only text stamp read (OneLine line) asks none = absurd asks
 
-live_none : (word with : List ℕ) → word ≡ codes "live" → None ≡ number_below 18446744073709551616 with →
-    (ask : Ask) → AskTexts (word ∷ with ∷ []) ask → ⊥
-live_none word with is none Keys asks = keys_are_one word with asks
-live_none word with is none (Live n) asks =
-    let both = second word with (codes "live") (decimal n) asks.1 in
-    let again : number_below 18446744073709551616 with ≡ Some n =
-    rw both.1 (number_again 18446744073709551616 n asks.0 (omega arith)) in
+no_stamp : (text : List ℕ) → None ≡ number_below 18446744073709551616 text → (ask : Ask) → LiveText text ask →
+    ((line : Line) → LineFits line → text ≡ line_text line → ⊥) → ⊥
+no_stamp text read Keys asks none = asks
+no_stamp text read (Live n) asks none =
+    let again : number_below 18446744073709551616 text ≡ Some n =
+    rw asks.1 (number_again 18446744073709551616 n asks.0 (omega arith)) in
     absurd cc
-live_none word with is none (OneLine line) asks =
-    not_both word is (second word with (codes "line") (line_text line) asks.1).0
+no_stamp text read (LiveAfter line) asks none = none line asks.0 asks.1
+no_stamp text read (OneLine line) asks none = asks
 
-pub live_found : (word with : List ℕ) (found : Option ℕ) (result : Option Ask) → word ≡ codes "live" →
-    found ≡ number_below 18446744073709551616 with →
-    MatchOption found (result ≡ None) (λ n. IsSomeAnd result (λ ask. ask ≡ Live n)) → (ask : Ask) →
-    AskTexts (word ∷ with ∷ []) ask → result ≡ Some ask
-live_found word with None result is read made ask asks = absurd (live_none word with is read ask asks)
-live_found word with (Some n) None is read made ask asks = absurd made
-live_found word with (Some n) (Some one) is read made ask asks = ap Some made ∙ live_only word with n is read ask asks
+-- and then a stamp
+pub stamp_found : (text : List ℕ) (found : Option ℕ) (result : Option Ask) →
+    found ≡ number_below 18446744073709551616 text →
+    MatchOption found (result ≡ None) (λ n. IsSomeAnd result (λ ask. ask ≡ Live n)) →
+    ((line : Line) → LineFits line → text ≡ line_text line → ⊥) → (ask : Ask) → LiveText text ask → result ≡ Some ask
+stamp_found text None result read made none ask asks = absurd (no_stamp text read ask asks none)
+stamp_found text (Some n) None read made none ask asks = absurd made
+stamp_found text (Some n) (Some one) read made none ask asks = ap Some made ∙ stamp_only text n read ask asks none
+
+-- the words of live
+live_words : (word with : List ℕ) → word ≡ codes "live" → (ask : Ask) → LiveText with ask →
+    AskTexts (word ∷ with ∷ []) ask
+live_words word with is Keys asks = absurd asks
+live_words word with is (Live n) asks = (asks.0, λ i. is i ∷ asks.1 i ∷ [])
+live_words word with is (LiveAfter line) asks = (asks.0, λ i. is i ∷ asks.1 i ∷ [])
+live_words word with is (OneLine line) asks = absurd asks
+
+pub some_asks : (word with : List ℕ) (r : Option Ask) → word ≡ codes "live" → IfSome r (LiveText with) →
+    IfSome r (AskTexts (word ∷ with ∷ []))
+some_asks word with None is found = tt
+some_asks word with (Some ask) is found = live_words word with is ask found
+
+pub live_word : (word with : List ℕ) → word ≡ codes "live" → (ask : Ask) → AskTexts (word ∷ with ∷ []) ask →
+    LiveText with ask
+live_word word with is Keys asks = absurd (keys_are_one word with asks)
+live_word word with is (Live n) asks = (asks.0, (second word with (codes "live") (decimal n) asks.1).1)
+live_word word with is (LiveAfter line) asks = (asks.0, (second word with (codes "live") (line_text line) asks.1).1)
+live_word word with is (OneLine line) asks =
+    absurd (not_both word is (second word with (codes "line") (line_text line) asks.1).0)
 
 -- a test that was passed
 pub same_text : (text wanted : List ℕ) (b : Bool) → b ≡ bytes_eq text wanted → b ≡ true → text ≡ wanted

@@ -4,16 +4,24 @@ use Rattle.std.specs.Fmt.{decimal}
 use Rattle.key_rows.specs.declared.moments.Line.{Line}
 use Rattle.key_audit.specs.Texts.{line_text}
 use Rattle.key_audit.specs.declared.ask.Ask.{Ask}
-use Rattle.key_audit.specs.declared.ask.Ask.TheVariants.{Keys, Live, Line as OneLine}
+use Rattle.key_audit.specs.declared.ask.Ask.TheVariants.{Keys, Live, LiveAfter, Line as OneLine}
 
--- the numbers of a line that a word can name
+-- a line with numbers that a word can name
 abbrev pub LineFits : Line → Type 0
 LineFits line = (line.caller < 2 ^ 32) × (line.event < 2 ^ 32)
+
+-- the text after the word live
+abbrev pub LiveText : List ℕ → Ask → Type 0
+LiveText text Keys = ⊥
+LiveText text (Live stamp) = (stamp < 2 ^ 64) × (text ≡ decimal stamp)
+LiveText text (LiveAfter line) = LineFits line × (text ≡ line_text line)
+LiveText text (OneLine line) = ⊥
 
 -- the texts are those of a command
 abbrev pub AskTexts : List (List ℕ) → Ask → Type 0
 AskTexts texts Keys = texts ≡ codes "keys" ∷ []
 AskTexts texts (Live stamp) = (stamp < 2 ^ 64) × (texts ≡ codes "live" ∷ decimal stamp ∷ [])
+AskTexts texts (LiveAfter line) = LineFits line × (texts ≡ codes "live" ∷ line_text line ∷ [])
 AskTexts texts (OneLine line) = LineFits line × (texts ≡ codes "line" ∷ line_text line ∷ [])
 
 abbrev pub Asks : {A : Type 0} → List (String A) → Ask → Type 0

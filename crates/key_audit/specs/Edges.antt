@@ -1,4 +1,4 @@
--- Which keys' bytes became which keys, and the keys that such edges lead to.
+-- The edges from each key to the keys that its bytes became, and the keys that such edges lead to.
 use Rattle.std.specs.Prelude.{◌≡◌, ◌⊎◌, Bool, true, false, List, [], ◌∷◌, Contains, IsTrue}
 use Rattle.std.specs.List.{flat_map}
 use Rattle.std.specs.BTreeSet.{BTreeSet, contains}
@@ -38,7 +38,7 @@ pub data IsReached (edges : List Edge) (start : List KeyName) : KeyName → Type
 abbrev pub Has : BTreeSet KeyName → KeyName → Type 0
 Has known key = IsTrue (contains names.cmp known key)
 
--- what going along an edge from known keys leaves, and whether it leads to a new one
+-- the result of a step along an edge from known keys, and whether it leads to a new one
 pub record Follows (edge : Edge) (old new : BTreeSet KeyName) (more : Bool) : Type 0 where
   pub stays : (key : KeyName) → Has old key → Has new key
   pub only : (key : KeyName) → Has new key → Has old key ⊎ ((edge.to ≡ key) × Has old edge.from)
@@ -46,7 +46,7 @@ pub record Follows (edge : Edge) (old new : BTreeSet KeyName) (more : Bool) : Ty
   pub none : more ≡ false → (key : KeyName) → Has new key → Has old key
   pub some : more ≡ true → (contains names.cmp old edge.to ≡ false) × Has new edge.to
 
--- and along each edge in turn
+-- and of a step along each edge in turn
 pub record HasPassed (edges : List Edge) (old new : BTreeSet KeyName) (more : Bool) : Type 0 where
   pub stays : (key : KeyName) → Has old key → Has new key
   pub reached : (start : List KeyName) → ((key : KeyName) → Has old key → IsReached edges start key) →

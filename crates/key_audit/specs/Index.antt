@@ -6,7 +6,7 @@ use Rattle.key_names.specs.contracts.names.KeyNameOrd.TheImpl.{ghosts as names}
 use Rattle.key_rows.specs.declared.rows.Row.{Row}
 use Rattle.key_audit.specs.Live.{name_at}
 
--- the key of each of the first rows, so many, has the number of a row of that key, and no other key has a number
+-- the key of each of the first n rows has a number, and each number is that of a row with its key
 pub record IsIndexTo (n : ℕ) (rows : List Row) (numbers : BTreeMap KeyName ℕ) : Type 0 where
   pub named : (key : KeyName) (m : ℕ) → get names.cmp numbers key ≡ Some m → name_at rows m ≡ Some key
   pub all : (key : KeyName) (m : ℕ) → m < n → name_at rows m ≡ Some key → IsSome (get names.cmp numbers key)

@@ -1,4 +1,4 @@
--- Samples and bits, by what is kept of the pool's visits.
+-- Samples and bits, by the kept visits of the pool.
 use Rattle.std.specs.Prelude.{ℕ, suc, ◌+◌, Bool, not, ◌&&◌, Option, Some, None, List, [], ◌∷◌, if◌then◌else◌, slice_get}
 use Rattle.std.specs.Option.{is_some}
 use Rattle.key_names.specs.Texts.ScriptGrammar.{Script}
@@ -15,7 +15,7 @@ abbrev pub sample_count : Script → KeptPool → Option Moment → ℕ
 sample_count script kept None = 0
 sample_count script kept (Some moment) = if is_kept_sample script kept moment then 1 else 0
 
--- how many of some visits count, the first of which stands at place i
+-- how many of some visits count; the first of them is at place i
 abbrev pub kept_samples : Script → ℕ → List KeptPool → List Moment → ℕ
 kept_samples script i [] moments = 0
 kept_samples script i (k ∷ kept) moments =

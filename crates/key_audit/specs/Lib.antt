@@ -1,5 +1,8 @@
+pub mod Asked
+pub mod Audited
 pub mod Commands
 pub mod Edges
+pub mod EntryMoments
 pub mod Index
 pub mod Kept
 pub mod KeptPool

@@ -1,6 +1,6 @@
--- What is in memory behind a stamp.
+-- The content of memory after a stamp, or after a line.
 use Rattle.std.specs.Prelude.{ℕ, ◌≡◌, Bool, true, false, Option, Some, None, List, [], ◌∷◌, ◌++◌, codes, filter, length, map}
-use Rattle.std.specs.Prelude.{option_map, slice_get}
+use Rattle.std.specs.Prelude.{option_map, slice_get, if◌then◌else◌, ◌==◌}
 use Rattle.std.specs.List.{flat_map}
 use Rattle.key_names.specs.declared.names.KeyName.{KeyName}
 use Rattle.key_names.specs.Book.{Book, Lists, list_at, lists_of}
@@ -8,7 +8,11 @@ use Rattle.key_names.specs.Calls.{Call}
 use Rattle.key_names.specs.LiveMaterial.{base_key, cpu_batch, cpu_key, live_key, live_rest, state_batch, state_key}
 use Rattle.key_names.specs.Meaning.{CallMeaning}
 use Rattle.key_uses.specs.Moments.{book_at}
-use Rattle.state_entries.specs.Stamps.{made_by, start_stamp}
+use Rattle.state_entries.specs.declared.entry.Cut.{Cut}
+use Rattle.state_entries.specs.declared.entry.Cut.TheVariants.{Stamp as ByStamp, Call as ByCall}
+use Rattle.state_entries.specs.declared.line_ends.LineEnd.{LineEnd}
+use Rattle.state_entries.specs.Cut.{calls_by}
+use Rattle.state_entries.specs.Stamps.{start_stamp}
 use Rattle.key_rows.specs.declared.held.BatchHolder.{BatchHolder}
 use Rattle.key_rows.specs.declared.held.BatchHolder.TheVariants.{Cpu as CpuBatch, State as StateBatch}
 use Rattle.key_rows.specs.declared.held.Held.{Held}
@@ -16,6 +20,7 @@ use Rattle.key_rows.specs.declared.held.HeldKey.{HeldKey}
 use Rattle.key_rows.specs.declared.held.HeldRest.{HeldRest}
 use Rattle.key_rows.specs.declared.held.KeyHolder.TheVariants.{Base, Cpu, State}
 use Rattle.key_rows.specs.declared.lives.Holder.TheVariants.{Cpu as InCpu, State as InState}
+use Rattle.key_rows.specs.declared.moments.Line.{Line}
 use Rattle.key_rows.specs.declared.moments.Moments.{Moments}
 use Rattle.key_rows.specs.declared.rows.Fate.{Fate}
 use Rattle.key_rows.specs.declared.rows.Fate.TheVariants.{Became, Served, GivenUp, Held as HeldFate}
@@ -23,17 +28,37 @@ use Rattle.key_rows.specs.declared.rows.Row.{Row}
 use Rattle.key_rows.specs.Held.{held_key, held_rest}
 use Rattle.key_rows.specs.Rests.{widths}
 use Rattle.key_rows.specs.Told.{told_below}
+use Rattle.key_audit.specs.declared.until.Until.{Until}
+use Rattle.key_audit.specs.declared.until.Until.TheVariants.{Stamp as ToStamp, Call as ToCall}
 use Rattle.key_audit.specs.Texts.{holder_text, key_text, name_text, piece_text, span_text}
 
--- ---- a book behind a stamp
+-- ---- a book at a moment
 
--- how many calls of a caller were over by a stamp
-abbrev pub calls_over : ℕ → List (List Call) → ℕ → ℕ
-calls_over stamp callers c = made_by stamp (start_stamp callers c) (list_at callers c)
+-- the cut of each caller's calls: a stamp; and for one caller, if one is named, a call of its own
+abbrev pub cut_at : Until → ℕ → Cut
+cut_at (ToStamp stamp) c = ByStamp stamp
+cut_at (ToCall stamp caller call) c = if caller == c then ByCall call else ByStamp stamp
 
--- of each lane the visits up to the stamp, and of each vgetrandom state the entries of the calls that were over by it
+abbrev pub until_stamp : Until → ℕ
+until_stamp (ToStamp stamp) = stamp
+until_stamp (ToCall stamp caller call) = stamp
+
+-- how many calls of a caller a cut keeps
+abbrev pub calls_cut : (ℕ → Cut) → List (List Call) → ℕ → ℕ
+calls_cut cuts callers c = calls_by (cuts c) (start_stamp callers c) (list_at callers c)
+
+-- the visits of each lane up to the stamp, and the entries of those calls for each vgetrandom state
+abbrev pub lists_until : Until → List (List Call) → Book → List (List CallMeaning) → Lists
+lists_until until callers book ms = lists_of (book_at (until_stamp until) (calls_cut (cut_at until) callers) book ms)
+
+-- after a stamp: each caller's calls that were over by it
 abbrev pub lists_behind : ℕ → List (List Call) → Book → List (List CallMeaning) → Lists
-lists_behind stamp callers book ms = lists_of (book_at stamp (calls_over stamp callers) book ms)
+lists_behind stamp callers book ms = lists_until (ToStamp stamp) callers book ms
+
+-- after a line: its caller's calls up to that of the line, and the others' that were over by the stamp when that was
+-- over
+abbrev pub lists_after : Line → LineEnd → List (List Call) → Book → List (List CallMeaning) → Lists
+lists_after line end callers book ms = lists_until (ToCall end.stamp line.caller end.call) callers book ms
 
 -- the keys that are in memory: of the base, of each CPU, and of each vgetrandom state of each caller
 abbrev pub live_keys : Lists → List HeldKey
@@ -43,7 +68,7 @@ live_keys lists =
     ++ told_below (length lists.callers) (λ caller. told_below (length (list_at lists.callers caller))
     (λ state. held_key (State (record { caller = caller; state = state })) (live_key lists (state_key caller state))))
 
--- the rests of batches that are there, where they have bytes: of each width of each CPU, and of each vgetrandom state
+-- the rests of batches in memory that have bytes: of each width of each CPU, and of each vgetrandom state
 abbrev pub live_rests : Lists → List HeldRest
 live_rests lists =
     told_below (length lists.cpus)
@@ -64,7 +89,7 @@ became_key (Served by) = false
 became_key (GivenUp by) = false
 became_key HeldFate = false
 
--- a row with no pieces but the keys that its bytes became, behind a word
+-- a word, and a row with only those of its pieces that became keys
 abbrev pub kept_line : List ℕ → Moments → Row → List ℕ
 kept_line word moments row =
     word ++ key_text moments row
@@ -90,6 +115,6 @@ rest_line rest = codes "rest " ++ name_text rest.span.key ++ codes " " ++ batch_
 abbrev pub name_at : List Row → ℕ → Option KeyName
 name_at rows n = option_map (λ row. row.key) (slice_get rows n)
 
--- these are the numbers of the rows of keys that are held, each once and in their order
+-- these are the numbers of the rows of the keys that are held, each once and in order
 abbrev pub AreRowsOf : List Row → List HeldKey → List ℕ → Type 0
 AreRowsOf rows keys numbers = map (name_at rows) numbers ≡ map (λ held. Some held.key) keys

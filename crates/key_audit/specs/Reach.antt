@@ -1,4 +1,5 @@
--- What can be computed from what is in memory: keys that were not made yet, and bytes of later lines.
+-- The keys and bytes that can be computed from the keys and rests in memory: keys that were not made yet, and bytes of
+-- later lines.
 use Rattle.std.specs.Prelude.{ℕ, Bool, false, not, ◌&&◌, ◌||◌, ◌↔◌, ◌≡◌, Option, Some, None, List, [], ◌∷◌, ◌++◌, codes}
 use Rattle.std.specs.Prelude.{filter, nat_le, nat_lt, ◌-◌, if◌then◌else◌, Contains, IsTrue, IsPermutation, IsSortedByKey}
 use Rattle.std.specs.List.{flat_map, list_any}
@@ -56,7 +57,7 @@ copied_at moments piece (Became key) = []
 copied_at moments piece (GivenUp by) = []
 copied_at moments piece Held = []
 
--- where their key can be computed, or where they are in a rest that is held
+-- the same, if their key can be computed or they are in a rest that is held
 abbrev pub copied_piece : Moments → Bool → List HeldRest → Piece → List Copied
 copied_piece moments is_known rests piece =
     if is_known || is_in_rest rests piece then copied_at moments piece piece.fate else []
@@ -86,7 +87,7 @@ is_line (Some last) line = same_lines.eq last line
 abbrev pub line_begin : Option Line → Line → List ℕ
 line_begin last line = if is_line last line then [] else line_end last ++ codes "line " ++ line_text line
 
--- the lines of bytes that stand after bytes of this line
+-- the lines of bytes that come after bytes of this line
 abbrev pub lines_after : Option Line → List Copied → List ℕ
 lines_after last [] = line_end last
 lines_after last (one ∷ more) =
@@ -95,18 +96,19 @@ lines_after last (one ∷ more) =
 abbrev pub copied_lines : List Copied → List ℕ
 copied_lines copied = lines_after None copied
 
--- ---- what is told
+-- ---- the output
 
--- the lines of what can be computed from these keys and these rests of batches
+-- the lines of the keys and bytes that can be computed from these keys and these rests of batches
 pub record TellsReached (moments : Moments) (rows : List Row) (keys : List KeyName) (rests : List HeldRest)
     (output : List ℕ) : Type 0 where
   -- which keys are held
   pub is_held : KeyName → Bool
   pub held : (key : KeyName) → IsTrue (is_held key) ↔ Contains keys key
-  -- which can be computed: these and those that bytes of the rests became, and those that their bytes became, key by key
+  -- the keys that can be computed: these, those that bytes of the rests became, and those that their bytes became in
+  -- turn
   pub is_known : KeyName → Bool
   pub known : (key : KeyName) → IsTrue (is_known key) ↔ IsReached (edges_of rows) (keys ++ rest_keys rests rows) key
-  -- the bytes of them, and of the rests, that were copied out: line by line, and those of a line in the rows' order
+  -- the copied bytes of these keys and rests: line by line, and those of a line in the rows' order
   pub copied : List Copied
   pub each : IsPermutation (copied_bytes moments is_known rests rows) copied
   pub ordered : IsSortedByKey (λ one. one.line) lines.cmp copied

@@ -1,4 +1,4 @@
--- Where the bytes of a line come from.
+-- The sources of a line's bytes.
 use Rattle.std.specs.Prelude.{ℕ, ◌≡◌, ◌↔◌, Bool, true, false, not, ◌&&◌, Option, Some, None, List, [], ◌∷◌, ◌++◌, codes, map}
 use Rattle.std.specs.Prelude.{filter, length, option_and_then, reverse, slice_get, take, IsTrue}
 use Rattle.std.specs.Fmt.{decimal}
@@ -40,7 +40,7 @@ serves moments line row = list_any (λ piece. is_served_for moments line piece.f
 abbrev pub serving : Moments → Line → List Row → List KeyName
 serving moments line rows = map (λ row. row.key) (filter (serves moments line) rows)
 
--- from each key to those whose bytes became it
+-- from each key to those with bytes that became it
 abbrev pub edges_back : List Row → List Edge
 edges_back rows = map turned (reverse (edges_of rows))
 
@@ -85,7 +85,7 @@ root_text moments place =
 abbrev pub counts_text : ℕ → ℕ → List ℕ
 counts_text samples bits = codes " samples " ++ decimal samples ++ codes " bits " ++ decimal bits ++ 10 ∷ []
 
--- the line of the extraction that made a root, of which so many samples and bits are told
+-- the line of the extraction that made a root, with these counts of samples and bits
 abbrev pub extraction_text : Moments → (ℕ → ℕ) → (ℕ → ℕ) → KeyName → List ℕ
 extraction_text moments samples bits (Root place) =
     root_text moments place ++ counts_text (samples place) (bits place)
@@ -94,12 +94,12 @@ extraction_text moments samples bits (Cpu c place) = []
 extraction_text moments samples bits (Call lane place) = []
 extraction_text moments samples bits (Vdso caller state n) = []
 
--- ---- what is told
+-- ---- the output
 
--- the rows of the keys that the bytes of a line come from, the last made first, and the extractions of their roots
+-- the rows of the keys that a line's bytes come from, newest first; then the extraction of each root among them
 pub record TellsSources (moments : Moments) (rows : List Row) (line : Line) (samples bits : ℕ → ℕ)
     (output : List ℕ) : Type 0 where
-  -- whether bytes of a key were copied out for the line, or became one whose bytes were, key by key
+  -- whether bytes of a key were copied out for the line, or became a source in turn
   pub is_source : KeyName → Bool
   pub sources : (key : KeyName) → IsTrue (is_source key) ↔ IsReached (edges_back rows) (serving moments line rows) key
   pub text : output ≡ rows_text moments (filter (λ row. is_source row.key) (reverse rows))

@@ -1,40 +1,65 @@
-//! The text that answers a command.
-ghost use Rattle.std.specs.Prelude.{IfOk};
-ghost use Rattle.key_names.specs.IsTranscript.{script_calls};
-ghost use Rattle.transcript_check.specs.Judged.{IsSound};
+//! The text of a command's answer.
+ghost use Rattle.std.specs.Prelude.{◌≡◌, false, true, IfOk, List, MatchOption};
+ghost use Rattle.key_names.specs.Book.{Book};
+ghost use Rattle.key_names.specs.IsTranscript.{IsTranscriptBy, script_calls};
+ghost use Rattle.key_names.specs.Meaning.{CallMeaning};
+ghost use Rattle.key_names.specs.SeenLine.{SeenLine};
+ghost use Rattle.key_audit.specs.Asked.{is_there};
+ghost use Rattle.key_audit.specs.Kept.{KeepsBook};
 ghost use Rattle.key_audit.specs.Outcome.{Tells};
 
 use crate::ask::Ask;
-use crate::book::book_of;
+use crate::asked::is_there;
+use crate::book::KeptBook;
 use crate::keys::keys_text;
 use crate::line::sources_text;
-use crate::live::live_text;
+use crate::live::{after_text, live_text};
+use crate::until::Until;
 use event_script::Script;
 use key_uses::laws::moments_hold_unused;
 use std::alloc::{AllocError, Global};
-use transcript_text::Transcript;
 
-/// What a lawful transcript is told by.
+// The output for a book that has the stamp or the line of the command.
+fn told_text(
+    alloc: Global,
+    ask: Ask,
+    script: &Script,
+    book: &KeptBook,
+) -> Result<Vec<u8>, AllocError>
+    ensures { (t : List (List SeenLine)) (of : Book) (ms : List (List CallMeaning)) →
+        IsTranscriptBy script.now t of ms → KeepsBook book.now t (script_calls script.now t) of ms →
+        is_there ask (script_calls script.now t) t ≡ true →
+        IfOk result (λ text. Tells ask script.now (script_calls script.now t) of ms text.items) }
+{
+    moments_hold_unused();
+    match ask {
+        Ask::Keys => keys_text(alloc, book),
+        Ask::Live(stamp) => live_text(alloc, Until::Stamp(stamp), book),
+        Ask::LiveAfter(line) => after_text(alloc, line, book),
+        Ask::Line(line) => sources_text(alloc, line, script, book),
+    }
+}
+
+/// The output for a lawful transcript's book; it is empty if the transcript lacks the stamp or the line of the command.
 ///
 /// # Errors
 ///
-/// `AllocError` where there is no memory for it.
+/// `AllocError` if there is no memory for it.
 pub(crate) fn answer_text(
     alloc: Global,
     ask: Ask,
     script: &Script,
-    t: &Transcript,
-) -> Result<Vec<u8>, AllocError>
-    ensures { (sound : IsSound script.now t.now) → IfOk result (λ text.
-        Tells ask script.now (script_calls script.now t.now) sound.book sound.meanings text.items) }
+    book: &KeptBook,
+) -> Result<Option<Vec<u8>>, AllocError>
+    ensures { (t : List (List SeenLine)) (of : Book) (ms : List (List CallMeaning)) →
+        IsTranscriptBy script.now t of ms → KeepsBook book.now t (script_calls script.now t) of ms →
+        IfOk result (λ told. MatchOption told (is_there ask (script_calls script.now t) t ≡ false)
+        (λ text. (is_there ask (script_calls script.now t) t ≡ true)
+        × Tells ask script.now (script_calls script.now t) of ms text.items)) }
 {
-    let Some(book) = book_of(alloc, script, t)? else {
-        return Ok(Vec::new(alloc));
-    };
-    moments_hold_unused();
-    match ask {
-        Ask::Keys => keys_text(alloc, &book),
-        Ask::Live(stamp) => live_text(alloc, stamp, &book),
-        Ask::Line(line) => sources_text(alloc, line, script, &book),
+    if !is_there(ask, book) {
+        return Ok(None);
     }
+    let text = told_text(alloc, ask, script, book)?;
+    Ok(Some(text))
 }

@@ -1,32 +1,35 @@
-//! What the words of a command line ask for.
+//! The commands that the words of a command line name.
 ghost use Rattle.std.specs.Prelude.{◌≡◌, ◌∷◌, ◌++◌, [], true, Some, IfSome, MatchOption};
 ghost use Rattle.key_rows.specs.declared.moments.Line.{Line as LineName};
 ghost use Rattle.transcript_text.specs.Reading.{lacks};
-ghost use Rattle.key_audit.specs.Commands.{AskTexts, Asks, LineFits};
+ghost use Rattle.key_audit.specs.Commands.{AskTexts, Asks, LineFits, LiveText};
 ghost use Rattle.key_audit.specs.Texts.{line_text};
 
 use event_script::numbers::number_up_to;
 use key_rows::moments::Line;
 use memchr::memchr;
 
-/// The forms of the command line, as the line that answers any other words has them.
-pub(crate) const USAGE: &str = "usage: key_audit keys | key_audit live T | key_audit line C.E";
+/// The forms of the command line, as they are printed for any other words.
+pub(crate) const USAGE: &str =
+    "usage: key_audit keys | key_audit live T | key_audit live C.E | key_audit line C.E";
 
-/// The most that a caller or an event is counted.
+/// The largest number of a caller or an event.
 const MOST_NUMBER: u64 = 4_294_967_295;
 
-/// What is asked of a script and a transcript.
+/// A command about a script and a transcript.
 #[derive(Clone, Copy, Debug, PartialEq, Eq)]
 pub(crate) enum Ask {
     /// `keys`
     Keys,
     /// `live T`
     Live(u64),
+    /// `live C.E`
+    LiveAfter(Line),
     /// `line C.E`
     Line(Line),
 }
 
-/// What stands before the first dot of a text, and what stands behind it.
+/// The parts of a text before and after its first dot.
 fn split_at_dot(text: &[u8]) -> Option<(&[u8], &[u8])>
     ensures { MatchOption result (lacks 46 text.now ≡ true)
         (λ both. (text.now ≡ both.0.now ++ 46 ∷ both.1.now) × (lacks 46 both.0.now ≡ true)) }
@@ -49,13 +52,24 @@ fn line_of(text: &[u8]) -> Option<Line>
     })
 }
 
-/// What a word and the one behind it ask for.
+/// The command with this text after `live`: a line, or else a stamp.
+fn live_of(text: &[u8]) -> Option<Ask>
+    ensures found { IfSome result (LiveText text.now) }
+    ensures only { (ask : Ask) → LiveText text.now ask → result ≡ Some ask }
+{
+    match line_of(text) {
+        Some(line) => Some(Ask::LiveAfter(line)),
+        None => number_up_to(u64::MAX, text).map(Ask::Live),
+    }
+}
+
+/// The command of a word and the one after it.
 fn ask_by(word: &str, argument: &str) -> Option<Ask>
     ensures found { IfSome result (AskTexts (word.now ∷ argument.now ∷ [])) }
     ensures only { (ask : Ask) → AskTexts (word.now ∷ argument.now ∷ []) ask → result ≡ Some ask }
 {
     if word == "live" {
-        return number_up_to(u64::MAX, argument.as_bytes()).map(Ask::Live);
+        return live_of(argument.as_bytes());
     }
     if word == "line" {
         return line_of(argument.as_bytes()).map(Ask::Line);
@@ -63,7 +77,7 @@ fn ask_by(word: &str, argument: &str) -> Option<Ask>
     None
 }
 
-/// What the words ask for, if they are of one of the forms.
+/// The command of the words, if they are of one of the forms.
 pub(crate) fn ask_of(words: &[String]) -> Option<Ask>
     ensures found { IfSome result (Asks words.now) }
     ensures only { (ask : Ask) → Asks words.now ask → result ≡ Some ask }

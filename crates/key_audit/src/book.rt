@@ -1,70 +1,78 @@
-//! The book of a transcript's steps.
-ghost use Rattle.std.specs.Prelude.{◌≡◌, List, IfOk, IsSome, MatchOption};
-ghost use Rattle.key_names.specs.Book.{Book};
-ghost use Rattle.key_names.specs.IsTranscript.{IsTranscriptBy, MadeBook, script_calls};
-ghost use Rattle.key_names.specs.Meaning.{CallMeaning};
-ghost use Rattle.key_names.specs.Texts.ScriptGrammar.{WellFormed};
-ghost use Rattle.line_orders.specs.Seen.{seen_callers};
+//! The book of a transcript, as the check of the transcript hands it on.
+ghost use Rattle.std.specs.Prelude.{List, IfOk};
+ghost use Rattle.key_names.specs.IsTranscript.{MadeBook, script_calls};
+ghost use Rattle.key_names.specs.SeenLine.{SeenLine};
+ghost use Rattle.key_names.specs.Texts.ScriptGrammar.{Script as ScriptLines};
+ghost use Rattle.serial_replay.specs.Found.{BasisStands};
+ghost use Rattle.key_audit.specs.Audited.{IsAudited};
 ghost use Rattle.key_audit.specs.Kept.{KeepsBook};
 
 use event_script::Script;
-use line_orders::bare::BareLine;
+use line_orders::clause::Clause;
 use line_orders::marks::MarkOf;
-use line_orders::seen::bare_callers;
 use list_replay::Lists;
-use serial_replay::lists::{Found, find_lists};
-use state_entries::{StateEntry, state_lists};
+use serial_replay::lists::Basis;
+use state_entries::line_ends::line_ends;
+use state_entries::{LineEnd, StateEntry, state_lists};
 use std::alloc::{AllocError, Global};
+use transcript_check::check::{Judged, check_lists};
 use transcript_text::Transcript;
 
-/// What is kept of a transcript's book.
+/// The kept book of a transcript.
 #[derive(Drop)]
 pub struct KeptBook {
-    /// Of the visits of each lane.
+    /// The kept visits of each lane.
     pub lanes: Lists,
-    /// Of each caller, of each of its sixteen vgetrandom states, the entries.
+    /// The entries of each of the sixteen vgetrandom states of each caller, and the call that left each.
     pub states: Vec<Vec<Vec<StateEntry>>>,
+    /// The lines of each caller, each with its call.
+    pub lines: Vec<Vec<LineEnd>>,
     /// The marks of all visits, lane after lane, those of one lane by their stamps.
     pub marks: Vec<MarkOf>,
 }
 
-fn book_of_lines(
-    alloc: Global,
-    script: &Script,
-    lines: &[Vec<BareLine<'_>>],
-) -> Result<Option<KeptBook>, AllocError>
-    requires { WellFormed script.now }
-    ensures { (made : MadeBook script.now (seen_callers lines.now)) →
-        IfOk result (λ o. MatchOption o ⊥ (λ kept. KeepsBook kept (seen_callers lines.now)
-        (script_calls script.now (seen_callers lines.now)) made.book made.meanings)) }
-{
-    let basis = match find_lists(alloc, script, lines)? {
-        Found::No(_) => return Ok(None),
-        Found::Stands(basis) => basis,
-    };
-    let states = state_lists(alloc, &basis.parts)?;
-    Ok(Some(KeptBook {
-        lanes: basis.lists,
-        states,
-        marks: basis.parts.marks,
-    }))
+/// The book of a lawful transcript, or the reason why the transcript is not lawful.
+#[derive(Drop)]
+pub enum AuditedBook {
+    Lawful(KeptBook),
+    /// This clause is the first that fails.
+    Unlawful(Clause),
 }
 
-/// What is kept of the book of a transcript, where its lines and steps make one.
+// The book of the steps that these lists are made of.
+fn book_of(alloc: Global, basis: Basis<'_>) -> Result<KeptBook, AllocError>
+    ensures { (script : ScriptLines) (t : List (List SeenLine)) → BasisStands script t basis.entry →
+        (made : MadeBook script t) →
+        IfOk result (λ kept. KeepsBook kept t (script_calls script t) made.book made.meanings) }
+{
+    let states = state_lists(alloc, &basis.parts)?;
+    let lines = line_ends(alloc, &basis.parts)?;
+    Ok(KeptBook {
+        lanes: basis.lists,
+        states,
+        lines,
+        marks: basis.parts.marks,
+    })
+}
+
+/// Judges a transcript, keeps its book if it is lawful, and frees the rest: the transcript, and the lists that it was
+/// judged by.
 ///
 /// # Errors
 ///
-/// `AllocError` where there is no memory for it.
-pub fn book_of(
+/// `AllocError` if there is no memory for it.
+pub fn audited_book(
     alloc: Global,
     script: &Script,
-    t: &Transcript,
-) -> Result<Option<KeptBook>, AllocError>
-    ensures { (book : Book) (ms : List (List CallMeaning)) → IsTranscriptBy script.now t.now book ms →
-        IfOk result (λ o. MatchOption o ⊥ (λ kept. KeepsBook kept t.now (script_calls script.now t.now) book ms)) }
+    t: Transcript,
+) -> Result<AuditedBook, AllocError>
+    ensures { IfOk result (λ audited. IsAudited script.now t audited) }
 {
-    // It says what is true of every script.
-    let _version = script.version();
-    let lines = bare_callers(alloc, t)?;
-    book_of_lines(alloc, script, &lines)
+    match check_lists(alloc, script, &t)? {
+        Judged::Lawful(basis) => {
+            let book = book_of(alloc, basis)?;
+            Ok(AuditedBook::Lawful(book))
+        }
+        Judged::Unlawful(clause) => Ok(AuditedBook::Unlawful(clause)),
+    }
 }

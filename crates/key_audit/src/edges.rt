@@ -1,4 +1,4 @@
-//! Which keys' bytes became which keys, and the keys that such edges lead to.
+//! The edges from each key to the keys that its bytes became, and the keys that such edges lead to.
 ghost use Rattle.std.specs.Prelude.{◌≡◌, ◌++◌, ◌↔◌, IfOk, OnOk, IsTrue, Contains, map, reverse};
 ghost use Rattle.std.specs.BTreeSet.{contains};
 ghost use Rattle.key_names.specs.declared.names.KeyName.{KeyName as BookName};
@@ -10,7 +10,7 @@ use key_rows::rows::{Fate, Row};
 use std::alloc::{AllocError, Global};
 use std::collections::BTreeSet;
 
-/// Bytes of one key became another.
+/// Bytes of the key `from` became the key `to`.
 #[derive(Clone, Copy)]
 pub(crate) struct Edge {
     pub(crate) from: KeyName,
@@ -29,11 +29,11 @@ fn push_edges(edges: &mut Vec<Edge>, row: &Row) -> Result<(), AllocError>
     Ok(())
 }
 
-/// The edges of rows, in their order.
+/// The edges of rows, in order.
 ///
 /// # Errors
 ///
-/// `AllocError` where there is no memory for them.
+/// `AllocError` if there is no memory for them.
 pub(crate) fn edges_of(alloc: Global, rows: &[Row]) -> Result<Vec<Edge>, AllocError>
     ensures { IfOk result (λ edges. edges.items ≡ edges_of rows.now) }
 {
@@ -57,7 +57,7 @@ fn turned(edge: Edge) -> Edge
 ///
 /// # Errors
 ///
-/// `AllocError` where there is no memory for them.
+/// `AllocError` if there is no memory for them.
 pub(crate) fn edges_back(alloc: Global, edges: &[Edge]) -> Result<Vec<Edge>, AllocError>
     ensures { IfOk result (λ back. back.items ≡ map turned (reverse edges.now)) }
 {
@@ -68,7 +68,7 @@ pub(crate) fn edges_back(alloc: Global, edges: &[Edge]) -> Result<Vec<Edge>, All
 ///
 /// # Errors
 ///
-/// `AllocError` where there is no memory for it.
+/// `AllocError` if there is no memory for it.
 pub(crate) fn set_of(alloc: Global, keys: &[KeyName]) -> Result<BTreeSet<KeyName>, AllocError>
     ensures { (key : BookName) → IfOk result (λ set. IsTrue (contains names.cmp set key) ↔ Contains keys.now key) }
 {
@@ -79,7 +79,7 @@ pub(crate) fn set_of(alloc: Global, keys: &[KeyName]) -> Result<BTreeSet<KeyName
     Ok(set)
 }
 
-// Goes along an edge from a known key, and says whether it leads to a new one.
+// Goes along an edge from a known key. Returns whether it leads to a new one.
 fn follow(known: &mut BTreeSet<KeyName>, edge: Edge) -> Result<bool, AllocError>
     ensures { IfOk result (λ more. Follows edge known.old known.new more) }
 {
@@ -89,7 +89,7 @@ fn follow(known: &mut BTreeSet<KeyName>, edge: Edge) -> Result<bool, AllocError>
     Ok(false)
 }
 
-// Goes along each edge from a known key, and says whether one leads to a new key.
+// Goes along each edge from a known key. Returns whether one leads to a new key.
 fn pass(known: &mut BTreeSet<KeyName>, edges: &[Edge]) -> Result<bool, AllocError>
     ensures { IfOk result (λ more. HasPassed edges.now known.old known.new more) }
 {
@@ -106,7 +106,7 @@ fn pass(known: &mut BTreeSet<KeyName>, edges: &[Edge]) -> Result<bool, AllocErro
 ///
 /// # Errors
 ///
-/// `AllocError` where there is no memory for them.
+/// `AllocError` if there is no memory for them.
 pub(crate) fn reached_by(
     alloc: Global,
     edges: &[Edge],

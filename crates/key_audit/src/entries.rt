@@ -1,11 +1,13 @@
-//! The entries of vgetrandom states without their stamps.
+//! The entries of vgetrandom states without the calls that left them.
 ghost use Rattle.std.specs.Prelude.{◌≡◌, IfOk, map};
 ghost use Rattle.key_rows.specs.Told.{caller_lists};
 ghost use Rattle.state_entries.specs.Entries.{entries_in, lists_in, all_lists_in};
-ghost use Rattle.state_entries.specs.Cut.{entries_to, lists_to, all_lists_to};
+ghost use Rattle.state_entries.specs.Cut.{all_lists_by, entries_by, lists_by};
+ghost use Rattle.key_audit.specs.Live.{cut_at};
 
+use crate::until::Until;
 use key_names::VEntry;
-use state_entries::StateEntry;
+use state_entries::{Cut, StateEntry};
 use std::alloc::{AllocError, Global};
 
 fn list_entries(alloc: Global, list: &[StateEntry]) -> Result<Vec<VEntry>, AllocError>
@@ -32,7 +34,7 @@ fn caller_entries(alloc: Global, lists: &[Vec<StateEntry>]) -> Result<Vec<Vec<VE
 ///
 /// # Errors
 ///
-/// `AllocError` where there is no memory for them.
+/// `AllocError` if there is no memory for them.
 pub(crate) fn all_entries(
     alloc: Global,
     callers: &[Vec<Vec<StateEntry>>],
@@ -46,52 +48,49 @@ pub(crate) fn all_entries(
     Ok(entries)
 }
 
-// Those of the calls that were over by a stamp.
-fn list_entries_to(
-    alloc: Global,
-    stamp: u64,
-    list: &[StateEntry],
-) -> Result<Vec<VEntry>, AllocError>
-    ensures { IfOk result (λ entries. entries.items ≡ entries_to stamp list.now) }
+// Those that a cut keeps.
+fn list_entries_by(alloc: Global, cut: Cut, list: &[StateEntry]) -> Result<Vec<VEntry>, AllocError>
+    ensures { IfOk result (λ entries. entries.items ≡ entries_by cut list.now) }
 {
     let mut entries = Vec::new(alloc);
     for one in list {
-        if one.done <= stamp {
+        if cut.keeps(one) {
             entries.push(one.entry)?;
         }
     }
     Ok(entries)
 }
 
-fn caller_entries_to(
+fn caller_entries_by(
     alloc: Global,
-    stamp: u64,
+    cut: Cut,
     lists: &[Vec<StateEntry>],
 ) -> Result<Vec<Vec<VEntry>>, AllocError>
-    ensures { IfOk result (λ entries. map (λ es. es.items) entries.items ≡ lists_to stamp lists.now) }
+    ensures { IfOk result (λ entries. map (λ es. es.items) entries.items ≡ lists_by cut lists.now) }
 {
     let mut entries = Vec::with_capacity(alloc, lists.len())?;
     for list in lists {
-        entries.push(list_entries_to(alloc, stamp, list)?)?;
+        entries.push(list_entries_by(alloc, cut, list)?)?;
     }
     Ok(entries)
 }
 
-/// The entries of all lists that were left by calls which were over by a stamp.
+/// The entries of all lists up to a moment.
 ///
 /// # Errors
 ///
-/// `AllocError` where there is no memory for them.
-pub(crate) fn all_entries_to(
+/// `AllocError` if there is no memory for them.
+pub(crate) fn entries_until(
     alloc: Global,
-    stamp: u64,
+    until: Until,
     callers: &[Vec<Vec<StateEntry>>],
 ) -> Result<Vec<Vec<Vec<VEntry>>>, AllocError>
-    ensures { IfOk result (λ entries. caller_lists entries.items ≡ all_lists_to stamp callers.now) }
+    ensures { IfOk result (λ entries. caller_lists entries.items ≡ all_lists_by (cut_at until) 0 callers.now) }
 {
     let mut entries = Vec::with_capacity(alloc, callers.len())?;
-    for lists in callers {
-        entries.push(caller_entries_to(alloc, stamp, lists)?)?;
+    for (number, lists) in callers.iter().enumerate() {
+        let cut = until.cut(number);
+        entries.push(caller_entries_by(alloc, cut, lists)?)?;
     }
     Ok(entries)
 }

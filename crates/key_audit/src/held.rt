@@ -1,4 +1,4 @@
-//! What is in memory behind a stamp, and its lines.
+//! The keys and rests in memory after a stamp, and their lines.
 ghost use Rattle.std.specs.Prelude.{◌≡◌, ◌++◌, IfOk, List, OnOk, filter, slice_get};
 ghost use Rattle.std.specs.List.{flat_map};
 ghost use Rattle.key_names.specs.Book.{Book};
@@ -8,48 +8,49 @@ ghost use Rattle.key_names.specs.SeenLine.{SeenLine};
 ghost use Rattle.key_audit.specs.Kept.{KeepsBook};
 ghost use Rattle.key_audit.specs.Moments.{AreMoments};
 ghost use Rattle.key_audit.specs.Texts.{piece_text};
-ghost use Rattle.key_audit.specs.Live.{AreRowsOf, IsHeld, lists_behind, batch_holder_text, became_key};
+ghost use Rattle.key_audit.specs.Live.{AreRowsOf, IsHeld, lists_until, batch_holder_text, became_key};
 ghost use Rattle.key_audit.specs.Live.{held_line, held_lines, kept_line, rest_line};
 
 use crate::book::KeptBook;
-use crate::entries::all_entries_to;
+use crate::entries::entries_until;
 use crate::row_index::RowIndex;
 use crate::text::Text;
+use crate::until::Until;
 use key_rows::cut::kept_to;
 use key_rows::held::{BatchHolder, Held, HeldKey, HeldRest};
+use key_rows::held_book::hold_book;
 use key_rows::lives::Holder;
 use key_rows::moments::Moments;
 use key_rows::rows::{Fate, Piece, Row};
-use key_rows::told::tell_book;
 use std::alloc::{AllocError, Global};
 
-/// What is held behind a stamp.
+/// The keys and rests that are held at a moment.
 ///
 /// # Errors
 ///
-/// `AllocError` where there is no memory for it.
+/// `AllocError` if there is no memory for them.
 pub(crate) fn held_at(
     alloc: Global,
-    stamp: u64,
+    until: Until,
     book: &KeptBook,
     moments: &Moments,
 ) -> Result<Held, AllocError>
     ensures { (t : List (List SeenLine)) (callers : List (List Call)) (of : Book) (ms : List (List CallMeaning)) →
-        KeepsBook book.now t callers of ms → AreMoments of moments.now →
-        IfOk result (λ held. IsHeld (lists_behind stamp callers of ms) held) }
+        KeepsBook book.now t callers of ms → AreMoments callers of ms moments.now →
+        IfOk result (λ held. IsHeld (lists_until until callers of ms) held) }
 {
-    let lanes = kept_to(alloc, stamp, &book.lanes, moments)?;
-    let entries = all_entries_to(alloc, stamp, &book.states)?;
-    let told = tell_book(alloc, &lanes, &entries)?;
-    Ok(told.held)
+    let lanes = kept_to(alloc, until.stamp(), &book.lanes, moments)?;
+    let entries = entries_until(alloc, until, &book.states)?;
+    let held = hold_book(alloc, &lanes, &entries)?;
+    Ok(held)
 }
 
-/// The numbers of the rows of keys that are held. Each has one, since an entry made it; where one had none, nothing
-/// would be told rather than all but it.
+/// The numbers of the rows of keys that are held. Each key has one, since an entry made it. If one had none, the call
+/// would fail rather than leave the key out.
 ///
 /// # Errors
 ///
-/// `AllocError` where there is no memory for them.
+/// `AllocError` if there is no memory for them.
 pub(crate) fn held_rows(
     alloc: Global,
     index: &RowIndex<'_>,
@@ -84,11 +85,11 @@ fn put_became(text: &mut Text, moments: &Moments, pieces: &[Piece]) -> Result<()
     Ok(())
 }
 
-/// Adds a word and a row with no pieces but the keys that its bytes became.
+/// Adds a word, and a row with only those of its pieces that became keys.
 ///
 /// # Errors
 ///
-/// `AllocError` where there is no memory for the text.
+/// `AllocError` if there is no memory for the text.
 pub(crate) fn put_kept(
     text: &mut Text,
     word: &str,
@@ -123,7 +124,7 @@ fn put_held_at(
 ///
 /// # Errors
 ///
-/// `AllocError` where there is no memory for the text.
+/// `AllocError` if there is no memory for the text.
 pub(crate) fn put_held(
     text: &mut Text,
     moments: &Moments,
@@ -164,7 +165,7 @@ fn put_rest(text: &mut Text, rest: &HeldRest) -> Result<(), AllocError>
 ///
 /// # Errors
 ///
-/// `AllocError` where there is no memory for the text.
+/// `AllocError` if there is no memory for the text.
 pub(crate) fn put_rests(text: &mut Text, rests: &[HeldRest]) -> Result<(), AllocError>
     ensures { OnOk result (text.new.bytes.items ≡ text.old.bytes.items ++ flat_map rest_line rests.now) }
 {

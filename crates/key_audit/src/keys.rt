@@ -21,7 +21,7 @@ use std::alloc::{AllocError, Global};
 ///
 /// # Errors
 ///
-/// `AllocError` where there is no memory for them.
+/// `AllocError` if there is no memory for them.
 pub(crate) fn rows_of(
     alloc: Global,
     book: &KeptBook,
@@ -33,7 +33,7 @@ pub(crate) fn rows_of(
 {
     let entries = all_entries(alloc, &book.states)?;
     let told = tell_book(alloc, &book.lanes, &entries)?;
-    let mut rows = make_rows(alloc, &told)?;
+    let mut rows = make_rows(alloc, told)?;
     sort_rows(&mut rows, moments)?;
     Ok(rows)
 }
@@ -42,10 +42,10 @@ pub(crate) fn rows_of(
 ///
 /// # Errors
 ///
-/// `AllocError` where there is no memory for it.
+/// `AllocError` if there is no memory for it.
 pub(crate) fn keys_text(alloc: Global, book: &KeptBook) -> Result<Vec<u8>, AllocError>
     ensures { (t : List (List SeenLine)) (callers : List (List Call)) (of : Book) (ms : List (List CallMeaning)) →
-        KeepsBook book.now t callers of ms → IfOk result (λ text. TellsKeys of text.items) }
+        KeepsBook book.now t callers of ms → IfOk result (λ text. TellsKeys callers of ms text.items) }
 {
     let moments = moments_of(alloc, book)?;
     let rows = rows_of(alloc, book, &moments)?;

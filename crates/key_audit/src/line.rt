@@ -1,4 +1,4 @@
-//! The command `line C.E`: where the bytes of a line come from.
+//! The command `line C.E`: the sources of a line's bytes.
 ghost use Rattle.std.specs.Prelude.{◌≡◌, ◌≤◌, ◌++◌, ◌↔◌, List, IfOk, OnOk, IsTrue, filter, map, reverse, slice_get, take};
 ghost use Rattle.std.specs.BTreeSet.{contains};
 ghost use Rattle.std.specs.List.{flat_map};
@@ -116,7 +116,7 @@ fn is_sample(script: &Script, kept: &KeptPool, moment: &Moment) -> bool
     kept.root.is_none() && hands_sample(script, moment.line)
 }
 
-// The first visits, so many.
+// The first `count` visits.
 fn first_visits(pool: &[KeptPool], count: u64) -> &[KeptPool]
     ensures { result.now ≡ take count pool.now }
 {
@@ -134,7 +134,7 @@ fn sample_count(script: &Script, kept: &KeptPool, moments: &[Moment], place: usi
     }
 }
 
-// How many samples some visits were made for, from the first on.
+// How many of the visits were made for a sample.
 fn samples_in(script: &Script, pool: &[KeptPool], moments: &[Moment]) -> u64
     ensures { result ≡ kept_samples script.now 0 pool.now moments.now }
 {
@@ -220,7 +220,7 @@ fn put_extractions(
     Ok(())
 }
 
-// Of a line, given what is kept of the pool's visits.
+// The text for a line, given the kept visits of the pool.
 fn origin_text(
     alloc: Global,
     line: Line,
@@ -245,7 +245,7 @@ fn origin_text(
 ///
 /// # Errors
 ///
-/// `AllocError` where there is no memory for it.
+/// `AllocError` if there is no memory for them.
 pub(crate) fn sources_text(
     alloc: Global,
     line: Line,
@@ -253,7 +253,7 @@ pub(crate) fn sources_text(
     book: &KeptBook,
 ) -> Result<Vec<u8>, AllocError>
     ensures { (t : List (List SeenLine)) (callers : List (List Call)) (of : Book) (ms : List (List CallMeaning)) →
-        KeepsBook book.now t callers of ms → IfOk result (λ text. TellsLine line script.now of text.items) }
+        KeepsBook book.now t callers of ms → IfOk result (λ text. TellsLine line script.now callers of ms text.items) }
 {
     let moments = moments_of(alloc, book)?;
     let rows = rows_of(alloc, book, &moments)?;

@@ -1,12 +1,17 @@
-//! The command `live T`: what is in memory behind a stamp, and what can be computed from it.
-ghost use Rattle.std.specs.Prelude.{◌≡◌, IfOk, List};
+//! The commands `live T` and `live C.E`: the keys and rests in memory after a stamp or a line, and the keys and bytes
+//! that can be computed from them.
+ghost use Rattle.std.specs.Prelude.{◌≡◌, IfOk, List, Some};
 ghost use Rattle.key_names.specs.Book.{Book};
 ghost use Rattle.key_names.specs.Calls.{Call};
 ghost use Rattle.key_names.specs.Meaning.{CallMeaning};
 ghost use Rattle.key_names.specs.SeenLine.{SeenLine};
+ghost use Rattle.state_entries.specs.declared.line_ends.LineEnd.{LineEnd};
+ghost use Rattle.key_audit.specs.Asked.{line_end};
 ghost use Rattle.key_audit.specs.Kept.{KeepsBook};
+ghost use Rattle.key_audit.specs.Live.{lists_after, lists_until};
 ghost use Rattle.key_audit.specs.Outcome.{TellsHeld};
 
+use crate::asked::line_end;
 use crate::book::KeptBook;
 use crate::held::{held_at, held_rows, put_held, put_rests};
 use crate::keys::rows_of;
@@ -14,20 +19,23 @@ use crate::moments::moments_of;
 use crate::reach::reached_text;
 use crate::row_index::RowIndex;
 use crate::text::Text;
+use crate::until::Until;
+use key_rows::moments::Line;
 use std::alloc::{AllocError, Global};
 
-/// What is held behind a stamp and what can be computed from it.
+/// The keys and rests that are held at a moment, and the keys and bytes that can be computed from them.
 ///
 /// # Errors
 ///
-/// `AllocError` where there is no memory for it.
-pub(crate) fn live_text(alloc: Global, stamp: u64, book: &KeptBook) -> Result<Vec<u8>, AllocError>
+/// `AllocError` if there is no memory for them.
+pub(crate) fn live_text(alloc: Global, until: Until, book: &KeptBook) -> Result<Vec<u8>, AllocError>
     ensures { (t : List (List SeenLine)) (callers : List (List Call)) (of : Book) (ms : List (List CallMeaning)) →
-        KeepsBook book.now t callers of ms → IfOk result (λ text. TellsHeld stamp callers of ms text.items) }
+        KeepsBook book.now t callers of ms →
+        IfOk result (λ text. TellsHeld (lists_until until callers of ms) callers of ms text.items) }
 {
     let moments = moments_of(alloc, book)?;
     let rows = rows_of(alloc, book, &moments)?;
-    let held = held_at(alloc, stamp, book, &moments)?;
+    let held = held_at(alloc, until, book, &moments)?;
     let index = RowIndex::of(alloc, &rows)?;
     let numbers = held_rows(alloc, &index, &held.keys)?;
     let mut text = Text::new(alloc);
@@ -36,4 +44,27 @@ pub(crate) fn live_text(alloc: Global, stamp: u64, book: &KeptBook) -> Result<Ve
     let reached = reached_text(alloc, &moments, &rows, &held.keys, &held.rests)?;
     text.bytes.extend_from_slice(&reached)?;
     Ok(text.bytes)
+}
+
+/// The same after a line; an empty text if the line does not exist.
+///
+/// # Errors
+///
+/// `AllocError` if there is no memory for it.
+pub(crate) fn after_text(alloc: Global, line: Line, book: &KeptBook) -> Result<Vec<u8>, AllocError>
+    ensures { (t : List (List SeenLine)) (callers : List (List Call)) (of : Book) (ms : List (List CallMeaning)) →
+        KeepsBook book.now t callers of ms → (end : LineEnd) → line_end callers line ≡ Some end →
+        IfOk result (λ text. TellsHeld (lists_after line end callers of ms) callers of ms text.items) }
+{
+    match line_end(&book.lines, line) {
+        Some(end) => {
+            let until = Until::Call {
+                stamp: end.stamp,
+                caller: line.caller,
+                call: end.call,
+            };
+            live_text(alloc, until, book)
+        }
+        None => Ok(Vec::new(alloc)),
+    }
 }

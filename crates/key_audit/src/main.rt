@@ -1,12 +1,14 @@
-//! `key_audit`: which keys a lawful transcript's run made, who held each, and what became of its bytes.
+//! `key_audit`: the keys that a lawful transcript's run made, the holder of each, and the fates of its bytes.
 //!
-//! [`audit`] carries the contract: it says of every command what each status and the output mean; of `NoMemory` only that
-//! nothing is written. Stamps and lines of vgetrandom states' entries are only tested. [`book`] has what it stands on, the
-//! book of a transcript. `main` adds the standard streams, the line on standard error and the exit code, which are tested.
+//! [`audit`] carries the contract: it states for every command the meaning of each status and of the output; for
+//! `NoMemory`, only that nothing is written. [`book`] makes the book of a transcript, which the check of the transcript
+//! hands on. The functions of this file have no clause and are only tested: standard streams, standard error and the
+//! exit code.
 #![tactic(auto)]
 
 mod answer;
 mod ask;
+mod asked;
 mod audit;
 mod book;
 mod edges;
@@ -19,6 +21,7 @@ mod moments;
 mod reach;
 mod row_index;
 mod text;
+mod until;
 
 use crate::ask::USAGE;
 use crate::audit::audit;
@@ -30,6 +33,7 @@ use tool_ends::{Status, words};
 /// How many bytes of output are gathered to one write.
 const GATHERED: usize = 64 * 1024;
 
+/// Runs a command on the standard streams. Only tested.
 fn run(rt: &HostRuntime, words: &[String]) -> Status {
     let Ok(output) = BufWriter::with_capacity(rt.alloc(), GATHERED, rt.stdout()) else {
         return Status::NoMemory;
@@ -39,7 +43,7 @@ fn run(rt: &HostRuntime, words: &[String]) -> Status {
     audit(rt.alloc(), words, &mut source, &mut sink)
 }
 
-/// Writes one line to standard error where a command ended otherwise than by its answer.
+/// Writes one line to standard error if a command ended without an answer. Only tested.
 fn tell<R: Eprint>(rt: &R, status: Status) {
     let _told = match status {
         Status::Done | Status::No => return,
@@ -53,6 +57,7 @@ fn tell<R: Eprint>(rt: &R, status: Status) {
     };
 }
 
+/// The exit code is the status of the command. Only tested.
 fn main(rt: HostRuntime) -> ExitCode {
     let status = match words(&rt) {
         Ok(words) => run(&rt, &words),

@@ -1,15 +1,16 @@
-//! When, and on which line, the entries of a book were left.
+//! The moments at which the entries of a book were left, and their lines.
 ghost use Rattle.std.specs.Prelude.{ℕ, ◌≡◌, ◌<◌, ◌++◌, ◌==◌, ◌∷◌, [], IfOk, OnOk, length, map, if◌then◌else◌};
 ghost use Rattle.key_names.specs.Book.{list_at};
 ghost use Rattle.key_rows.specs.Cut.{moment_lists};
 ghost use Rattle.line_orders.specs.Marks.{seen_mark};
-ghost use Rattle.key_audit.specs.Moments.{moment_by, AddsMark, HasMarks};
+ghost use Rattle.key_audit.specs.Moments.{moment_by, AddsMark, HasMarks, state_moments_in};
+ghost use Rattle.key_audit.specs.EntryMoments.{all_moments, caller_moments, end_moment, entry_moments};
 
 use crate::book::KeptBook;
 use key_names::LaneId;
 use key_rows::moments::{Line, Moment, Moments};
 use line_orders::marks::MarkOf;
-use state_entries::StateEntry;
+use state_entries::{CallEnd, StateEntry};
 use std::alloc::{AllocError, Global};
 
 fn moment_by(of: &MarkOf) -> Moment
@@ -24,7 +25,7 @@ fn moment_by(of: &MarkOf) -> Moment
     }
 }
 
-// Adds the moment of a visit of a CPU behind those that it has. A CPU that is not there has none.
+// Appends the moment of a visit of a CPU to those that it has. A CPU that the book does not have gets none.
 fn push_cpu(cpus: &mut Vec<Vec<Moment>>, cpu: usize, moment: Moment) -> Result<(), AllocError>
     ensures count { length cpus.new.items ≡ length cpus.old.items }
     ensures each { (c : ℕ) → c < length cpus.old.items → OnOk result (list_at (moment_lists cpus.new.items) c
@@ -36,7 +37,7 @@ fn push_cpu(cpus: &mut Vec<Vec<Moment>>, cpu: usize, moment: Moment) -> Result<(
     Ok(())
 }
 
-// Adds the moment of a visit behind those of its lane.
+// Appends the moment of a visit to those of its lane.
 fn push_mark(moments: &mut Moments, of: &MarkOf) -> Result<(), AllocError>
     ensures { OnOk result (AddsMark moments.old (seen_mark of.now) moments.new) }
 {
@@ -49,7 +50,7 @@ fn push_mark(moments: &mut Moments, of: &MarkOf) -> Result<(), AllocError>
     Ok(())
 }
 
-// So many CPUs, and no visits.
+// This many CPUs, and no visits.
 fn no_visits(alloc: Global, cpus: usize) -> Result<Moments, AllocError>
     ensures { IfOk result (λ moments. HasMarks cpus [] moments) }
 {
@@ -65,7 +66,7 @@ fn no_visits(alloc: Global, cpus: usize) -> Result<Moments, AllocError>
     Ok(moments)
 }
 
-// The moments of the visits that marks are of.
+// The moments of the visits that these marks belong to.
 fn moments_of_marks(alloc: Global, cpus: usize, marks: &[MarkOf]) -> Result<Moments, AllocError>
     ensures { IfOk result (λ moments. HasMarks cpus (map seen_mark marks.now) moments) }
 {
@@ -76,56 +77,64 @@ fn moments_of_marks(alloc: Global, cpus: usize, marks: &[MarkOf]) -> Result<Mome
     Ok(moments)
 }
 
-fn list_moments(
-    alloc: Global,
-    caller: u32,
-    list: &[StateEntry],
-) -> Result<Vec<Moment>, AllocError> {
+// The stamp when a call was over, and its line.
+fn end_moment(end: CallEnd) -> Moment
+    ensures { result ≡ end_moment end }
+{
+    Moment {
+        stamp: end.stamp,
+        line: Line {
+            caller: end.caller,
+            event: end.event,
+        },
+    }
+}
+
+fn list_moments(alloc: Global, list: &[StateEntry]) -> Result<Vec<Moment>, AllocError>
+    ensures { IfOk result (λ moments. moments.items ≡ entry_moments list.now) }
+{
     let mut moments = Vec::with_capacity(alloc, list.len())?;
     for entry in list {
-        moments.push(Moment {
-            stamp: entry.stamp,
-            line: Line {
-                caller,
-                event: entry.event,
-            },
-        })?;
+        moments.push(end_moment(entry.end))?;
     }
     Ok(moments)
 }
 
-fn caller_moments(
-    alloc: Global,
-    caller: u32,
-    lists: &[Vec<StateEntry>],
-) -> Result<Vec<Vec<Moment>>, AllocError> {
+fn caller_moments(alloc: Global, lists: &[Vec<StateEntry>]) -> Result<Vec<Vec<Moment>>, AllocError>
+    ensures { IfOk result (λ moments. moment_lists moments.items ≡ caller_moments lists.now) }
+{
     let mut moments = Vec::with_capacity(alloc, lists.len())?;
     for list in lists {
-        moments.push(list_moments(alloc, caller, list)?)?;
+        moments.push(list_moments(alloc, list)?)?;
     }
     Ok(moments)
 }
 
+// The moments of the entries of all vgetrandom states.
 fn state_moments(
     alloc: Global,
     callers: &[Vec<Vec<StateEntry>>],
-) -> Result<Vec<Vec<Vec<Moment>>>, AllocError> {
+) -> Result<Vec<Vec<Vec<Moment>>>, AllocError>
+    ensures { IfOk result (λ moments. state_moments_in moments.items ≡ all_moments callers.now) }
+{
     let mut moments = Vec::with_capacity(alloc, callers.len())?;
-    for (caller, lists) in (0..u32::MAX).zip(callers) {
-        moments.push(caller_moments(alloc, caller, lists)?)?;
+    for lists in callers {
+        moments.push(caller_moments(alloc, lists)?)?;
     }
     Ok(moments)
 }
 
-/// The moments of the entries of a book: of each visit its stamp and its line, and of each entry of a vgetrandom state
-/// the stamp of the visit before it.
+/// The moments of the entries of a book: the stamp and the line of each visit. For an entry of a vgetrandom state, they
+/// are the stamp when the call that left it was over, and that call's line.
 ///
 /// # Errors
 ///
-/// `AllocError` where there is no memory for them.
+/// `AllocError` if there is no memory for them.
 pub(crate) fn moments_of(alloc: Global, book: &KeptBook) -> Result<Moments, AllocError>
-    ensures { IfOk result (λ moments.
+    ensures marks { IfOk result (λ moments.
         HasMarks (length book.now.lanes.cpus.items) (map seen_mark book.now.marks.items) moments) }
+    ensures states { IfOk result (λ moments.
+        state_moments_in moments.callers.items ≡ all_moments book.now.states.items) }
 {
     let mut moments = moments_of_marks(alloc, book.lanes.cpus.len(), &book.marks)?;
     moments.callers = state_moments(alloc, &book.states)?;

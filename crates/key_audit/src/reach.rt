@@ -1,4 +1,5 @@
-//! What can be computed from what is in memory: keys that were not made yet, and bytes of later lines.
+//! The keys and bytes that can be computed from the keys and rests in memory: keys that were not made yet, and bytes of
+//! later lines.
 ghost use Rattle.std.specs.Prelude.{◌≡◌, ◌++◌, IfOk, OnOk, IsPermutation, IsSortedByKey, map};
 ghost use Rattle.std.specs.BTreeSet.{contains};
 ghost use Rattle.std.specs.List.Sorted.{IsStableByKey};
@@ -40,7 +41,7 @@ fn is_in_rest(rests: &[HeldRest], piece: &Piece) -> bool
     rests.iter().any(|rest| has_piece(rest, piece))
 }
 
-// Adds the keys that bytes of rests became, of a row.
+// Adds the keys that bytes of a row became, if these bytes are in the rests.
 fn push_rest_keys(keys: &mut Vec<KeyName>, rests: &[HeldRest], row: &Row) -> Result<(), AllocError>
     ensures { OnOk result (keys.new.items ≡ keys.old.items ++ row_rest_keys rests.now row.now) }
 {
@@ -127,7 +128,7 @@ fn copied_bytes(
     Ok(all)
 }
 
-// Line by line, and those of a line as they stand.
+// Line by line; the bytes of a line keep their order.
 fn sort_by_line(all: &mut Vec<Copied>) -> Result<(), AllocError>
     ensures each { IsPermutation all.old.items all.new.items }
     ensures ordered { OnOk result (IsSortedByKey (λ one. one.line) lines.cmp all.new.items) }
@@ -213,11 +214,11 @@ fn names_of(alloc: Global, keys: &[HeldKey]) -> Result<Vec<KeyName>, AllocError>
     keys.iter().map(|held| held.key).collect(alloc)
 }
 
-/// The lines of what can be computed from these keys and these rests of batches.
+/// The lines of the keys and bytes that can be computed from these keys and these rests of batches.
 ///
 /// # Errors
 ///
-/// `AllocError` where there is no memory for them.
+/// `AllocError` if there is no memory for them.
 pub(crate) fn reached_text(
     alloc: Global,
     moments: &Moments,

@@ -22,7 +22,7 @@ impl<'a> RowIndex<'a> {
     ///
     /// # Errors
     ///
-    /// `AllocError` where there is no memory for it.
+    /// `AllocError` if there is no memory for it.
     pub(crate) fn of(alloc: Global, rows: &'a [Row]) -> Result<RowIndex<'a>, AllocError>
         ensures { IfOk result (λ index. index.rows.now ≡ rows.now) }
     {
@@ -33,7 +33,7 @@ impl<'a> RowIndex<'a> {
         Ok(RowIndex { rows, by_name })
     }
 
-    /// The number of the row of a key, or `None` where no row is of this key.
+    /// The number of the row of a key, or `None` if no row is of this key.
     pub(crate) fn find(&self, key: KeyName) -> Option<usize>
         ensures found { IfSome result (λ n. name_at self.now.rows.now n ≡ Some key) }
         ensures none { result ≡ None → (n : ℕ) → name_at self.now.rows.now n ≢ Some key }

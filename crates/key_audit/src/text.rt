@@ -11,7 +11,7 @@ use key_rows::rows::{Fate, Piece, Row};
 use key_uses::used::Origin;
 use std::alloc::{AllocError, Global};
 
-/// Where no moment is told of an entry.
+/// For an entry without a moment.
 const NO_MOMENT: Moment = Moment {
     stamp: 0,
     line: Line {
@@ -47,7 +47,7 @@ impl Text {
         self.bytes.extend_from_slice(word.as_bytes())
     }
 
-    /// Adds a word and a number behind it.
+    /// Adds a word and a number after it.
     pub(crate) fn number(&mut self, word: &str, number: u64) -> Result<(), AllocError>
         ensures { OnOk result (self.new.bytes.items ≡ self.old.bytes.items ++ (word.now ++ decimal number)) }
     {
@@ -91,7 +91,7 @@ impl Text {
         self.word(")")
     }
 
-    /// Adds what holds a key, as `base`, `cpu0`, `state0.3` or `call`.
+    /// Adds a key's holder, as `base`, `cpu0`, `state0.3` or `call`.
     pub(crate) fn holder(&mut self, holder: Holder) -> Result<(), AllocError>
         ensures { OnOk result (self.new.bytes.items ≡ self.old.bytes.items ++ holder_text holder) }
     {
@@ -154,7 +154,7 @@ impl Text {
         self.line(moment.line)
     }
 
-    /// Adds bytes of a keystream, as `32+8`: the first byte and how many.
+    /// Adds bytes of a keystream, as `32+8`: the first byte, and how many.
     pub(crate) fn span(&mut self, span: Span) -> Result<(), AllocError>
         ensures { OnOk result (self.new.bytes.items ≡ self.old.bytes.items ++ span_text span) }
     {
@@ -182,7 +182,7 @@ impl Text {
         }
     }
 
-    /// Adds a piece, a space before it.
+    /// Adds a space and a piece.
     pub(crate) fn piece(&mut self, moments: &Moments, piece: Piece) -> Result<(), AllocError>
         ensures { OnOk result (self.new.bytes.items ≡ self.old.bytes.items ++ piece_text moments.now piece) }
     {
@@ -203,7 +203,7 @@ impl Text {
         }
     }
 
-    /// Adds a row without its pieces: the key, what holds it, when it was made and when it ended.
+    /// Adds a row without its pieces: the key, its holder, and the entries that made it and ended it.
     pub(crate) fn key(&mut self, moments: &Moments, row: &Row) -> Result<(), AllocError>
         ensures { OnOk result (self.new.bytes.items ≡ self.old.bytes.items ++ key_text moments.now row.now) }
     {

@@ -1,4 +1,4 @@
--- Facts of lists, of marks, and of lists that grow.
+-- Facts about lists, about marks, and about lists that grow.
 pub mod Each
 pub mod MarkLists
 pub mod Growing

@@ -1,4 +1,4 @@
--- The samples of a book, by those of the lines that its visits are the marks of.
+-- The samples of a book, if its visits are the marks of lines, from the samples of those lines.
 pub mod Lines
 pub mod DeedPlaces
 pub mod LineVisits

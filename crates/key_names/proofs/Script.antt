@@ -1,4 +1,4 @@
--- A text is a script exactly where the grammar says so, and has its first fault otherwise.
+-- A text is a script exactly if the grammar allows it, and otherwise has its first fault.
 pub mod EventLines
 pub mod HexFields
 pub mod HexBytes

@@ -1,4 +1,4 @@
--- What the book of a lawful transcript has.
+-- Facts about the book of a lawful transcript.
 pub mod KeyVisits
 pub mod TranscriptStates
 pub mod GoodSteps

@@ -1,4 +1,4 @@
--- No byte of a key stands in two uses, and what was used or replaced is not held.
+-- No byte of a key is in two uses, and no used byte and no replaced key is still held.
 pub mod UseLists
 pub mod Walks
 pub mod BaseUses

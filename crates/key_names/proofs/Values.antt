@@ -1,4 +1,4 @@
--- The values that lists leave in keys and batches are those of their names, and so are the printed bytes.
+-- The values of the keys and batches that lists leave are those of their names, and so are the printed bytes.
 pub mod Named
 pub mod StateNamed
 pub mod HeldBytes

@@ -1,4 +1,4 @@
--- Calls of vgetrandom, attempt by attempt, and the list of the state that they use.
+-- vgetrandom calls, attempt by attempt, and the list of the state that they use.
 pub mod Attempts
 pub mod CopiesKeep
 pub mod CallsKeep

@@ -1,4 +1,4 @@
--- The answer and the data that an event's line has, by what stands behind its steps.
+-- The answer and the data of an event's line, from the deeds of its steps.
 use Rattle.std.specs.Prelude.{ℕ, Bool, true, false, not, ◌&&◌, ◌==◌, List, [], ◌∷◌, if◌then◌else◌}
 use Rattle.key_names.specs.declared.entries.BaseEntry.{BaseEntry}
 use Rattle.key_names.specs.declared.entries.BaseEntry.TheVariants.{Interrupt}
@@ -27,7 +27,7 @@ abbrev pub is_interrupt : BaseEntry → Bool
 is_interrupt Interrupt = true
 is_interrupt _ = false
 
--- whether a read waited in vain: a look, and two visits of the base, the second an interrupt
+-- whether a read waited in vain: its deeds are a look and two visits of the base, the second an interrupt
 abbrev pub was_interrupted : List Deed → Bool
 was_interrupted (looked g ∷ at_base wait ∷ at_base ended ∷ []) = is_interrupt ended.entry
 was_interrupted _ = false
@@ -39,7 +39,7 @@ system_answer flags deeds =
     else (if found_unready deeds && (is_nonblock flags && not (is_insecure flags)) then Again
     else (if was_interrupted deeds then Interrupted else Done))
 
--- a tick fired where it extracted a root
+-- a tick fired if it extracted a root
 abbrev pub tick_answer : List Deed → Answer
 tick_answer (at_base v ∷ []) = Idle
 tick_answer _ = Fired
@@ -71,7 +71,7 @@ answer_of (Fork child) deeds = Done
 answer_of (Prepare cpu) deeds = Done
 answer_of (Online cpu) deeds = Done
 answer_of (Vmfork word text) deeds = Done
--- these two stand in calls of their own
+-- these two are in calls of their own
 answer_of (Vread len flags) deeds = Done
 answer_of (Inside point act) deeds = Done
 
@@ -82,7 +82,7 @@ deed_bytes (at_base v) = v.serves
 deed_bytes (at_cpu v) = v.serves
 deed_bytes nothing_there = []
 
--- a call serves what its last visit serves
+-- a call serves the bytes of its last visit
 abbrev pub served_bytes : List Deed → List ℕ
 served_bytes [] = []
 served_bytes (deed ∷ []) = deed_bytes deed
@@ -120,6 +120,6 @@ shown_of (Fork child) deeds = no_data
 shown_of (Prepare cpu) deeds = no_data
 shown_of (Online cpu) deeds = no_data
 shown_of (Vmfork word text) deeds = no_data
--- these two stand in calls of their own
+-- these two are in calls of their own
 shown_of (Vread len flags) deeds = no_data
 shown_of (Inside point act) deeds = no_data

@@ -1,4 +1,4 @@
--- What the base's list means: its state after its entries, and which entry may come when.
+-- The meaning of the base's list: its state after its entries, and which entry may follow.
 use Rattle.std.specs.Prelude.{ℕ, suc, ◌+◌, ◌-◌, ◌/◌, ◌*◌, ◌^◌, min, max, ◌≡◌, ◌≢◌, ◌≤◌, Bool, true, false, ◌&&◌, ⊤}
 use Rattle.std.specs.Prelude.{Option, Some, None, List, take, nat_lt, slice_get, option_and_then, if◌then◌else◌}
 use Rattle.std.specs.List.{fold}
@@ -11,12 +11,12 @@ use Rattle.key_names.specs.declared.entries.PoolEntry.{PoolEntry}
 use Rattle.key_names.specs.PoolList.{extraction_at}
 use Rattle.key_names.specs.LawfulList.{LawfulFrom}
 
--- how far the generator is (CRNG_EMPTY, CRNG_EARLY, CRNG_READY)
+-- the phase of the core (CRNG_EMPTY, CRNG_EARLY, CRNG_READY)
 pub data Phase : Type 0 where
   empty early ready : Phase
 
 pub record BaseState : Type 0 where
-  -- how many entries there were
+  -- the number of entries so far
   pub place : ℕ
   pub phase : Phase
   pub generation : ℕ
@@ -24,7 +24,7 @@ pub record BaseState : Type 0 where
   pub timer : Option ℕ
   -- the system is young: no interval was taken from the 120th second on
   pub early_boot : Bool
-  -- how many callers run
+  -- the number of running callers
   pub running : ℕ
   -- the least root that may be named next
   pub roots : ℕ
@@ -58,7 +58,7 @@ root_of Interrupt = None
 root_of Stall = None
 root_of Unstall = None
 
--- the CPU and its place that a refill names
+-- the CPU and the place of it that a refill names
 abbrev pub refill_of : BaseEntry → Option (ℕ × ℕ)
 refill_of (Early root) = None
 refill_of (Reseed root now) = None
@@ -92,7 +92,7 @@ abbrev pub root_or : Option ℕ → Option KeyName → Option KeyName
 root_or None key = key
 root_or (Some r) key = Some (Root r)
 
--- the key in use at an entry: the root that it names, or else the key before it
+-- the key in use at an entry: the root that the entry names, or else the key before it
 abbrev pub base_key_in_use : BaseEntry → Option KeyName → Option KeyName
 base_key_in_use e key = root_or (root_of e) key
 
@@ -100,7 +100,7 @@ base_key_in_use e key = root_or (root_of e) key
 abbrev pub base_key_after : ℕ → BaseEntry → Option KeyName → Option KeyName
 base_key_after i e key = if base_erases e then Some (Base i) else base_key_in_use e key
 
--- roots rise along the list
+-- roots rise along the list: the least root that may follow
 abbrev pub roots_after : Option ℕ → ℕ → ℕ
 roots_after None least = least
 roots_after (Some r) least = suc r
@@ -141,7 +141,7 @@ abbrev pub generation_after : Option ℕ → ℕ → ℕ
 generation_after None g = g
 generation_after (Some now) g = g + 1
 
--- each reseed works out an interval; one at 120 seconds or more ends the early boot
+-- each reseed computes an interval; one at 120 seconds or later ends the early boot
 abbrev pub early_boot_after : Option ℕ → Bool → Bool
 early_boot_after None early_boot = early_boot
 early_boot_after (Some now) early_boot = early_boot && nat_lt (now / 1000) 120
@@ -171,7 +171,7 @@ timer_after early_boot Interrupt timer = timer
 timer_after early_boot Stall timer = timer
 timer_after early_boot Unstall timer = timer
 
--- the running count has 32 bits and does not wrap
+-- the count of running callers has 32 bits and does not wrap
 abbrev pub one_more : ℕ → ℕ
 one_more n = min (2 ^ 32 - 1) (n + 1)
 
@@ -212,7 +212,7 @@ abbrev pub IsDue : Option ℕ → ℕ → Type 0
 IsDue None now = ⊥
 IsDue (Some due) now = due ≤ now
 
--- the entry fits phase, timer, generation and running count
+-- the entry fits the phase, the timer, the generation and the count of running callers
 abbrev pub BaseFits : BaseState → BaseEntry → Type 0
 BaseFits s (Early (Some root)) = s.phase ≡ empty
 BaseFits s (Early None) = s.phase ≢ empty
@@ -230,7 +230,7 @@ BaseFits s Interrupt = (s.generation ≡ 0) × (s.running ≡ 0)
 BaseFits s Stall = ⊤
 BaseFits s Unstall = ⊤
 
--- a root that is named is above those before, and its extraction names this place
+-- a named root is above those before it, and its extraction names this place
 abbrev pub RootStands : List PoolEntry → BaseState → Option ℕ → Type 0
 RootStands pool s None = ⊤
 RootStands pool s (Some r) = (s.roots ≤ r) × (extraction_at pool r ≡ Some s.place)
@@ -242,7 +242,7 @@ pub record BaseMayCome (pool : List PoolEntry) (s : BaseState) (e : BaseEntry) :
 abbrev pub LawfulBase : List PoolEntry → List BaseEntry → Type 0
 LawfulBase pool base = LawfulFrom (BaseMayCome pool) base_step base_start base
 
--- the root, and the refill, that the entry at a place names
+-- the root and the refill that the entry at a place names
 abbrev pub root_at : List BaseEntry → ℕ → Option ℕ
 root_at base i = option_and_then root_of (slice_get base i)
 

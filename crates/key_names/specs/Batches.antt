@@ -1,4 +1,4 @@
--- Batched integers: when a batch is filled, what it serves, and the bytes that it still holds (get_random_u8 to
+-- Batched integers: when a batch is filled, which bytes it serves, and which it still holds (get_random_u8 to
 -- get_random_u64). A batch has 96 bytes of one key's keystream, and serves integers of one width.
 use Rattle.std.specs.Prelude.{ℕ, suc, ◌+◌, ◌*◌, ◌/◌, Bool, true, false, not, ◌||◌, ◌==◌, Option, Some, None, List, ◌++◌}
 use Rattle.std.specs.Prelude.{take, drop, replicate, nat_le, if◌then◌else◌}
@@ -7,20 +7,21 @@ use Rattle.key_names.specs.declared.entries.CpuEntry.{CpuEntry}
 use Rattle.key_names.specs.declared.entries.CpuEntry.TheVariants.{Read, Int, Irq, Dump, Prepare, Online}
 use Rattle.key_names.specs.Keystream.{keystream}
 
--- the last fill of a batch: the key in use at it, its place in the CPU's list, how many integers were served since,
--- the first one included, and its look
+-- the last fill of a batch: the key in use at the fill, its place in the CPU's list, the number of integers served
+-- since, with the first one, and its look
 pub record Fill : Type 0 where
   pub key : Option KeyName
   pub place : ℕ
   pub count : ℕ
   pub look : ℕ
 
--- one more integer served
+-- the fill after one more integer was served
 abbrev pub one_more_served : Option Fill → Option Fill
 one_more_served None = None
 one_more_served (Some fill) = Some (record fill { count = suc fill.count })
 
--- each width's last fill after an entry at a place, given the key in use; preparing a CPU uses up its batches
+-- each width's last fill after an entry at a place, given the key in use. When a CPU is
+-- prepared, its batches are used up
 abbrev pub fills_after : ℕ → CpuEntry → Option KeyName → (ℕ → Option Fill) → ℕ → Option Fill
 fills_after place (Read look refill taken) key fills w = fills w
 fills_after place (Int look refill width true) key fills w =
@@ -31,16 +32,16 @@ fills_after place (Dump now) key fills w = fills w
 fills_after place Prepare key fills w = None
 fills_after place Online key fills w = fills w
 
--- whether an integer of this width fills its batch first: there is no fill, it is used up, or its look is another
+-- whether an integer of this width fills its batch first: the batch has no fill, is used up, or has another look
 abbrev pub must_fill : ℕ → ℕ → Option Fill → Bool
 must_fill look width None = true
 must_fill look width (Some fill) = nat_le (96 / width) fill.count || not (look == fill.look)
 
--- the integer that comes after these many of a fill with a key
+-- the integer that a fill with this key serves after this number of integers
 abbrev pub batched_int : List ℕ → ℕ → ℕ → List ℕ
 batched_int key width count = keystream key (32 + width * count) width
 
--- how many bytes of a batch were served
+-- the number of bytes of a batch that were served
 abbrev pub batch_pos : ℕ → Option Fill → ℕ
 batch_pos width None = 0
 batch_pos width (Some fill) = width * fill.count

@@ -1,4 +1,4 @@
--- BLAKE2s-256 with a key of 32 bytes or none, as in RFC 7693. Words have 32 bits and stand low byte first.
+-- BLAKE2s-256 with a key of 32 bytes or without one, as in RFC 7693. Words have 32 bits, low byte first.
 use Rattle.std.specs.Prelude.{ℕ, ◌+◌, ◌-◌, ◌*◌, ◌/◌, ◌%◌, ◌^◌, Bool, true, false, Option, Some, None, List, [], ◌∷◌}
 use Rattle.std.specs.Prelude.{◌++◌, length, map, take, drop, replicate, bit_xor, slice_index, slice_set, if◌then◌else◌}
 use Rattle.std.specs.Int.{w32, bit_not, rotate_right, from_le_bytes, to_le_bytes}
@@ -62,7 +62,7 @@ round v m =
 abbrev pub rounds : List ℕ → List ℕ → List ℕ
 rounds words v = fold (λ v schedule. round v (map (slice_index words) schedule)) v sigma
 
--- a block of a message: its 64 bytes, how many bytes the message has up to its end, and whether it is the last
+-- a block of a message: its 64 bytes, the number of the message's bytes up to its end, and whether it is the last
 pub record Block : Type 0 where
   pub bytes : List ℕ
   pub count : ℕ
@@ -90,7 +90,7 @@ unfoldable pub compressed : List ℕ → Block → List ℕ
 compressed h block =
     folded h (rounds (message_words block.bytes) (start_vector h block.count block.is_last))
 
--- the text behind the key's block, where there is a key (section 3.3)
+-- the text, after the key's block if there is a key (section 3.3)
 abbrev pub message : Option (List ℕ) → List ℕ → List ℕ
 message None text = text
 message (Some key) text = key ++ replicate 32 0 ++ text
@@ -103,19 +103,19 @@ key_len (Some key) = 32
 abbrev pub block_bytes : List ℕ → ℕ → List ℕ
 block_bytes bytes i = take 64 (drop (64 * i) bytes ++ replicate 64 0)
 
--- block i of a message, behind which more bytes follow
+-- block i of a message that has more bytes after it
 abbrev pub inner_block : List ℕ → ℕ → Block
 inner_block bytes i = record { bytes = block_bytes bytes i; count = 64 * (i + 1) % 2 ^ 64; is_last = false }
 
--- how many blocks of a message have more bytes behind them
+-- the number of blocks of a message with more bytes after them
 abbrev pub inner_count : List ℕ → ℕ
 inner_count bytes = (length bytes - 1) / 64
 
--- the first n blocks of a message, each of which has more bytes behind it
+-- the first n blocks of a message, each with more bytes after it
 abbrev pub inner_blocks : List ℕ → ℕ → List Block
 inner_blocks bytes n = map (inner_block bytes) (range_with_len 0 n)
 
--- the last block of a message; a message of no bytes has one block of zeros
+-- the last block of a message. A message of no bytes has one block of zeros
 abbrev pub last_block : List ℕ → Block
 last_block bytes =
     record { bytes = block_bytes bytes (inner_count bytes); count = length bytes % 2 ^ 64; is_last = true }
@@ -124,13 +124,13 @@ last_block bytes =
 abbrev pub blocks : List ℕ → List Block
 blocks bytes = inner_blocks bytes (inner_count bytes) ++ last_block bytes ∷ []
 
--- the hash words before any block: the first word of the parameter block, which has the length of the hash, the length
--- of the key, fanout 1 and depth 1, is xored into the first (section 2.5)
+-- the hash words before any block. The first word of the parameter block has the length of the hash, the length of the
+-- key, fanout 1 and depth 1; it is xored into the first word (section 2.5)
 abbrev pub start_words : ℕ → List ℕ
 start_words key_bytes =
     slice_set iv 0 (bit_xor (slice_index iv 0) (from_le_bytes w32 (32 ∷ key_bytes ∷ 1 ∷ 1 ∷ [])))
 
--- BLAKE2s-256 of a text under a key of 32 bytes, or under none
+-- BLAKE2s-256 of a text, under a key of 32 bytes or without a key
 unfoldable pub blake2s : Option (List ℕ) → List ℕ → List ℕ
 blake2s key text =
     flat_map (to_le_bytes w32) (fold compressed (start_words (key_len key)) (blocks (message key text)))

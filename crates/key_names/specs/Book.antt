@@ -16,7 +16,7 @@ pub record Visit (E : Type 0) : Type 0 where
   pub who : Who
   pub entry : E
 
--- the visits of each lane, and of each caller the entries of each of its states
+-- the visits of each lane, and the entries of each caller's states
 pub record Book : Type 0 where
   pub pool : List (Visit PoolEntry)
   pub base : List (Visit BaseEntry)
@@ -41,7 +41,7 @@ lists_of book = record {
   callers = book.callers;
 }
 
--- the list of this number; beyond the last there are no entries
+-- the list with this number; beyond the last list it is empty
 abbrev pub list_at : {E : Type 0} → List (List E) → ℕ → List E
 list_at [] n = []
 list_at (xs ∷ xss) zero = xs
@@ -53,20 +53,20 @@ cpu_list lists c = list_at lists.cpus c
 abbrev pub state_list : Lists → ℕ → ℕ → List VEntry
 state_list lists caller state = list_at (list_at lists.callers caller) state
 
--- each lane's list is lawful: a root or a refill that an entry names stands in the lane below, and names it
+-- each lane's list is lawful: the root or refill that an entry names is in the lane below, and names the entry
 pub record ForwardLawful (lists : Lists) : Type 0 where
   pub base : LawfulBase lists.pool lists.base
   pub cpus : (c : ℕ) → LawfulCpu lists.base c (cpu_list lists c)
 
--- a base place that an extraction names names it
+-- the base place that an extraction names also names the extraction
 abbrev pub ExtractionAnswered : Lists → ℕ → ℕ → Type 0
 ExtractionAnswered lists p i = root_at lists.base i ≡ Some p
 
--- a CPU's place that a refill names names it
+-- the CPU's place that a refill names also names the refill
 abbrev pub RefillAnswered : Lists → ℕ → ℕ → ℕ → Type 0
 RefillAnswered lists b c k = base_refill_at (cpu_list lists c) k ≡ Some b
 
--- the lanes' lists are lawful, and each name is answered
+-- the lists of the lanes are lawful, and each named place names back
 pub record LawfulLanes (lists : Lists) : Type 0 where
   pub forward : ForwardLawful lists
   pub extractions : (p i : ℕ) → extraction_at lists.pool p ≡ Some i → ExtractionAnswered lists p i
@@ -80,7 +80,7 @@ pub record HalfFinishedLanes (lists : Lists) : Type 0 where
   pub refills : (b c k : ℕ) → refill_at lists.base b ≡ Some (c, k) →
       RefillAnswered lists b c k ⊎ (length (cpu_list lists c) ≤ k)
 
--- an entry of a vgetrandom state
+-- the place of an entry in the list of a caller's vgetrandom state
 pub record StatePlace : Type 0 where
   pub caller : ℕ
   pub state : ℕ
@@ -90,14 +90,14 @@ pub record StatePlace : Type 0 where
 abbrev pub rekey_in : Lists → StatePlace → Option (ℕ × ℕ)
 rekey_in lists at = rekey_at (state_list lists at.caller at.state) at.place
 
--- the states' lists are lawful, and no two entries take one read
+-- the lists of the states are lawful, and no two entries take one read
 pub record LawfulStates (lists : Lists) : Type 0 where
   pub states : (caller state : ℕ) → LawfulStateList (cpu_list lists) caller state (state_list lists caller state)
   pub one_taker : (a b : StatePlace) (read : ℕ × ℕ) → rekey_in lists a ≡ Some read →
       rekey_in lists b ≡ Some read → a ≡ b
 
--- all of the lists is lawful; that samples of interrupts are where they belong is a fact about who made which visit,
--- and stands apart (LawfulSamples)
+-- all lists are lawful. Whether interrupt samples are in place depends on the makers of the visits, and is defined
+-- separately (LawfulSamples)
 pub record LawfulBook (lists : Lists) : Type 0 where
   pub lanes : LawfulLanes lists
   pub states : LawfulStates lists

@@ -1,4 +1,4 @@
--- The history of a book: its visits, in all lanes, as one list by stamps.
+-- The history of a book: the visits of all lanes as one list, ordered by stamps.
 use Rattle.std.specs.Prelude.{ℕ, suc, ◌≡◌, ◌==◌, Bool, ◌&&◌, ◌||◌, List, [], ◌∷◌, ◌++◌, nat_lt, filter, IsPermutation}
 use Rattle.std.specs.Prelude.{IsSortedBy}
 use Rattle.key_names.specs.declared.names.LaneId.{LaneId}
@@ -17,7 +17,7 @@ pub record Happening : Type 0 where
   pub stamp : ℕ
   pub who : Who
 
--- the visits of a lane's list, place being that of the first
+-- the visits of a lane's list; place is that of the first
 abbrev pub visits_from : {E : Type 0} → LaneId → ℕ → List (Visit E) → List Happening
 visits_from lane place [] = []
 visits_from lane place (visit ∷ visits) =
@@ -26,7 +26,7 @@ visits_from lane place (visit ∷ visits) =
 abbrev pub visits_of_lane : {E : Type 0} → LaneId → List (Visit E) → List Happening
 visits_of_lane lane visits = visits_from lane 0 visits
 
--- the visits of the CPUs, c being the number of the first
+-- the visits of the CPUs; c is the number of the first
 abbrev pub visits_of_cpus : ℕ → List (List (Visit CpuEntry)) → List Happening
 visits_of_cpus c [] = []
 visits_of_cpus c (visits ∷ more) = visits_of_lane (CpuLane c) visits ++ visits_of_cpus (suc c) more
@@ -42,17 +42,17 @@ lane_visits book PoolLane = visits_of_lane PoolLane book.pool
 lane_visits book BaseLane = visits_of_lane BaseLane book.base
 lane_visits book (CpuLane c) = visits_of_lane (CpuLane c) (list_at book.cpus c)
 
--- whether the one comes before the other: by stamp, and then by caller
+-- whether one visit comes before the other: by stamp, and then by caller
 abbrev pub comes_before : Happening → Happening → Bool
 comes_before a b = nat_lt a.stamp b.stamp || (a.stamp == b.stamp && nat_lt a.who.caller b.who.caller)
 
--- a history of a book: all its visits, so sorted
+-- a history of a book has all its visits, sorted so
 pub record IsHistory (book : Book) (history : List Happening) : Type 0 where
   pub whole : IsPermutation (all_visits book) history
   pub sorted : IsSortedBy comes_before history
 
--- the history cut down to one lane is the lane's list in its order, where the visits of the book are a transcript's
--- marks, and these stand. So what is read lane by lane is read in the order of the history
+-- if a book's visits are the marks of a transcript, and MarksStand holds for them, its history cut down to one lane is
+-- the lane's list in its order. So entries that are read lane by lane are read in the order of the history
 abbrev pub HistoryKeepsLanes : Type 0
 HistoryKeepsLanes = (script : Script) (t : List (List SeenLine)) (book : Book) (history : List Happening)
     (lane : LaneId) → MarksStand script t → VisitsAre book (all_marks t) → IsHistory book history →

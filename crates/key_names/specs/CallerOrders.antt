@@ -1,4 +1,4 @@
--- A caller's order as its start and its own steps, and what goes along it carried from step to step.
+-- A caller's order as its start and its own steps, and facts carried along it from step to step.
 use Rattle.std.specs.Prelude.{ℕ, ◌≡◌, ◌<◌, ⊤, Some, List, [], ◌∷◌, ◌++◌, length}
 use Rattle.std.specs.List.{fold}
 use Rattle.key_names.specs.declared.names.Step.{Step}
@@ -8,7 +8,7 @@ use Rattle.key_names.specs.Deeds.{Deed}
 use Rattle.key_names.specs.History.{ancestors_steps, inherited_steps, caller_orders, calls_steps, through_visit}
 use Rattle.key_names.specs.History.{seen, seen_after, LookStands, LooksStand}
 
--- what stands before a caller's own steps
+-- the steps before a caller's own
 abbrev pub start_of : List (List Call) → ℕ → List Step
 start_of callers c = inherited_steps (ancestors_steps callers c) (parent_from c 0 callers)
 
@@ -16,24 +16,25 @@ abbrev pub OrderIsStartAndOwn : Type 0
 OrderIsStartAndOwn = (callers : List (List Call)) (c : ℕ) → c < length callers →
     list_at (caller_orders callers) c ≡ start_of callers c ++ calls_steps (list_at callers c)
 
--- a child starts with what its parent starts with, and what the parent does up to and with the visit of the fork
+-- a child starts with the steps that its parent starts with, and then those of the parent up to the visit of
+-- the fork, which is included
 abbrev pub StartIsAFront : Type 0
 StartIsAFront = (callers : List (List Call)) (c : ℕ) (parent : Parent) → parent_from c 0 callers ≡ Some parent →
     parent.caller < c → start_of callers c
     ≡ start_of callers parent.caller ++ calls_steps parent.fork.before ++ through_visit parent.fork.line.steps
 
--- each look stands where the caller has seen this much before the first
+-- LookStands holds for each look, if the caller has seen this generation before the first
 abbrev pub LooksFrom : ℕ → ℕ → List Deed → Type 0
 LooksFrom reseeds seen [] = ⊤
 LooksFrom reseeds seen (deed ∷ deeds) = LookStands reseeds seen deed × LooksFrom reseeds (seen_after seen deed) deeds
 
--- what was done before counts by what was seen in it
+-- the steps before matter only by the greatest generation seen in them
 abbrev pub LooksAreCounted : Type 0
 LooksAreCounted = (reseeds : ℕ) (before deeds : List Deed) →
     (LooksStand reseeds before deeds → LooksFrom reseeds (seen before) deeds)
     × (LooksFrom reseeds (seen before) deeds → LooksStand reseeds before deeds)
 
--- looks in two parts, one behind the other
+-- looks can be checked in two parts, one after the other
 abbrev pub LooksInParts : Type 0
 LooksInParts = (reseeds seen : ℕ) (front back : List Deed) →
     (LooksFrom reseeds seen (front ++ back) →

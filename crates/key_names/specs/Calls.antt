@@ -1,4 +1,4 @@
--- What a caller's events ask for, one call after another, and the setting that each call finds.
+-- A caller's events as calls, one after another, and the setting of each call.
 use Rattle.std.specs.Prelude.{ℕ, zero, suc, Bool, true, false, Option, Some, None, List, [], ◌∷◌, ◌++◌, ◌==◌, replicate}
 use Rattle.std.specs.Prelude.{if◌then◌else◌}
 use Rattle.std.specs.List.{fold}
@@ -12,7 +12,7 @@ use Rattle.key_names.specs.declared.events.InsideAct.{InsideAct}
 use Rattle.key_names.specs.declared.point.Point.{Point}
 use Rattle.key_names.specs.SeenLine.{SeenLine}
 
--- what a caller has set: its CPU, its moment in milliseconds and its hardware words
+-- a caller's setting: its CPU, its moment in milliseconds and its hardware words
 pub record Setting : Type 0 where
   pub cpu : ℕ
   pub now : ℕ
@@ -52,27 +52,27 @@ setting_after set (Online cpu) = set
 setting_after set (Vmfork word text) = set
 setting_after set (State number) = set
 
--- an act that waits for a point of a vread: the point, what it does, and its line
+-- an act that waits for a point of a vread: the point, the action, and its line
 pub record BoundAct : Type 0 where
   pub point : Point
   pub act : InsideAct
   pub line : SeenLine
 
--- what a caller does at once, with its lines: an event by itself, a vread with the acts inside it, an act that no vread
--- follows, or the end
+-- one call, with its lines: an event by itself, a vread with the acts inside it, an act that no
+-- vread follows, or the end
 pub data Call : Type 0 where
   alone : Event → SeenLine → Call
   vread_call : ℕ → ℕ → SeenLine → List BoundAct → Call
   unbound : BoundAct → Call
   ending : SeenLine → Call
 
--- whether a vread stands among the events
+-- whether one of the events is a vread
 abbrev pub has_vread : List Event → Bool
 has_vread [] = false
 has_vread (Vread len flags ∷ es) = true
 has_vread (_ ∷ es) = has_vread es
 
--- the calls of some events with their lines, waiting being the acts that wait for a vread
+-- the calls of some events with their lines; waiting are the acts that wait for a vread
 abbrev pub calls_from : List BoundAct → List Event → List SeenLine → List Call
 calls_from waiting [] [] = []
 calls_from waiting [] (line ∷ lines) = ending line ∷ []
@@ -93,14 +93,14 @@ all_calls [] t = []
 all_calls (events ∷ callers) [] = calls_of events [] ∷ all_calls callers []
 all_calls (events ∷ callers) (lines ∷ t) = calls_of events lines ∷ all_calls callers t
 
--- the setting after a call: only events by themselves set anything
+-- the setting after a call. Only events by themselves change it
 abbrev pub setting_after_call : Setting → Call → Setting
 setting_after_call set (alone event line) = setting_after set event
 setting_after_call set (vread_call len flags line acts) = set
 setting_after_call set (unbound bound) = set
 setting_after_call set (ending line) = set
 
--- where a list of calls forks a caller: the calls before the fork, and the fork's line
+-- the place in a list of calls that forks a caller: the calls before the fork, and the fork's line
 pub record ForkPoint : Type 0 where
   pub before : List Call
   pub line : SeenLine
@@ -116,7 +116,7 @@ fork_point c (alone (Fork child) line ∷ calls) =
     else with_call_before (alone (Fork child) line) (fork_point c calls)
 fork_point c (call ∷ calls) = with_call_before call (fork_point c calls)
 
--- the parent of a caller, and where it forks it
+-- the parent of a caller, and the place where it forks the caller
 pub record Parent : Type 0 where
   pub caller : ℕ
   pub fork : ForkPoint
@@ -125,7 +125,7 @@ abbrev pub parent_here : ℕ → Option ForkPoint → Option Parent → Option P
 parent_here p None later = later
 parent_here p (Some fork) later = Some (record { caller = p; fork = fork })
 
--- the parent of caller c, p being the number of the first list of calls
+-- the parent of caller c; p is the number of the first list of calls
 abbrev pub parent_from : ℕ → ℕ → List (List Call) → Option Parent
 parent_from c p [] = None
 parent_from c p (calls ∷ rest) = parent_here p (fork_point c calls) (parent_from c (suc p) rest)

@@ -1,4 +1,4 @@
--- What a CPU's list means: its generation, its key and its batches after its entries, and which entry may come when.
+-- The meaning of a CPU's list: its generation, its key and its batches after its entries, and which entry may follow.
 use Rattle.std.specs.Prelude.{ℕ, suc, ◌≡◌, ◌≤◌, ◌↔◌, ◌⊎◌, Bool, true, false, ⊤, Option, Some, None, List, slice_get}
 use Rattle.std.specs.Prelude.{option_and_then, if◌then◌else◌}
 use Rattle.std.specs.List.{fold}
@@ -14,12 +14,12 @@ use Rattle.key_names.specs.Batches.{Fill, fills_after, must_fill}
 use Rattle.key_names.specs.LawfulList.{LawfulFrom}
 
 pub record CpuState : Type 0 where
-  -- how many entries there were
+  -- the number of entries so far
   pub place : ℕ
   pub generation : ℕ
   -- the name of the key
   pub key : Option KeyName
-  -- of each width, the last fill
+  -- the last fill of each width
   pub fills : ℕ → Option Fill
 
 abbrev pub cpu_start : CpuState
@@ -47,7 +47,7 @@ abbrev pub call_or : Option ℕ → Option KeyName → Option KeyName
 call_or None key = key
 call_or (Some b) key = Some (Call BaseLane b)
 
--- the key in use at an entry: what the base handed over in the refill that it names, or else the key before it
+-- the key in use at an entry: the key that the base handed over in the named refill, or else the key before it
 abbrev pub cpu_key_in_use : CpuEntry → Option KeyName → Option KeyName
 cpu_key_in_use e key = call_or (base_refill_of e) key
 
@@ -79,20 +79,20 @@ cpu_step base c s e = record {
 abbrev pub cpu_after : List BaseEntry → ℕ → List CpuEntry → CpuState
 cpu_after base c = fold (cpu_step base c) cpu_start
 
--- a look found a generation, and none that is behind the CPU's
+-- a look found a generation, and it is not below the CPU's
 pub record LookFitsCpu (s : CpuState) (look : ℕ) : Type 0 where
   pub known : 1 ≤ look
   pub not_back : s.generation ≤ look
 
--- a read names no refill exactly where its look is the CPU's generation
+-- a read names no refill exactly if its look is the CPU's generation
 abbrev pub ReadNames : CpuState → ℕ → Option ℕ → Type 0
 ReadNames s look refill = (refill ≡ None) ↔ (look ≡ s.generation)
 
--- an integer names none exactly where it fills no batch, or its look is the CPU's generation
+-- an integer names no refill exactly if it fills no batch, or its look is the CPU's generation
 abbrev pub IntNames : CpuState → ℕ → Option ℕ → Bool → Type 0
 IntNames s look refill filled = (refill ≡ None) ↔ ((filled ≡ false) ⊎ (look ≡ s.generation))
 
--- an integer fills its batch exactly where it must
+-- an integer fills its batch exactly if it must
 abbrev pub FillStands : CpuState → ℕ → ℕ → Bool → Type 0
 FillStands s look width filled = filled ≡ must_fill look width (s.fills width)
 
@@ -114,7 +114,7 @@ CpuFits s (Dump now) = ⊤
 CpuFits s Prepare = ⊤
 CpuFits s Online = ⊤
 
--- a refill that is named is a base entry that names this CPU and place, at a generation of at least the look
+-- a named refill is a base entry that names this CPU and place, at a generation not below the look
 abbrev pub RefillNames : List BaseEntry → ℕ → ℕ → ℕ → Option ℕ → Type 0
 RefillNames base c place look None = ⊤
 RefillNames base c place look (Some b) = (refill_at base b ≡ Some (c, place)) × (look ≤ generation_at base b)
@@ -138,7 +138,7 @@ LawfulCpu base c es = LawfulFrom (CpuMayCome base c) (cpu_step base c) cpu_start
 abbrev pub base_refill_at : List CpuEntry → ℕ → Option ℕ
 base_refill_at es k = option_and_then base_refill_of (slice_get es k)
 
--- what a read takes
+-- of a read, whether it is for a user or the kernel, and its number of bytes
 abbrev pub taken_of : CpuEntry → Option Taken
 taken_of (Read look refill taken) = Some taken
 taken_of (Int look refill width filled) = None

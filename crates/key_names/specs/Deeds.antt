@@ -1,4 +1,5 @@
--- Steps looked up in the lists: for a look the word that it found, for a visit what its maker met.
+-- Deeds: steps looked up in the lists. A look has the generation that it found, and a visit its entry
+-- and the states around it.
 use Rattle.std.specs.Prelude.{ℕ, true, false, Option, Some, None, List, [], take, map, slice_get}
 use Rattle.key_names.specs.declared.names.LaneId.{LaneId}
 use Rattle.key_names.specs.declared.names.LaneId.TheVariants.{Pool as PoolLane, Base as BaseLane, Cpu as CpuLane}
@@ -42,7 +43,7 @@ pub record CpuVisit : Type 0 where
   pub entry : CpuEntry
   pub serves : List ℕ
 
--- a step with what stands behind it; a mark at whose place the lists have no entry has nothing behind it
+-- a step with its entry. A mark at a place without an entry gives nothing_there
 pub data Deed : Type 0 where
   looked : ℕ → Deed
   at_pool : PoolVisit → Deed
@@ -50,7 +51,7 @@ pub data Deed : Type 0 where
   at_cpu : CpuVisit → Deed
   nothing_there : Deed
 
--- what an entry of the base serves with a key in use of this value: only a draw serves
+-- the bytes that an entry of the base serves with this value of the key in use: only a draw serves
 abbrev pub base_serves : List ℕ → BaseEntry → List ℕ
 base_serves key (Draw root taken) = taken_bytes key taken
 base_serves key (Early root) = []
@@ -70,7 +71,7 @@ abbrev pub int_of : Lists → ℕ → ℕ → Option Fill → List ℕ
 int_of lists c width None = []
 int_of lists c width (Some fill) = next_int lists c width fill
 
--- what an entry of CPU c serves with a key in use of this value, given the last fill of each width
+-- the bytes that an entry of CPU c serves with this value of the key in use, given the last fill of each width
 abbrev pub cpu_serves : Lists → ℕ → (ℕ → Option Fill) → List ℕ → CpuEntry → List ℕ
 cpu_serves lists c fills key (Read look refill taken) = taken_bytes key taken
 cpu_serves lists c fills key (Int look refill width true) = batched_int key width 0
@@ -104,12 +105,12 @@ cpu_visit lists c place e =
       serves = cpu_serves lists c before.fills used e;
     }
 
--- what a visit makes of an entry, if there is one
+-- the deed of a visit's entry, or nothing_there without an entry
 abbrev pub deed_or : {E : Type 0} → (E → Deed) → Option E → Deed
 deed_or deed None = nothing_there
 deed_or deed (Some e) = deed e
 
--- what stands at a place of a lane
+-- the deed of a place of a lane
 abbrev pub deed_at : Lists → LaneId → ℕ → Deed
 deed_at lists PoolLane place = deed_or (λ e. at_pool (pool_visit lists place e)) (slice_get lists.pool place)
 deed_at lists BaseLane place = deed_or (λ e. at_base (base_visit lists place e)) (slice_get lists.base place)
@@ -119,6 +120,6 @@ abbrev pub deed_of : Lists → Step → Deed
 deed_of lists (Look g) = looked g
 deed_of lists (Marked mark) = deed_at lists mark.lane mark.place
 
--- what stands behind the steps of a line
+-- the deeds of the steps of a line
 abbrev pub deeds_of : Lists → List Step → List Deed
 deeds_of lists steps = map (deed_of lists) steps

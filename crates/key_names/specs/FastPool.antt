@@ -12,7 +12,8 @@ pub record FastWords : Type 0 where
   pub s2 : ℕ
   pub s3 : ℕ
 
--- the count has 32 bits; bit 31 says that a dump is due (MIX_INFLIGHT). The moment is that of the last dump
+-- the words; the count, which has 32 bits and in bit 31 marks that a dump is due (MIX_INFLIGHT); and
+-- the moment of the last dump
 pub record FastPool : Type 0 where
   pub words : FastWords
   pub count : ℕ
@@ -42,7 +43,7 @@ sip_round s =
     let b2 = bit_xor (rotate_left w64 b1 17) c2 in
     record { s0 = a3; s1 = b2; s2 = rotate_left w64 c2 32; s3 = d2 }
 
--- one word mixed in: xored with the last word before a round and with the first one after it
+-- one word is mixed in: it is xored with the last word before a round and with the first one after it
 unfoldable pub word_mixed : FastWords → ℕ → FastWords
 word_mixed s v =
     let t = sip_round (record s { s3 = bit_xor s.s3 v }) in

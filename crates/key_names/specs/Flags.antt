@@ -5,10 +5,10 @@ use Rattle.std.specs.Prelude.{ℕ, ◌/◌, ◌%◌, Bool, not, ◌&&◌, ◌||�
 abbrev pub is_nonblock : ℕ → Bool
 is_nonblock flags = flags % 2 == 1
 
--- whether it takes what there is, also before the core is ready
+-- whether a read may be served before the core is ready
 abbrev pub is_insecure : ℕ → Bool
 is_insecure flags = flags / 4 % 2 == 1
 
--- whether a flag is unknown, or those for /dev/random and for an unready core stand together
+-- whether a flag is unknown, or the flags for /dev/random and for an unready core are set together
 abbrev pub is_bad : ℕ → Bool
 is_bad flags = not (nat_lt flags 8) || (flags / 2 % 2 == 1 && is_insecure flags)

@@ -1,4 +1,4 @@
--- The forms of a line: which looks and entries may stand behind the steps of each event.
+-- The forms of a line: the deeds that the steps of each event may have.
 use Rattle.std.specs.Prelude.{ℕ, ◌≡◌, ◌≤◌, ◌⊎◌, Bool, true, not, ◌&&◌, ◌==◌, MatchBool, Some, None, List, [], ◌∷◌, ◌++◌}
 use Rattle.std.specs.Int.{w64, to_le_bytes}
 use Rattle.key_names.specs.declared.entries.Taken.{Taken}
@@ -22,7 +22,7 @@ use Rattle.key_names.specs.Flags.{is_bad, is_nonblock, is_insecure}
 use Rattle.key_names.specs.Calls.{Setting}
 use Rattle.key_names.specs.Deeds.{Deed, PoolVisit, BaseVisit, CpuVisit, looked, at_pool, at_base, at_cpu}
 
--- an extraction, and a base entry that names its root
+-- an extraction, and then a base entry that names its root
 pub record Rooted (set : Setting) (entry : ℕ → BaseEntry) (deeds : List Deed) : Type 0 where
   pub pool : PoolVisit
   pub base : BaseVisit
@@ -36,13 +36,13 @@ pub record BaseOnly (entry : BaseEntry) (deeds : List Deed) : Type 0 where
   pub deeds_are : deeds ≡ at_base base ∷ []
   pub is : base.entry ≡ entry
 
--- CROSS: what follows a credit
+-- CROSS: the deeds after a credit
 abbrev pub Cross : Setting → Crossing → List Deed → Type 0
 Cross set none deeds = deeds ≡ []
 Cross set ready deeds = Rooted set (λ r. Reseeded r set.now) deeds
 Cross set early deeds = Rooted set (λ r. Early (Some r)) deeds ⊎ BaseOnly (Early None) deeds
 
--- DRAW: a read from the base, which names a root where it is Empty
+-- DRAW: a read from the base, which names a root if the base is Empty
 abbrev pub DrawForm : Setting → Taken → List Deed → Type 0
 DrawForm set taken deeds = Rooted set (λ r. Draw (Some r) taken) deeds ⊎ BaseOnly (Draw None taken) deeds
 
@@ -71,7 +71,7 @@ CpuReadForm set taken deeds = PlainRead set taken deeds ⊎ RefilledRead set tak
 abbrev pub Looked : (ℕ → List Deed → Type 0) → List Deed → Type 0
 Looked P deeds = (g : ℕ) × (rest : List Deed) × (deeds ≡ looked g ∷ rest) × P g rest
 
--- behind the first look of USER: a read from the base or the CPU
+-- USER after its first look: a read from the base or the CPU
 abbrev pub ReadForm : Setting → Taken → ℕ → List Deed → Type 0
 ReadForm set taken g rest = ((g ≡ 0) × DrawForm set taken rest) ⊎ CpuReadForm set taken rest
 
@@ -93,7 +93,7 @@ pub record Waited (set : Setting) (n : ℕ) (deeds : List Deed) : Type 0 where
   pub resumes : resume.entry ≡ Resume
   pub reads : MatchBool (n == 0) (rest ≡ []) (CpuReadForm set (User n) rest)
 
--- SYS behind its first look
+-- SYS after its first look
 abbrev pub LookedForm : Setting → ℕ → ℕ → ℕ → List Deed → Type 0
 LookedForm set n flags g rest =
     MatchBool (g == 0 && not (is_insecure flags))
@@ -104,7 +104,7 @@ LookedForm set n flags g rest =
 abbrev pub SysForm : Setting → ℕ → ℕ → List Deed → Type 0
 SysForm set n flags deeds = MatchBool (is_bad flags) (deeds ≡ []) (Looked (LookedForm set n flags) deeds)
 
--- a pool entry that credits bits, and what it crossed
+-- a pool entry that credits bits, and the deeds of the bound that it crossed
 pub record CreditForm (set : Setting) (entry : PoolEntry) (deeds : List Deed) : Type 0 where
   pub pool : PoolVisit
   pub rest : List Deed
@@ -118,7 +118,7 @@ pub record PoolOnly (entry : PoolEntry) (deeds : List Deed) : Type 0 where
   pub deeds_are : deeds ≡ at_pool pool ∷ []
   pub is : pool.entry ≡ entry
 
--- a fork whose thread was handed back
+-- a fork whose thread could not be started
 pub record Stalled (child : ℕ) (deeds : List Deed) : Type 0 where
   pub fork : BaseVisit
   pub stall : BaseVisit
@@ -128,7 +128,7 @@ pub record Stalled (child : ℕ) (deeds : List Deed) : Type 0 where
   pub stalls : stall.entry ≡ Stall
   pub unstalls : unstall.entry ≡ Unstall
 
--- a dump of the setting's CPU; which bytes and bits it mixes is the law of the samples
+-- a dump of the setting's CPU. The law of the samples decides which bytes and bits it mixes
 pub record DumpForm (set : Setting) (deeds : List Deed) : Type 0 where
   pub dump : CpuVisit
   pub text : List ℕ
@@ -139,7 +139,7 @@ pub record DumpForm (set : Setting) (deeds : List Deed) : Type 0 where
   pub dumps : dump.entry ≡ Dump set.now
   pub mixes : CreditForm set (Mix text bits) rest
 
--- an interrupt: its sample, and where a dump was due the dump, what it mixes and what that crosses
+-- an interrupt: its sample, and if a dump was due, the dump, its mix and the deeds of the bound that this crosses
 pub record IrqForm (set : Setting) (v1 v2 : ℕ) (deeds : List Deed) : Type 0 where
   pub sample : CpuVisit
   pub rest : List Deed
@@ -155,7 +155,7 @@ pub record CpuOnly (cpu : ℕ) (entry : CpuEntry) (deeds : List Deed) : Type 0 w
   pub on : visit.cpu ≡ cpu
   pub is : visit.entry ≡ entry
 
--- an integer out of a batch, behind the look of the call: the look that the batch is served with, without a refill
+-- an integer from a batch, after the call's own look: the look that the batch is served with, and no refill
 pub record BatchForm (set : Setting) (width : ℕ) (deeds : List Deed) : Type 0 where
   pub look : ℕ
   pub cpu : CpuVisit
@@ -164,7 +164,7 @@ pub record BatchForm (set : Setting) (width : ℕ) (deeds : List Deed) : Type 0 
   pub on : cpu.cpu ≡ set.cpu
   pub serves : cpu.entry ≡ Int look None width filled
 
--- the same, with a batch that a refilled CPU fills
+-- the same, if the batch is filled after a refill of the CPU
 pub record RefilledBatch (set : Setting) (width : ℕ) (deeds : List Deed) : Type 0 where
   pub look : ℕ
   pub base : BaseVisit
@@ -174,17 +174,17 @@ pub record RefilledBatch (set : Setting) (width : ℕ) (deeds : List Deed) : Typ
   pub refills : base.entry ≡ Refill set.cpu cpu.place
   pub serves : cpu.entry ≡ Int look (Some base.place) width true
 
--- an integer: a kernel read where the look of the call found the core not ready, and otherwise a batch's entry
+-- an integer: a kernel read if the call's own look found the core not ready, and else an integer from a batch
 abbrev pub IntForm : Setting → ℕ → ℕ → List Deed → Type 0
 IntForm set width g rest =
     (g ≡ 0) × (DrawForm set (Kernel width) rest ⊎ CpuReadForm set (Kernel width) rest)
     ⊎ (1 ≤ g) × (BatchForm set width rest ⊎ RefilledBatch set width rest)
 
--- a reseed behind a look that found the core ready, and nothing behind one that did not
+-- a reseed after a look that found the core ready, and nothing after one that did not
 abbrev pub ReseedForm : Setting → ℕ → List Deed → Type 0
 ReseedForm set g rest = (g ≡ 0) × (rest ≡ []) ⊎ (1 ≤ g) × Rooted set (λ r. Reseeded r set.now) rest
 
--- a device sample: a word as 8 bytes, and then bytes, without credit (`add_device_randomness`)
+-- a device sample: a word as 8 bytes and then bytes, without credit (`add_device_randomness`)
 abbrev pub device_entry : ℕ → List ℕ → PoolEntry
 device_entry word text = Mix (to_le_bytes w64 word ++ text) 0
 
@@ -196,7 +196,7 @@ pub record VmforkForm (set : Setting) (word : ℕ) (text : List ℕ) (deeds : Li
   pub mixes : pool.entry ≡ device_entry word text
   pub reseeds : Looked (ReseedForm set) rest
 
--- what stands behind the steps of an event by itself
+-- the deeds that the steps of an event by itself may have
 abbrev pub Form : Setting → Event → List Deed → Type 0
 Form set (At moment) deeds = deeds ≡ []
 Form set (On cpu) deeds = deeds ≡ []
@@ -224,10 +224,10 @@ Form set (Prepare cpu) deeds = CpuOnly cpu Prepared deeds
 Form set (Online cpu) deeds = CpuOnly cpu Onlined deeds
 Form set (Vmfork word text) deeds = VmforkForm set word text deeds
 Form set (Irq v1 v2) deeds = IrqForm set v1 v2 deeds
--- these two stand in calls of their own
+-- these two are in calls of their own
 Form set (Vread len flags) deeds = ⊥
 Form set (Inside point act) deeds = ⊥
 
--- what stands behind the steps of the last line
+-- the deeds that the steps of the last line may have
 abbrev pub EndForm : List Deed → Type 0
 EndForm deeds = BaseOnly End deeds

@@ -1,4 +1,4 @@
--- In what order a caller's steps happen, with those of its ancestors before it, and what it has seen.
+-- The order of a caller's steps, with its ancestors' steps before them, and the generations that the caller has seen.
 use Rattle.std.specs.Prelude.{ℕ, zero, suc, ◌≤◌, max, Bool, true, false, ⊤, Option, Some, None, List, []}
 use Rattle.std.specs.Prelude.{◌∷◌, ◌++◌, length, take, drop, slice_get, if◌then◌else◌}
 use Rattle.std.specs.Option.{option_map_or}
@@ -16,7 +16,7 @@ abbrev pub is_mark : Step → Bool
 is_mark (Look g) = false
 is_mark (Marked mark) = true
 
--- the steps up to and with the first visit
+-- the steps up to the first visit, which is included
 abbrev pub through_visit : List Step → List Step
 through_visit [] = []
 through_visit (step ∷ steps) = if is_mark step then step ∷ [] else step ∷ through_visit steps
@@ -28,20 +28,20 @@ steps_at_point (bound ∷ acts) point =
     if is_same_point bound.point point then bound.line.steps ++ steps_at_point acts point
     else steps_at_point acts point
 
--- the steps cut in two behind the visits that stand together at the front
+-- the steps, cut in two after the visits at their front
 abbrev pub cut_behind_visits : List Step → List Step × List Step
 cut_behind_visits [] = ([], [])
 cut_behind_visits (step ∷ steps) =
     if is_mark step then (let cut = cut_behind_visits steps in (step ∷ cut.0, cut.1)) else ([], step ∷ steps)
 
--- the steps of a vread from the third on, cut in two at its points Serve and End: where its fifth step is a visit, they
--- are behind the visits that stand together from the fifth on, and else where Start and Written are
+-- the steps of a vread from the third on, cut in two at its points Serve and End. If its fifth step is a visit, the cut
+-- is after the visits that begin there; else it is at the points Start and Written
 abbrev pub cut_behind_rekey : List Step → List Step × List Step
 cut_behind_rekey steps =
     if option_map_or is_mark (slice_get steps 2) false
     then (let cut = cut_behind_visits (drop 2 steps) in (take 2 steps ++ cut.0, cut.1)) else ([], steps)
 
--- the steps of a vread with those of its acts at their points
+-- the steps of a vread, with those of its acts at their points
 abbrev pub vread_steps : List Step → List BoundAct → List Step
 vread_steps steps acts =
     let cut = cut_behind_rekey (drop 2 steps) in
@@ -58,19 +58,19 @@ call_steps (ending line) = line.steps
 abbrev pub calls_steps : List Call → List Step
 calls_steps calls = flat_map call_steps calls
 
--- what a child's ancestors did up to and with the visit that forks it
+-- the steps of a child's ancestors up to the visit that forks it, which is included
 abbrev pub inherited_steps : List (List Step) → Option Parent → List Step
 inherited_steps ancestors None = []
 inherited_steps ancestors (Some parent) =
     list_at ancestors parent.caller ++ calls_steps parent.fork.before ++ through_visit parent.fork.line.steps
 
--- what stands before the own steps of the first n callers; a parent has a lower number than its child
+-- the steps before the first n callers' own; a parent has a lower number than its child
 abbrev pub ancestors_steps : List (List Call) → ℕ → List (List Step)
 ancestors_steps callers zero = []
 ancestors_steps callers (suc c) =
     let earlier = ancestors_steps callers c in earlier ++ inherited_steps earlier (parent_from c 0 callers) ∷ []
 
--- the order of each caller: what its ancestors did before it, and then its own calls
+-- the order of each caller: its ancestors' steps before it, and then its own calls
 abbrev pub orders_from : List (List Step) → List (List Call) → List (List Step)
 orders_from ancestors [] = []
 orders_from [] (calls ∷ rest) = calls_steps calls ∷ orders_from [] rest
@@ -85,8 +85,8 @@ stamps_of [] = []
 stamps_of (Look g ∷ steps) = stamps_of steps
 stamps_of (Marked mark ∷ steps) = mark.stamp ∷ stamps_of steps
 
--- what a caller has seen after one more step: the greatest of its looks, and of the generations of the base and the
--- CPUs after its visits
+-- the generation that a caller has seen after one more step: the greatest of its looks, and of the generations of the
+-- base and the CPUs after its visits
 abbrev pub seen_after : ℕ → Deed → ℕ
 seen_after before (looked g) = max before g
 seen_after before (at_pool v) = before
@@ -94,11 +94,11 @@ seen_after before (at_base v) = max before v.after.generation
 seen_after before (at_cpu v) = max before v.after.generation
 seen_after before nothing_there = before
 
--- what a caller has seen after these steps
+-- the generation that a caller has seen after these steps
 abbrev pub seen : List Deed → ℕ
 seen deeds = fold seen_after 0 deeds
 
--- what a look finds lies between the greatest generation that its caller knew and the last one of the base
+-- a look finds a generation between the greatest one that its caller had seen and the last one of the base
 abbrev pub LookStands : ℕ → ℕ → Deed → Type 0
 LookStands reseeds before (looked g) = (before ≤ g) × (g ≤ reseeds)
 LookStands reseeds before (at_pool v) = ⊤
@@ -106,7 +106,7 @@ LookStands reseeds before (at_base v) = ⊤
 LookStands reseeds before (at_cpu v) = ⊤
 LookStands reseeds before nothing_there = ⊤
 
--- each look of some steps stands, given the steps of its caller before them
+-- LookStands holds for each look of some steps, given the steps of its caller before them
 abbrev pub LooksStand : ℕ → List Deed → List Deed → Type 0
 LooksStand reseeds before [] = ⊤
 LooksStand reseeds before (deed ∷ deeds) =

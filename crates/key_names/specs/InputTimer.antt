@@ -1,4 +1,4 @@
--- How many bits an input event is worth (add_timer_randomness), and the number that stands for it.
+-- How many bits an input event is credited with (add_timer_randomness), and the number that it mixes in.
 use Rattle.std.specs.Prelude.{ℕ, ◌/◌, ◌*◌, ◌^◌, ◌%◌, min, ℤ, pos, ◌-ℤ◌, nat_abs, length, bit_xor}
 use Rattle.std.specs.Int.Digits.{digits_of}
 
@@ -35,6 +35,6 @@ least_delta t now = min (nat_abs (delta t now)) (min (nat_abs (delta2 t now)) (n
 abbrev pub timer_bits : InputTimer → ℕ → ℕ
 timer_bits t now = min (binary_digits (least_delta t now / 2 % 2 ^ 32)) 11
 
--- the number that is mixed for an input event (add_input_randomness)
+-- the number that an input event mixes in (add_input_randomness)
 abbrev pub input_number : ℕ → ℕ → ℕ → ℕ
 input_number kind code value = bit_xor (bit_xor (kind * 2 ^ 4) code) (bit_xor (code / 2 ^ 4) value)

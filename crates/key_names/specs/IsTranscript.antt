@@ -29,7 +29,7 @@ pub record LineIs (c n : ℕ) (word : Word) (line : SeenLine) : Type 0 where
   pub event : line.event ≡ n
   pub word_is : line.word ≡ word
 
--- a line for each event in order, n being the number of the first, and then the last line
+-- a line for each event in order, and then the last line; n is the number of the first event
 abbrev pub LinesFit : ℕ → ℕ → List Event → List SeenLine → Type 0
 LinesFit c n [] [] = ⊥
 LinesFit c n [] (line ∷ []) = LineIs c n EndWord line
@@ -37,13 +37,13 @@ LinesFit c n [] (line ∷ more ∷ lines) = ⊥
 LinesFit c n (event ∷ events) [] = ⊥
 LinesFit c n (event ∷ events) (line ∷ lines) = LineIs c n (event_word event) line × LinesFit c (suc n) events lines
 
--- P holds of the number of each caller, and of what the caller has in each of two lists; c is the number of the first
+-- P holds for each caller's number and the caller's elements of two lists; c is the number of the first
 abbrev pub EachCaller : {A B : Type 0} → (ℕ → A → B → Type 0) → ℕ → List A → List B → Type 0
 EachCaller P c [] [] = ⊤
 EachCaller P c (x ∷ xs) (y ∷ ys) = P c x y × EachCaller P (suc c) xs ys
 EachCaller P c _ _ = ⊥
 
--- each caller has its lines, and there are no others
+-- each caller has its lines, and no others exist
 abbrev pub HasLines : Script → List (List SeenLine) → Type 0
 HasLines script t = EachCaller (λ c events lines. LinesFit c 0 events lines) 0 script.callers t
 
@@ -51,12 +51,12 @@ HasLines script t = EachCaller (λ c events lines. LinesFit c 0 events lines) 0 
 abbrev pub script_calls : Script → List (List SeenLine) → List (List Call)
 script_calls script t = all_calls script.callers t
 
--- a mark, and who made its visit
+-- a mark, and the maker of its visit
 pub record MarkBy : Type 0 where
   pub mark : Mark
   pub who : Who
 
--- the marks of a line, i being the number of the first step
+-- the marks of a line; i is the number of the first step
 abbrev pub marks_from : ℕ → ℕ → ℕ → List Step → List MarkBy
 marks_from c n i [] = []
 marks_from c n i (Look g ∷ steps) = marks_from c n (suc i) steps
@@ -70,7 +70,7 @@ line_marks line = marks_from line.caller line.event 0 line.steps
 abbrev pub all_marks : List (List SeenLine) → List MarkBy
 all_marks t = flat_map (λ lines. flat_map line_marks lines) t
 
--- each place below their number stands once among some marks of one lane, and of any two the one with the higher
+-- among some marks of one lane, each place below their number occurs once, and of two marks the one with the higher
 -- place has the higher stamp
 pub record PlacesStand (marks : List Mark) : Type 0 where
   pub once : AllByRecursion (λ place. count_by (λ mark. mark.place == place) marks ≡ 1)
@@ -94,12 +94,12 @@ Rises [] = ⊤
 Rises (a ∷ []) = ⊤
 Rises (a ∷ b ∷ rest) = (a < b) × Rises (b ∷ rest)
 
--- no two visits share a place, none is left free, and stamps rise, both in a lane and in what one caller does
+-- no two visits share a place, no place is left free, and stamps rise, both in a lane and along one caller's order
 pub record MarksStand (script : Script) (t : List (List SeenLine)) : Type 0 where
   pub lanes : (lane : LaneId) → PlacesStand (lane_marks lane (all_marks t))
   pub callers : AllByRecursion (λ order. Rises (stamps_of order)) (caller_orders (script_calls script t))
 
--- the stamp and the maker of a visit, if there is one at a place
+-- the stamp and the maker of the visit at a place, if it has one
 abbrev pub stamped : {E : Type 0} → List (Visit E) → ℕ → Option (ℕ × Who)
 stamped visits place = option_and_then (λ visit. Some (visit.stamp, visit.who)) (slice_get visits place)
 
@@ -111,32 +111,32 @@ stamped_at book (CpuLane c) place = stamped (list_at book.cpus c) place
 abbrev pub visit_count : Book → ℕ
 visit_count book = length book.pool + length book.base + sum_by (λ visits. length visits) book.cpus
 
--- a book's visits are the marks, each at its place, and no others
+-- the visits of a book are the marks, each at its place, and no others
 pub record VisitsAre (book : Book) (marks : List MarkBy) : Type 0 where
   pub stand : AllByRecursion (λ by. stamped_at book by.mark.lane by.mark.place ≡ Some (by.mark.stamp, by.who)) marks
   pub no_others : length marks ≡ visit_count book
 
--- each call means what it may, from where the caller stands
+-- each call has a meaning that is allowed in the caller's state before it
 abbrev pub CallsMean : CallerState → List Call → List CallMeaning → Type 0
 CallsMean s [] [] = ⊤
 CallsMean s [] (m ∷ ms) = ⊥
 CallsMean s (call ∷ calls) [] = ⊥
 CallsMean s (call ∷ calls) (m ∷ ms) = (m.before ≡ s) × Means call m × CallsMean m.after calls ms
 
--- P holds of the line of each act and of what it means
+-- P holds for the line and the meaning of each act
 abbrev pub EachAct : (SeenLine → LineMeaning → Type 0) → List BoundAct → List LineMeaning → Type 0
 EachAct P [] [] = ⊤
 EachAct P (bound ∷ acts) (m ∷ ms) = P bound.line m × EachAct P acts ms
 EachAct P _ _ = ⊥
 
--- P holds of each line of a call and of what it means
+-- P holds for each line of a call and its meaning
 abbrev pub EachOfCall : (SeenLine → LineMeaning → Type 0) → Call → CallMeaning → Type 0
 EachOfCall P (alone event line) m = P line m.own
 EachOfCall P (vread_call len flags line acts) m = P line m.own × EachAct P acts m.acts
 EachOfCall P (unbound bound) m = P bound.line m.own
 EachOfCall P (ending line) m = P line m.own
 
--- P holds of each line and of what it means
+-- P holds for each line and its meaning
 abbrev pub EachLine : (SeenLine → LineMeaning → Type 0) → List Call → List CallMeaning → Type 0
 EachLine P [] [] = ⊤
 EachLine P (call ∷ calls) (m ∷ ms) = EachOfCall P call m × EachLine P calls ms
@@ -151,7 +151,7 @@ entries_of_state k (m ∷ ms) = (if m.before.current == k then m.entries else []
 abbrev pub state_lists : List CallMeaning → List (List VEntry)
 state_lists ms = map (λ k. entries_of_state k ms) (range_with_len 0 16)
 
--- what stands behind the steps of one caller's lines
+-- the meanings of a caller's calls follow each other, and match the deeds of its lines
 pub record CallerMeans (lists : Lists) (setting : Setting) (calls : List Call) (ms : List CallMeaning) : Type 0 where
   pub follows : CallsMean (caller_start setting) calls ms
   pub deeds : EachLine (λ line m. deeds_of lists line.steps ≡ m.deeds) calls ms
@@ -172,17 +172,17 @@ pub record FormsStand (script : Script) (t : List (List SeenLine)) (book : Book)
   pub lanes : LawfulLanes (lists_of book)
   pub samples : LawfulSamples book
 
--- each answer is what its line means
+-- each answer is the one that its line means
 abbrev pub AnswersStand : Script → List (List SeenLine) → List (List CallMeaning) → Type 0
 AnswersStand script t ms =
     EachCaller (λ c calls ms. EachLine (λ line m. line.answer ≡ m.answer) calls ms) 0 (script_calls script t) ms
 
--- each line's data are what the line means
+-- the data of each line are those that the line means
 abbrev pub DataStand : Script → List (List SeenLine) → List (List CallMeaning) → Type 0
 DataStand script t ms =
     EachCaller (λ c calls ms. EachLine (λ line m. line.shown ≡ m.shown) calls ms) 0 (script_calls script t) ms
 
--- each look of each caller's order stands
+-- LookStands holds for each look in each caller's order
 abbrev pub SeenStands : Script → List (List SeenLine) → Lists → Type 0
 SeenStands script t lists =
     AllByRecursion (λ order. LooksStand (base_after lists.base).generation [] (deeds_of lists order))
@@ -201,7 +201,7 @@ pub record IsTranscriptBy (script : Script) (t : List (List SeenLine)) (book : B
 abbrev pub IsTranscript : Script → List (List SeenLine) → Type 0
 IsTranscript script t = (book : Book) × (ms : List (List CallMeaning)) × IsTranscriptBy script t book ms
 
--- the clauses as they come one after another; clause 1, before these, is the grammar of the text
+-- the clauses in their order. Clause 1, before these, is the grammar of the text
 pub data Clause : Type 0 where
   lines_clause marks_clause forms_clause answers_clause data_clause looks_clause : Clause
 
@@ -213,7 +213,7 @@ clause_number answers_clause = 5
 clause_number data_clause = 6
 clause_number looks_clause = 7
 
--- the book that a transcript's steps make, with what its calls mean
+-- the book that a transcript's steps make, with the meanings of its calls
 pub record MadeBook (script : Script) (t : List (List SeenLine)) : Type 0 where
   pub book : Book
   pub meanings : List (List CallMeaning)
@@ -221,8 +221,8 @@ pub record MadeBook (script : Script) (t : List (List SeenLine)) : Type 0 where
   pub marks : MarksStand script t
   pub forms : FormsStand script t book meanings
 
--- a clause is the first that fails: those before it hold, and it does not. The last three speak of the book that the
--- steps make
+-- a clause is the first that fails: those before it hold, and it does not. The last three are about the
+-- book that the steps make
 abbrev pub FirstFails : Script → List (List SeenLine) → Clause → Type 0
 FirstFails script t lines_clause = ¬ HasLines script t
 FirstFails script t marks_clause = HasLines script t × (¬ MarksStand script t)

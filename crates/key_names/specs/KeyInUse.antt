@@ -1,5 +1,5 @@
--- The value of the key in use at a place, and of each key's name. A key begins as 32 zeros without a name; a kept key
--- is bytes 0 to 32 of the keystream of the key in use, and a handed-over key is bytes 32 to 64.
+-- The value of the key in use at a place, and of each named key. A key begins as 32 zeros without a name. A kept key is
+-- bytes 0 to 32 of the keystream of the key in use, and a handed-over key is bytes 32 to 64.
 use Rattle.std.specs.Prelude.{ℕ, zero, suc, ◌+◌, ◌*◌, Option, Some, None, List, [], ◌∷◌, take, replicate, slice_get}
 use Rattle.std.specs.Prelude.{nat_lt, if◌then◌else◌}
 use Rattle.std.specs.List.{fold}
@@ -23,7 +23,7 @@ use Rattle.key_names.specs.Book.{Lists, cpu_list, state_list}
 abbrev pub zero_key : List ℕ
 zero_key = replicate 32 0
 
--- the value of the root that is named, or else the value before
+-- the value of the named root, or else the value before
 abbrev pub root_value_or : List PoolEntry → Option ℕ → List ℕ → List ℕ
 root_value_or pool None value = value
 root_value_or pool (Some r) value = root_value pool r
@@ -48,11 +48,11 @@ base_value_at pool value (Some e) = base_value_in_use pool e value
 abbrev pub base_used_at : List PoolEntry → List BaseEntry → ℕ → List ℕ
 base_used_at pool base i = base_value_at pool (base_value_after pool (take i base)) (slice_get base i)
 
--- what the base hands over at a place
+-- the value of the key that the base hands over at a place
 abbrev pub base_call_value : Lists → ℕ → List ℕ
 base_call_value lists i = keystream (base_used_at lists.pool lists.base i) 32 32
 
--- the value of the key that the base handed over in the refill that is named, or else the value before
+-- the value of the key that the base handed over in the named refill, or else the value before
 abbrev pub call_value_or : Lists → Option ℕ → List ℕ → List ℕ
 call_value_or lists None value = value
 call_value_or lists (Some b) value = base_call_value lists b
@@ -78,7 +78,7 @@ abbrev pub cpu_used_at : Lists → ℕ → ℕ → List ℕ
 cpu_used_at lists c k =
     cpu_value_at lists (cpu_value_after lists (take k (cpu_list lists c))) (slice_get (cpu_list lists c) k)
 
--- what a CPU hands over at a place
+-- the value of the key that a CPU hands over at a place
 abbrev pub cpu_call_value : Lists → ℕ → ℕ → List ℕ
 cpu_call_value lists c k = keystream (cpu_used_at lists c k) 32 32
 
@@ -97,7 +97,8 @@ state_value_step lists value Wipe = zero_key
 abbrev pub state_value_after : Lists → List VEntry → List ℕ
 state_value_after lists es = fold (state_value_step lists) zero_key es
 
--- the key that the refill of this number keeps, counted from 0, from a value on
+-- the value of the key that the refill with this number keeps, counted from 0, if the key has this
+-- value before the entries
 abbrev pub refill_value_from : Lists → List ℕ → ℕ → List VEntry → List ℕ
 refill_value_from lists value n [] = []
 refill_value_from lists value zero (Refill from ∷ es) = refill_value value from
@@ -108,7 +109,7 @@ refill_value_from lists value n (Blocks from count ∷ es) = refill_value_from l
 refill_value_from lists value n (Serve pos len ∷ es) = refill_value_from lists value n es
 refill_value_from lists value n (Wipe ∷ es) = refill_value_from lists zero_key n es
 
--- the value of a name; the pool hands no key over
+-- the value of a named key. The pool hands over no key, so a call key of the pool has no value
 abbrev pub value_of : Lists → KeyName → List ℕ
 value_of lists (Root p) = root_value lists.pool p
 value_of lists (Base i) = base_value_after lists.pool (take (suc i) lists.base)

@@ -1,5 +1,5 @@
--- When the samples behind the steps of a line stand as they must: either no dump is due and none is made, or an
--- interrupt made one due and it follows, with what it mixes into the pool.
+-- When the interrupt samples of a line are correct: either no dump is due and none is made, or an interrupt makes one
+-- due, and the dump follows with its mix into the pool.
 use Rattle.std.specs.Prelude.{◌≡◌, ◌⊎◌, ℕ, ◌<◌, ⊤, false, List, ◌∷◌}
 use Rattle.std.specs.List.{AllByRecursion}
 use Rattle.key_names.specs.declared.entries.PoolEntry.{PoolEntry}
@@ -10,7 +10,7 @@ use Rattle.key_names.specs.Deeds.{Deed, PoolVisit, CpuVisit, looked, at_pool, at
 use Rattle.key_names.specs.FastPool.{FastPool, makes_due, dump_bytes, dump_bits}
 use Rattle.key_names.specs.Samples.{MakesDue, IsDump}
 
--- the entry makes no dump due, and is none
+-- the entry makes no dump due, and is not a dump
 abbrev pub EntryIsQuiet : FastPool → CpuEntry → Type 0
 EntryIsQuiet f (Irq v1 v2 now) = makes_due f now ≡ false
 EntryIsQuiet f (Dump now) = ⊥
@@ -19,7 +19,7 @@ EntryIsQuiet f (Int look refill width filled) = ⊤
 EntryIsQuiet f Prepare = ⊤
 EntryIsQuiet f Online = ⊤
 
--- fast is each CPU's fast pool before a place of its list
+-- fast gives each CPU's fast pool before a place of its list
 module _ (fast : ℕ → ℕ → FastPool) where
   abbrev pub IsQuiet : Deed → Type 0
   IsQuiet (at_cpu v) = EntryIsQuiet (fast v.cpu v.place) v.entry
@@ -28,7 +28,7 @@ module _ (fast : ℕ → ℕ → FastPool) where
   IsQuiet (at_base v) = ⊤
   IsQuiet nothing_there = ⊤
 
-  -- an interrupt made a dump due, and it follows
+  -- an interrupt makes a dump due, and the dump follows
   pub record Dumps (crossed : List Deed → Type 0) (deeds : List Deed) : Type 0 where
     pub sample : CpuVisit
     pub dump : CpuVisit
@@ -48,7 +48,7 @@ IsMix (Input word kind code value now) = ⊥
 IsMix Bits = ⊥
 IsMix (Extract hw base_place) = ⊥
 
--- no visit of a CPU, and nothing mixed
+-- the deed is no visit of a CPU, and mixes nothing
 abbrev pub IsCrossing : Deed → Type 0
 IsCrossing (at_pool v) = IsMix v.entry → ⊥
 IsCrossing (at_cpu v) = ⊥
@@ -56,7 +56,7 @@ IsCrossing (looked g) = ⊤
 IsCrossing (at_base v) = ⊤
 IsCrossing nothing_there = ⊤
 
--- the samples behind the steps of a line
+-- the samples of a line are correct, given its deeds
 abbrev pub SamplesStand : (ℕ → ℕ → FastPool) → List Deed → Type 0
 SamplesStand fast deeds =
     AllByRecursion (IsQuiet fast) deeds ⊎ Dumps fast (λ rest. AllByRecursion IsCrossing rest) deeds

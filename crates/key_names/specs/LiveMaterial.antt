@@ -1,5 +1,5 @@
--- What a book's states still hold, what was replaced, and when no key that was replaced and no rest of a batch that was
--- used is still held.
+-- The keys and batches that the base, the CPUs and the vgetrandom states of a book still hold, and the keys that were
+-- replaced. In an erased book no replaced key and no used rest of a batch is still held.
 use Rattle.std.specs.Prelude.{ℕ, ◌+◌, ◌-◌, ◌*◌, ◌≡◌, ◌⊎◌, IsTrue, IsSome, Option, Some, None, List, take, drop}
 use Rattle.std.specs.Prelude.{replicate}
 use Rattle.std.specs.List.{fold}
@@ -22,13 +22,13 @@ use Rattle.key_names.specs.LawfulList.{SomeFrom}
 use Rattle.key_names.specs.Book.{Lists, cpu_list, state_list, LawfulBook, HalfFinishedBook}
 use Rattle.key_names.specs.Uses.{uses, HoldsByte, IsUsed, IsDisjoint}
 
--- what holds a key: the base, a CPU, or a vgetrandom state of a caller
+-- the holders of keys: the base, a CPU, or a vgetrandom state of a caller
 pub data KeyHolder : Type 0 where
   base_key : KeyHolder
   cpu_key : ℕ → KeyHolder
   state_key : ℕ → ℕ → KeyHolder
 
--- what holds a batch: a CPU for each width, or a vgetrandom state of a caller
+-- the holders of batches: a CPU for each width, or a vgetrandom state of a caller
 pub data BatchHolder : Type 0 where
   cpu_batch : ℕ → ℕ → BatchHolder
   state_batch : ℕ → ℕ → BatchHolder
@@ -56,13 +56,13 @@ fill_rest width (Some fill) = named_span fill.key (32 + width * fill.count) (96 
 abbrev pub state_rest : NamedState → Option Span
 state_rest s = named_span s.batch_key (64 * s.batch_from + s.pos) (96 - s.pos)
 
--- the unserved rest of a batch after all entries; a CPU's batch is live where it was filled and its CPU was not
--- prepared since
+-- the unserved rest of a batch after all entries. A CPU's batch is live if it was filled and the
+-- CPU was not prepared since
 abbrev pub live_rest : Lists → BatchHolder → Option Span
 live_rest lists (cpu_batch c width) = fill_rest width ((cpu_end lists c).fills width)
 live_rest lists (state_batch caller state) = state_rest (state_end lists caller state)
 
--- how many bytes of a batch were served after all entries
+-- the number of bytes of a batch that were served after all entries
 abbrev pub served_len : Lists → BatchHolder → ℕ
 served_len lists (cpu_batch c width) = batch_pos width ((cpu_end lists c).fills width)
 served_len lists (state_batch caller state) = (state_end lists caller state).pos
@@ -90,7 +90,7 @@ WasReplaced lists (cpu_key c) key = SomeFrom (CpuReplaces key) (cpu_step lists.b
 WasReplaced lists (state_key caller state) key =
     SomeFrom (StateReplaces key) (state_step caller state) state_start (state_list lists caller state)
 
--- the bytes of a CPU's batches as its entries leave them, beside its names and the value of its key
+-- the bytes of a CPU's batches after its entries, with its names and the value of its key
 pub record CpuBytes : Type 0 where
   pub named : CpuState
   pub value : List ℕ
@@ -106,7 +106,7 @@ cpu_bytes_step lists c s e = record {
   batch = λ width. batch_step width (cpu_value_in_use lists e s.value) (s.named.fills width) (s.batch width) e;
 }
 
--- the key and the batch of a vgetrandom state as its entries leave them
+-- the key and the batch of a vgetrandom state after its entries
 pub record StateBytes : Type 0 where
   pub key : List ℕ
   pub batch : List ℕ
@@ -114,7 +114,7 @@ pub record StateBytes : Type 0 where
 abbrev pub state_bytes_start : StateBytes
 state_bytes_start = record { key = zero_key; batch = replicate 96 0 }
 
--- a rekey leaves the batch: its rest is given up
+-- a rekey leaves the batch as it is, and the rest of it is never served
 abbrev pub state_batch_step : StateBytes → VEntry → List ℕ
 state_batch_step s (Rekey cpu cpu_place) = s.batch
 state_batch_step s (Blocks from count) = s.batch
@@ -132,21 +132,21 @@ replayed_batch lists (cpu_batch c width) =
 replayed_batch lists (state_batch caller state) =
     (fold (state_bytes_step lists) state_bytes_start (state_list lists caller state)).batch
 
--- the book, with states that have these batches, is erased
+-- the book is erased, if the holders have these batches
 pub record IsErased (lists : Lists) (batch : BatchHolder → List ℕ) : Type 0 where
-  -- a key that some later entry replaced is live no more
+  -- a key that an entry replaced is live nowhere
   pub none_replaced : (a b : KeyHolder) (key : KeyName) → live_key lists a ≡ Some key → WasReplaced lists b key → ⊥
-  -- no two live keys have one name
+  -- no two live keys have the same name
   pub keys_apart : (a b : KeyHolder) (key : KeyName) → live_key lists a ≡ Some key → live_key lists b ≡ Some key → a ≡ b
   -- no live span overlaps a use
   pub rest_unused : (a : BatchHolder) (span : Span) (key : KeyName) (q : ℕ) → live_rest lists a ≡ Some span →
       HoldsByte span key q → IsUsed (uses lists) key q → ⊥
-  -- nor another live span
+  -- no two live spans overlap
   pub rests_apart : (a b : BatchHolder) (x y : Span) (key : KeyName) (q : ℕ) → live_rest lists a ≡ Some x →
       live_rest lists b ≡ Some y → HoldsByte x key q → HoldsByte y key q → a ≡ b
   -- the served bytes of a batch are 0
   pub served_zero : (a : BatchHolder) → take (served_len lists a) (batch a) ≡ replicate (served_len lists a) 0
-  -- of a CPU's batch that is not live every byte is 0
+  -- if a CPU's batch is not live, all its bytes are 0
   pub dead_zero : (c width : ℕ) → (cpu_end lists c).fills width ≡ None → batch (cpu_batch c width) ≡ replicate 96 0
 
 -- the keys that the replay of the lists gives
@@ -155,24 +155,24 @@ replayed_key lists base_key = base_value_after lists.pool lists.base
 replayed_key lists (cpu_key c) = cpu_value_after lists (cpu_list lists c)
 replayed_key lists (state_key caller state) = state_value_after lists (state_list lists caller state)
 
--- the names tell what the replay holds: a key is the value of its name, and the rest of a batch is its span
+-- the names match the replay: each key has the value of its name, and the rest of each batch has the bytes of its span
 pub record HoldsNamed (lists : Lists) : Type 0 where
   pub keys : (a : KeyHolder) (key : KeyName) → live_key lists a ≡ Some key → replayed_key lists a ≡ value_of lists key
   pub rests : (a : BatchHolder) (span : Span) → live_rest lists a ≡ Some span →
       drop (served_len lists a) (replayed_batch lists a) ≡ keystream (value_of lists span.key) span.from span.len
 
--- a lawful book is disjoint, and erased with the states that its replay gives
+-- a lawful book is disjoint, and erased with the batches that its replay gives
 abbrev pub LawfulIsDisjoint : Type 0
 LawfulIsDisjoint = (lists : Lists) → LawfulBook lists → IsDisjoint lists
 
 abbrev pub LawfulIsErased : Type 0
 LawfulIsErased = (lists : Lists) → LawfulBook lists → IsErased lists (replayed_batch lists)
 
--- and it holds what its names tell
+-- the names of a lawful book match its replay
 abbrev pub LawfulHoldsNamed : Type 0
 LawfulHoldsNamed = (lists : Lists) → LawfulBook lists → HoldsNamed lists
 
--- and so is one whose visits are half finished
+-- the same holds for a book while visits are half finished
 abbrev pub HalfFinishedIsDisjoint : Type 0
 HalfFinishedIsDisjoint = (lists : Lists) → HalfFinishedBook lists → IsDisjoint lists
 

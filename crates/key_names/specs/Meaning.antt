@@ -1,4 +1,4 @@
--- What a call means: what stands behind its lines' steps, their answers and data, and where the caller stands after it.
+-- The meaning of a call: the deeds, the answers and the data of its lines, and the state of its caller after it.
 use Rattle.std.specs.Prelude.{ℕ, ◌≡◌, Bool, not, ◌&&◌, ◌==◌, MatchBool, ⊤, List, [], ◌∷◌, replicate, slice_get}
 use Rattle.std.specs.Prelude.{slice_set, unwrap_or, length}
 use Rattle.key_names.specs.declared.entries.VEntry.{VEntry}
@@ -26,7 +26,7 @@ use Rattle.key_names.specs.Vgetrandom.{HostStep, Outcome, IsCall}
 use Rattle.key_names.specs.VreadSteps.{Shows, WipesStand, points_of, is_reached, ending_answer, ending_shown}
 use Rattle.key_names.specs.VreadSteps.{published_by, NeverFall, looks_of}
 
--- where a caller stands between two calls: its setting, its sixteen vgetrandom states, and which of them is current
+-- a caller's state between two calls: its setting, its sixteen vgetrandom states, and the number of the current one
 pub record CallerState : Type 0 where
   pub setting : Setting
   pub states : List VgetrandomState
@@ -43,14 +43,14 @@ current_state s = unwrap_or (slice_get s.states s.current) wiped_state
 abbrev pub with_state : CallerState → VgetrandomState → CallerState
 with_state s state = record s { states = slice_set s.states s.current state }
 
--- what a line means: what stands behind its steps, its answer, and its data
+-- the meaning of a line: the deeds of its steps, its answer, and its data
 pub record LineMeaning : Type 0 where
   pub deeds : List Deed
   pub answer : Answer
   pub shown : Shown
 
--- what a call means: its own line, the lines of the acts inside it, the entries that the current state's list gets, and
--- where the caller stands before and after it
+-- the meaning of a call: its own line, the lines of the acts inside it, the entries that it appends to the current
+-- state's list, and the caller's state before and after it
 pub record CallMeaning : Type 0 where
   pub own : LineMeaning
   pub acts : List LineMeaning
@@ -58,7 +58,7 @@ pub record CallMeaning : Type 0 where
   pub before : CallerState
   pub after : CallerState
 
--- what an event by itself leaves in the list of the current state
+-- the entries that an event by itself appends to the current state's list
 abbrev pub event_entries : Event → List VEntry
 event_entries Drop = Wipe ∷ []
 event_entries (At moment) = []
@@ -89,13 +89,13 @@ event_entries (Online cpu) = []
 event_entries (Vmfork word text) = []
 event_entries (State number) = []
 
--- where the caller stands after an event by itself
+-- the caller's state after an event by itself
 abbrev pub caller_after : CallerState → Event → CallerState
 caller_after s Drop = with_state s wiped_state
 caller_after s (State number) = record s { current = number }
 caller_after s event = record s { setting = setting_after s.setting event }
 
--- an event by itself
+-- the meaning of an event by itself
 pub record AloneMeans (event : Event) (m : CallMeaning) : Type 0 where
   pub form : Form m.before.setting event m.own.deeds
   pub answer : m.own.answer ≡ answer_of event m.own.deeds
@@ -104,7 +104,7 @@ pub record AloneMeans (event : Event) (m : CallMeaning) : Type 0 where
   pub entries : m.entries ≡ event_entries event
   pub after : m.after ≡ caller_after m.before event
 
--- what is not done has no steps
+-- a line that was not done has no steps
 abbrev pub unused_line : LineMeaning
 unused_line = record { deeds = []; answer = Unused; shown = no_data }
 
@@ -115,7 +115,7 @@ pub record UnboundMeans (m : CallMeaning) : Type 0 where
   pub entries : m.entries ≡ []
   pub after : m.after ≡ m.before
 
--- the end of a caller
+-- the meaning of a caller's end
 pub record EndingMeans (m : CallMeaning) : Type 0 where
   pub form : EndForm m.own.deeds
   pub answer : m.own.answer ≡ Done
@@ -124,7 +124,7 @@ pub record EndingMeans (m : CallMeaning) : Type 0 where
   pub entries : m.entries ≡ []
   pub after : m.after ≡ m.before
 
--- an act inside a vread, which has that vread's setting; a read among them is a system call
+-- the meaning of an act inside a vread, under the setting of that vread. A read among the acts is a system call
 abbrev pub ActMeans : Setting → InsideAct → LineMeaning → Type 0
 ActMeans set WipeAct m = m ≡ record { deeds = []; answer = Done; shown = no_data }
 ActMeans set (VreadAct n) m =
@@ -132,7 +132,7 @@ ActMeans set (VreadAct n) m =
 ActMeans set ReseedAct m =
     Form set Reseed m.deeds × (m.answer ≡ answer_of Reseed m.deeds) × (m.shown ≡ shown_of Reseed m.deeds)
 
--- each act whose point was reached is done, and no other
+-- exactly the acts whose point was reached are done
 abbrev pub ActsMean : Setting → (BoundAct → Bool) → List BoundAct → List LineMeaning → Type 0
 ActsMean set is_reached [] [] = ⊤
 ActsMean set is_reached [] (m ∷ ms) = ⊥
@@ -140,7 +140,7 @@ ActsMean set is_reached (bound ∷ acts) [] = ⊥
 ActsMean set is_reached (bound ∷ acts) (m ∷ ms) =
     MatchBool (is_reached bound) (ActMeans set bound.act m) (m ≡ unused_line) × ActsMean set is_reached acts ms
 
--- a copy out of the current state, behind the one look of the line
+-- a copy out of the current state, after the only look of the line
 pub record ByLocalCopy (n : ℕ) (rest : List Deed) (m : CallMeaning) : Type 0 where
   pub no_more : rest ≡ []
   pub answer : m.own.answer ≡ Done
@@ -149,7 +149,7 @@ pub record ByLocalCopy (n : ℕ) (rest : List Deed) (m : CallMeaning) : Type 0 w
   pub entries : m.entries ≡ copy_entries (current_state m.before) 0 n
   pub after : m.after ≡ with_state m.before (state_after_copy (current_state m.before) 0 n)
 
--- a call of vgetrandom on the current state
+-- a vgetrandom call on the current state
 pub record ByVgetrandom (n flags : ℕ) (acts : List BoundAct) (m : CallMeaning) : Type 0 where
   pub steps : List HostStep
   pub outcome : Outcome
@@ -162,23 +162,23 @@ pub record ByVgetrandom (n flags : ℕ) (acts : List BoundAct) (m : CallMeaning)
   pub entries : m.entries ≡ outcome.entries
   pub after : m.after ≡ with_state m.before outcome.state
 
--- whether a vread tries a copy first: it has no acts, wants a byte, and its flags are good
+-- whether a vread tries a copy first: it has no acts, asks for at least one byte, and its flags are good
 abbrev pub tries_local : ℕ → ℕ → List BoundAct → Bool
 tries_local n flags acts = length acts == 0 && (not (n == 0) && not (is_bad flags))
 
--- behind the first look of a vread that tries a copy
+-- the rest of a vread that tries a copy, after its first look
 abbrev pub LocalOrCall : ℕ → ℕ → List BoundAct → CallMeaning → ℕ → List Deed → Type 0
 LocalOrCall n flags acts m look rest =
     MatchBool (serves_locally (published_by look) (current_state m.before) n) (ByLocalCopy n rest m)
     (ByVgetrandom n flags acts m)
 
--- a vread of n bytes with these flags
+-- the meaning of a vread of n bytes with these flags
 pub record VreadMeans (n flags : ℕ) (acts : List BoundAct) (m : CallMeaning) : Type 0 where
   pub looks : NeverFall (looks_of m.own.deeds)
   pub ways : MatchBool (tries_local n flags acts) (Looked (LocalOrCall n flags acts m) m.own.deeds)
       (ByVgetrandom n flags acts m)
 
--- what a call may mean
+-- the meanings that a call may have
 abbrev pub Means : Call → CallMeaning → Type 0
 Means (alone event line) m = AloneMeans event m
 Means (vread_call len flags line acts) m = VreadMeans len flags acts m

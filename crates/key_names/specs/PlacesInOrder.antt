@@ -1,24 +1,24 @@
--- The marks of one lane in the order of their stamps: they stand exactly where their places count up from 0 and each stamp
--- is below the next.
+-- The marks of one lane, sorted by stamp: PlacesStand holds for them exactly if their places count up from 0 and each
+-- stamp is below the next.
 use Rattle.std.specs.Prelude.{ℕ, suc, ◌≡◌, ◌<◌, ◌≤◌, ⊤, List, [], ◌∷◌, IsPermutation}
 use Rattle.std.specs.List.{AllByRecursion}
 use Rattle.key_names.specs.declared.names.Mark.{Mark}
 use Rattle.key_names.specs.IsTranscript.{PlacesStand}
 
--- the places count up from i, and each stamp is below those behind it
+-- the places count up from i, and each stamp is below those after it
 abbrev pub InOrder : ℕ → List Mark → Type 0
 InOrder i [] = ⊤
 InOrder i (m ∷ ms) = (m.place ≡ i) × AllByRecursion (λ n. m.stamp < n.stamp) ms × InOrder (suc i) ms
 
--- no stamp is above one behind it
+-- no stamp is above one after it
 abbrev pub ByStamp : List Mark → Type 0
 ByStamp [] = ⊤
 ByStamp (m ∷ ms) = AllByRecursion (λ n. m.stamp ≤ n.stamp) ms × ByStamp ms
 
--- marks stand where they are in order, and where marks that are sorted by stamp stand they are in order
+-- PlacesStand holds for marks in order, and marks that are sorted by stamp are in order if it holds for them
 abbrev pub PlacesCountUp : Type 0
 PlacesCountUp = (ms : List Mark) → (InOrder 0 ms → PlacesStand ms) × (ByStamp ms → PlacesStand ms → InOrder 0 ms)
 
--- whether marks stand does not hang on the order in which they are told
+-- whether PlacesStand holds does not depend on the order of the marks
 abbrev pub PlacesInAnyOrder : Type 0
 PlacesInAnyOrder = (ms ns : List Mark) → IsPermutation ms ns → PlacesStand ms → PlacesStand ns

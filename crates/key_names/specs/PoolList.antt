@@ -1,5 +1,5 @@
--- What the pool's list means: key, text, bits and input timer after its entries, what a credit crosses, and the root
--- that an extraction gives (extract_entropy).
+-- The meaning of the pool's list: key, text, bits and input timer after its entries, the bound that a credit crosses,
+-- and the root that an extraction gives (extract_entropy).
 use Rattle.std.specs.Prelude.{ℕ, ◌+◌, min, ◌&&◌, Option, Some, None, List, [], ◌++◌, take, nat_lt, nat_le, ◌==◌}
 use Rattle.std.specs.Prelude.{slice_get, option_and_then, if◌then◌else◌}
 use Rattle.std.specs.Int.{w32, w64, to_le_bytes}
@@ -27,12 +27,12 @@ credit bits more = min 256 (bits + min more 256)
 pub data Crossing : Type 0 where
   ready early none : Crossing
 
--- what a change of the bits crosses: 256 comes first, and then 128
+-- the bound that a change of the bits crosses: 256 is tested first, and then 128
 abbrev pub crossing : ℕ → ℕ → Crossing
 crossing before after =
     if nat_lt before 256 && after == 256 then ready else (if nat_lt before 128 && nat_le 128 after then early else none)
 
--- the pool after an input whose value is not the last one
+-- the pool after an input event with another value than the last
 abbrev pub pool_after_input : PoolState → ℕ → ℕ → ℕ → ℕ → ℕ → PoolState
 pool_after_input s word kind code value now = record s {
   text = s.text ++ to_le_bytes w64 word ++ to_le_bytes w32 (input_number kind code value);
@@ -41,7 +41,7 @@ pool_after_input s word kind code value now = record s {
   timer = if nat_lt s.bits 256 then input_timer_after s.timer now else s.timer;
 }
 
--- the hash of the pool, from which an extraction makes the root and the next key
+-- the hash of the pool. An extraction makes the root and the next key from it
 abbrev pub seed : PoolState → List ℕ
 seed s = blake2s s.key s.text
 
@@ -74,7 +74,7 @@ extraction_at pool p = option_and_then base_place_of (slice_get pool p)
 abbrev pub root_of_extraction : PoolState → List ℕ → List ℕ
 root_of_extraction s hw = blake2s (Some (seed s)) (seed_block hw 1)
 
--- no bytes where there is no extraction
+-- no bytes, unless the entry is an extraction
 abbrev pub root_given : PoolState → Option PoolEntry → List ℕ
 root_given s (Some (Extract hw base_place)) = root_of_extraction s hw
 root_given s (Some (Mix text bits)) = []
@@ -82,6 +82,6 @@ root_given s (Some (Input word kind code value now)) = []
 root_given s (Some Bits) = []
 root_given s None = []
 
--- the value of the root of a pool place
+-- the value of the root extracted at a pool place
 abbrev pub root_value : List PoolEntry → ℕ → List ℕ
 root_value pool p = root_given (pool_after (take p pool)) (slice_get pool p)

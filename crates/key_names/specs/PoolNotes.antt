@@ -1,4 +1,4 @@
--- The entry of the pool's list that a note by reference stands for.
+-- The entry of the pool's list that a note gives by reference.
 use Rattle.key_names.specs.declared.entries.PoolEntry.{PoolEntry}
 use Rattle.key_names.specs.declared.entries.PoolEntry.TheVariants.{Mix, Input, Bits, Extract}
 use Rattle.key_names.specs.declared.notes.PoolNote.{PoolNote}

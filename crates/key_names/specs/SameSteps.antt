@@ -1,4 +1,4 @@
--- Transcripts whose lines differ in answers and data alone: the steps make one book for both.
+-- Transcripts whose lines differ only in answers and data: their steps make one book for both.
 use Rattle.std.specs.Prelude.{◌≡◌, List, map}
 use Rattle.key_names.specs.declared.events.Answer.TheVariants.{Ok as Done}
 use Rattle.key_names.specs.SeenLine.{SeenLine, no_data}
@@ -9,11 +9,11 @@ use Rattle.key_names.specs.IsTranscript.{MadeBook}
 abbrev pub bare : SeenLine → SeenLine
 bare line = record line { answer = Done; shown = no_data }
 
--- the lines are the same but for answers and data
+-- the lines are the same except for answers and data
 abbrev pub SameSteps : List (List SeenLine) → List (List SeenLine) → Type 0
 SameSteps t u = map (map bare) t ≡ map (map bare) u
 
--- what one's steps make, the other's make too
+-- the steps of one make the same book and meanings as those of the other
 abbrev pub StepsMakeTheBook : Type 0
 StepsMakeTheBook = (script : Script) (t u : List (List SeenLine)) → SameSteps t u → (made : MadeBook script t) →
     (other : MadeBook script u) × (other.book ≡ made.book) × (other.meanings ≡ made.meanings)

@@ -1,4 +1,4 @@
--- A line of a transcript as contracts see it: with its steps and the bytes themselves.
+-- A line of a transcript as contracts see it, with its steps and with the bytes themselves.
 use Rattle.std.specs.Prelude.{ℕ, List, [], ◌∷◌, take, drop, map}
 use Rattle.std.specs.List.{flat_map}
 use Rattle.key_names.specs.declared.events.Answer.{Answer}
@@ -8,7 +8,7 @@ use Rattle.key_names.specs.declared.lines.Data.TheVariants.{None as NoData, Byte
 use Rattle.key_names.specs.declared.lines.Line.{Line}
 use Rattle.key_names.specs.declared.names.Step.{Step}
 
--- what a line shows behind its steps
+-- the data that a line shows after its steps
 pub data Shown : Type 0 where
   no_data : Shown
   bytes : List ℕ → Shown
@@ -22,17 +22,17 @@ pub record SeenLine : Type 0 where
   pub steps : List Step
   pub shown : Shown
 
--- the data of a line whose caller has these bytes
+-- the data of a line, given the bytes kept for its caller
 abbrev pub shown_in : List ℕ → Data → Shown
 shown_in kept NoData = no_data
 shown_in kept (Bytes len start) = bytes (take len (drop start kept))
 shown_in kept (Count n) = count n
 
--- the steps of a line whose caller has these steps
+-- the steps of a line, given the steps kept for its caller
 abbrev pub steps_in : List Step → Line → List Step
 steps_in kept line = take line.step_count (drop line.first_step kept)
 
--- a line of a caller that has these bytes and steps
+-- a line, given the bytes and the steps kept for its caller
 abbrev pub seen_line : List ℕ → List Step → Line → SeenLine
 seen_line kept steps line = record {
   caller = line.caller;
@@ -51,11 +51,11 @@ abbrev pub bytes_in : Shown → List ℕ
 bytes_in (bytes shown) = shown
 bytes_in _ = []
 
--- those of all lines, one line's behind the other's
+-- the bytes that all lines show, one line after another
 abbrev pub bytes_shown : List SeenLine → List ℕ
 bytes_shown lines = flat_map (λ line. bytes_in line.shown) lines
 
--- the data that show these bytes
+-- the data that show these bytes, or none if there are no bytes
 abbrev pub bytes_or_none : List ℕ → Shown
 bytes_or_none [] = no_data
 bytes_or_none (b ∷ bs) = bytes (b ∷ bs)

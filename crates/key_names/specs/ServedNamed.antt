@@ -1,4 +1,4 @@
--- What the visits of lanes serve, told by names: the bytes of the spans that their entries serve.
+-- The bytes that the visits of lanes serve, by names: they are the bytes of the spans that the entries serve.
 use Rattle.std.specs.Prelude.{ℕ, ◌≡◌, false, Option, Some, None, List, [], ◌∷◌, ◌++◌, take, slice_get}
 use Rattle.key_names.specs.declared.names.LaneId.{LaneId}
 use Rattle.key_names.specs.declared.names.LaneId.TheVariants.{Pool as PoolLane, Base as BaseLane, Cpu as CpuLane}
@@ -21,12 +21,12 @@ abbrev pub bytes_for : Purpose → List ℕ → List ℕ
 bytes_for kept bytes = []
 bytes_for served bytes = bytes
 
--- the bytes of the served spans among some uses, one behind the other
+-- the bytes of the served spans among some uses, one after another
 abbrev pub served_in : Lists → List Use → List ℕ
 served_in lists [] = []
 served_in lists (u ∷ us) = bytes_for u.purpose (span_bytes lists u.span) ++ served_in lists us
 
--- what the entry at a place of the base, and of a CPU, puts to use
+-- the uses of the entry at a place of the base, and of a CPU
 abbrev pub base_place_uses : Lists → ℕ → BaseEntry → List Use
 base_place_uses lists place e = base_uses_at (base_after (take place lists.base)) e
 
@@ -34,7 +34,7 @@ abbrev pub cpu_place_uses : Lists → ℕ → ℕ → CpuEntry → List Use
 cpu_place_uses lists c place e =
     cpu_uses_at c (is_rekeyed lists c) (cpu_after lists.base c (take place (cpu_list lists c))) e
 
--- each visit serves the bytes of its served spans; a read that a vgetrandom state takes as its key serves no caller
+-- each visit serves the bytes of its served spans. A read that a vgetrandom state takes as its key serves no caller
 pub record VisitsServeNamed (lists : Lists) : Type 0 where
   pub base : (i : ℕ) (e : BaseEntry) → slice_get lists.base i ≡ Some e →
       (base_visit lists i e).serves ≡ served_in lists (base_place_uses lists i e)
@@ -48,7 +48,7 @@ abbrev pub uses_or : {E : Type 0} → (E → List Use) → Option E → List Use
 uses_or uses_of None = []
 uses_or uses_of (Some e) = uses_of e
 
--- what stands at a place of a lane puts to use
+-- the uses of the entry at a place of a lane
 abbrev pub place_uses : Lists → LaneId → ℕ → List Use
 place_uses lists PoolLane place = []
 place_uses lists BaseLane place = uses_or (base_place_uses lists place) (slice_get lists.base place)

@@ -1,4 +1,4 @@
--- What a caller does with a vgetrandom state, one after another, and the list of entries that this leaves.
+-- A caller's uses of a vgetrandom state, one after another, and the list of entries that they leave.
 use Rattle.std.specs.Prelude.{ℕ, ◌≡◌, IsTrue, ⊤, List, [], ◌∷◌, ◌++◌, take, replicate}
 use Rattle.std.specs.List.{fold, AllByRecursion}
 use Rattle.key_names.specs.declared.entries.CpuEntry.{CpuEntry}
@@ -10,7 +10,7 @@ use Rattle.key_names.specs.VgetrandomState.{VgetrandomState, wiped_state}
 use Rattle.key_names.specs.BatchCopy.{has_left, state_of_same_batch, serve_entry}
 use Rattle.key_names.specs.Vgetrandom.{HostStep, Outcome, IsCall}
 
--- a call of vgetrandom with what the host did and what the call gave, a copy with no call around it, or a wipe
+-- a vgetrandom call with the host's steps and the call's outcome, a copy without a call, or a wipe
 pub data StateUse : Type 0 where
   by_call : ℕ → ℕ → List HostStep → Outcome → StateUse
   by_copy : ℕ → StateUse
@@ -31,20 +31,20 @@ entries_of_use s (by_call n flags steps outcome) = outcome.entries
 entries_of_use s (by_copy n) = serve_entry s.pos n
 entries_of_use s by_wipe = Wipe ∷ []
 
--- the entries that some uses leave, from a state on
+-- the entries that some uses leave, beginning with a state
 abbrev pub entries_of_uses : VgetrandomState → List StateUse → List VEntry
 entries_of_uses s [] = []
 entries_of_uses s (u ∷ uses) = entries_of_use s u ++ entries_of_uses (state_after_use s u) uses
 
--- what uses leave: a list in order, which is lawful wherever its rekeys take reads of 32 bytes, and a state of which
--- the served bytes are 0
+-- uses leave a list in order, which is lawful if its rekeys take reads of 32 bytes, and a state
+-- whose served bytes are 0
 pub record LeavesLawful (caller state : ℕ) (es : List VEntry) (s : VgetrandomState) : Type 0 where
   pub ordered : OrderedStateList caller state es
   pub lawful : (cpu_list : ℕ → List CpuEntry) → AllByRecursion (TakesRead cpu_list) es →
       LawfulStateList cpu_list caller state es
   pub served_zero : take s.pos s.batch ≡ replicate s.pos 0
 
--- whatever a caller does with a wiped state, for any host
+-- this holds for all uses of a wiped state, and for any host
 abbrev pub UsesLeaveLawfulLists : Type 0
 UsesLeaveLawfulLists = (caller state : ℕ) (uses : List StateUse) →
     LawfulFrom StateUseStands state_after_use wiped_state uses →

@@ -1,5 +1,5 @@
--- What the list of one vgetrandom state of a caller means: the names of its key and of its batch's key after its
--- entries, and which entry may come when.
+-- The meaning of the list of a caller's vgetrandom state: the names of its key and of its batch's key after its
+-- entries, and which entry may follow.
 use Rattle.std.specs.Prelude.{ℕ, suc, ◌+◌, ◌≡◌, ◌≤◌, ⊤, Option, Some, None, List, slice_get, option_and_then}
 use Rattle.std.specs.List.{fold}
 use Rattle.key_names.specs.declared.names.LaneId.TheVariants.{Cpu as CpuLane}
@@ -12,17 +12,18 @@ use Rattle.key_names.specs.declared.entries.VEntry.TheVariants.{Rekey, Blocks, R
 use Rattle.key_names.specs.CpuList.{taken_at}
 use Rattle.key_names.specs.LawfulList.{LawfulFrom}
 
--- what has to come next: after a rekey a wipe, blocks or a refill, and after blocks the refill behind them
+-- the entry that has to follow: after a rekey a wipe, blocks or a refill, and after blocks the
+-- refill from the next block
 pub data Expected : Type 0 where
   anything new_key : Expected
   refill_from : ℕ → Expected
 
 pub record NamedState : Type 0 where
-  -- how many entries there were
+  -- the number of entries so far
   pub place : ℕ
   -- the name of the key
   pub key : Option KeyName
-  -- how many refills there were, those of an unnamed key included
+  -- the number of refills so far, with those of an unnamed key
   pub refills : ℕ
   -- the key in use at the last refill, and the block at which its batch begins
   pub batch_key : Option KeyName
@@ -42,7 +43,7 @@ state_start = record {
   expected = anything;
 }
 
--- the name of the key that a refill keeps; a refill of an unnamed key leaves it unnamed
+-- the name of the key that a refill keeps. If the key before has no name, the key after has none
 abbrev pub refill_key : ℕ → ℕ → ℕ → Option KeyName → Option KeyName
 refill_key caller state n None = None
 refill_key caller state n (Some key) = Some (Vdso caller state n)
@@ -85,7 +86,7 @@ MayRefill anything from = ⊤
 MayRefill new_key from = ⊤
 MayRefill (refill_from n) from = from ≡ n
 
--- an entry follows those before it: served bytes come without a gap
+-- an entry may follow those before it: served bytes come without a gap
 abbrev pub MayFollow : NamedState → VEntry → Type 0
 MayFollow s (Rekey cpu cpu_place) = s.expected ≡ anything
 MayFollow s (Blocks from count) = MayStart s.expected
@@ -104,17 +105,17 @@ TakesRead cpu_list Wipe = ⊤
 abbrev pub StateMayCome : (ℕ → List CpuEntry) → NamedState → VEntry → Type 0
 StateMayCome cpu_list s e = MayFollow s e × TakesRead cpu_list e
 
--- each entry follows those before it, and the last one is followed by what it asks for
+-- each entry may follow those before it, and no entry is still missing after the last
 pub record OrderedStateList (caller state : ℕ) (es : List VEntry) : Type 0 where
   pub comes : LawfulFrom MayFollow (state_step caller state) state_start es
   pub ends : (state_after caller state es).expected ≡ anything
 
--- each rekey takes a read of 32 bytes, besides
+-- the same, and each rekey takes a read of 32 bytes
 pub record LawfulStateList (cpu_list : ℕ → List CpuEntry) (caller state : ℕ) (es : List VEntry) : Type 0 where
   pub comes : LawfulFrom (StateMayCome cpu_list) (state_step caller state) state_start es
   pub ends : (state_after caller state es).expected ≡ anything
 
--- the read that an entry takes as its key: the CPU and its place
+-- the CPU and the place of the read that an entry takes as its key
 abbrev pub rekey_of : VEntry → Option (ℕ × ℕ)
 rekey_of (Rekey cpu cpu_place) = Some (cpu, cpu_place)
 rekey_of (Blocks from count) = None

@@ -1,4 +1,4 @@
--- What a caller's vgetrandom states hold in a transcript, told by the lists of their entries.
+-- A caller's vgetrandom states in a transcript, as their lists of entries give them.
 use Rattle.std.specs.Prelude.{ℕ, ◌≡◌, ◌≤◌, ◌<◌, ◌⊎◌, Option, Some, List, [], ◌∷◌, take, slice_get, unwrap_or}
 use Rattle.std.specs.List.{fold}
 use Rattle.key_names.specs.declared.names.KeyName.{KeyName}
@@ -14,11 +14,11 @@ use Rattle.key_names.specs.VgetrandomState.{VgetrandomState, wiped_state}
 use Rattle.key_names.specs.Meaning.{CallerState, caller_start, CallMeaning}
 use Rattle.key_names.specs.IsTranscript.{EachCaller, IsTranscriptBy, entries_of_state, script_calls, start_setting}
 
--- a caller's state of a number
+-- the caller's state with this number
 abbrev pub state_number : ℕ → CallerState → VgetrandomState
 state_number k s = unwrap_or (slice_get s.states k) wiped_state
 
--- where a caller stands after some calls
+-- the caller's state after some calls
 abbrev pub caller_end : CallerState → List CallMeaning → CallerState
 caller_end s [] = s
 caller_end s (m ∷ ms) = caller_end m.after ms
@@ -26,11 +26,11 @@ caller_end s (m ∷ ms) = caller_end m.after ms
 abbrev pub HasName : Option KeyName → Type 0
 HasName key = (name : KeyName) × (key ≡ Some name)
 
--- the key has a name, and so has that of the batch unless the batch is used up
+-- the key has a name, and the batch's key has one unless the batch is used up
 abbrev pub IsNamed : NamedState → Type 0
 IsNamed t = HasName t.key × ((t.pos ≡ 96) ⊎ HasName t.batch_key)
 
--- a state holds what its list replays to, and one that has a generation holds keys with names
+-- a state holds the bytes that its list replays to, and if it has a generation its keys have names
 pub record IsReplayed (lists : Lists) (caller k : ℕ) (es : List VEntry) (s : VgetrandomState) : Type 0 where
   pub batch : s.batch ≡ (fold (state_bytes_step lists) state_bytes_start es).batch
   pub pos : s.pos ≡ (state_after caller k es).pos
@@ -39,14 +39,14 @@ pub record IsReplayed (lists : Lists) (caller k : ℕ) (es : List VEntry) (s : V
 
 -- each of a caller's sixteen states
 pub record StatesReplayed (lists : Lists) (caller : ℕ) (setting : Setting) (ms : List CallMeaning) : Type 0 where
-  -- after any number of its calls it holds what its entries so far replay to
+  -- after any number of the caller's calls, the state matches the replay of its entries so far
   pub between : (k j : ℕ) → k < 16 → IsReplayed lists caller k (entries_of_state k (take j ms))
       (state_number k (caller_end (caller_start setting) (take j ms)))
-  -- and in the end what its list in the book does, of which the laws of lawful books speak
+  -- at the end, the state matches the replay of its list in the book, for which the laws of lawful books hold
   pub ends : (k : ℕ) → k < 16 → IsReplayed lists caller k (state_list lists caller k)
       (state_number k (caller_end (caller_start setting) ms))
 
--- the states of each caller of a lawful transcript
+-- this holds for the states of each caller of a lawful transcript
 abbrev pub StatesAreReplayed : Type 0
 StatesAreReplayed = (script : Script) (t : List (List SeenLine)) (book : Book) (ms : List (List CallMeaning)) →
     IsTranscriptBy script t book ms →

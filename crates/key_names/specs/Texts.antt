@@ -1,4 +1,4 @@
--- The two texts, spelling by spelling.
+-- The two texts and their spelling.
 pub mod ScriptFaults
 pub mod ScriptOrFault
 pub mod ScriptGrammar

@@ -1,4 +1,4 @@
--- Which bytes of which key were put to use, and when no byte was used twice.
+-- The uses of each key's bytes, and when no byte is used twice.
 use Rattle.std.specs.Prelude.{ℕ, ◌+◌, ◌*◌, ◌≡◌, ◌≤◌, ◌<◌, ◌⊎◌, Bool, true, false, ◌&&◌, ◌==◌, ⊤, Option, Some, None}
 use Rattle.std.specs.Prelude.{List, [], ◌∷◌, ◌++◌, length, nat_lt, if◌then◌else◌}
 use Rattle.std.specs.List.{list_any, flat_map, range_with_len}
@@ -33,7 +33,7 @@ pub record Use : Type 0 where
 abbrev pub use_of : Purpose → KeyName → ℕ → ℕ → Use
 use_of purpose key from len = record { span = record { key = key; from = from; len = len }; purpose = purpose }
 
--- the uses of a key in use; one without a name has none
+-- the uses of a key in use. A key without a name has none
 abbrev pub named_uses : Option KeyName → (KeyName → List Use) → List Use
 named_uses None uses_of = []
 named_uses (Some key) uses_of = uses_of key
@@ -41,15 +41,15 @@ named_uses (Some key) uses_of = uses_of key
 abbrev pub named_use : Purpose → Option KeyName → ℕ → ℕ → List Use
 named_use purpose key from len = named_uses key (λ k. use_of purpose k from len ∷ [])
 
--- what a read takes behind the 32 bytes that the erasure keeps: call is the name of the next 32 bytes where they
--- become a key, and rekeys says whether a vgetrandom state takes them
+-- the uses of a read after the 32 bytes that the erasure keeps. call is the name of the next 32 bytes if they become a
+-- key, and rekeys is true if a vgetrandom state takes them
 abbrev pub taken_uses : Bool → KeyName → KeyName → Taken → List Use
 taken_uses rekeys key call (User n) =
     if nat_lt 32 n then use_of kept key 32 32 ∷ use_of served call 64 n ∷ []
     else (if rekeys then use_of kept key 32 32 else use_of served key 32 n) ∷ []
 taken_uses rekeys key call (Kernel n) = use_of served key 32 n ∷ []
 
--- an erasure and what a read takes
+-- the uses of an erasure and a read
 abbrev pub read_uses : Bool → KeyName → KeyName → Taken → List Use
 read_uses rekeys key call taken = use_of kept key 0 32 ∷ taken_uses rekeys key call taken
 
@@ -74,7 +74,7 @@ abbrev pub batch_uses : ℕ → Option Fill → List Use
 batch_uses width None = []
 batch_uses width (Some fill) = named_use served fill.key (32 + width * fill.count) width
 
--- rekeys says of each place whether a vgetrandom state takes its read
+-- for each place, rekeys is true if a vgetrandom state takes the read there
 abbrev pub cpu_uses_at : ℕ → (ℕ → Bool) → CpuState → CpuEntry → List Use
 cpu_uses_at c rekeys s (Read look refill taken) =
     named_uses (cpu_key_in_use (Read look refill taken) s.key)
@@ -95,7 +95,7 @@ state_uses_at s (Refill from) = named_use kept s.key (64 * from + 96) 32
 state_uses_at s (Serve pos len) = named_use served s.batch_key (64 * s.batch_from + pos) len
 state_uses_at s Wipe = []
 
--- what entries put to use, each in the state in which it stands
+-- the uses of entries, each in the state before it
 abbrev pub uses_from : {S E : Type 0} → (S → E → List Use) → (S → E → S) → S → List E → List Use
 uses_from uses_at step s [] = []
 uses_from uses_at step s (e ∷ es) = uses_at s e ++ uses_from uses_at step (step s e) es
@@ -107,7 +107,7 @@ rekeys_place c k (Refill from) = false
 rekeys_place c k (Serve pos len) = false
 rekeys_place c k Wipe = false
 
--- whether a state's entry takes the read at place k of CPU c
+-- whether an entry of some vgetrandom state takes its key from the read at place k of CPU c
 abbrev pub is_rekeyed : Lists → ℕ → ℕ → Bool
 is_rekeyed lists c k = list_any (λ states. list_any (λ es. list_any (rekeys_place c k) es) states) lists.callers
 

@@ -1,5 +1,5 @@
--- A call of vgetrandom, for any host: which steps of the host lead to which state, ending and entries. The relation is
--- told from each point of a call to its end, so that it can also be begun at a point.
+-- A vgetrandom call, for any host: which steps of the host lead to which state, ending and entries. The relation is
+-- defined from each point of a call to its end, so that it can also begin at a point.
 use Rattle.std.specs.Prelude.{ℕ, ◌≡◌, Bool, true, false, ◌==◌, MatchBool, Option, Some, None, List, [], ◌∷◌, ◌++◌}
 use Rattle.std.specs.Prelude.{if◌then◌else◌}
 use Rattle.key_names.specs.declared.entries.VEntry.{VEntry}
@@ -16,26 +16,26 @@ pub record CpuPlace : Type 0 where
   pub cpu : ℕ
   pub place : ℕ
 
--- what a system call answers: the bytes that it read, and the visit of a CPU that gave them, if the host has such; or
--- an error
+-- the answer of a system call: the bytes that it read, with the CPU visit that gave them if the host has
+-- such visits; or an error
 pub data SystemAnswer : Type 0 where
   read : List ℕ → Option CpuPlace → SystemAnswer
   failed : Errno → SystemAnswer
 
--- what a host does in a call: it publishes a generation, which is 0 where the core is not ready; it answers a system
+-- the steps of a host in a call: it publishes a generation, which is 0 if the core is not ready; it answers a system
 -- call of some bytes with some flags; or at a point it wipes the state or leaves it
 pub data HostStep : Type 0 where
   publishes : ℕ → HostStep
   system_call : ℕ → ℕ → SystemAnswer → HostStep
   at_point : Point → Bool → HostStep
 
--- how an attempt ended: the generation published in the end is the state's, or it is another one, or the system call
--- for a new key failed
+-- how an attempt ended: the generation published at the end was the state's, or another one, or the system
+-- call for a new key failed
 pub data AttemptEnd : Type 0 where
   holds outdated not_keyed : AttemptEnd
 
--- what an attempt gives: the bytes that it copied, the state, the next block, the entries of the state's list, and how
--- it ended
+-- the result of an attempt: the bytes that it copied, the state, the next block, the entries of the
+-- state's list, and how it ended
 pub record Attempt : Type 0 where
   pub out : List ℕ
   pub state : VgetrandomState
@@ -49,12 +49,12 @@ attempt_behind entries attempt = record attempt { entries = entries ++ attempt.e
 abbrev pub wipe_entry : Bool → List VEntry
 wipe_entry wiped = if wiped then Wipe ∷ [] else []
 
--- a new key takes the bytes of the CPU visit that gave them
+-- the entry of a new key names the CPU visit that gave its bytes
 abbrev pub rekey_entry : Option CpuPlace → List VEntry
 rekey_entry None = []
 rekey_entry (Some at) = Rekey at.cpu at.place ∷ []
 
--- the host is at a point, and GoesOn is what follows on the state that it leaves
+-- the host is at a point, and GoesOn holds for the rest, on the state after the point
 pub record AtPoint (point : Point) (GoesOn : VgetrandomState → List HostStep → Attempt → Type 0) (s : VgetrandomState)
     (steps : List HostStep) (attempt : Attempt) : Type 0 where
   pub wiped : Bool
@@ -64,7 +64,7 @@ pub record AtPoint (point : Point) (GoesOn : VgetrandomState → List HostStep �
   pub goes_on : GoesOn (state_left wiped s) rest attempt_after
   pub attempt_is : attempt ≡ attempt_behind (wipe_entry wiped) attempt_after
 
--- from End on: out was copied
+-- from End on: out has been copied
 pub record FromEnd (out : List ℕ) (next_block : ℕ) (s : VgetrandomState) (steps : List HostStep)
     (attempt : Attempt) : Type 0 where
   pub published : ℕ
@@ -77,21 +77,21 @@ pub record FromEnd (out : List ℕ) (next_block : ℕ) (s : VgetrandomState) (st
     end = if s.generation == published then holds else outdated;
   }
 
--- from Serve on: n bytes are copied, c being the next block
+-- from Serve on: n bytes are copied; c is the next block
 pub record FromServe (n c : ℕ) (s : VgetrandomState) (steps : List HostStep) (attempt : Attempt) : Type 0 where
   pub attempt_after : Attempt
   pub goes_on : AtPoint End (FromEnd (copy_bytes s c n) (block_after_copy s c n))
       (state_after_copy s c n) steps attempt_after
   pub attempt_is : attempt ≡ attempt_behind (copy_entries s c n) attempt_after
 
--- the system call for a new key read it
+-- the system call for a new key succeeded
 pub record Keyed (n c : ℕ) (key : List ℕ) (visit : Option CpuPlace) (s : VgetrandomState) (steps : List HostStep)
     (attempt : Attempt) : Type 0 where
   pub attempt_after : Attempt
   pub goes_on : AtPoint Serve (FromServe n c) (record s { key = key; pos = 96 }) steps attempt_after
   pub attempt_is : attempt ≡ attempt_behind (rekey_entry visit) attempt_after
 
--- it failed: what then stands in the key is not said
+-- the system call for a new key failed. The key may then be any list of bytes
 pub record NotKeyed (c : ℕ) (s : VgetrandomState) (steps : List HostStep) (attempt : Attempt) : Type 0 where
   pub key : List ℕ
   pub steps_are : steps ≡ []
@@ -107,33 +107,33 @@ abbrev pub AfterKeyRead : ℕ → ℕ → SystemAnswer → VgetrandomState → L
 AfterKeyRead n c (read key visit) s steps attempt = Keyed n c key visit s steps attempt
 AfterKeyRead n c (failed errno) s steps attempt = NotKeyed c s steps attempt
 
--- from Written on: a system call with no flags reads 32 bytes for the key
+-- from Written on: a system call without flags reads 32 bytes for the key
 pub record FromWritten (n c : ℕ) (s : VgetrandomState) (steps : List HostStep) (attempt : Attempt) : Type 0 where
   pub answer : SystemAnswer
   pub rest : List HostStep
   pub steps_are : steps ≡ system_call 32 0 answer ∷ rest
   pub goes_on : AfterKeyRead n c answer s rest attempt
 
--- from Start on: a state of another generation than the published one takes that generation and then a new key
+-- from Start on: if the state's generation is not the published one, the state takes that generation and then a new key
 abbrev pub FromStart : ℕ → ℕ → ℕ → VgetrandomState → List HostStep → Attempt → Type 0
 FromStart n c published s steps attempt =
     MatchBool (s.generation == published) (AtPoint Serve (FromServe n c) s steps attempt)
     (AtPoint Written (FromWritten n c) (record s { generation = published }) steps attempt)
 
--- an attempt to copy n bytes out of a state, c being the next block
+-- an attempt to copy n bytes out of a state; c is the next block
 pub record IsAttempt (n c : ℕ) (s : VgetrandomState) (steps : List HostStep) (attempt : Attempt) : Type 0 where
   pub published : ℕ
   pub rest : List HostStep
   pub steps_are : steps ≡ publishes published ∷ rest
   pub goes_on : AtPoint Start (FromStart n c published) s rest attempt
 
--- how a call ended, and with what bytes: none were wanted; an attempt held; or the system call gave the answer
+-- how a call ended, and with which bytes: it asked for no bytes; an attempt held; or the system call gave the answer
 pub data Ending : Type 0 where
   no_bytes : Ending
   by_batch : List ℕ → Ending
   by_system : SystemAnswer → Ending
 
--- what a call gives: how it ended, the state, and the entries of the state's list
+-- the result of a call: how it ended, the state, and the entries of the state's list
 pub record Outcome : Type 0 where
   pub ending : Ending
   pub state : VgetrandomState
@@ -142,22 +142,22 @@ pub record Outcome : Type 0 where
 abbrev pub outcome_behind : List VEntry → Outcome → Outcome
 outcome_behind entries outcome = record outcome { entries = entries ++ outcome.entries }
 
--- the system answers the call as it was made, all its bytes and its flags
+-- the system call has the call's own number of bytes and flags
 pub record BySystem (n flags : ℕ) (s : VgetrandomState) (steps : List HostStep) (outcome : Outcome) : Type 0 where
   pub answer : SystemAnswer
   pub steps_are : steps ≡ system_call n flags answer ∷ []
   pub outcome_is : outcome ≡ record { ending = by_system answer; state = s; entries = [] }
 
--- a state that no call is inside of any more
+-- the state when no call uses it any more
 abbrev pub state_after_call : VgetrandomState → VgetrandomState
 state_after_call s = record s { in_use = false }
 
--- the bytes of an attempt that held
+-- an attempt held, and its bytes are given out
 pub record ByBatch (out : List ℕ) (s : VgetrandomState) (steps : List HostStep) (outcome : Outcome) : Type 0 where
   pub steps_are : steps ≡ []
   pub outcome_is : outcome ≡ record { ending = by_batch out; state = state_after_call s; entries = [] }
 
--- what follows an attempt, Outdated being what follows one whose generation was outdated in the end
+-- the steps after an attempt; Outdated holds for those after one that was outdated at its end
 abbrev pub AfterAttempt : ℕ → ℕ → (ℕ → VgetrandomState → List HostStep → Outcome → Type 0) → AttemptEnd → Attempt →
     List HostStep → Outcome → Type 0
 AfterAttempt n flags Outdated holds attempt steps outcome = ByBatch attempt.out attempt.state steps outcome
@@ -165,7 +165,7 @@ AfterAttempt n flags Outdated outdated attempt steps outcome = Outdated attempt.
 AfterAttempt n flags Outdated not_keyed attempt steps outcome =
     BySystem n flags (state_after_call attempt.state) steps outcome
 
--- an attempt whose own steps are those that Tried relates, and what follows it
+-- an attempt for which Tried holds, and the steps after it
 pub record AttemptAndRest (n flags : ℕ) (Outdated : ℕ → VgetrandomState → List HostStep → Outcome → Type 0)
     (Tried : List HostStep → Attempt → Type 0) (steps : List HostStep) (outcome : Outcome) : Type 0 where
   pub tried : List HostStep
@@ -177,24 +177,24 @@ pub record AttemptAndRest (n flags : ℕ) (Outdated : ℕ → VgetrandomState �
   pub goes_on : AfterAttempt n flags Outdated attempt.end attempt rest outcome_after
   pub outcome_is : outcome ≡ outcome_behind attempt.entries outcome_after
 
--- what follows two attempts that did not hold
+-- the steps after two attempts that did not hold
 abbrev pub AfterBoth : ℕ → ℕ → ℕ → VgetrandomState → List HostStep → Outcome → Type 0
 AfterBoth n flags c s steps outcome = BySystem n flags (state_after_call s) steps outcome
 
--- the second attempt goes on with the block that the first one came to
+-- the second attempt continues with the next block of the first
 abbrev pub SecondAttempt : ℕ → ℕ → ℕ → VgetrandomState → List HostStep → Outcome → Type 0
 SecondAttempt n flags c s steps outcome = AttemptAndRest n flags (AfterBoth n flags) (IsAttempt n c s) steps outcome
 
 abbrev pub FirstAttempt : ℕ → ℕ → VgetrandomState → List HostStep → Outcome → Type 0
 FirstAttempt n flags s steps outcome = AttemptAndRest n flags (SecondAttempt n flags) (IsAttempt n 0 s) steps outcome
 
--- no bytes are wanted
+-- the call asks for no bytes
 pub record ByNothing (s : VgetrandomState) (steps : List HostStep) (outcome : Outcome) : Type 0 where
   pub steps_are : steps ≡ []
   pub outcome_is : outcome ≡ record { ending = no_bytes; state = s; entries = [] }
 
--- behind the first published generation: a core that is not ready and a state that a call is inside of leave it to the
--- system call, and otherwise the state is marked and tried
+-- the rest of a call after the first published generation. If the core is not ready or the state is in use, the system
+-- call serves; else the state is marked and tried
 abbrev pub FromPublished : ℕ → ℕ → VgetrandomState → ℕ → List HostStep → Outcome → Type 0
 FromPublished n flags s published steps outcome =
     MatchBool (published == 0) (BySystem n flags s steps outcome)

@@ -1,4 +1,4 @@
--- How a call of vgetrandom shows in the steps of a vread's line and of the lines of the acts inside it: the host of the
+-- How a vgetrandom call shows in the steps of a vread's line and of the lines of the acts inside it. The host of the
 -- call is the caller itself, over the lanes.
 use Rattle.std.specs.Prelude.{ℕ, zero, suc, ◌≡◌, ◌≤◌, Bool, true, false, ◌&&◌, ⊤, Option, Some, None, List, []}
 use Rattle.std.specs.Prelude.{◌∷◌, ◌++◌, if◌then◌else◌}
@@ -23,7 +23,7 @@ use Rattle.key_names.specs.Answers.{system_answer, served_bytes}
 use Rattle.key_names.specs.Vgetrandom.{CpuPlace, SystemAnswer, read, failed, HostStep, publishes, system_call, at_point}
 use Rattle.key_names.specs.Vgetrandom.{Ending, no_bytes, by_batch, by_system}
 
--- what is published when a look finds a generation: the next number, so that 0 is left for a core that is not ready
+-- the generation that is published when a look finds one: the next number, so that 0 means that the core is not ready
 abbrev pub published_by : ℕ → ℕ
 published_by zero = 0
 published_by (suc g) = suc (suc g)
@@ -35,13 +35,13 @@ place_of (at_base v) = None
 place_of (at_cpu v) = Some (record { cpu = v.cpu; place = v.place })
 place_of nothing_there = None
 
--- the visit of a CPU that a system call ends with, if it does
+-- the CPU visit that a system call ends with, if it ends with one
 abbrev pub last_place : List Deed → Option CpuPlace
 last_place [] = None
 last_place (deed ∷ []) = place_of deed
 last_place (deed ∷ next ∷ deeds) = last_place (next ∷ deeds)
 
--- the error that an answer is
+-- the error of an answer
 abbrev pub errno_of : Answer → Option Errno
 errno_of Done = None
 errno_of Again = Some EAGAIN
@@ -56,11 +56,11 @@ abbrev pub answer_with : Option Errno → List Deed → SystemAnswer
 answer_with None deeds = read (served_bytes deeds) (last_place deeds)
 answer_with (Some errno) deeds = failed errno
 
--- what a system call with these flags answered, by what stands behind its steps
+-- the answer of a system call with these flags, from the deeds of its steps
 abbrev pub answer_behind : ℕ → List Deed → SystemAnswer
 answer_behind flags deeds = answer_with (errno_of (system_answer flags deeds)) deeds
 
--- a system call of n bytes, and what follows its steps
+-- a system call of n bytes, and the deeds after its own
 pub record SystemCallShows (set : Setting) (n flags : ℕ) (answer : SystemAnswer) (Rest : List Deed → Type 0)
     (deeds : List Deed) : Type 0 where
   pub call : List Deed
@@ -70,14 +70,14 @@ pub record SystemCallShows (set : Setting) (n flags : ℕ) (answer : SystemAnswe
   pub answers : answer ≡ answer_behind flags call
   pub goes_on : Rest rest
 
--- what stands behind the steps of the line is what the host did; a point is no step
+-- the deeds of the line are the steps of the host. A point has no step in the transcript
 abbrev pub Shows : Setting → List HostStep → List Deed → Type 0
 Shows set [] deeds = deeds ≡ []
 Shows set (publishes g ∷ steps) deeds = Looked (λ look rest. (g ≡ published_by look) × Shows set steps rest) deeds
 Shows set (at_point point wiped ∷ steps) deeds = Shows set steps deeds
 Shows set (system_call n flags answer ∷ steps) deeds = SystemCallShows set n flags answer (Shows set steps) deeds
 
--- a point that a call came to, and whether the state was wiped there
+-- a point that a call has reached, and whether the state was wiped there
 pub record PointReached : Type 0 where
   pub point : Point
   pub wiped : Bool
@@ -101,7 +101,7 @@ abbrev pub from_start : List PointReached → List PointReached
 from_start [] = []
 from_start (reached ∷ points) = if is_start reached then reached ∷ points else from_start points
 
--- the points of the first attempt, and those of the second; the first of all is the start of the first attempt
+-- the points of the first attempt, and those of the second. The first point of all is the start of the first attempt
 abbrev pub first_points : List PointReached → List PointReached
 first_points [] = []
 first_points (start ∷ points) = start ∷ before_start points
@@ -115,20 +115,20 @@ is_wipe WipeAct = true
 is_wipe (VreadAct n) = false
 is_wipe ReseedAct = false
 
--- whether an act at this point wipes
+-- whether an act at this point wipes the state
 abbrev pub is_wiped : List BoundAct → Point → Bool
 is_wiped acts point = list_any (λ bound. is_same_point bound.point point && is_wipe bound.act) acts
 
--- the acts happen in the first attempt alone
+-- the acts happen only in the first attempt
 pub record WipesStand (acts : List BoundAct) (points : List PointReached) : Type 0 where
   pub first : AllByRecursion (λ reached. reached.wiped ≡ is_wiped acts reached.point) (first_points points)
   pub second : AllByRecursion (λ reached. reached.wiped ≡ false) (second_points points)
 
--- whether the first attempt came to the point of an act
+-- whether the first attempt reached the point of an act
 abbrev pub is_reached : List PointReached → BoundAct → Bool
 is_reached points bound = list_any (λ reached. is_same_point reached.point bound.point) (first_points points)
 
--- the answer and the data of a line, by how its call ended
+-- the answer and the data of a line, from how its call ended
 abbrev pub answer_of_errno : Errno → Answer
 answer_of_errno EAGAIN = Again
 answer_of_errno EINVAL = Invalid
@@ -153,7 +153,7 @@ ending_shown no_bytes = no_data
 ending_shown (by_batch bytes) = bytes_or_none bytes
 ending_shown (by_system answer) = system_line_shown answer
 
--- the looks among what stands behind some steps
+-- the looks among some deeds
 abbrev pub looks_of : List Deed → List ℕ
 looks_of [] = []
 looks_of (looked g ∷ deeds) = g ∷ looks_of deeds

@@ -4,12 +4,12 @@
 
 use crate::text::Text;
 
-/// For whom a read is, and how many bytes its call asked for.
+/// Whether a read is for a user or for the kernel, and the number of bytes that its call asked for.
 #[derive(Clone, Copy, Debug, PartialEq, Eq)]
 pub enum Taken {
-    /// For a user. What one of more than 32 bytes takes is the key of all of them (`get_random_bytes_user`).
+    /// For a user. If it is of more than 32 bytes, the visit takes one key for all of them (`get_random_bytes_user`).
     User(u32),
-    /// For the kernel. What it takes are its first bytes, at most 32 (`get_random_bytes`).
+    /// For the kernel. The visit makes its first bytes, at most 32 (`get_random_bytes`).
     Kernel(u32),
 }
 
@@ -21,7 +21,7 @@ pub enum PoolEntry {
         text: Text,
         bits: u32,
     },
-    /// An input event at moment `now`; `word` stands for the cycle counter.
+    /// An input event at moment `now`. In the kernel `word` is the cycle counter.
     Input {
         word: u64,
         kind: u16,
@@ -31,23 +31,24 @@ pub enum PoolEntry {
     },
     /// The credited bits are read.
     Bits,
-    /// A root is extracted for the base's place `base_place`, with 32 bytes of the hardware.
+    /// A root is extracted for the base's place `base_place`, with 32 bytes from the hardware.
     Extract {
         hw: [u8; 32],
         base_place: u64,
     },
 }
 
-/// An entry of the base's list. A root is the pool place of its extraction.
+/// An entry of the base's list. A root is named by the pool place of its extraction.
 #[derive(Clone, Copy, Debug, PartialEq, Eq)]
 pub enum BaseEntry {
-    /// An early key: that of the root, or none where the base is not empty any more (`_credit_init_bits`).
+    /// An early key: that of the root, or no new key if the base is no longer empty (`_credit_init_bits`).
     Early { root: Option<u64> },
     /// A reseed (`crng_reseed`).
     Reseed { root: u64, now: u64 },
-    /// The reseed timer is looked at. It has a root where it was due.
+    /// The reseed timer is checked. The entry has a root if the timer was due.
     Tick { now: u64, root: Option<u64> },
-    /// A read from the base, which is not ready. The root is that of its key, where it was empty (`crng_make_state`).
+    /// A read from the base before the core is ready. The root replaces the base's key if the base was
+    /// empty (`crng_make_state`).
     Draw { root: Option<u64>, taken: Taken },
     /// A key for the CPU's entry at this place (`crng_fast_key_erasure` of the base's key).
     Refill { cpu: u32, cpu_place: u64 },
@@ -57,18 +58,18 @@ pub enum BaseEntry {
     End,
     /// A read begins to wait until the core is ready (`wait_for_random_bytes`).
     Wait,
-    /// The read goes on, the core being ready.
+    /// The read goes on, since the core is ready.
     Resume,
     /// The read gives up, since no caller is left that could make the core ready.
     Interrupt,
-    /// A caller whose fork got no thread stops, and runs its child.
+    /// A caller stops because its fork got no thread, and runs the child itself.
     Stall,
-    /// The caller goes on.
+    /// The caller goes on after its child.
     Unstall,
 }
 
-/// An entry of a CPU's list. A look is a generation that was read, a refill the base place that gave the key, and a
-/// width counts bytes.
+/// An entry of a CPU's list. A look is a generation that was read, a refill is the base place that gave the key,
+/// and a width counts bytes.
 #[derive(Clone, Copy, Debug, PartialEq, Eq)]
 pub enum CpuEntry {
     /// A read takes from the CPU's key (`crng_make_state`).
@@ -77,7 +78,7 @@ pub enum CpuEntry {
         refill: Option<u64>,
         taken: Taken,
     },
-    /// An integer of `width` bytes out of its batch, which was `filled` first where it was used up or of an older
+    /// An integer of `width` bytes from its batch. The batch is `filled` first if it was used up or of another
     /// generation (`get_random_u8` to `get_random_u64`).
     Int {
         look: u64,
@@ -104,11 +105,11 @@ pub enum CpuEntry {
 /// An entry of the list of one vgetrandom state.
 #[derive(Clone, Copy, Debug, PartialEq, Eq)]
 pub enum VEntry {
-    /// The key becomes what the read at this place of a CPU gave.
+    /// The state takes its key from the read at this place of a CPU.
     Rekey { cpu: u32, cpu_place: u64 },
     /// `count` blocks of the key's keystream, of 64 bytes each, are served from block `from` on.
     Blocks { from: u64, count: u64 },
-    /// The 96 bytes from block `from` on become the batch, and the 32 bytes behind them the next key.
+    /// The 96 bytes from block `from` on become the batch, and the 32 bytes after them the next key.
     Refill { from: u64 },
     /// The `len` bytes of the batch from its byte `pos` on are served.
     Serve { pos: u8, len: u8 },

@@ -1,14 +1,14 @@
 //! The errors of a system call.
 
-/// Why a system call failed, with the number that Linux gives it.
+/// The reason why a system call failed, with Linux's number for it.
 #[derive(Clone, Copy, Debug, PartialEq, Eq)]
 pub enum Errno {
-    /// The call waited, and no caller ran any more that could have made the core ready.
+    /// The call waited until no running caller was left that could have made the core ready.
     Interrupted = 4,
-    /// The core is not ready, and the caller does not want to wait.
+    /// The core is not ready, and the call must not wait.
     Again = 11,
-    /// Flags that are unknown, or that do not go together.
+    /// A flag is unknown, or two flags exclude each other.
     Invalid = 22,
-    /// There is nothing to reseed yet.
+    /// A reseed of a core that is not ready.
     NoData = 61,
 }

@@ -1,4 +1,4 @@
-//! What a script asks, and the words and answers of a transcript.
+//! The events of a script, and the words and answers of a transcript.
 ghost use Rattle.std.specs.Prelude.{◌≡◌, ◌≤◌, length};
 ghost use Rattle.key_names.specs.Texts.ScriptGrammar.{event_word};
 ghost use Rattle.key_names.specs.Texts.Spelling.{word_text};
@@ -7,33 +7,33 @@ use crate::hardware::HardwareWords;
 use crate::point::Point;
 use crate::text::Text;
 
-/// What an act inside a call does.
+/// The action of an act inside a call.
 #[derive(Clone, Copy, Debug, PartialEq, Eq)]
 pub enum InsideAct {
     /// The memory of the state becomes zeros.
     Wipe,
-    /// A further vgetrandom call for so many bytes, on the same state.
+    /// Another vgetrandom call for this number of bytes, on the same state.
     Vread(u32),
     /// A reseed.
     Reseed,
 }
 
-/// One event of a script. Of a read, `len` counts bytes, at most 2^20, and `flags` are those of getrandom(2).
+/// One event of a script. In a read, `len` counts bytes, at most 2^20, and `flags` are those of getrandom(2).
 #[derive(Drop)]
 pub enum Event {
-    /// It is this moment now, in milliseconds, below 2^40.
+    /// The moment is now this one, in milliseconds and below 2^40.
     At {
         moment: u64,
     },
-    /// The caller goes on on another CPU.
+    /// The caller moves to another CPU.
     On {
         cpu: u32,
     },
-    /// What the hardware gives to the caller's later extractions (`arch_get_random_seed_longs`).
+    /// The bytes that the hardware gives to the caller's later extractions (`arch_get_random_seed_longs`).
     Hw {
         bytes: HardwareWords,
     },
-    /// The word, which stands for the cycle counter, and bytes are mixed (`add_device_randomness`).
+    /// A word, in the kernel the cycle counter, and bytes are mixed (`add_device_randomness`).
     Device {
         word: u64,
         text: Text,
@@ -51,7 +51,7 @@ pub enum Event {
     Credit {
         bits: u32,
     },
-    /// How many bits are credited? (ioctl `RNDGETENTCNT`)
+    /// The credited bits are read (ioctl `RNDGETENTCNT`).
     Bits,
     /// An interrupt on the caller's CPU: the cycle counter, and the instruction pointer with the interrupt's number
     /// (`add_interrupt_randomness`).
@@ -59,7 +59,7 @@ pub enum Event {
         v1: u64,
         v2: u64,
     },
-    /// An input event; the word stands for the cycle counter (`add_input_randomness`).
+    /// An input event. The word is in the kernel the cycle counter (`add_input_randomness`).
     Input {
         word: u64,
         kind: u16,
@@ -80,7 +80,7 @@ pub enum Event {
     Kread {
         len: u32,
     },
-    /// A read of /dev/random, whose flag is 1 where the file was opened with `O_NONBLOCK` (`random_read_iter`).
+    /// A read of /dev/random. The flag is 1 if the file was opened with `O_NONBLOCK` (`random_read_iter`).
     Dread {
         len: u32,
         flag: u32,
@@ -99,15 +99,15 @@ pub enum Event {
     Int64,
     /// A reseed now (ioctl `RNDRESEEDCRNG`).
     Reseed,
-    /// The reseed timer is looked at, and where it is due the core is reseeded (the delayed work `next_reseed`).
+    /// The reseed timer is checked. If it is due, the core is reseeded (the delayed work `next_reseed`).
     Tick,
     /// The memory of the current vgetrandom state becomes zeros.
     Drop,
-    /// A caller starts, and runs beside this one.
+    /// A child starts, and runs at the same time as this caller.
     Fork {
         child: u32,
     },
-    /// An act that waits for the caller's next `Vread`, and is done at a point of it.
+    /// An act that waits for the caller's next `Vread`, and is done at one of its points.
     Inside {
         point: Point,
         act: InsideAct,
@@ -120,19 +120,19 @@ pub enum Event {
     Online {
         cpu: u32,
     },
-    /// A virtual machine was copied: mixes as `Device` does, and reseeds where the core is ready
+    /// A virtual machine was copied: mixes as `Device` does, and reseeds if the core is ready
     /// (`add_vmfork_randomness`).
     Vmfork {
         word: u64,
         text: Text,
     },
-    /// The vgetrandom state of this number, below 16, is current from now on.
+    /// The vgetrandom state of this number, below 16, becomes the current one.
     State {
         number: u32,
     },
 }
 
-/// The word of a line: that of the event which it tells, or `End` at a caller's end.
+/// The word of a line: its event's word, or `End` at a caller's end.
 #[derive(Clone, Copy, Debug, PartialEq, Eq)]
 pub enum Word {
     At,
@@ -205,7 +205,7 @@ impl Event {
 }
 
 impl Word {
-    /// The word as both texts spell it.
+    /// The word's spelling in both texts.
     pub fn text(self) -> &'static [u8]
         ensures text { result.now ≡ word_text self }
         ensures short { length result.now ≤ 7 }
@@ -248,13 +248,13 @@ impl Word {
 #[derive(Clone, Copy, Debug, PartialEq, Eq)]
 pub enum Answer {
     Ok,
-    /// `EAGAIN`: the core is not ready, and the call does not wait.
+    /// `EAGAIN`: the core is not ready, and the call must not wait.
     Again,
-    /// `EINVAL`: the flags are unknown, or do not go together.
+    /// `EINVAL`: a flag is unknown, or two flags exclude each other.
     Invalid,
     /// `ENODATA`: a reseed of a core that is not ready.
     NoData,
-    /// `EINTR`: the call waited, and no caller was left that could make the core ready.
+    /// `EINTR`: the call waited until no caller was left that could make the core ready.
     Interrupted,
     /// A tick that reseeded.
     Fired,

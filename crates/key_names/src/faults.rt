@@ -1,40 +1,40 @@
-//! What is wrong with a script.
+//! The faults of a script.
 ghost use Rattle.std.specs.Prelude.{◌≡◌};
 
-/// The kind of a script's fault. Where a line has more than one, the earliest of this list counts, with two exceptions:
-/// `Unfinished` is looked at right after `TooLong`, and of `BadNumber` and `BadHex` the leftmost bad field decides.
+/// The kind of a script's fault. If a line has more than one, the earliest in this list counts, with two exceptions:
+/// `Unfinished` is checked right after `TooLong`, and between `BadNumber` and `BadHex` the leftmost bad field decides.
 #[derive(Clone, Copy, Debug, PartialEq, Eq)]
 pub enum FaultKind {
     /// The script has more than 16 MiB.
     TooLong,
-    /// The line has a byte that is no printable ASCII.
+    /// The line has a byte that is not printable ASCII.
     BadByte,
-    /// Line 1 is no head of a version.
+    /// Line 1 is not the head of any version.
     BadHead,
     /// Line 2 is not `cpus N` with a number of CPUs that the version allows.
     BadCpus,
-    /// The word, or the word of an act, is unknown, or it has not this number of fields, or the line follows `end`.
+    /// The word, or the word of an act, is unknown, or has another number of fields, or the line follows `end`.
     UnknownWord,
-    /// A field that has to be a number is none as it is spelt, or none that may stand there.
+    /// A field that has to be a number is not spelt as one, or the number is out of range.
     BadNumber,
-    /// A field of bytes is not spelt as such, or is no 32 of them behind `hw`.
+    /// A field of bytes is not spelt as bytes, or the field after `hw` is not 32 bytes long.
     BadHex,
-    /// Blocks do not come in order: line 3 begins none, or one is not the next.
+    /// Blocks are out of order: line 3 begins no block, or a block is not the next one.
     BadCaller,
-    /// A fork's number is taken, or no greater than that of who forks.
+    /// A fork's number is taken, or is not greater than the number of the forking caller.
     BadFork,
     /// A block's number was not forked before, or a forked number has no block.
     Unforked,
-    /// There are too many events, read bytes, or acts before one `vread`.
+    /// There are too many events, too many bytes to read, or too many acts before one `vread`.
     TooMany,
-    /// There is no line `end`, or the last line has no line feed.
+    /// The script has no line `end`, or the last line has no line feed.
     Unfinished,
 }
 
 impl FaultKind {
     ghost use Rattle.key_names.specs.Texts.ScriptFaults.{kind_number};
 
-    /// The number of the kind, from 1 to 12, as a refusal shows it.
+    /// The number of the kind, from 1 to 12, which a refusal shows.
     pub fn number(self) -> u8
         ensures { result ≡ kind_number self }
     {
@@ -55,10 +55,10 @@ impl FaultKind {
     }
 }
 
-/// A script's first fault.
+/// The first fault of a script.
 #[derive(Clone, Copy, Debug, PartialEq, Eq)]
 pub struct ScriptFault {
-    /// The line that has it, from 1, or 0 for `TooLong`.
+    /// The number of the faulty line, from 1, or 0 for `TooLong`.
     pub line: u32,
     pub kind: FaultKind,
 }

@@ -1,10 +1,11 @@
-//! What the hardware gives to extractions.
+//! The hardware's bytes for extractions.
 ghost use Rattle.std.specs.Prelude.{◌≡◌, IfOk};
 
 use std::alloc::{AllocError, Global};
 use std::marker::Model;
 
-/// The 32 bytes that the hardware gives to an extraction (`arch_get_random_seed_longs`), behind a pointer as a text is.
+/// The 32 bytes that the hardware gives to an extraction (`arch_get_random_seed_longs`), kept through
+/// a pointer, as a text is.
 ///
 /// Contracts see them as a list.
 #[derive(Drop)]
@@ -21,11 +22,11 @@ impl Model for HardwareWords {
 }
 
 impl HardwareWords {
-    /// The words of these bytes.
+    /// Makes hardware words of these bytes.
     ///
     /// # Errors
     ///
-    /// `AllocError` where there is no memory for them.
+    /// `AllocError` if memory for them is refused.
     pub fn of(alloc: Global, bytes: [u8; 32]) -> Result<HardwareWords, AllocError>
         ensures { IfOk result (λ words. words ≡ bytes) }
     {
@@ -33,7 +34,7 @@ impl HardwareWords {
         Ok(HardwareWords { bytes })
     }
 
-    /// Their bytes.
+    /// The bytes.
     pub fn bytes(&self) -> [u8; 32]
         ensures { result ≡ self.now }
     {

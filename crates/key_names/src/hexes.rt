@@ -8,7 +8,7 @@ ghost use Rattle.key_names.specs.Texts.Spelling.{AllLower, hex};
 use hex::decode_to_slice;
 use std::alloc::{AllocError, Global};
 
-/// Whether a field is the dash that stands for no bytes.
+/// Whether a field is the dash, which spells no bytes.
 fn is_dash(field: &[u8]) -> bool
     ensures { result ≡ bytes_eq field.now (hex []) }
 {
@@ -16,11 +16,11 @@ fn is_dash(field: &[u8]) -> bool
     field == dash
 }
 
-/// Whether all bytes are digits of lower-case hexadecimal. `hex` would read upper case too.
+/// Whether all bytes are digits of lower-case hexadecimal. `hex` would also read upper case.
 fn is_lower_hex(field: &[u8]) -> bool
     ensures { IsTrue result ↔ AllLower field.now }
 {
-    // No byte ends the loop, so that the compiler looks at many at once.
+    // The loop has no early end, so that the compiler can check many bytes at once.
     let mut lower = true;
     for byte in field {
         lower &= matches!(byte, b'0'..=b'9' | b'a'..=b'f');
@@ -28,7 +28,7 @@ fn is_lower_hex(field: &[u8]) -> bool
     lower
 }
 
-/// Whether a field spells bytes, two digits of lower-case hexadecimal each, or none by a dash.
+/// Whether a field spells bytes: two digits of lower-case hexadecimal each, or a dash for none.
 pub fn spells_bytes(field: &[u8]) -> bool
     ensures { result ≡ is_some (bytes_of field.now) }
 {
@@ -44,8 +44,8 @@ pub fn spells_bytes(field: &[u8]) -> bool
     is_lower_hex(field)
 }
 
-/// Writes the bytes that a field spells over all of `out`, and answers whether it spells bytes. Where it spells none,
-/// `out` is as it was. The field has two digits for each byte of `out`, and some.
+/// Writes the bytes that a field spells over all of `out`, and returns whether it spells bytes. If it does not, `out`
+/// is as before. The field is not empty, and has two digits for each byte of `out`.
 pub fn decode(field: &[u8], out: &mut [u8]) -> bool
     requires some { 0 < length field.now }
     requires twice { length field.now ≡ 2 * length out.old }
@@ -63,11 +63,11 @@ pub fn decode(field: &[u8], out: &mut [u8]) -> bool
 
 /// The bytes that a field spells, two digits of lower-case hexadecimal each, or none for a dash.
 ///
-/// `None` where it spells no bytes.
+/// `None` if the field does not spell bytes.
 ///
 /// # Errors
 ///
-/// `AllocError` where there is no memory for the bytes.
+/// `AllocError` if memory for the bytes is refused.
 pub fn bytes_of(alloc: Global, field: &[u8]) -> Result<Option<Vec<u8>>, AllocError>
     ensures { IfOk result (λ bytes. option_map (λ v. v.items) bytes ≡ bytes_of field.now) }
 {

@@ -1,12 +1,12 @@
-//! Names of keys, the entries of the lanes, events, words and answers, and the definitions that every contract of the
-//! other crates cites.
+//! The names of keys, the entries of the lanes, events, words and answers, and the definitions that the contracts
+//! of all other crates use.
 //!
-//! Its functions read and write these types, each by its definition. [`laws`] has what is promised of every lawful book
-//! and transcript: no byte of a key is put to use twice, no key that is still held was replaced, and a transcript's steps
-//! make one book alone.
+//! Its functions read and write these types, each by its definition. [`laws`] has the promises about every lawful book
+//! and transcript: no byte of a key is used twice, no key that is still held was replaced, and the steps of a
+//! transcript make only one book.
 //!
-//! It stands on no other crate of the repository. A keystream is, by definition, what `rand_chacha` states of its
-//! words; BLAKE2s is defined here.
+//! It uses no other crate of the repository. A keystream is, by definition, the one that `rand_chacha` states for its
+//! words. BLAKE2s is defined here.
 #![tactic(auto)]
 
 pub mod entries;

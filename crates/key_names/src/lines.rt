@@ -1,13 +1,13 @@
 //! The lines of a transcript.
 use crate::events::{Answer, Word};
 
-/// What a line shows behind its steps.
+/// The data that a line shows after its steps.
 #[derive(Clone, Copy, Debug, PartialEq, Eq)]
 pub enum Data {
     None,
-    /// The `len` bytes from `start` on among the bytes that are kept for the caller.
+    /// The `len` bytes from `start` on of the bytes kept for the caller.
     Bytes { len: u32, start: u64 },
-    /// How many bits the pool had before the visit that read them.
+    /// The bits of the pool before the visit that read them.
     Count(u32),
 }
 
@@ -19,7 +19,7 @@ pub struct Line {
     pub word: Word,
     pub answer: Answer,
     pub step_count: u32,
-    /// Where its steps begin among those that are kept for the caller.
+    /// The index of its first step among the steps kept for the caller.
     pub first_step: u64,
     pub shown: Data,
 }

@@ -23,7 +23,7 @@ pub enum Step {
     Visit(Mark),
 }
 
-/// Who made a visit: the caller, its event, and the number of the step among those of the event.
+/// The maker of a visit: the caller, its event, and the number of the step among those of the event.
 #[derive(Clone, Copy, Debug, PartialEq, Eq)]
 pub struct Who {
     pub caller: u32,
@@ -31,13 +31,14 @@ pub struct Who {
     pub step: u32,
 }
 
-/// The one name of a key. A place is the number of a visit in its lane's list, from 0.
+/// The only name of a key. A place is the number of a visit in its lane's list, from 0.
 ///
-/// - `Root(p)`: what visit `p` of the pool extracted and gave out.
-/// - `Base(i)`: bytes 0 to 32 of the block that the visit at base place `i` erased with; the base's next key.
+/// - `Root(p)`: the root that visit `p` of the pool extracted and gave out.
+/// - `Base(i)`: the base's next key, bytes 0 to 32 of the block that the visit at base place `i` erased with.
 /// - `Cpu(c, k)`: the same for CPU `c` and its place `k`.
-/// - `Call(lane, i)`: the other half of such a block, bytes 32 to 64, where somebody takes it for a key.
-/// - `Vdso(caller, state, n)`: what this vgetrandom state kept for itself when it made its `n`-th batch, from 0.
+/// - `Call(lane, i)`: the other half of such a block, bytes 32 to 64, if it becomes a key.
+/// - `Vdso(caller, state, n)`: the key that this vgetrandom state kept for itself when it made
+///   its `n`-th batch, from 0.
 #[derive(Clone, Copy, Debug, PartialEq, Eq, PartialOrd, Ord)]
 pub enum KeyName {
     Root(u64),

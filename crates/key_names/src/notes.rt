@@ -1,7 +1,7 @@
-//! Entries of the pool's list whose bytes stay with the caller.
+//! Entries of the pool's list with bytes that stay with the caller.
 
-/// An entry of the pool's list by reference: what a caller hands over when it has visited the pool. `specs/PoolNotes`
-/// says which entry each is.
+/// An entry of the pool's list by reference, which a caller hands over after a visit of the pool. `specs/PoolNotes`
+/// defines the entry of each.
 #[derive(Clone, Copy)]
 pub enum PoolNote<'a> {
     Mix {

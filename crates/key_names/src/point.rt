@@ -2,21 +2,21 @@
 ghost use Rattle.std.specs.Prelude.{◌≡◌};
 ghost use Rattle.key_names.specs.Points.{is_same_point, point_numbered};
 
-/// A point inside a vgetrandom call, where memory that the state lies in may be wiped.
+/// A point inside a vgetrandom call, at which the state's memory may be wiped.
 #[derive(Clone, Copy, Debug, PartialEq, Eq)]
 pub enum Point {
     /// The published generation was read.
     Start = 1,
-    /// The new generation stands in the state, and its key was not read yet.
+    /// The new generation is in the state, and its key was not read yet.
     Written = 2,
-    /// The key is current, and nothing was copied yet.
+    /// The key is current, and no byte was copied yet.
     Serve = 3,
     /// All bytes were copied, and the published generation was not read again yet.
     End = 4,
 }
 
 impl Point {
-    /// The point of this number, which is 1 to 4, as a script and the words of a command have it.
+    /// The point with this number, 1 to 4. Scripts and command words use the numbers.
     pub fn of_number(number: u64) -> Option<Point>
         ensures { result ≡ point_numbered number }
     {

@@ -1,4 +1,4 @@
--- Going along a list: what one entry more tells.
+-- A walk along a list: the results of one entry more.
 use Rattle.std.proofs.Common.{◌≡◌, ◌≤◌, ◌<◌, ◌+◌, ℕ, List, [], ◌∷◌, ◌++◌, length, take, get_or, Some, refl, sym, ap, ◌∙◌, append_assoc, append-nil}
 use Rattle.std.specs.Prelude.{map, slice_get}
 use Rattle.std.specs.List.{fold}
@@ -6,11 +6,11 @@ use Rattle.std.proofs.lemmas.List.{map-append, take_all, take_more}
 use Rattle.list_replay.proofs.Loops.{take_at}
 use Rattle.key_uses.specs.ToldFrom.{told_from}
 
--- what was added behind a list that had stayed
+-- additions to a list that had stayed as it was
 pub after_same : {T : Type 0} (old mid new add : List T) → mid ≡ old → new ≡ mid ++ add → new ≡ old ++ add
 after_same old mid new add stayed added = added ∙ ap (λ ts. ts ++ add) stayed
 
--- one more thing behind what was made of the first of a list
+-- one more element after those made of the first of a list
 pub map_more : {A B : Type 0} (f : A → B) (xs : List A) (i : ℕ) (d : A) (old now new : List B) → i < length xs →
     now ≡ old ++ map f (take i xs) → new ≡ now ++ f (get_or xs i d) ∷ [] → new ≡ old ++ map f (take (i + 1) xs)
 map_more f xs i d old now new below h more =
@@ -28,7 +28,7 @@ module _ {S E T : Type 0} (tells : S → E → List T) (step : S → E → S) wh
       (told_from tells step (fold step (step s e) es) fs))
 
   module _ (start : S) (entries : List E) where
-    -- what the entries before a place tell was added
+    -- the results of the entries before a place were added
     abbrev pub IsTold : ℕ → List T → List T → Type 0
     IsTold place old now = now ≡ old ++ told_from tells step start (take place entries)
 
@@ -49,7 +49,7 @@ module _ {S E T : Type 0} (tells : S → E → List T) (step : S → E → S) wh
     told_all place old now all h =
         h ∙ ap (λ es. old ++ told_from tells step start es) (take_all place entries all)
 
-    -- the same where what was before had stayed for a while
+    -- the same, if the list had stayed as it was for a while
     pub told_after : (place : ℕ) (e : E) (old now mid new : List T) → slice_get entries place ≡ Some e →
         IsTold place old now → mid ≡ now → new ≡ mid ++ tells (fold step start (take place entries)) e →
         IsTold (place + 1) old new

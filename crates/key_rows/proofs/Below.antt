@@ -1,4 +1,4 @@
--- What is told for each number below a count.
+-- The results for each number below a count.
 use Rattle.std.proofs.Common.{◌≡◌, ◌+◌, ℕ, zero, suc, List, [], ◌∷◌, ◌++◌, sym, ap, ◌∙◌, append_assoc, append-nil, arith}
 use Rattle.std.specs.Prelude.{Some, slice_get, map}
 use Rattle.std.specs.List.{flat_map, range_with_len}
@@ -19,7 +19,7 @@ below_more tells n =
     ∙ flat_map-append tells (range_with_len 0 n) (n ∷ [])
     ∙ ap (λ ts. told_below n tells ++ ts) (append-nil (tells n))
 
--- one number more behind what was there
+-- the results of one number more, after those so far
 pub added_more : {T : Type 0} (tells : ℕ → List T) (n : ℕ) (old now new : List T) →
     now ≡ old ++ told_below n tells → new ≡ now ++ tells n → new ≡ old ++ told_below (n + 1) tells
 added_more tells n old now new h more =

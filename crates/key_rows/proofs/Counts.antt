@@ -1,4 +1,4 @@
--- Refills and served integers are no more than the entries that they are of.
+-- Refills and served integers are at most as many as the entries before them.
 use Rattle.std.proofs.Common.{◌≤◌, ◌+◌, ◌^◌, ℕ, suc, Bool, true, false, List, [], ◌∷◌, Option, Some, None, ap, arith}
 use Rattle.std.specs.Prelude.{unwrap_or, ◌==◌, if◌then◌else◌, Result, Ok, Err, OnErr}
 use Rattle.std.specs.List.{fold}

@@ -1,4 +1,4 @@
--- Going along a lane's visits: one more that is kept up to a stamp, or is not.
+-- A walk along a lane's visits up to a stamp: one more visit, which is kept or is not.
 use Rattle.std.proofs.Common.{◌≡◌, ◌+◌, ℕ, zero, suc, Bool, true, false, List, [], ◌∷◌, ◌++◌, take, refl, sym, ap, ◌∙◌, append-nil, arith}
 use Rattle.std.specs.Prelude.{Some, slice_get, map, nat_le, if◌then◌else◌}
 use Rattle.std.specs.Global.{Vec}
@@ -12,7 +12,7 @@ use Rattle.key_rows.specs.Told.{cpu_lists}
 use Rattle.key_rows.specs.Cut.{is_by, lane_moments, list_to, moment_lists, stamps_of, visit_stamps}
 
 module _ {K : Type 0} (stamp : ℕ) where
-  -- the visit at a place, where it is of this stamp or before
+  -- the visit at a place, if it is of this stamp or before
   abbrev kept_by : Bool → K → List K
   kept_by b k = if b then k ∷ [] else []
 
@@ -58,7 +58,7 @@ module _ {K : Type 0} (stamp : ℕ) where
       cut_more moments kept place k cut cut' b is so by
       (more ∙ sym (append-nil cut) ∙ ap (λ t. cut ++ kept_by t k) (sym e))
 
--- what is kept of visits is kept of those up to a stamp
+-- the kept entries of visits, cut at a stamp, are those of the visits up to the stamp
 pub visits_kept : {K E : Type 0} (entry : K → E) (stamp : ℕ) (kept : List K) (moments : List Moment)
     (visits : List (Visit E)) → map entry kept ≡ entries_of visits → stamps_of moments ≡ visit_stamps visits →
     map entry (list_to stamp moments kept) ≡ entries_of (visits_to stamp visits)
@@ -85,7 +85,7 @@ moments_at [] i = refl
 moments_at (lane ∷ cpus) zero = refl
 moments_at (lane ∷ cpus) (suc i) = moments_at cpus i
 
--- one CPU more whose visits are cut
+-- one CPU more, with its visits cut
 pub lane_more : (stamp : ℕ) (lanes : List (Vec KeptCpu)) (moments : List (List Moment))
     (cpus : List (List (Visit CpuEntry))) (i : ℕ) (lane cut : Vec KeptCpu) (ms : List Moment) →
     cpu_lists lanes ≡ map entries_of cpus → map stamps_of moments ≡ map visit_stamps cpus →

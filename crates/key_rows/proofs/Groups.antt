@@ -1,4 +1,4 @@
--- What stands together in a list that is sorted by a key.
+-- The elements with one key in a list that is sorted by the key.
 use Rattle.std.proofs.Common.{◌≡◌, ◌≤◌, ◌<◌, ◌+◌, ◌-◌, ℕ, Bool, true, false, List, [], ◌∷◌, ◌++◌, length, take, drop, get_or, refl, sym, ap, subst, ◌∙◌, append-nil, arith}
 use Rattle.std.specs.Prelude.{All, not, ◌&&◌, filter, IsSortedByKey}
 use Rattle.std.specs.Cmp.{IsTotalOrder}
@@ -72,7 +72,7 @@ module _ {X K : Type 0} {R : K → K → Ordering} (o : IsTotalOrder R) (key : X
   abbrev is_at : X → Bool
   is_at x = is_eq (R (key x) k)
 
-  -- what stands from the first place on that is not before the key, up to the last that is not behind it
+  -- they are those from the first that is not before the key, up to the last that is not after it
   group_is : (xs : List X) (first count : ℕ) → first ≤ length xs →
       IsPartitionPoint (λ x. is_lt (R (key x) k) ≡ true) (λ x. is_lt (R (key x) k) ≡ false) xs first →
       IsPartitionPoint (λ x. is_le (R (key x) k) ≡ true) (λ x. is_le (R (key x) k) ≡ false) (drop first xs) count →
@@ -150,7 +150,7 @@ module _ {X : Type 0} (key : X → KeyName) where
   ties_are Equal b e = rw e refl
   ties_are Greater b e = rw e refl
 
-  -- a stable sort leaves each group
+  -- a stable sort leaves each group as it is
   pub group_stays : (x : X) (xs ys : List X) →
       filter (ties (λ a b. is_lt (cmp (key a) (key b))) x) ys
       ≡ filter (ties (λ a b. is_lt (cmp (key a) (key b))) x) xs →

@@ -1,4 +1,4 @@
--- What is told as held is live, and what is live is told as held.
+-- The listed held keys and rests are live, and the live ones are listed.
 use Rattle.std.proofs.Common.{◌≡◌, ◌<◌, ◌+◌, ℕ, zero, suc, Bool, true, false, List, [], ◌∷◌, ◌++◌, length, refl, sym, ap, subst, ◌⊎◌, inl, inr, arith}
 use Rattle.std.specs.Prelude.{Option, Some, None, All, Contains, nat_lt, if◌then◌else◌}
 use Rattle.std.specs.List.{flat_map, range_with_len}
@@ -27,7 +27,7 @@ all_of_each P tells [] all = All-nil P
 all_of_each P tells (n ∷ ns) all =
     All-append P (tells n) (flat_map tells ns) (all n) (all_of_each P tells ns all)
 
--- what is told of one number
+-- the results of one number
 one_of_each : {T : Type 0} (tells : ℕ → List T) (a n j : ℕ) (x : T) → j < n → Contains (tells (a + j)) x →
     Contains (flat_map tells (range_with_len a n)) x
 one_of_each tells a zero j x below is = absurd (omega arith)
@@ -49,7 +49,7 @@ one_width : {T : Type 0} (tells : ℕ → List T) (w : ℕ) (x : T) → w < 256 
 unfolding widths
 one_width tells w x below is = one_below tells 256 w x below is
 
--- a list is empty, or there is one of its number
+-- a list is empty, or its number is below the count
 within : {E : Type 0} (xss : List (List E)) (n : ℕ) → (list_at xss n ≡ []) ⊎ (n < length xss)
 within [] n = inl refl
 within (xs ∷ xss) zero = inr (omega arith)
@@ -131,7 +131,7 @@ module _ (lists : Lists) where
   rests_live : All RestLive (book_tells lists).rests
   rests_live = All-append RestLive (cpus_tell lists).rests (callers_tell lists).rests cpu_rests_live state_rests_live
 
-  -- a state that has something has a list
+  -- a state with a result has a list
   one_state : {T : Type 0} (tells : ℕ → ℕ → List T) (caller state : ℕ) (x : T) → caller < length lists.callers →
       state < length (list_at lists.callers caller) → Contains (tells caller state) x →
       Contains (told_below (length lists.callers)

@@ -1,4 +1,4 @@
--- What stands in proofs/.
+-- The files of proofs/.
 mod Stands
 mod Along
 mod Below

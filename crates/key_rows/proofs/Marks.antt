@@ -1,4 +1,4 @@
--- Whether the read at a place is taken: by one entry more, and by all.
+-- Whether the read at a place is taken: after one entry more, and after all.
 use Rattle.std.proofs.Common.{◌≡◌, ◌≤◌, ◌<◌, ◌+◌, ℕ, Bool, true, false, List, [], ◌∷◌, ◌++◌, length, take, get_or, refl, sym, ap, ◌∙◌, arith}
 use Rattle.std.specs.Prelude.{◌||◌, map}
 use Rattle.std.specs.Global.{Vec}
@@ -24,7 +24,7 @@ pub or_false : (a : Bool) → a ≡ (a || false)
 or_false true = refl
 or_false false = refl
 
--- the places of a table after the first of a list, where each says whether it takes a place
+-- a table of places after the first elements of a list; each element takes certain places
 abbrev pub MarkedBy : {X : Type 0} → (ℕ → X → Bool) → List X → ℕ → List Bool → List Bool → Type 0
 MarkedBy takes xs i old now = (k : ℕ) → k < length old →
     rekeys_of now k ≡ (rekeys_of old k || list_any (takes k) (take i xs))
@@ -45,7 +45,7 @@ pub marked_all : {X : Type 0} (takes : ℕ → X → Bool) (xs : List X) (i : �
 marked_all takes xs i old now all h k low =
     h k low ∙ ap (λ ys. rekeys_of old k || list_any (takes k) ys) (take_all i xs all)
 
--- a state's entries take a read where its list in the book does
+-- a state's entries take a read if its list in the book does
 any_map : {A B : Type 0} (f : A → B) (test : B → Bool) (xs : List A) →
     list_any (λ x. test (f x)) xs ≡ list_any test (map f xs)
 any_map f test [] = refl
@@ -68,7 +68,7 @@ takes_read_is c callers k =
     ∙ any_map (λ (states : Vec (Vec VEntry)). map (λ (es : Vec VEntry). es.items) states.items)
     (λ lists. lists_take c k lists) callers
 
--- uses hang on whether reads are taken at the list's own places alone
+-- uses depend on the taken reads only at the list's own places
 module _ (base : List BaseEntry) (c : ℕ) (f g : ℕ → Bool) where
   same_at : (s : CpuState) (e : CpuEntry) → f s.place ≡ g s.place → cpu_used_at c f s e ≡ cpu_used_at c g s e
   same_at s (Read look refill taken) is = rw is refl

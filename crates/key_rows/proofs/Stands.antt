@@ -1,4 +1,4 @@
--- What stands for a list's state before a place.
+-- The values of the code that represent a list's state before a place.
 use Rattle.std.proofs.Common.{◌≡◌, ◌≤◌, ◌+◌, ℕ, List, length, take, Some, sym, subst}
 use Rattle.std.specs.Prelude.{slice_get}
 use Rattle.std.specs.List.{fold}

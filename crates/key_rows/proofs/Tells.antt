@@ -1,9 +1,9 @@
--- What is told, part by part.
+-- The results, part by part.
 use Rattle.std.proofs.Common.{◌≡◌, ◌+◌, ℕ, sym, ap, ◌∙◌, append_assoc, append-nil}
 use Rattle.key_rows.specs.Told.{Tells, joined, nothing, all_below}
 use Rattle.key_rows.proofs.Below.{below_more}
 
--- two tell the same where each part does
+-- two results are the same if each part is
 pub record AreSame (a b : Tells) : Type 0 where
   pub births : a.births ≡ b.births
   pub endings : a.endings ≡ b.endings
@@ -51,7 +51,7 @@ all_more tells n = tells_same (all_below (n + 1) tells) (joined (all_below n tel
   uses = below_more (λ i. (tells i).uses) n;
 })
 
--- a number more behind what was told
+-- the results of one number more, after those so far
 pub joined_more : (tells : ℕ → Tells) (n : ℕ) (old now new : Tells) → now ≡ joined old (all_below n tells) →
     new ≡ joined now (tells n) → new ≡ joined old (all_below (n + 1) tells)
 joined_more tells n old now new h more =

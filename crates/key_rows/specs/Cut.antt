@@ -23,7 +23,7 @@ abbrev pub is_by : ℕ → Option Moment → Bool
 is_by stamp None = false
 is_by stamp (Some moment) = nat_le moment.stamp stamp
 
--- of what is kept of visits, with their moments, what is kept of those up to a stamp
+-- the kept entries of visits up to a stamp, out of those of all visits and their moments
 abbrev pub list_to : {K : Type 0} → ℕ → List Moment → List K → List K
 list_to stamp moments [] = []
 list_to stamp [] (k ∷ kept) = []
@@ -33,7 +33,7 @@ list_to stamp (m ∷ moments) (k ∷ kept) =
 abbrev pub visit_stamps : {E : Type 0} → List (Visit E) → List ℕ
 visit_stamps visits = map (λ v. v.stamp) visits
 
--- the base's and the CPUs' visits of a book are kept, with their stamps
+-- these are the base's and the CPUs' visits of a book, with their stamps
 pub record KeepsVisits (book : Book) (kept : KeptLists) (moments : Moments) : Type 0 where
   pub base : base_entries kept.base.items ≡ entries_of book.base
   pub base_stamps : stamps_of moments.base.items ≡ visit_stamps book.base

@@ -1,4 +1,4 @@
--- The keys and the rests of batches that are held behind all entries.
+-- The keys and the rests of batches that are held after all entries.
 use Rattle.std.specs.Prelude.{ℕ, Option, Some, None, List, [], ◌∷◌, nat_lt, if◌then◌else◌}
 use Rattle.std.specs.List.{flat_map}
 use Rattle.key_names.specs.declared.names.KeyName.{KeyName}
@@ -14,7 +14,7 @@ use Rattle.key_rows.specs.declared.held.BatchHolder.TheVariants.{Cpu as CpuBatch
 use Rattle.key_rows.specs.declared.held.HeldKey.{HeldKey}
 use Rattle.key_rows.specs.declared.held.HeldRest.{HeldRest}
 
--- a holder, as the definitions name it
+-- a holder, in the terms of the definitions
 abbrev pub key_holder : KeyHolder → BookKeyHolder
 key_holder Base = base_key
 key_holder (Cpu cpu) = cpu_key cpu
@@ -24,12 +24,12 @@ abbrev pub batch_holder : BatchHolder → BookBatchHolder
 batch_holder (CpuBatch cpu width) = cpu_batch cpu width
 batch_holder (StateBatch of) = state_batch of.caller of.state
 
--- the key of a holder, where it has one
+-- the key of a holder, if it has one
 abbrev pub held_key : KeyHolder → Option KeyName → List HeldKey
 held_key holder None = []
 held_key holder (Some key) = record { holder = holder; key = key } ∷ []
 
--- the rest of a holder's batch, where it has bytes
+-- the rest of a holder's batch, if it has bytes
 abbrev pub held_rest : BatchHolder → Option Span → List HeldRest
 held_rest holder None = []
 held_rest holder (Some span) = if nat_lt 0 span.len then record { holder = holder; span = span } ∷ [] else []

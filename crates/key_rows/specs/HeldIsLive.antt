@@ -1,4 +1,4 @@
--- What is told as held is what the holders have behind all entries: nothing else, and all of it.
+-- The listed keys and rests are exactly those that the holders have after all entries.
 use Rattle.std.specs.Prelude.{◌≡◌, ◌<◌, ⊤, Some, All, Contains}
 use Rattle.key_names.specs.declared.names.KeyName.{KeyName}
 use Rattle.key_names.specs.declared.names.Span.{Span}
@@ -10,7 +10,7 @@ use Rattle.key_rows.specs.declared.held.BatchHolder.TheVariants.{Cpu, State}
 use Rattle.key_rows.specs.Held.{key_holder, batch_holder}
 use Rattle.key_rows.specs.Told.{book_tells}
 
--- a batch's width is one that a byte can tell
+-- the width of a batch fits into a byte
 abbrev pub HasByteWidth : BatchHolder → Type 0
 HasByteWidth (Cpu cpu width) = width < 256
 HasByteWidth (State of) = ⊤
@@ -19,7 +19,7 @@ pub record HeldIsLive (lists : Lists) : Type 0 where
   pub keys_live : All (λ held. live_key lists (key_holder held.holder) ≡ Some held.key) (book_tells lists).keys
   pub all_keys : (holder : KeyHolder) (key : KeyName) → live_key lists (key_holder holder) ≡ Some key →
       Contains (book_tells lists).keys (record { holder = holder; key = key })
-  -- of rests those that have bytes
+  -- of rests, those that have bytes
   pub rests_live : All (λ held. live_rest lists (batch_holder held.holder) ≡ Some held.span) (book_tells lists).rests
   pub all_rests : (holder : BatchHolder) (span : Span) → HasByteWidth holder → 0 < span.len →
       live_rest lists (batch_holder holder) ≡ Some span →

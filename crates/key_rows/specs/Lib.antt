@@ -1,4 +1,4 @@
--- What stands in specs/.
+-- The files of specs/.
 pub mod Lives
 pub mod Rests
 pub mod Held

@@ -1,4 +1,4 @@
--- Which keys the entries of a list make, and which they replace or erase, each with the entry that does.
+-- The keys that the entries of a list make, and those that they replace or erase, each with its entry.
 use Rattle.std.specs.Prelude.{ℕ, true, false, Option, Some, None, List, [], ◌∷◌, ◌++◌, nat_lt, if◌then◌else◌}
 use Rattle.key_names.specs.declared.names.LaneId.{LaneId}
 use Rattle.key_names.specs.declared.names.LaneId.TheVariants.{Pool as PoolLane, Base as BaseLane, Cpu as CpuLane}
@@ -34,7 +34,7 @@ abbrev pub ended : Origin → Option KeyName → List Ending
 ended by None = []
 ended by (Some key) = record { key = key; by = by } ∷ []
 
--- a read of more than 32 bytes makes its call key, and erases it
+-- a user's read of more than 32 bytes makes its call key, and erases it
 abbrev pub long_births : LaneId → ℕ → Taken → List Birth
 long_births lane place (User n) =
     if nat_lt 32 n then born (Call lane place) InRead (Lane lane place) ∷ [] else []
@@ -50,7 +50,7 @@ abbrev pub root_births : Option ℕ → List Birth
 root_births None = []
 root_births (Some r) = born (Root r) InBase (Lane PoolLane r) ∷ []
 
--- a key that stands before an entry is replaced where the entry names another
+-- the key before an entry is replaced if the entry names another
 abbrev pub replaced : Origin → Option ℕ → Option KeyName → List Ending
 replaced by None key = []
 replaced by (Some n) key = ended by key
@@ -107,7 +107,7 @@ cpu_endings_at c s (Dump now) = []
 cpu_endings_at c s Prepare = []
 cpu_endings_at c s Online = []
 
--- a refill keeps a key, where the state had one
+-- a refill keeps a key, if the state had one
 abbrev pub refill_births : StateOf → NamedState → Option KeyName → List Birth
 refill_births of s None = []
 refill_births of s (Some key) =

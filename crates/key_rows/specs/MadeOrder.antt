@@ -17,7 +17,7 @@ abbrev pub state_moments : Option (Vec (Vec Moment)) → ℕ → List Moment
 state_moments None state = []
 state_moments (Some states) state = lane_moments (slice_get states.items state)
 
--- when an entry was left, if it is told
+-- the moment at which an entry was left, if it is known
 abbrev pub moment_at : Moments → Origin → Option Moment
 moment_at moments (Lane Pool place) = slice_get moments.pool.items place
 moment_at moments (Lane Base place) = slice_get moments.base.items place
@@ -36,7 +36,7 @@ is_call_key (CpuKey c i) = false
 is_call_key (Call lane i) = true
 is_call_key (Vdso caller state n) = false
 
--- by the stamp of the entry that made the key, then by the entry; of two keys of one visit the call key comes second
+-- by the stamp of the entry that made the key, then by the entry. Of two keys of one visit the call key comes second
 abbrev pub made_rank : Moments → Row → MadeRank
 made_rank moments row = record {
   stamp = stamp_or_0 (moment_at moments row.made);
@@ -44,6 +44,6 @@ made_rank moments row = record {
   is_call_key = is_call_key row.key;
 }
 
--- rows stand in the order in which their keys were made
+-- rows are in the order in which their keys were made
 abbrev pub RowsByMaking : Moments → List Row → Type 0
 RowsByMaking moments rows = IsSortedByKey (made_rank moments) ranks.cmp rows

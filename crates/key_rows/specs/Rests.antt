@@ -1,4 +1,4 @@
--- The rests of batches that entries give up: bytes that were in a batch, and nobody was served.
+-- The rests of batches that entries give up: bytes of a batch that were not served.
 use Rattle.std.specs.Prelude.{ℕ, ◌≡◌, true, false, Option, Some, None, List, [], ◌∷◌, nat_lt, if◌then◌else◌}
 use Rattle.std.specs.List.{flat_map, range_with_len}
 use Rattle.key_names.specs.declared.names.LaneId.TheVariants.{Cpu as CpuLane}
@@ -19,17 +19,17 @@ use Rattle.key_uses.specs.UsedAt.{state_origin}
 use Rattle.key_rows.specs.declared.lives.GivenUp.{GivenUp}
 use Rattle.key_rows.specs.declared.batches.StateBatch.{StateBatch}
 
--- keys and batch are those of the state before the entry at a place
+-- the keys and the batch are those of the state before the entry at a place
 pub record BatchStands (s : NamedState) (place : ℕ) (batch : StateBatch) : Type 0 where
   pub keys : StateStands s place batch.keys
   pub pos : batch.pos ≡ s.pos
 
--- a rest that an entry gives up, where it has bytes
+-- a rest that an entry gives up, if it has bytes
 abbrev pub given_up : Origin → Option Span → List GivenUp
 given_up by None = []
 given_up by (Some span) = if nat_lt 0 span.len then record { span = span; by = by } ∷ [] else []
 
--- the widths of batches that a byte can tell
+-- the widths of batches that fit into a byte
 unfoldable pub widths : List ℕ
 widths = range_with_len 0 256
 
@@ -37,7 +37,7 @@ widths = range_with_len 0 256
 abbrev pub fills_given_up : Origin → (ℕ → Option Fill) → List GivenUp
 fills_given_up by fills = flat_map (λ width. given_up by (fill_rest width (fills width))) widths
 
--- a new fill gives up the rest of its batch, and preparing a CPU that of all its batches
+-- a new fill gives up the rest of its batch, and the preparation of a CPU gives up those of all its batches
 abbrev pub cpu_given_up_at : ℕ → CpuState → CpuEntry → List GivenUp
 cpu_given_up_at c s (Read look refill taken) = []
 cpu_given_up_at c s (Int look refill width true) =

@@ -1,4 +1,4 @@
--- The row of a key: what holds it, which entry made it and which ended it, and what became of its bytes.
+-- The row of a key: its holder, the entries that made it and ended it, and the fates of its bytes.
 use Rattle.std.specs.Prelude.{◌≡◌, List, ◌++◌, map, filter}
 use Rattle.std.specs.Prelude.{slice_get, option_map, IsPermutation}
 use Rattle.std.specs.List.Sorted.{IsNonDecreasingBy}
@@ -18,7 +18,7 @@ use Rattle.key_rows.specs.declared.rows.Fate.TheVariants.{Became, Served as Serv
 use Rattle.key_rows.specs.declared.rows.Piece.{Piece}
 use Rattle.key_rows.specs.declared.rows.Row.{Row}
 
--- what became of the bytes of a use
+-- the fate of the bytes of a use
 abbrev pub fate_of : Origin → Purpose → Fate
 fate_of by (Kept name) = Became name
 fate_of by Served = ServedAt by
@@ -46,7 +46,7 @@ endings_of key endings = filter (λ ending. names.eq ending.key key) endings
 abbrev pub birth_of : Row → Birth
 birth_of row = record { key = row.key; holder = row.holder; by = row.made }
 
--- a row says what became of its key, given the pieces and the endings of all keys
+-- a row has the fates of its key's bytes, given the pieces and the endings of all keys
 pub record IsRow (pieces : List Piece) (endings : List Ending) (row : Row) : Type 0 where
   -- the entry that ended the key, if one did
   pub ended_by : row.ended ≡ option_map (λ ending. ending.by) (slice_get (endings_of row.key endings) 0)

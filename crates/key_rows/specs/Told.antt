@@ -1,4 +1,4 @@
--- What the lists of a book tell of its keys.
+-- The results of a book's lists: the lives and the uses of its keys.
 use Rattle.std.specs.Prelude.{ℕ, ◌≡◌, Bool, List, [], ◌++◌, length, map}
 use Rattle.std.specs.Global.{Vec}
 use Rattle.std.specs.List.{list_any, flat_map, range_with_len}
@@ -30,7 +30,7 @@ use Rattle.key_rows.specs.Lives.{state_births_at, state_endings_at}
 use Rattle.key_rows.specs.Rests.{cpu_given_up_at, state_given_up_at}
 use Rattle.key_rows.specs.Held.{held_key, held_rest, held_fills}
 
--- the entries that are kept of each CPU, and those of each state of each caller
+-- the kept entries of each CPU, and those of each state of each caller
 abbrev pub cpu_lists : List (Vec KeptCpu) → List (List CpuEntry)
 cpu_lists cpus = map (λ lane. cpu_entries lane.items) cpus
 
@@ -42,14 +42,14 @@ abbrev pub takes_read : ℕ → List (Vec (Vec VEntry)) → ℕ → Bool
 takes_read cpu callers k =
     list_any (λ states. list_any (λ es. list_any (rekeys_place cpu k) es.items) states.items) callers
 
--- lists have the entries that are kept of the lanes, and these of the vgetrandom states
+-- lists have the kept entries of the lanes, and these of the vgetrandom states
 pub record HasEntries (lists : Lists) (kept : KeptLists) (callers : List (Vec (Vec VEntry))) : Type 0 where
   pub base : base_entries kept.base.items ≡ lists.base
   pub cpus : cpu_lists kept.cpus.items ≡ lists.cpus
   pub states : caller_lists callers ≡ lists.callers
 
--- what entries tell: the keys that they make and erase, the rests that they give up, what is held behind them, and what
--- they put to use, with the key that it became
+-- the results of entries: the keys that they make and erase, the rests that they give up, the keys and rests that are
+-- held after them, and their uses, with the key that kept bytes became
 pub record Tells : Type 0 where
   pub births : List Birth
   pub endings : List Ending
@@ -68,7 +68,7 @@ tells_of told = record {
   uses = told.uses.items;
 }
 
--- nothing is told
+-- no results
 abbrev pub nothing : Tells
 nothing = record { births = []; endings = []; given_up = []; keys = []; rests = []; uses = [] }
 
@@ -82,7 +82,7 @@ joined a b = record {
   uses = a.uses ++ b.uses;
 }
 
--- what is told for each number below a count
+-- the results for each number below a count
 abbrev pub told_below : {T : Type 0} → ℕ → (ℕ → List T) → List T
 told_below count tells = flat_map tells (range_with_len 0 count)
 
@@ -139,6 +139,6 @@ caller_tells lists caller = all_below (length (list_at lists.callers caller)) (s
 abbrev pub callers_tell : Lists → Tells
 callers_tell lists = all_below (length lists.callers) (caller_tells lists)
 
--- what a book tells: the base, each CPU, and each vgetrandom state of each caller
+-- the results of a book: for the base, each CPU, and each vgetrandom state of each caller
 abbrev pub book_tells : Lists → Tells
 book_tells lists = joined (joined (base_tells lists) (cpus_tell lists)) (callers_tell lists)

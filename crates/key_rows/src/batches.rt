@@ -1,4 +1,4 @@
-//! What is left of batches.
+//! The rests of batches.
 ghost use Rattle.std.specs.Prelude.{ℕ, List, ◌≡◌, ◌≤◌, ◌+◌, ◌*◌, ◌^◌, Option, length, IfOk, OnOk, OnErr};
 ghost use Rattle.key_names.specs.declared.entries.BaseEntry.{BaseEntry as BookBase};
 ghost use Rattle.key_names.specs.Batches.{Fill as BookFill};
@@ -18,7 +18,7 @@ use key_uses::state_uses::{BATCH_BYTES, StateKeys, StateOf, byte_of};
 use list_replay::{KeptBase, KeptCpu};
 use std::alloc::AllocError;
 
-/// Where a CPU's batch ends in the keystream of its key: behind the 32 bytes that became the next key, and the batch.
+/// The end of a CPU's batch in the keystream of its key: after the 32 bytes that became the next key, and the batch.
 const BATCH_END: u64 = 32 + BATCH_BYTES;
 
 /// The keys of a vgetrandom state, and the first byte of its batch that was not served.
@@ -34,11 +34,11 @@ fn named_span(key: Option<KeyName>, from: u64, len: u64) -> Option<Span>
     key.map(|key| Span { key, from, len })
 }
 
-/// The rest of a CPU's batch. No memory has room for so many integers that their bytes have no number.
+/// The rest of a CPU's batch. No memory has room for enough integers that the number of a byte exceeds 64 bits.
 ///
 /// # Errors
 ///
-/// `AllocError` where they have none.
+/// `AllocError` if a byte's number is 2^64 or more.
 pub(crate) fn fill_rest(width: u64, fill: Option<Fill>) -> Result<Option<Span>, AllocError>
     ensures rest { (book : Option BookFill) → fill ≡ fill_of book →
         IfOk result (λ span. span ≡ fill_rest width book) }
@@ -62,11 +62,11 @@ impl StateBatch {
         }
     }
 
-    /// Keys and batch after an entry.
+    /// The keys and the batch after an entry.
     ///
     /// # Errors
     ///
-    /// `AllocError` where there are more refills than any memory has room for.
+    /// `AllocError` if there are more refills than any memory has room for.
     pub(crate) fn step(&mut self, of: StateOf, entry: VEntry) -> Result<(), AllocError>
         ensures after { (s : NamedState) (place : ℕ) → BatchStands s place self.old →
             OnOk result (BatchStands (state_step of.caller of.state s entry) (place + 1) self.new) }
@@ -86,7 +86,7 @@ impl StateBatch {
     ///
     /// # Errors
     ///
-    /// `AllocError` where its first byte has no number.
+    /// `AllocError` if the number of its first byte is 2^64 or more.
     pub(crate) fn rest(&self) -> Result<Option<Span>, AllocError>
         ensures rest { (s : NamedState) (place : ℕ) → BatchStands s place self.now →
             IfOk result (λ span. span ≡ state_rest s) }
@@ -101,7 +101,7 @@ impl StateBatch {
     }
 }
 
-/// The base's key behind its entries.
+/// The base's key after its entries.
 pub(crate) fn base_end(base: &[KeptBase]) -> Option<KeyName>
     ensures { result ≡ (base_after (base_entries base.now)).key }
 {
@@ -112,11 +112,11 @@ pub(crate) fn base_end(base: &[KeptBase]) -> Option<KeyName>
     key
 }
 
-/// The key and the fills of a CPU behind its entries.
+/// The key and the fills of a CPU after its entries.
 ///
 /// # Errors
 ///
-/// `AllocError` where there are more integers than any memory has room for.
+/// `AllocError` if there are more integers than any memory has room for.
 pub(crate) fn cpu_end(cpu: u32, lane: &[KeptCpu]) -> Result<CpuKeys, AllocError>
     ensures end { (base : List BookBase) → let s = cpu_after base cpu (cpu_entries lane.now) in
         IfOk result (λ keys. CpuStands s s.place keys) }
@@ -129,11 +129,11 @@ pub(crate) fn cpu_end(cpu: u32, lane: &[KeptCpu]) -> Result<CpuKeys, AllocError>
     Ok(keys)
 }
 
-/// Keys and batch of a vgetrandom state behind its entries.
+/// The keys and the batch of a vgetrandom state after its entries.
 ///
 /// # Errors
 ///
-/// `AllocError` where there are more refills than any memory has room for.
+/// `AllocError` if there are more refills than any memory has room for.
 pub(crate) fn state_end(of: StateOf, entries: &[VEntry]) -> Result<StateBatch, AllocError>
     ensures end { let s = state_after of.caller of.state entries.now in
         IfOk result (λ batch. BatchStands s s.place batch) }

@@ -20,7 +20,7 @@ fn is_by(moments: &[Moment], place: usize, stamp: u64) -> bool
     }
 }
 
-// What is kept of a lane's visits up to a stamp.
+// The kept entries of a lane's visits up to a stamp.
 fn list_to<T: Copy + Drop>(
     alloc: Global,
     stamp: u64,
@@ -55,11 +55,11 @@ fn cpus_to(
     Ok(cpus)
 }
 
-/// What is kept of a book's base and CPUs up to a stamp; nothing is kept of its pool, which holds no key.
+/// The kept entries of a book's base and CPUs up to a stamp. Those of its pool, which holds no key, are left out.
 ///
 /// # Errors
 ///
-/// `AllocError` where there is no memory for it.
+/// `AllocError` if there is no memory for them.
 pub fn kept_to(
     alloc: Global,
     stamp: u64,

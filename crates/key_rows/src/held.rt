@@ -1,4 +1,4 @@
-//! The keys and the rests of batches that are held behind the last entries.
+//! The keys and the rests of batches that are held after the last entries.
 ghost use Rattle.std.specs.Prelude.{ℕ, ◌≡◌, ◌++◌, [], List, Option, OnOk};
 ghost use Rattle.key_names.specs.declared.entries.BaseEntry.{BaseEntry as BookBase};
 ghost use Rattle.key_names.specs.Batches.{Fill as BookFill};
@@ -19,7 +19,7 @@ use key_uses::state_uses::StateOf;
 use list_replay::{KeptBase, KeptCpu};
 use std::alloc::{AllocError, Global};
 
-/// What holds a key from one entry to the next.
+/// The holder of a key from one entry to the next.
 #[derive(Clone, Copy, Debug, PartialEq, Eq)]
 pub enum KeyHolder {
     Base,
@@ -27,7 +27,7 @@ pub enum KeyHolder {
     State(StateOf),
 }
 
-/// What holds a batch: a CPU for each width of integers, in bytes, or a vgetrandom state.
+/// The holder of a batch: a CPU for each width of integers, in bytes, or a vgetrandom state.
 #[derive(Clone, Copy, Debug, PartialEq, Eq)]
 pub enum BatchHolder {
     Cpu { cpu: u32, width: u8 },
@@ -41,7 +41,7 @@ pub struct HeldKey {
     pub key: KeyName,
 }
 
-/// The rest of a batch that is held: bytes that nobody was served so far.
+/// The rest of a batch that is held: bytes that were not served so far.
 #[derive(Clone, Copy, Debug, PartialEq, Eq)]
 pub struct HeldRest {
     pub holder: BatchHolder,
@@ -56,7 +56,7 @@ pub struct Held {
 }
 
 impl Held {
-    /// Nothing is held.
+    /// No key and no rest.
     pub(crate) fn none(alloc: Global) -> Held
         ensures keys { result.keys.items ≡ [] }
         ensures rests { result.rests.items ≡ [] }
@@ -77,7 +77,7 @@ impl Held {
         Ok(())
     }
 
-    // The rest of a batch, where it has bytes.
+    // The rest of a batch, if it has bytes.
     fn rest(&mut self, holder: BatchHolder, span: Option<Span>) -> Result<(), AllocError>
         ensures keys { self.new.keys.items ≡ self.old.keys.items }
         ensures rests { OnOk result (self.new.rests.items ≡ self.old.rests.items ++ held_rest holder span) }
@@ -104,11 +104,11 @@ impl Held {
         Ok(())
     }
 
-    /// Adds the key that the base has behind its entries.
+    /// Adds the key of the base after its entries.
     ///
     /// # Errors
     ///
-    /// `AllocError` where there is no memory for it.
+    /// `AllocError` if there is no memory for it.
     pub(crate) fn add_base(&mut self, base: &[KeptBase]) -> Result<(), AllocError>
         ensures keys { OnOk result (self.new.keys.items
             ≡ self.old.keys.items ++ held_key Base (base_after (base_entries base.now)).key) }
@@ -117,11 +117,11 @@ impl Held {
         self.key(KeyHolder::Base, base_end(base))
     }
 
-    /// Adds what a CPU has behind its entries.
+    /// Adds the key and the rests of a CPU after its entries.
     ///
     /// # Errors
     ///
-    /// `AllocError` where there is no memory for it, or where a byte of a batch would have no number below 2^64.
+    /// `AllocError` if there is no memory for them, or if a byte of a batch has a number of 2^64 or more.
     pub(crate) fn add_cpu(&mut self, cpu: u32, lane: &[KeptCpu]) -> Result<(), AllocError>
         ensures keys { (base : List BookBase) → OnOk result (self.new.keys.items
             ≡ self.old.keys.items ++ held_key (Cpu cpu) (cpu_after base cpu (cpu_entries lane.now)).key) }
@@ -134,11 +134,11 @@ impl Held {
         Ok(())
     }
 
-    /// Adds what a vgetrandom state has behind its entries.
+    /// Adds the key and the rest of a vgetrandom state after its entries.
     ///
     /// # Errors
     ///
-    /// `AllocError` where there is no memory for it, or where a byte of a batch would have no number below 2^64.
+    /// `AllocError` if there is no memory for them, or if a byte of a batch has a number of 2^64 or more.
     pub(crate) fn add_state(&mut self, of: StateOf, entries: &[VEntry]) -> Result<(), AllocError>
         ensures keys { OnOk result (self.new.keys.items ≡ self.old.keys.items
             ++ held_key (State of) (state_after of.caller of.state entries.now).key) }

@@ -1,18 +1,19 @@
-//! The rows of a key audit: of each key of a book what holds it, which entry made it and which erased it, and what
-//! became of its bytes; and what is held behind the last entries.
+//! The rows of a key audit: for each key of a book, its holder, the entries that made it and erased it, and the fates
+//! of its bytes; and the keys and rests that are held after the last entries.
 //!
-//! [`told`] says what the lists of a book tell of its keys. Its contract, entry by entry and each once, is by the
-//! definitions of `key_names` and of `specs/`: [`lives`] has where keys begin and end and which rests of batches are
-//! given up, and [`held`] the keys and the rests that are held behind the last entries. A [law](laws) says that what is
-//! told as held is what is live. [`cut`] has the lists up to a stamp, and [`rows`] puts a row together for each key,
-//! and rows in the order in which their keys were made. [`moments`] has when each entry was left and on which line, as
-//! its caller tells it. The crate stands on what `list_replay` keeps of the lanes' lists and on the uses that
-//! `key_uses` gives.
+//! [`told`] collects the lives and the uses of keys from the lists of a book. Its contract gives them entry by entry
+//! and each once, by the definitions of `key_names` and of `specs/`. [`lives`] has the births and endings of keys and
+//! the rests of batches that are given up, and [`held`] the keys and the rests that are held after the last entries;
+//! [`held_book`] has these alone. By a [law](laws) the listed held keys and rests are exactly the live ones. [`cut`]
+//! has the lists up to a stamp. [`rows`] makes a row for each key, and sorts rows by when their keys were made.
+//! [`moments`] has the stamp and the line of each entry, which its caller gives it. The crate works on the lists of the
+//! lanes as `list_replay` keeps them, and on the uses that `key_uses` gives.
 #![tactic(auto)]
 
 mod batches;
 pub mod cut;
 pub mod held;
+pub mod held_book;
 pub mod laws;
 pub mod lives;
 pub mod moments;

@@ -1,4 +1,4 @@
-//! Where each key begins and where it is erased, and which rests of batches are given up.
+//! The entry that makes each key, the one that erases it, and the rests of batches that are given up.
 ghost use Rattle.std.specs.Prelude.{ℕ, ◌≡◌, ◌++◌, ◌∷◌, [], List, Option, Some, OnOk};
 ghost use Rattle.key_names.specs.declared.entries.BaseEntry.{BaseEntry as BookBase};
 ghost use Rattle.key_names.specs.Batches.{Fill as BookFill};
@@ -22,17 +22,17 @@ use key_uses::{base_uses, cpu_uses};
 use list_replay::{KeptBase, KeptCpu, base_refill_of, root_of};
 use std::alloc::{AllocError, Global};
 
-/// What holds a key.
+/// The holder of a key.
 #[derive(Clone, Copy, Debug, PartialEq, Eq)]
 pub enum Holder {
     Base,
     Cpu(u32),
     State(StateOf),
-    /// One read of more than 32 bytes, which erases it at its end.
+    /// One user's read of more than 32 bytes, which erases the key at its end.
     Read,
 }
 
-/// A key that an entry made, and what holds it.
+/// A key that an entry made, and its holder.
 #[derive(Clone, Copy, Debug, PartialEq, Eq)]
 pub struct Birth {
     pub key: KeyName,
@@ -47,14 +47,14 @@ pub struct Ending {
     pub by: Origin,
 }
 
-/// The rest of a batch, which an entry gave up: nobody was served these bytes.
+/// The rest of a batch, which an entry gave up: these bytes were not served.
 #[derive(Clone, Copy, Debug, PartialEq, Eq)]
 pub struct GivenUp {
     pub span: Span,
     pub by: Origin,
 }
 
-/// Where keys begin and end, and the rests of batches that are given up.
+/// The births and the endings of keys, and the rests of batches that are given up.
 #[derive(Drop)]
 pub struct Lives {
     pub births: Vec<Birth>,
@@ -96,7 +96,7 @@ impl Lives {
         Ok(())
     }
 
-    // The call key of a read of more than 32 bytes, which is erased with it.
+    // The call key of a user's read of more than 32 bytes, which the same entry erases.
     fn read(&mut self, taken: Taken, lane: LaneId, place: u64) -> Result<(), AllocError>
         ensures births { OnOk result (self.new.births.items ≡ self.old.births.items ++ long_births lane place taken) }
         ensures endings { OnOk result (self.new.endings.items
@@ -111,7 +111,7 @@ impl Lives {
         Ok(())
     }
 
-    // The rest of a batch, where it has bytes.
+    // The rest of a batch, if it has bytes.
     fn give_up(&mut self, span: Option<Span>, by: Origin) -> Result<(), AllocError>
         ensures births { self.new.births.items ≡ self.old.births.items }
         ensures endings { self.new.endings.items ≡ self.old.endings.items }
@@ -142,7 +142,7 @@ impl Lives {
         Ok(())
     }
 
-    // The keys of an entry of the base, before which this key stood.
+    // The keys of an entry of the base; `key` is the one before it.
     fn base_entry(
         &mut self,
         key: Option<KeyName>,
@@ -181,11 +181,11 @@ impl Lives {
         Ok(())
     }
 
-    /// Adds what the entries of the base make and erase.
+    /// Adds the keys that the entries of the base make and erase.
     ///
     /// # Errors
     ///
-    /// `AllocError` where there is no memory for it.
+    /// `AllocError` if there is no memory for them.
     pub(crate) fn base(&mut self, base: &[KeptBase]) -> Result<(), AllocError>
         ensures births { OnOk result (self.new.births.items ≡ self.old.births.items
             ++ told_from base_births_at base_step base_start (base_entries base.now)) }
@@ -201,7 +201,7 @@ impl Lives {
         Ok(())
     }
 
-    // The keys of an entry of a CPU, before which this key stood.
+    // The keys of an entry of a CPU; `key` is the one before it.
     fn cpu_entry(
         &mut self,
         key: Option<KeyName>,
@@ -263,11 +263,11 @@ impl Lives {
         }
     }
 
-    /// Adds what the entries of a CPU make and erase, and the rests of batches that they give up.
+    /// Adds the keys that the entries of a CPU make and erase, and the rests of batches that they give up.
     ///
     /// # Errors
     ///
-    /// `AllocError` where there is no memory for it, or where a byte of a batch would have no number below 2^64.
+    /// `AllocError` if there is no memory for them, or if a byte of a batch has a number of 2^64 or more.
     pub(crate) fn cpu(&mut self, cpu: u32, lane: &[KeptCpu]) -> Result<(), AllocError>
         ensures births { (base : List BookBase) → OnOk result (self.new.births.items ≡ self.old.births.items
             ++ told_from (cpu_births_at cpu) (cpu_step base cpu) cpu_start (cpu_entries lane.now)) }
@@ -285,7 +285,7 @@ impl Lives {
         Ok(())
     }
 
-    // What an entry of a vgetrandom state makes, erases and gives up.
+    // The keys that an entry of a vgetrandom state makes and erases, and the rest that it gives up.
     fn state_entry(
         &mut self,
         batch: &StateBatch,
@@ -324,11 +324,11 @@ impl Lives {
         self.give_up(batch.rest()?, by)
     }
 
-    /// Adds what the entries of a vgetrandom state make and erase, and the rests of batches that they give up.
+    /// Adds the keys that the entries of a vgetrandom state make and erase, and the rests of batches that they give up.
     ///
     /// # Errors
     ///
-    /// `AllocError` where there is no memory for it, or where a byte of a batch would have no number below 2^64.
+    /// `AllocError` if there is no memory for them, or if a byte of a batch has a number of 2^64 or more.
     pub(crate) fn state(&mut self, of: StateOf, entries: &[VEntry]) -> Result<(), AllocError>
         ensures births { OnOk result (self.new.births.items ≡ self.old.births.items
             ++ told_from (state_births_at of) (state_step of.caller of.state) state_start entries.now) }

@@ -1,4 +1,4 @@
-//! When the entries of a book were left, and on which lines.
+//! The moments at which the entries of a book were left, and their lines.
 ghost use Rattle.std.specs.Prelude.{◌≡◌, slice_get};
 ghost use Rattle.key_rows.specs.Cut.{lane_moments};
 ghost use Rattle.key_rows.specs.MadeOrder.{moment_at, state_moments};
@@ -13,15 +13,15 @@ pub struct Line {
     pub event: u32,
 }
 
-/// The stamp of an entry, and the line that left it. The stamp of an entry of a vgetrandom state is that of the last
-/// visit that its caller had made before it.
+/// The stamp of an entry, and the line that left it. For an entry of a vgetrandom state it is the stamp when the call
+/// that left it was over.
 #[derive(Clone, Copy, Debug, PartialEq, Eq)]
 pub struct Moment {
     pub stamp: u64,
     pub line: Line,
 }
 
-/// The moments of all entries: of each lane by place, and of each caller those of each of its vgetrandom states.
+/// The moments of all entries: of each lane by place, and of each vgetrandom state of each caller.
 #[derive(Drop)]
 pub struct Moments {
     pub pool: Vec<Moment>,

@@ -1,4 +1,4 @@
-//! A row for each key: what holds it, when it was made and erased, and what became of its bytes.
+//! A row for each key: its holder, the entries that made it and erased it, and the fates of its bytes.
 ghost use Rattle.std.specs.Prelude.{◌≡◌, ◌++◌, IfOk, OnOk, All, map, option_map, slice_get, IsPermutation};
 ghost use Rattle.std.specs.List.Sorted.{IsNonDecreasingBy};
 ghost use Rattle.key_names.specs.declared.names.KeyName.{KeyName as BookName};
@@ -7,28 +7,28 @@ ghost use Rattle.key_rows.specs.Rows.{pieces_of, endings_of, birth_of, IsRow};
 ghost use Rattle.key_rows.specs.Ranks.{PiecesByKey, EndingsByKey};
 ghost use Rattle.key_rows.specs.MadeOrder.{made_rank, RowsByMaking};
 
-use crate::held::HeldRest;
-use crate::lives::{Birth, Ending, GivenUp, Holder};
+use crate::held::{Held, HeldRest};
+use crate::lives::{Birth, Ending, GivenUp, Holder, Lives};
 use crate::moments::Moments;
 use crate::told::Told;
 use key_names::{KeyName, Span};
 use key_uses::used::{Origin, Purpose, Used};
 use std::alloc::{AllocError, Global};
 
-/// What became of bytes of a key.
+/// The fate of bytes of a key.
 #[derive(Clone, Copy, Debug, PartialEq, Eq)]
 pub enum Fate {
     /// They became this key.
     Became(KeyName),
     /// They were served by this entry.
     Served(Origin),
-    /// They were in a batch, whose rest was given up by this entry.
+    /// They were in a batch, and this entry gave up its rest.
     GivenUp(Origin),
     /// They are in a batch, and were not served.
     Held,
 }
 
-/// Bytes of a key, and what became of them.
+/// Bytes of a key, and their fate.
 #[derive(Clone, Copy, Debug, PartialEq, Eq)]
 pub struct Piece {
     pub span: Span,
@@ -44,7 +44,7 @@ pub struct Row {
     pub made: Origin,
     /// The entry that erased or replaced it, if it is not held at the end.
     pub ended: Option<Origin>,
-    /// What became of its bytes, by the first byte.
+    /// The fates of its bytes, in the order of their first bytes.
     pub pieces: Vec<Piece>,
 }
 
@@ -94,18 +94,24 @@ fn push_held(pieces: &mut Vec<Piece>, rests: &[HeldRest]) -> Result<(), AllocErr
     Ok(())
 }
 
-// The uses and the rests of all keys.
-fn all_pieces(alloc: Global, told: &Told) -> Result<Vec<Piece>, AllocError>
-    ensures { IfOk result (λ pieces. pieces.items ≡ all_pieces told.now) }
+// The uses and the rests of all keys. It frees the uses, which take as much memory as the pieces.
+fn all_pieces(
+    alloc: Global,
+    uses: Vec<Used>,
+    lives: &Lives,
+    held: &Held,
+) -> Result<Vec<Piece>, AllocError>
+    ensures { IfOk result (λ pieces. pieces.items
+        ≡ all_pieces (record { lives = lives.now; held = held.now; uses = uses })) }
 {
     let mut pieces = Vec::new(alloc);
-    push_used(&mut pieces, &told.uses)?;
-    push_given_up(&mut pieces, &told.lives.given_up)?;
-    push_held(&mut pieces, &told.held.rests)?;
+    push_used(&mut pieces, &uses)?;
+    push_given_up(&mut pieces, &lives.given_up)?;
+    push_held(&mut pieces, &held.rests)?;
     Ok(pieces)
 }
 
-// The pieces of a key among those of all keys, which stand in the order of their names.
+// The pieces of a key among those of all keys, which are in the order of their names.
 fn pieces_of(all: &[Piece], key: KeyName) -> &[Piece]
     requires { PiecesByKey all.now }
     ensures { result.now ≡ pieces_of key all.now }
@@ -168,12 +174,17 @@ fn row_of(
 }
 
 // The uses and the rests of all keys, in the order of the keys' names.
-fn sorted_pieces(alloc: Global, told: &Told) -> Result<Vec<Piece>, AllocError>
+fn sorted_pieces(
+    alloc: Global,
+    uses: Vec<Used>,
+    lives: &Lives,
+    held: &Held,
+) -> Result<Vec<Piece>, AllocError>
     ensures sorted { IfOk result (λ pieces. PiecesByKey pieces.items) }
     ensures same { (key : BookName) → IfOk result (λ pieces. pieces_of key pieces.items
-        ≡ pieces_of key (all_pieces told.now)) }
+        ≡ pieces_of key (all_pieces (record { lives = lives.now; held = held.now; uses = uses }))) }
 {
-    let mut pieces = all_pieces(alloc, told)?;
+    let mut pieces = all_pieces(alloc, uses, lives, held)?;
     pieces.sort_by_key(|piece| piece.span.key)?;
     Ok(pieces)
 }
@@ -207,26 +218,26 @@ fn rows_of(
     Ok(rows)
 }
 
-/// The row of each key that is made, in the order in which they are told.
+/// The row of each key that is made, in the order of the births.
 ///
 /// # Errors
 ///
-/// `AllocError` where there is no memory for them.
-pub fn make_rows(alloc: Global, told: &Told) -> Result<Vec<Row>, AllocError>
-    ensures births { IfOk result (λ rows. map birth_of rows.items ≡ told.now.lives.births.items) }
-    ensures rows { IfOk result (λ rows. All (IsRow (all_pieces told.now) told.now.lives.endings.items) rows.items) }
+/// `AllocError` if there is no memory for them.
+pub fn make_rows(alloc: Global, told: Told) -> Result<Vec<Row>, AllocError>
+    ensures births { IfOk result (λ rows. map birth_of rows.items ≡ told.lives.births.items) }
+    ensures rows { IfOk result (λ rows. All (IsRow (all_pieces told) told.lives.endings.items) rows.items) }
 {
-    let pieces = sorted_pieces(alloc, told)?;
+    let pieces = sorted_pieces(alloc, told.uses, &told.lives, &told.held)?;
     let endings = sorted_endings(alloc, &told.lives.endings)?;
     let rows = rows_of(alloc, &told.lives.births, &pieces, &endings)?;
     Ok(rows)
 }
 
-/// Where a row stands in the order in which keys were made. Of two keys of one visit the one that the erasure kept comes
+/// The rank of a row in the order in which keys were made. Of two keys of one visit the one that the erasure kept comes
 /// first.
 #[derive(Clone, Copy, PartialEq, Eq, PartialOrd, Ord)]
 struct MadeRank {
-    /// The stamp of the entry that made the key, or 0 where none is told.
+    /// The stamp of the entry that made the key, or 0 if the entry has no moment.
     stamp: u64,
     made: Origin,
     is_call_key: bool,
@@ -246,7 +257,7 @@ fn made_rank(moments: &Moments, row: &Row) -> MadeRank
 ///
 /// # Errors
 ///
-/// `AllocError` where there is no memory to sort them.
+/// `AllocError` if there is no memory to sort them.
 pub fn sort_rows(rows: &mut Vec<Row>, moments: &Moments) -> Result<(), AllocError>
     ensures same { IsPermutation rows.old.items rows.new.items }
     ensures ordered { OnOk result (RowsByMaking moments.now rows.new.items) }

@@ -1,4 +1,4 @@
-//! What the lists of a book tell of its keys.
+//! The lives and the uses of keys, out of the lists of a book.
 ghost use Rattle.std.specs.Prelude.{ℕ, ◌≡◌, ◌<◌, ◌≤◌, ◌^◌, [], ◌||◌, IfOk, OnOk, OnErr, length, map};
 ghost use Rattle.std.specs.List.{list_any};
 ghost use Rattle.key_names.specs.Book.{Lists as BookLists, cpu_list, list_at, state_list};
@@ -19,7 +19,8 @@ use key_uses::used::Used;
 use list_replay::{KeptBase, KeptCpu, Lists};
 use std::alloc::{AllocError, Global};
 
-/// Where the keys of a book begin and end, what is held of them behind the last entries, and what they were used for.
+/// The births and endings of a book's keys, the keys and rests that are held after the last entries, and the uses of
+/// keys.
 #[derive(Drop)]
 pub struct Told {
     pub lives: Lives,
@@ -27,7 +28,7 @@ pub struct Told {
     pub uses: Vec<Used>,
 }
 
-// The place of a CPU is marked whose read an entry takes as its state's key.
+// Marks the place of a CPU if an entry takes its read as its state's key.
 fn mark_rekey(places: &mut [bool], cpu: u32, entry: VEntry)
     ensures marks { (k : ℕ) → k < length places.old → rekeys_of places.new k
         ≡ (rekeys_of places.old k || rekeys_place cpu k entry) }
@@ -89,8 +90,8 @@ fn rekeyed_places(
     Ok(places)
 }
 
-// The number of a CPU, of a caller or of a state. No book has so many that one has none.
-fn number_of(index: usize) -> Result<u32, AllocError>
+// The number of a CPU, of a caller or of a state. No book has one above 32 bits.
+pub(crate) fn number_of(index: usize) -> Result<u32, AllocError>
     ensures number { IfOk result (λ number. number ≡ index) }
     ensures none { OnErr result (2 ^ 32 ≤ index) }
 {
@@ -196,13 +197,13 @@ impl Told {
     }
 }
 
-/// What a book tells of its keys: `kept` is what is kept of its lanes, and `callers` has the entries of each
-/// vgetrandom state of each caller.
+/// The lives and the uses of a book's keys: `kept` has its lanes, and `callers` the entries of each vgetrandom state of
+/// each caller.
 ///
 /// # Errors
 ///
-/// `AllocError` where there is no memory for it, where a byte of a key would have no number below 2^64, or where there
-/// are more than 2^32 CPUs, callers or states of a caller.
+/// `AllocError` if there is no memory for them, if a byte of a key has a number of 2^64 or more, or if there are more
+/// than 2^32 CPUs, callers or states of a caller.
 pub fn tell_book(
     alloc: Global,
     kept: &Lists,

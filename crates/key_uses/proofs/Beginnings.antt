@@ -1,4 +1,4 @@
--- What is held behind beginnings of a book's lists was put to no use in them.
+-- The keys and rests of batches that are held after beginnings of a book's lists were not used in these.
 use Rattle.std.proofs.Common.{◌≡◌, ℕ, ◌+◌, ◌-◌, ◌*◌, ◌++◌, List, [], ◌∷◌, length, Option, Some, None, inl, inr, refl, sym, subst, ap, ◌∙◌, arith}
 use Rattle.std.specs.Prelude.{Bool, true, false, slice_get, option_and_then}
 use Rattle.std.specs.List.{fold}
@@ -37,13 +37,13 @@ lawful_front {S} {E} May step s whole part begins lawful =
     subst P (take-append_seam part begins.0)
     (lawful_take May step s (part ++ begins.0) (length part) (subst P begins.1 lawful))
 
--- what an entry of a beginning names is named in the list
+-- a name that an entry of a beginning gives is given in the whole list
 named_front : {A B : Type 0} (of : A → Option B) (whole part : List A) (i : ℕ) (b : B) → BeginsWith whole part →
     option_and_then of (slice_get part i) ≡ Some b → option_and_then of (slice_get whole i) ≡ Some b
 named_front of whole part i b begins is =
     ap (λ es. option_and_then of (slice_get es i)) begins.1 ∙ named_stays of part begins.0 i b is
 
--- what a beginning uses the list uses
+-- a beginning's uses are uses of the whole list
 used_front : {S E : Type 0} (uses_at : S → E → List Use) (step : S → E → S) (s : S) (es fs : List E) (k : KeyName)
     (q : ℕ) → IsUsed (uses_from uses_at step s es) k q → IsUsed (uses_from uses_at step s (es ++ fs)) k q
 used_front uses_at step s [] fs k q h = absurd h
@@ -54,7 +54,7 @@ used_front uses_at step s (e ∷ es) fs k q h =
           (used_front uses_at step (step s e) es fs k q b)
     ]
 
--- names and uses of a CPU do not hang on the base's list, which gives generations alone
+-- names and uses of a CPU do not depend on the base's list, which gives only generations
 module _ (base other : List BaseEntry) (c : ℕ) where
   same_names : (g : ℕ) (s : CpuState) (es : List CpuEntry) →
       fold (cpu_step base c) (record s { generation = g }) es
@@ -157,7 +157,7 @@ module _ (whole part : Lists) (lanes : ForwardLawful whole) (states : LawfulStat
     is = t.is;
   })
 
-  -- a CPU's uses, as its walk has them
+  -- a CPU's uses, as its walk along the list gives them
   walk_used : (c : ℕ) (k : KeyName) (q : ℕ) → IsUsed (cpu_uses part c) k q →
       IsUsed (uses_from (cpu_uses_at c (is_rekeyed part c)) (cpu_step whole.base c) cpu_start (cpu_list part c)) k q
   walk_used c k q used =
@@ -178,7 +178,7 @@ module _ (whole part : Lists) (lanes : ForwardLawful whole) (states : LawfulStat
     | inr (inr l) ↦ state_own caller state k l
   ]
 
-  -- a byte of a holder's own key that it did not use
+  -- a byte of a holder's own key that the holder did not use
   record Unused (h : KeyHolder) (k : KeyName) (q : ℕ) : Type 0 where
     own : Own whole h k
     unused : IsUsed (uses_of part h) k q → ⊥
@@ -235,7 +235,7 @@ module _ (whole part : Lists) (lanes : ForwardLawful whole) (states : LawfulStat
         unused = λ used. (state_walk caller state).apart k q used (inr (inl b));
       }
 
-  -- nor did another holder
+  -- another holder did not use it either
   apart : (h : KeyHolder) (k : KeyName) (q : ℕ) → Unused h k q → IsUsed (uses part) k q → ⊥
   apart h k q ok used =
       let by = used_by part k q used in

@@ -1,4 +1,4 @@
--- What is held in a book was put to no use.
+-- The keys and rests of batches that are held in a book were not used.
 use Rattle.std.proofs.Common.{[], sym}
 use Rattle.std.proofs.lemmas.List.{append-nil}
 use Rattle.key_names.specs.Book.{Lists, lists_of, cpu_list, state_list, LawfulStates}

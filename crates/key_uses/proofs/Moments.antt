@@ -26,7 +26,7 @@ begins_same : {E : Type 0} (whole part whole' part' : List E) → whole ≡ whol
     BeginsWith whole' part' → BeginsWith whole part
 begins_same whole part whole' part' p q begins = (begins.0, p ∙ begins.1 ∙ ap (λ es. es ++ begins.0) (sym q))
 
--- an element of a list of lists that a function gives
+-- an element of a list of lists, after a function that keeps the empty list
 pub mapped_at : {A B : Type 0} (f : List A → List B) → f [] ≡ [] → (xss : List (List A)) (n : ℕ) →
     list_at (map f xss) n ≡ f (list_at xss n)
 mapped_at f none [] n = sym none
@@ -39,7 +39,7 @@ above_too stamp low [] lt above = tt
 above_too stamp low (h ∷ hs) lt above = (let le = above.0 in omega arith, above_too stamp low hs lt above.1)
 
 module _ {E : Type 0} (lane : LaneId) (stamp : ℕ) where
-  -- visits behind a stamp are not up to it
+  -- visits after a stamp are not up to it
   none_to : (i : ℕ) (visits : List (Visit E)) → AllByRecursion (λ h. stamp < h.stamp) (visits_from lane i visits) →
       visits_to stamp visits ≡ []
   none_to i [] above = refl
@@ -53,7 +53,7 @@ module _ {E : Type 0} (lane : LaneId) (stamp : ℕ) where
       ]
       go false is none = none
 
-  -- where stamps rise, the visits up to one are a beginning
+  -- if stamps rise, the visits up to one are a beginning
   visits_begin : (i : ℕ) (visits : List (Visit E)) → Rising (λ (h : Happening). h.stamp) (visits_from lane i visits) →
       BeginsWith (entries_of visits) (entries_of (visits_to stamp visits))
   visits_begin i [] rising = ([], refl)
@@ -69,7 +69,7 @@ module _ {E : Type 0} (lane : LaneId) (stamp : ℕ) where
           let none = none_to (suc i) visits (above_too stamp v.stamp (visits_from lane (suc i) visits) lt rising.0) in
           (entries_of (v ∷ visits), ap (λ vs. entries_of vs ++ entries_of (v ∷ visits)) (sym none))
 
--- a beginning of a state's list behind which the state waits for nothing
+-- a beginning of a state's list, at whose end the state waits for no particular entry
 record CutState (caller k : ℕ) (whole part : List VEntry) : Type 0 where
   begins : BeginsWith whole part
   ends : (state_after caller k part).expected ≡ anything
@@ -94,7 +94,7 @@ entries_begin k (suc n) (m ∷ ms) =
     let rest = entries_begin k n ms in
     (rest.0, ap (λ es. own ++ es) rest.1 ∙ sym (append_assoc own (entries_of_state k (take n ms)) rest.0))
 
--- the first calls mean what they did
+-- the first calls keep their meaning
 pub calls_front : (s : CallerState) (n : ℕ) (calls : List Call) (ms : List CallMeaning) → CallsMean s calls ms →
     CallsMean s (take n calls) (take n ms)
 calls_front s zero calls ms mean = tt
@@ -112,7 +112,7 @@ lines_front P (suc n) (call ∷ calls) [] each = absurd each
 lines_front P (suc n) (call ∷ calls) (m ∷ ms) each = (each.0, lines_front P n calls ms each.1)
 
 module _ (lists : Lists) (settings : ℕ → Setting) (made : ℕ → ℕ) where
-  -- a state behind the first calls of its caller
+  -- a state after the first calls of its caller
   one_caller : (caller n : ℕ) (setting : Setting) (calls : List Call) (ms : List CallMeaning) →
       CallerMeans lists setting calls ms → (k : ℕ) →
       CutState caller k (list_at (state_lists ms) k) (list_at (state_lists (take n ms)) k)
@@ -134,7 +134,7 @@ module _ (lists : Lists) (settings : ℕ → Setting) (made : ℕ → ℕ) where
       at xs lt = let p : 0 + k ≡ k = omega arith in
           made_at (λ i. entries_of_state i xs) 0 16 k lt ∙ ap (λ i. entries_of_state i xs) p
 
-  -- the states of all callers, c being the number of the first
+  -- the states of all callers; c is the number of the first
   all_callers : (caller c : ℕ) (callers : List (List Call)) (mss : List (List CallMeaning)) →
       EachCaller (λ c calls ms. CallerMeans lists (settings c) calls ms) c callers mss → (i k : ℕ) →
       CutState caller k (list_at (list_at (map state_lists mss) i) k)

@@ -1,4 +1,4 @@
--- Going along a list: what one entry more puts to use.
+-- A walk along a list: the uses of one entry more.
 use Rattle.std.proofs.Common.{◌≡◌, ◌≤◌, ◌+◌, ℕ, List, [], ◌∷◌, ◌++◌, length, take, Some, refl, sym, ap, subst, ◌∙◌, append_assoc, append-nil}
 use Rattle.std.specs.Prelude.{slice_get}
 use Rattle.std.specs.List.{fold}
@@ -20,7 +20,7 @@ module _ {S E K : Type 0} (used_at : S → E → List Used) (step : S → E → 
   abbrev pub before : ℕ → S
   before place = fold step start (take place entries)
 
-  -- the uses of the entries before a place are told, and the keys stand for the state there
+  -- the uses of the entries before a place are listed, and the keys are those of the state there
   pub record SoFar (place : ℕ) (keys : K) (uses : List Used) : Type 0 where
     pub uses_are : uses ≡ told_from used_at step start (take place entries)
     pub stands : Stands (before place) place keys

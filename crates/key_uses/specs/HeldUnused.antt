@@ -1,4 +1,4 @@
--- What is held in a book was put to no use: forward secrecy, told by names.
+-- The keys and rests of batches that are held in a book were not used: forward secrecy, in terms of names.
 use Rattle.std.specs.Prelude.{ℕ, ◌≡◌, Some, List}
 use Rattle.key_names.specs.declared.names.KeyName.{KeyName}
 use Rattle.key_names.specs.declared.names.Span.{Span}
@@ -17,8 +17,8 @@ pub record HoldsUnused (lists : Lists) : Type 0 where
   pub rests : (a : BatchHolder) (span : Span) (key : KeyName) (q : ℕ) → live_rest lists a ≡ Some span →
       HoldsByte span key q → IsUsed (uses lists) key q → ⊥
 
--- so it is in every book, also while visits are half finished: whatever was used up to a moment is of no key that is
--- held at it
+-- so it is in every book, even while visits are half finished: the bytes that were used up to a moment are of no key
+-- and no rest that is held at it
 abbrev pub BooksHoldUnused : Type 0
 BooksHoldUnused = (lists : Lists) → HalfFinishedBook lists → HoldsUnused lists
 

@@ -1,4 +1,4 @@
--- The entries that are kept of the lanes.
+-- The entries that are kept for the lanes.
 use Rattle.std.specs.Prelude.{List, map}
 use Rattle.key_names.specs.declared.entries.BaseEntry.{BaseEntry}
 use Rattle.key_names.specs.declared.entries.CpuEntry.{CpuEntry}

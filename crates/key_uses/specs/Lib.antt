@@ -1,4 +1,4 @@
--- What stands in specs/.
+-- The files of specs/.
 pub mod ToldFrom
 pub mod UsedAt
 pub mod UsesSeen

@@ -5,7 +5,7 @@ use Rattle.key_names.specs.declared.entries.VEntry.TheVariants.{Rekey, Blocks, R
 use Rattle.key_names.specs.StateList.{NamedState}
 use Rattle.key_uses.specs.declared.state_uses.StateKeys.{StateKeys}
 
--- they are those of the state before the entry at a place
+-- the keys are those of the state before the entry at a place
 pub record StateStands (s : NamedState) (place : ℕ) (keys : StateKeys) : Type 0 where
   pub place_is : s.place ≡ place
   pub key : keys.key ≡ s.key
@@ -13,7 +13,7 @@ pub record StateStands (s : NamedState) (place : ℕ) (keys : StateKeys) : Type 
   pub batch_key : keys.batch_key ≡ s.batch_key
   pub batch_from : keys.batch_from ≡ s.batch_from
 
--- one refill more has no number of 64 bits
+-- the number after one refill more does not fit into 64 bits
 abbrev pub IsRefilledOut : ℕ → VEntry → Type 0
 IsRefilledOut refills (Refill from) = 2 ^ 64 ≤ refills + 1
 IsRefilledOut refills (Rekey cpu cpu_place) = ⊥

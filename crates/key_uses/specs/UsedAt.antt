@@ -1,4 +1,4 @@
--- What each entry puts to use: which bytes of which key, the key that they become where they are kept, and the entry.
+-- The uses of each entry: the bytes of which key, the key that they become if they are kept, and the entry.
 use Rattle.std.specs.Prelude.{ℕ, ◌+◌, ◌*◌, Bool, true, false, Option, Some, None, List, [], ◌∷◌, nat_lt, if◌then◌else◌}
 use Rattle.key_names.specs.declared.names.LaneId.TheVariants.{Base as BaseLane, Cpu as CpuLane}
 use Rattle.key_names.specs.declared.names.KeyName.{KeyName}
@@ -23,7 +23,7 @@ use Rattle.key_uses.specs.declared.used.Origin.TheVariants.{Lane, State}
 use Rattle.key_uses.specs.declared.used.Purpose.TheVariants.{Kept, Served}
 use Rattle.key_uses.specs.declared.used.Used.{Used}
 
--- an entry keeps 32 bytes of a key, from this one on, as the key with a name
+-- an entry keeps 32 bytes of a key, from this byte on, as the key with this name
 abbrev pub kept_as : Origin → KeyName → ℕ → KeyName → Used
 kept_as by key from name =
     record { span = record { key = key; from = from; len = 32 }; purpose = Kept name; by = by }
@@ -32,20 +32,20 @@ abbrev pub served_by : Origin → KeyName → ℕ → ℕ → Used
 served_by by key from len =
     record { span = record { key = key; from = from; len = len }; purpose = Served; by = by }
 
--- what is told of a key in use; of one without a name nothing
+-- the uses of a key in use; a key without a name has none
 abbrev pub named_used : Option KeyName → (KeyName → List Used) → List Used
 named_used None used_of = []
 named_used (Some key) used_of = used_of key
 
--- what a read takes behind the 32 bytes that the erasure keeps: call is the name of the next 32 bytes where they become a
--- key, and rekeys says whether a vgetrandom state takes them
+-- the bytes that a read takes after the 32 that the erasure keeps. `call` is the name of the next 32 bytes if they
+-- become a key; `rekeys` is whether a vgetrandom state takes them
 abbrev pub taken_used : Bool → Origin → KeyName → KeyName → Taken → List Used
 taken_used rekeys by key call (User n) =
     if nat_lt 32 n then kept_as by key 32 call ∷ served_by by call 64 n ∷ []
     else (if rekeys then kept_as by key 32 call else served_by by key 32 n) ∷ []
 taken_used rekeys by key call (Kernel n) = served_by by key 32 n ∷ []
 
--- an erasure, which keeps the next key, and what a read takes
+-- an erasure, which keeps the next key, and the bytes that a read takes
 abbrev pub read_used : Bool → Origin → KeyName → KeyName → KeyName → Taken → List Used
 read_used rekeys by key next call taken = kept_as by key 0 next ∷ taken_used rekeys by key call taken
 
@@ -72,7 +72,7 @@ batch_used by width None = []
 batch_used by width (Some fill) =
     named_used fill.key (λ key. served_by by key (32 + width * fill.count) width ∷ [])
 
--- rekeys says of each place whether a vgetrandom state takes its read
+-- `rekeys` gives for each place whether a vgetrandom state takes its read
 abbrev pub cpu_used_at : ℕ → (ℕ → Bool) → CpuState → CpuEntry → List Used
 cpu_used_at c rekeys s (Read look refill taken) = named_used (cpu_key_in_use (Read look refill taken) s.key)
     (λ key. read_used (rekeys s.place) (Lane (CpuLane c) s.place) key (Cpu c s.place) (Call (CpuLane c) s.place) taken)

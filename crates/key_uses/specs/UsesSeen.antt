@@ -1,4 +1,4 @@
--- What is told of uses, and the uses of the book that it is seen as.
+-- The listed uses, and the book's uses that they are equal to.
 use Rattle.std.specs.Prelude.{ℕ, ◌≡◌, Bool, List, map}
 use Rattle.key_names.specs.declared.entries.BaseEntry.{BaseEntry}
 use Rattle.key_names.specs.declared.entries.CpuEntry.{CpuEntry}
@@ -25,7 +25,7 @@ use_seen used = record { span = used.span; purpose = purpose_of used.purpose }
 abbrev pub uses_seen : List Used → List Use
 uses_seen used = map use_seen used
 
--- of every list, what is told is seen as the uses of its entries
+-- in every list, the listed uses are equal to the uses of its entries
 pub record AreSeenAsUses : Type 0 where
   pub base : (es : List BaseEntry) →
       uses_seen (told_from base_used_at base_step base_start es) ≡ uses_from base_uses_at base_step base_start es

@@ -1,4 +1,4 @@
-//! What the entries of the base put to use.
+//! The uses of the base's entries.
 ghost use Rattle.std.specs.Prelude.{◌≡◌, ◌++◌, IfOk, OnOk};
 ghost use Rattle.key_names.specs.BaseList.{BaseState, base_start, base_step, base_key_in_use, base_key_after};
 ghost use Rattle.key_uses.specs.KeptEntries.{base_entries};
@@ -31,7 +31,7 @@ pub fn key_after(place: u64, entry: BaseEntry, key: Option<KeyName>) -> Option<K
     }
 }
 
-// Adds what the entry at a place puts to use, where this is the key before it.
+// Adds the uses of the entry at a place; `key` is the key before it.
 fn push_uses(
     uses: &mut Vec<Used>,
     key: Option<KeyName>,
@@ -60,11 +60,11 @@ fn push_uses(
     Ok(())
 }
 
-/// Every use of the base's entries, in their order.
+/// All uses of the base's entries, in order.
 ///
 /// # Errors
 ///
-/// `AllocError` where there is no memory for them.
+/// `AllocError` if there is no memory for them.
 pub fn base_uses(alloc: Global, base: &[KeptBase]) -> Result<Vec<Used>, AllocError>
     ensures { IfOk result (λ uses.
         uses.items ≡ told_from base_used_at base_step base_start (base_entries base.now)) }

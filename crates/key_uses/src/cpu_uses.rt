@@ -1,4 +1,4 @@
-//! What the entries of a CPU put to use.
+//! The uses of a CPU's entries.
 ghost use Rattle.std.specs.Prelude.{ℕ, Bool, List, ◌≡◌, ◌≤◌, ◌+◌, ◌*◌, ◌^◌, ◌++◌, Option, None, IfOk, OnOk, OnErr};
 ghost use Rattle.key_names.specs.declared.entries.BaseEntry.{BaseEntry as BookBase};
 ghost use Rattle.key_names.specs.CpuList.{CpuState, cpu_start, cpu_step, cpu_key_in_use, cpu_key_after};
@@ -14,7 +14,7 @@ use key_names::{CpuEntry, KeyName, LaneId};
 use list_replay::{KeptCpu, base_refill_of};
 use std::alloc::{AllocError, Global};
 
-/// The widths of batches that a byte can tell.
+/// How many widths of batches a byte can give.
 pub const WIDTHS: usize = 256;
 
 /// The last fill of a batch: the key in use at it, and how many integers were served since, the first one included.
@@ -31,7 +31,8 @@ pub struct CpuKeys {
     pub fills: [Option<Fill>; WIDTHS],
 }
 
-/// The key in use at an entry: what the base handed over in the refill that it names, or else the key before it.
+/// The key in use at an entry: the one that the base handed over in the refill that the entry names, or else the key
+/// before it.
 pub fn key_in_use(entry: CpuEntry, key: Option<KeyName>) -> Option<KeyName>
     ensures { result ≡ cpu_key_in_use entry key }
 {
@@ -53,12 +54,12 @@ pub fn key_after(cpu: u32, place: u64, entry: CpuEntry, key: Option<KeyName>) ->
     }
 }
 
-/// The byte of a fill's keystream from which the next integer comes, behind these many of its width. No memory has room for
-/// so many integers that it has no number.
+/// The first byte of the next integer in a fill's keystream, after `count` integers of this width. No memory has room
+/// for enough integers that this exceeds 64 bits.
 ///
 /// # Errors
 ///
-/// `AllocError` where it has none.
+/// `AllocError` if the byte's number is 2^64 or more.
 pub fn next_byte(width: u64, count: u64) -> Result<u64, AllocError>
     ensures byte { IfOk result (λ from. from ≡ 32 + width * count) }
     ensures none { OnErr result (2 ^ 64 ≤ 32 + width * count) }
@@ -67,7 +68,7 @@ pub fn next_byte(width: u64, count: u64) -> Result<u64, AllocError>
     served.checked_add(32).ok_or(AllocError)
 }
 
-// Adds what the next integer of a batch puts to use.
+// Adds the use of the next integer of a batch.
 fn push_batched(
     uses: &mut Vec<Used>,
     by: Origin,
@@ -105,7 +106,7 @@ fn one_more(fill: Option<Fill>) -> Result<Option<Fill>, AllocError>
     Ok(Some(Fill { key, count }))
 }
 
-// No batch is filled.
+// No width has a fill.
 fn no_fills() -> [Option<Fill>; WIDTHS]
     ensures { AreFills (λ w. None) result }
 {
@@ -134,7 +135,7 @@ impl CpuKeys {
         }
     }
 
-    // Adds what the entry at a place puts to use.
+    // Adds the uses of the entry at a place.
     fn push_uses(
         &self,
         uses: &mut Vec<Used>,
@@ -172,11 +173,11 @@ impl CpuKeys {
         }
     }
 
-    /// Keys and fills after the entry at a place.
+    /// The key and the fills after the entry at a place.
     ///
     /// # Errors
     ///
-    /// `AllocError` where there are more integers than any memory has room for.
+    /// `AllocError` if there are more integers than any memory has room for.
     pub fn step(&mut self, cpu: u32, place: u64, entry: CpuEntry) -> Result<(), AllocError>
         ensures after { (s : CpuState) (base : List BookBase) → CpuStands s place self.old →
             OnOk result (CpuStands (cpu_step base cpu s entry) (place + 1) self.new) }
@@ -217,11 +218,11 @@ fn rekeys_at(rekeyed: &[bool], place: u64) -> bool
     }
 }
 
-/// Every use of a CPU's entries, in their order; `rekeyed` says of each place whether a vgetrandom state takes its read.
+/// All uses of a CPU's entries, in order; `rekeyed` gives for each place whether a vgetrandom state takes its read.
 ///
 /// # Errors
 ///
-/// `AllocError` where there is no memory for them, or where a byte of a batch would have no number below 2^64.
+/// `AllocError` if there is no memory for them, or if a byte of a batch has a number of 2^64 or more.
 pub fn cpu_uses(
     alloc: Global,
     cpu: u32,

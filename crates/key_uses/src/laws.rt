@@ -1,22 +1,22 @@
-//! The laws of uses and of what is held, each as the contract of a function without code.
+//! The laws of uses, and of keys and rests of batches that are held, each as the contract of a function without code.
 ghost use Rattle.key_uses.specs.HeldUnused.{BooksHoldUnused, TranscriptsHoldUnused};
 ghost use Rattle.key_uses.specs.Moments.{BeginningsHoldUnused, MomentsHoldUnused};
 ghost use Rattle.key_uses.specs.UsesSeen.{AreSeenAsUses};
 
-/// What [`base_uses`](crate::base_uses), [`cpu_uses`](crate::cpu_uses) and [`state_uses`](crate::state_uses) give are the
-/// uses of a book, with the key that kept bytes became and the entry beside each.
+/// The results of [`base_uses`](crate::base_uses), [`cpu_uses`](crate::cpu_uses) and [`state_uses`](crate::state_uses)
+/// are the uses of a book. Each also has the key that kept bytes became, and the entry.
 #[tactic(auto, using(crate::proofs::UsesSeen::are_seen_as_uses))]
 pub fn are_seen_as_uses()
     ensures { AreSeenAsUses }
 {}
 
-/// What is held in a book was put to no use, also while visits are half finished.
+/// The keys and rests of batches that are held in a book were not used, even while visits are half finished.
 #[tactic(auto, using(crate::proofs::HeldUnused::books_hold_unused))]
 pub fn books_hold_unused()
     ensures { BooksHoldUnused }
 {}
 
-/// So it is behind beginnings of a book's lists, in what stands in them.
+/// So it is for beginnings of a book's lists, and the keys and rests that are held after them.
 #[tactic(auto, using(crate::proofs::Beginnings::beginnings_hold_unused))]
 pub fn beginnings_hold_unused()
     ensures { BeginningsHoldUnused }
@@ -28,7 +28,7 @@ pub fn transcripts_hold_unused()
     ensures { TranscriptsHoldUnused }
 {}
 
-/// And in that book as it stood at any stamp, each vgetrandom state taken between two calls.
+/// And in that book at any stamp, with each vgetrandom state as it is between two calls.
 #[tactic(auto, using(crate::proofs::Moments::moments_hold_unused))]
 pub fn moments_hold_unused()
     ensures { MomentsHoldUnused }

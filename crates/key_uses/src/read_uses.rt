@@ -1,4 +1,4 @@
-//! What a read puts to use.
+//! The uses of a read.
 ghost use Rattle.std.specs.Prelude.{◌≡◌, ◌++◌, OnOk};
 ghost use Rattle.key_uses.specs.UsedAt.{kept_as, served_by, taken_used, read_used};
 
@@ -6,7 +6,7 @@ use crate::used::{KEY_BYTES, Origin, Purpose, Used};
 use key_names::{KeyName, Span, Taken};
 use std::alloc::AllocError;
 
-/// A key with the entry that it is in use at.
+/// A key, with the entry at which it is in use.
 #[derive(Clone, Copy)]
 pub(crate) struct InUse {
     pub(crate) key: KeyName,
@@ -45,7 +45,7 @@ impl InUse {
     }
 }
 
-// Adds what a read takes behind the bytes that the erasure keeps.
+// Adds the bytes that a read takes after those that the erasure keeps.
 fn push_taken(
     uses: &mut Vec<Used>,
     used: InUse,
@@ -67,12 +67,12 @@ fn push_taken(
     Ok(())
 }
 
-/// Adds what an erasure and its read put to use: `next` is the key that is kept, `call` the name of the 32 bytes behind it
-/// where they become a key, and `rekeys` says whether a vgetrandom state takes them.
+/// Adds the uses of an erasure and its read. `next` is the key that is kept, and `call` the name of the 32 bytes after
+/// it if they become a key; `rekeys` is whether a vgetrandom state takes them.
 ///
 /// # Errors
 ///
-/// `AllocError` where there is no memory for it.
+/// `AllocError` if there is no memory for it.
 pub(crate) fn push_read(
     uses: &mut Vec<Used>,
     used: InUse,

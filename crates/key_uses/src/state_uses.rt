@@ -1,4 +1,4 @@
-//! What the entries of a vgetrandom state put to use.
+//! The uses of a vgetrandom state's entries.
 ghost use Rattle.std.specs.Prelude.{ℕ, ◌≡◌, ◌≤◌, ◌+◌, ◌*◌, ◌^◌, ◌++◌, IfOk, OnOk, OnErr};
 ghost use Rattle.key_names.specs.StateList.{NamedState, state_start, state_step};
 ghost use Rattle.key_uses.specs.StateKeys.{StateStands, IsRefilledOut};
@@ -13,7 +13,7 @@ use std::alloc::{AllocError, Global};
 /// The bytes of a block of keystream.
 const BLOCK_BYTES: u64 = 64;
 
-/// The bytes of a batch, behind which a refill keeps the next key.
+/// The bytes of a batch; a refill keeps the next key after them.
 pub const BATCH_BYTES: u64 = 96;
 
 /// A vgetrandom state of a caller.
@@ -30,16 +30,16 @@ pub struct StateKeys {
     /// How many refills there were.
     pub refills: u64,
     pub batch_key: Option<KeyName>,
-    /// The block at which the batch begins.
+    /// The first block of the batch.
     pub batch_from: u64,
 }
 
-/// The byte of a key's keystream that stands `more` bytes behind the first of a block. No run asks for so much that it
-/// has no number.
+/// The number of the byte of a key's keystream that is `more` bytes after the first of a block. No run uses a block so
+/// far on that this exceeds 64 bits.
 ///
 /// # Errors
 ///
-/// `AllocError` where it has none.
+/// `AllocError` if it is 2^64 or more.
 pub fn byte_of(block: u64, more: u64) -> Result<u64, AllocError>
     ensures byte { IfOk result (λ byte. byte ≡ 64 * block + more) }
     ensures none { OnErr result (2 ^ 64 ≤ 64 * block + more) }
@@ -61,7 +61,7 @@ impl StateKeys {
         }
     }
 
-    // Adds what the entry at a place puts to use.
+    // Adds the uses of the entry at a place.
     fn push_uses(
         &self,
         uses: &mut Vec<Used>,
@@ -101,7 +101,7 @@ impl StateKeys {
     ///
     /// # Errors
     ///
-    /// `AllocError` where there are more refills than any memory has room for.
+    /// `AllocError` if there are more refills than any memory has room for.
     pub fn step(&mut self, of: StateOf, entry: VEntry) -> Result<(), AllocError>
         ensures after { (s : NamedState) (place : ℕ) → StateStands s place self.old →
             OnOk result (StateStands (state_step of.caller of.state s entry) (place + 1) self.new) }
@@ -129,11 +129,11 @@ impl StateKeys {
     }
 }
 
-/// Every use of the entries of a vgetrandom state, in their order.
+/// All uses of the entries of a vgetrandom state, in order.
 ///
 /// # Errors
 ///
-/// `AllocError` where there is no memory for them, or where a byte of a key would have no number below 2^64.
+/// `AllocError` if there is no memory for them, or if a byte of a key has a number of 2^64 or more.
 pub fn state_uses(alloc: Global, of: StateOf, entries: &[VEntry]) -> Result<Vec<Used>, AllocError>
     ensures { IfOk result (λ uses. uses.items
         ≡ told_from (state_used_at of) (state_step of.caller of.state) state_start entries.now) }

@@ -1,18 +1,18 @@
-//! A use of bytes of a key, and the entry that it is of.
+//! A use of bytes of a key, and its entry.
 use key_names::{KeyName, LaneId, Span};
 
 /// The bytes of a key, and the most that a read takes without a call key.
 pub const KEY_BYTES: u32 = 32;
 
-/// An entry that makes, uses or erases a key: at a place of a lane, or of the list of a caller's vgetrandom state. Lanes
-/// stand before states.
+/// An entry that makes, uses or erases a key: at a place of a lane, or of the list of a caller's vgetrandom state.
+/// Lanes come before states.
 #[derive(Clone, Copy, Debug, PartialEq, Eq, PartialOrd, Ord)]
 pub enum Origin {
     Lane(LaneId, u64),
     State { caller: u32, state: u32, place: u64 },
 }
 
-/// What bytes of a keystream were put to use for.
+/// The purpose of bytes of a keystream.
 #[derive(Clone, Copy, Debug, PartialEq, Eq)]
 pub enum Purpose {
     /// They became this key.
@@ -21,7 +21,7 @@ pub enum Purpose {
     Served,
 }
 
-/// A use of some bytes of a key, and the entry that put them to use.
+/// A use of some bytes of a key, and the entry that used them.
 #[derive(Clone, Copy, Debug, PartialEq, Eq)]
 pub struct Used {
     pub span: Span,

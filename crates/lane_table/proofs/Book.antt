@@ -1,4 +1,4 @@
--- What the lists of the lanes mean in the words of the book.
+-- The lanes' lists of visits as a book.
 pub mod BookAnswers
 pub mod BookBatches
 pub mod BookCpus

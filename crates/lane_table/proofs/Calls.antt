@@ -1,4 +1,4 @@
--- What a pass has in its hands behind each call of the table.
+-- The lanes that a pass holds after each call of the table.
 pub mod HandLemmas
 pub mod AdvanceLemmas
 pub mod Telling

@@ -1,4 +1,4 @@
--- What a pass did between two moments: its looks and its visits, with their entries, in order.
+-- The looks and visits of a pass between two moments, with their entries, in order.
 use Rattle.std.specs.Prelude.{◌≡◌, ℕ, suc, ◌+◌, ◌<◌, ◌==◌, ◌≤◌, ◌↔◌, max, ⊤, List, [], ◌∷◌, ◌++◌, take, length, if◌then◌else◌}
 use mathlib.Core.Option.{some}
 use lib.ListN.{get_elem?}
@@ -26,7 +26,7 @@ abbrev pub step_of : MadeStep → Step
 step_of (looked g) = Look g
 step_of (visited mark e) = Marked mark
 
--- the mark is that of a visit which is known
+-- the view knows a visit with this mark, by this maker, with this entry
 pub record IsMarkOf (v : View) (mark : Mark) (who : Who) (e : LaneEntry) : Type 0 where
   pub near : index_of mark.lane < length v.lanes
   pub visit : Visit
@@ -38,7 +38,7 @@ pub record IsMarkOf (v : View) (mark : Mark) (who : Who) (e : LaneEntry) : Type 
 abbrev pub maker : ℕ → ℕ → ℕ → Who
 maker caller event step = record { caller = caller; event = event; step = step }
 
--- each visit is known and of this event of the caller, the steps being numbered from n on
+-- the view knows each visit, and its maker is this event of the caller, with the steps numbered from n on
 abbrev pub AllStand : View → ℕ → ℕ → ℕ → List MadeStep → Type 0
 AllStand v caller event n [] = ⊤
 AllStand v caller event n (looked g ∷ made_steps) = AllStand v caller event (suc n) made_steps
@@ -61,21 +61,20 @@ stamps_in [] = []
 stamps_in (looked g ∷ made_steps) = stamps_in made_steps
 stamps_in (visited mark e ∷ made_steps) = mark.stamp ∷ stamps_in made_steps
 
--- stamps that rise, from above the first number to the last
+-- stamps that rise from above `low`, with `high` as the last
 abbrev pub Climbs : ℕ → List ℕ → ℕ → Type 0
 Climbs low [] high = low ≡ high
 Climbs low (stamp ∷ stamps) high = (low < stamp) × Climbs stamp stamps high
 
--- what a view has seen of the generation: no look is below it
+-- the greatest generation that a view has seen: no later look is below it
 abbrev pub floor : View → ℕ
 floor v = max v.seen (replay (known_of v 1)).base.generation
 
--- the generation of a lane's model: of the base or of a CPU, since both are 0 in the other lanes
+-- the generation of a lane's model, of the base or of a CPU; in a model of any other kind it is 0
 abbrev pub generation_of : Model → ℕ
 generation_of s = max s.base.generation s.cpu.cpu.generation
 
--- each look is at least what was seen before it, and what was seen after a visit is at least the generation that the
--- lane then has
+-- each look is at least the generation seen before it, and after a visit the generation seen is at least the lane's
 abbrev pub Sees : View → ℕ → List MadeStep → ℕ → Type 0
 Sees w low [] high = low ≤ high
 Sees w low (looked g ∷ made_steps) high = (low ≤ g) × Sees w g made_steps high
@@ -83,11 +82,11 @@ Sees w low (visited mark e ∷ made_steps) high = (mid : ℕ) × (low ≤ mid)
     × (generation_of (replay (take (suc mark.place) (known_of w (index_of mark.lane)))) ≤ mid)
     × Sees w mid made_steps high
 
--- the core is ready exactly where it was reseeded
+-- the core is ready if and only if it was reseeded
 abbrev pub Agrees : BaseValue → Type 0
 Agrees b = (b.phase ≡ ready) ↔ (1 ≤ b.generation)
 
--- from v to w the pass did exactly this, in an event of a caller, the steps being numbered from n on
+-- from v to w the pass made exactly these steps, in an event of a caller, numbered from n on
 pub record Advances (caller event n : ℕ) (v w : View) (made_steps : List MadeStep) : Type 0 where
   pub same : SameView v w
   pub grows : Grows v w

@@ -1,4 +1,5 @@
--- What the lanes' lists of visits are in the words of the book: lawful, with values that are those of the entries.
+-- The laws of the lanes' lists of visits as a book: the lists are lawful, and the models have the values of the
+-- entries.
 use Rattle.std.specs.Prelude.{◌≡◌, ℕ, ◌+◌, ◌*◌, ◌<◌, ◌≤◌, IsTrue, Option, Some, None, List, length, take, replicate, slice_get}
 use Rattle.std.specs.List.{fold}
 use Rattle.key_names.specs.declared.entries.BaseEntry.{BaseEntry}
@@ -24,47 +25,48 @@ use Rattle.lane_table.specs.References.{Closed, LawfulLists, AllAnswered, AllHal
 use Rattle.lane_table.specs.WorldRule.{Begins, known_of}
 use Rattle.lane_table.specs.BookLists.{StateLists, book_lists}
 
--- the lists of some lanes, a pool and a base among them, are each lawful, and their references backwards agree
+-- the lists of some lanes, with a pool and a base, are each lawful, and each name of a visit in the parent lane is
+-- mutual
 pub record ClosedLanes (lanes : ℕ) (visits : ℕ → List Visit) : Type 0 where
   pub low : 2 ≤ lanes
   pub closed : Closed lanes visits
   pub lawful : LawfulLists lanes visits
 
--- these visits of the lanes go on from what the view knows
+-- these lists continue those that the view knows
 pub record Continues (lanes : ℕ) (v : View) (visits : ℕ → List Visit) : Type 0 where
   pub long : length v.lanes ≡ lanes
   pub begins : (lane : ℕ) → lane < lanes → Begins (known_of v lane) (visits lane)
   pub closed : ClosedLanes lanes visits
 
--- such lists are lawful so far as each lane looks backwards
+-- such lists are lawful as a book, as far as names of visits in parent lanes go
 abbrev pub ClosedIsForwardLawful : Type 0
 ClosedIsForwardLawful = (lanes : ℕ) (visits : ℕ → List Visit) (callers : StateLists) →
     ClosedLanes lanes visits →
     ForwardLawful (book_lists lanes visits callers)
 
--- half finished: a reference forwards either has its answer, or names a place that its list does not reach yet
+-- if each name ahead is answered or beyond its list, the book is half finished
 abbrev pub HalfAnsweredIsHalfFinished : Type 0
 HalfAnsweredIsHalfFinished = (lanes : ℕ) (visits : ℕ → List Visit) (callers : StateLists) →
     ClosedLanes lanes visits → AllHalfAnswered lanes visits →
     HalfFinishedLanes (book_lists lanes visits callers)
 
--- where each is answered, they are lawful
+-- if each name ahead is answered, the book is lawful
 abbrev pub AnsweredIsLawful : Type 0
 AnsweredIsLawful = (lanes : ℕ) (visits : ℕ → List Visit) (callers : StateLists) →
     ClosedLanes lanes visits → AllAnswered lanes visits →
     LawfulLanes (book_lists lanes visits callers)
 
--- what a lane keeps of a batch's last fill: not its key, and not its place
+-- the part of a batch's last fill that a lane keeps: neither its key nor its place
 abbrev pub bare : Option Fill → Option Fill
 bare None = None
 bare (Some fill) = Some (record { key = None; place = 0; count = fill.count; look = fill.look })
 
--- a batch after a fill of CPU c: what was served is 0, and the rest is of the keystream of the key in use at the fill
+-- a batch after a fill of CPU c: the served bytes are 0, and the others are keystream of the key in use at the fill
 pub record BatchReplays (lists : Lists) (c width : ℕ) (fill : Fill) (b : BatchValue) : Type 0 where
   pub served : take (width * fill.count) b.bytes ≡ replicate (width * fill.count) 0
   pub rest : IsBatchOf width (cpu_used_at lists c fill.place) fill b
 
--- a CPU's model is what these entries of its list mean
+-- a CPU's model has the values of these entries of its list
 pub record CpuReplays (lists : Lists) (c : ℕ) (es : List CpuEntry) (m : CpuModel) : Type 0 where
   pub cpu : m.cpu ≡ cpu.after_entries lists c es
   pub fast : m.fast ≡ fast_after es
@@ -75,13 +77,13 @@ pub record CpuReplays (lists : Lists) (c : ℕ) (es : List CpuEntry) (m : CpuMod
       (cpu_after lists.base c es).fills width ≡ Some fill →
       BatchReplays lists c width fill (batch_at width m)
 
--- each lane's model is what its list of entries means
+-- each lane's model has the values of its list of entries
 pub record LanesReplay (lanes : ℕ) (visits : ℕ → List Visit) (lists : Lists) : Type 0 where
   pub pool : (replay (visits 0)).pool ≡ pool_after lists.pool
   pub base : (replay (visits 1)).base ≡ base.after_entries lists.pool lists.base
   pub cpus : (c : ℕ) → c + 2 < lanes → CpuReplays lists c (cpu_list lists c) (replay (visits (c + 2))).cpu
 
--- what visits hand on is the value of the name that their places have
+-- each visit hands on the value of its place's name
 pub record VisitsGive (lanes : ℕ) (visits : ℕ → List Visit) (lists : Lists) : Type 0 where
   pub roots : (place : ℕ) (x : Visit) → slice_get (visits 0) place ≡ Some x → x.gave.key ≡ root_value lists.pool place
   pub base_keys : (place : ℕ) (x : Visit) (e : BaseEntry) → slice_get (visits 1) place ≡ Some x →
@@ -94,7 +96,7 @@ pub record VisitsGive (lanes : ℕ) (visits : ℕ → List Visit) (lists : Lists
       slice_get (visits (c + 2)) place ≡ Some x → x.entry ≡ CpuVisited (Read look refill taken) →
       x.gave.key ≡ cpu_call_value lists c place
 
--- such lanes have the values that the book tells, and hand on what it tells
+-- such lanes have the values of the book, and hand on the values of the book
 abbrev pub ClosedReplays : Type 0
 ClosedReplays = (lanes : ℕ) (visits : ℕ → List Visit) (callers : StateLists) →
     ClosedLanes lanes visits →

@@ -1,4 +1,4 @@
--- The book that the lanes' lists of visits make: what each visit left, without what was handed to it and on.
+-- The book of the lanes' lists of visits: each visit without the keys that it received and handed on.
 use Rattle.std.specs.Prelude.{ℕ, ◌+◌, ◌-◌, Option, Some, None, List, map}
 use Rattle.std.specs.List.{filter_map, range_with_len}
 use Rattle.std.specs.Option.{option_map}
@@ -12,7 +12,7 @@ use Rattle.lane_table.specs.declared.view.LaneEntry.{LaneEntry}
 use Rattle.lane_table.specs.declared.view.LaneEntry.TheVariants.{Pool, Base, Cpu}
 use Rattle.lane_table.specs.declared.view.Visit.{Visit}
 
--- the entry, if it is of the pool, of the base, or of a CPU
+-- the entry, if it is of this kind: of the pool, of the base, or of a CPU
 abbrev pub pool_entry : LaneEntry → Option PoolEntry
 pool_entry (Pool e) = Some e
 pool_entry (Base e) = None
@@ -28,18 +28,18 @@ cpu_entry (Pool e) = None
 cpu_entry (Base e) = None
 cpu_entry (Cpu e) = Some e
 
--- a visit as the book has it, if its entry is of this kind
+-- a visit in the form of the book, if its entry is of this kind
 abbrev pub book_visit : {E : Type 0} → (LaneEntry → Option E) → Visit → Option (of_book.Visit E)
 book_visit of x = option_map (λ e. record { stamp = x.stamp; who = x.who; entry = e }) (of x.entry)
 
 abbrev pub book_visits : {E : Type 0} → (LaneEntry → Option E) → List Visit → List (of_book.Visit E)
 book_visits of xs = filter_map (book_visit of) xs
 
--- the entries of one kind alone
+-- the entries of this kind only
 abbrev pub entries : {E : Type 0} → (LaneEntry → Option E) → List Visit → List E
 entries of xs = entries_of (book_visits of xs)
 
--- of each caller the entries of each of its vgetrandom states
+-- for each caller the entries of each of its vgetrandom states
 abbrev pub StateLists : Type 0
 StateLists = List (List (List VEntry))
 

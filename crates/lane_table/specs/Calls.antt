@@ -1,5 +1,5 @@
--- What the calls ask, and what they tell, in the words of the layer above: what a pass knows of each lane before and
--- after. Nobody who calls has to know the rule.
+-- The preconditions and effects of the calls: the knowledge of a pass about each lane, before and after. A caller
+-- does not need the rule.
 use Rattle.std.specs.Prelude.{◌≡◌, ◌≢◌, ◌⊎◌, ℕ, ◌+◌, ◌^◌, ◌<◌, ◌≤◌, List, [], ◌∷◌, ◌++◌, length, Option, Some, None, slice_get}
 use Rattle.atomic_table.specs.Table.{rest, Step}
 use Rattle.key_names.specs.declared.names.Who.{Who}
@@ -25,14 +25,14 @@ use Rattle.lane_table.specs.Steps.{Seated, Grows, KeepsHeld, OwesNothing, MayNam
 abbrev pub count_of : Lanes → ℕ
 count_of t = t.cpus + 2
 
--- above it are the stamps of all visits of the table
+-- a bound below all stamps of the table's visits
 abbrev pub first_of : Lanes → ℕ
 first_of t = t.table.shared.key.first
 
 abbrev pub view : Pass → View
 view p = p.seat.me.0
 
--- the slots that are out with a pass, the one that was taken last in front
+-- the slots that a pass has taken out, the last one first
 abbrev pub slots : Pass → List (ℕ × Option Content)
 slots p = p.seat.me.1
 
@@ -46,28 +46,29 @@ pub record IsPassOf (t : Lanes) (p : Pass) : Type 0 where
 abbrev pub plan_of : ℕ → ℕ → Plan
 plan_of count first = record { count = count; first = first }
 
--- the pass is of this table as before, and of its caller
+-- the new pass is of the same table and the same caller
 pub record IsSamePass (t : Lanes) (p q : Pass) : Type 0 where
   pub pass : IsPassOf t q
   pub caller : q.caller ≡ p.caller
 
--- the pass does not stand at the lane
+-- the pass neither waits for the lane nor holds it
 abbrev pub IsAway : ℕ → View → Type 0
 IsAway lane v = (at lane v).stage ≡ Away
 
--- nor at any other
+-- the pass neither waits for any lane nor holds one
 abbrev pub IsIdle : View → Type 0
 IsIdle v = (lane : ℕ) → IsAway lane v
 
--- What is held
+-- Holds
 
--- the value stands for the model of the lane's list as it is known, and its next place and last stamp are the list's
+-- the value represents the replay of the lane's known list, and the hold has the next place and the last stamp of
+-- that list
 pub record MatchesList (lane : ℕ) (h : Held) (v : View) : Type 0 where
   pub value : ValueRepresents lane h.state (replay (known_of v lane))
   pub place : h.turn.place ≡ length (known_of v lane)
   pub stamp : h.turn.stamp ≡ last_stamp v.first (known_of v lane)
 
--- this pass took the lane that is held, and none after it that it still holds
+-- this pass holds the lane, and took it last of those that it holds
 pub record Holds (t : Lanes) (p : Pass) (h : Held) : Type 0 where
   pub near : h.turn.lane < count_of t
   pub stage : (at h.turn.lane (view p)).stage ≡ Holding h.turn.ticket
@@ -75,7 +76,7 @@ pub record Holds (t : Lanes) (p : Pass) (h : Held) : Type 0 where
   pub place : h.turn.place ≡ length (known_of (view p) h.turn.lane)
   pub stamp : h.turn.stamp ≡ last_stamp (view p).first (known_of (view p) h.turn.lane)
 
--- the entry may come at the held place, and leads from what was taken to what is held
+-- the entry may come at the held place, and it leads to the held value
 pub record CanPut (t : Lanes) (p : Pass) (h : Held) (e : LaneEntry) : Type 0 where
   pub holds : Holds t p h
   pub kind : IsOf h.turn.lane e
@@ -84,45 +85,45 @@ pub record CanPut (t : Lanes) (p : Pass) (h : Held) (e : LaneEntry) : Type 0 whe
   pub fits : Fits (replay (known_of (view p) h.turn.lane)) (handed h.turn.lane e (view p)) e
   pub names : MayName h.turn.lane e (view p)
 
--- nothing was done in this hold: the value is the one that was taken, no entry waits for this place, and the generation
--- was not raised
+-- this hold changed nothing: the value is as it was taken, no entry waits for this place, and the generation was not
+-- raised
 pub record CanLeave (t : Lanes) (p : Pass) (h : Held) : Type 0 where
   pub holds : Holds t p h
   pub value : ValueRepresents h.turn.lane h.state (replay (known_of (view p) h.turn.lane))
   pub free : OwesNothing h.turn.lane (view p)
 
--- What stays
+-- What calls leave as it was
 
--- what no call but split and join changes
+-- the part of a view that only split and join change
 pub record SameView (v w : View) : Type 0 where
   pub first : w.first ≡ v.first
   pub share : w.share ≡ v.share
   pub halvings : w.halvings ≡ v.halvings
   pub sized : length w.lanes ≡ length v.lanes
 
--- what a pass did at a lane, and heard of it, is as before
+-- the pass's visits of a lane, and its heard lists, are as before
 pub record SameHistory (j : ℕ) (v w : View) : Type 0 where
   pub made : (at j w).made ≡ (at j v).made
   pub places : (at j w).places ≡ (at j v).places
   pub heard : (at j w).heard ≡ (at j v).heard
 
--- and so is how it stands there
+-- its state at the lane is as before, too
 pub record SameOtherLane (j : ℕ) (v w : View) : Type 0 where
   pub stage : (at j w).stage ≡ (at j v).stage
   pub owed : (at j w).owes ≡ (at j v).owes
   pub raise : (at j w).raised ≡ (at j v).raised
   pub still : SameHistory j v w
 
--- the same, where an answer may be owed now
+-- the same, except that the lane may owe an answer now
 pub record SameHeldLane (j : ℕ) (v w : View) : Type 0 where
   pub known : known_of w j ≡ known_of v j
   pub stage : (at j w).stage ≡ (at j v).stage
   pub raise : (at j w).raised ≡ (at j v).raised
   pub still : SameHistory j v w
 
--- What the calls tell
+-- The effects of the calls
 
--- the lane was taken
+-- the pass took the lane
 pub record Taken (lane : ℕ) (h : Held) (m m' : Seated) : Type 0 where
   pub of_lane : h.turn.lane ≡ lane
   pub consistent : Consistent m'.0
@@ -134,7 +135,7 @@ pub record Taken (lane : ℕ) (h : Held) (m m' : Seated) : Type 0 where
   pub keeps : KeepsHeld lane m.0 m'.0
   pub aside : (j : ℕ) → j < length m.0.lanes → j ≢ lane → SameOtherLane j m.0 m'.0
   pub grows : Grows m.0 m'.0
-  -- a base is as far as all that the pass has seen
+  -- the base's generation is at least each one that the pass has seen
   pub fresh : lane ≡ 1 → m.0.seen ≤ (replay (known_of m'.0 1)).base.generation
   pub early : lane ≡ 1 → (replay (known_of m'.0 1)).base.generation < 2 ^ 62
   pub slots : m'.1 ≡ (lane, None) ∷ m.1
@@ -144,21 +145,21 @@ pub record Taken (lane : ℕ) (h : Held) (m m' : Seated) : Type 0 where
   pub stamps : m'.0.stamps ≡ m.0.stamps
   pub drawn : m'.0.drawn ≡ m.0.drawn + 1
 
--- the lane was got by a ticket, and its last stamp had come to 2^62
+-- the pass drew a ticket and got the lane, with a last stamp of 2^62 or more
 abbrev pub DrewTooLate : ℕ → Seated → Seated → Type 0
 DrewTooLate lane m m' = (m'.0.drawn ≡ m.0.drawn + 1) × (2 ^ 62 ≤ last_stamp m'.0.first (known_of m'.0 lane))
 
--- the pass's stamp, or the ticket that was read, or the last stamp of the lane that was got, had come to 2^62
+-- the pass's stamp, or the ticket that was read, or the last stamp of the lane that was got, is 2^62 or more
 abbrev pub IsSpent : ℕ → Seated → Seated → Type 0
 IsSpent lane m m' = (2 ^ 62 ≤ m.0.stamp) ⊎ (2 ^ 62 ≤ (at lane m'.0).found) ⊎ DrewTooLate lane m m'
 
--- none of the three was
+-- each of the three is below
 pub record Unspent (lane : ℕ) (m m' : Seated) : Type 0 where
   pub stamp : m.0.stamp < 2 ^ 62
   pub ticket : (at lane m'.0).found < 2 ^ 62
   pub last : m'.0.drawn ≡ m.0.drawn + 1 → last_stamp m'.0.first (known_of m'.0 lane) < 2 ^ 62
 
--- the ticket word was read above the serving number that was loaded, and no ticket was drawn
+-- the ticket word was above the loaded serving number, and the pass drew no ticket
 pub record IsBusy (lane serving ticket : ℕ) (m m' : Seated) : Type 0 where
   pub unspent : Unspent lane m m'
   pub above : serving < ticket
@@ -170,7 +171,8 @@ abbrev pub Refused : ℕ → Seated → Seated → TakeFault → Type 0
 Refused lane m m' Spent = IsSpent lane m m'
 Refused lane m m' (Busy serving ticket) = IsBusy lane serving ticket m m'
 
--- the lane was not got: the pass stands nowhere else than before, and drew no ticket where the lane's last stamp is low
+-- the pass did not get the lane: it is at each lane as before, and drew no ticket unless the lane's last stamp is
+-- 2^62 or more
 pub record Tried (lane : ℕ) (m m' : Seated) : Type 0 where
   pub consistent : Consistent m.0 → Consistent m'.0
   pub same : SameView m.0 m'.0
@@ -184,16 +186,16 @@ pub record Tried (lane : ℕ) (m m' : Seated) : Type 0 where
   pub stamps : m'.0.stamps ≡ m.0.stamps
   pub drawn : (m'.0.drawn ≡ m.0.drawn) ⊎ DrewTooLate lane m m'
 
--- a visit as its maker tells it, before it is known what is handed to it
+-- a visit before its received and handed-on keys are filled in
 abbrev pub visit_by : Who → ℕ → LaneEntry → Visit
 visit_by who stamp e = record { who = who; stamp = stamp; entry = e; got = nothing; gave = nothing }
 
--- the visit was made
+-- the pass made the visit
 pub record Added (lane : ℕ) (x : Visit) (m m' : Seated) : Type 0 where
   pub consistent : Consistent m'.0
   pub same : SameView m.0 m'.0
   pub here : at lane m'.0 ≡ visited x (at lane m.0)
-  -- the lane ahead that the entry names owes the answer
+  -- the lane ahead that the entry names now owes the answer
   pub ahead : (l b : ℕ) → ahead_of x.entry ≡ Some (l, b) → l < length m.0.lanes
       → at l m'.0 ≡ record (at l m.0) { owes = Some (length (known_of m.0 lane)) }
   pub others : (j : ℕ) → j ≢ lane → ((l b : ℕ) → ahead_of x.entry ≡ Some (l, b) → j ≢ l) → at j m'.0 ≡ at j m.0
@@ -207,7 +209,7 @@ pub record Added (lane : ℕ) (x : Visit) (m m' : Seated) : Type 0 where
   pub stamps : m'.0.stamps ≡ m.0.stamps ++ x.stamp ∷ []
   pub drawn : m'.0.drawn ≡ m.0.drawn
 
--- the lane was given back without a visit
+-- the pass gave the lane back without a visit
 pub record Left (lane : ℕ) (m m' : Seated) : Type 0 where
   pub consistent : Consistent m.0 → Consistent m'.0
   pub same : SameView m.0 m'.0
@@ -223,7 +225,7 @@ pub record Left (lane : ℕ) (m m' : Seated) : Type 0 where
   pub stamps : m'.0.stamps ≡ m.0.stamps
   pub drawn : m'.0.drawn ≡ m.0.drawn
 
--- a look, which finds no less than any generation that the pass knows from looks, from the base or from CPUs
+-- a look, at least as high as each generation that the pass has from looks, from the base or from CPUs
 pub record Looked (g : ℕ) (m m' : Seated) : Type 0 where
   pub consistent : Consistent m'.0
   pub same : SameView m.0 m'.0
@@ -239,7 +241,7 @@ pub record Looked (g : ℕ) (m m' : Seated) : Type 0 where
   pub stamps : m'.0.stamps ≡ m.0.stamps
   pub drawn : m'.0.drawn ≡ m.0.drawn
 
--- the generation that this hold of the base makes was stored
+-- the pass stored the generation of this hold of the base
 pub record Raised (g : ℕ) (m m' : Seated) : Type 0 where
   pub consistent : Consistent m'.0
   pub same : SameView m.0 m'.0
@@ -253,7 +255,7 @@ pub record Raised (g : ℕ) (m m' : Seated) : Type 0 where
   pub stamps : m'.0.stamps ≡ m.0.stamps
   pub drawn : m'.0.drawn ≡ m.0.drawn
 
--- at the end the pass with the whole share knows each lane's whole list, and made all of its visits, each once
+-- at the end the pass with the whole share knows each lane's whole list, and counts all of its visits, each once
 pub record Ended (lanes : ℕ) (v : View) : Type 0 where
   pub lawful : LawfulLists lanes (known_of v)
   pub closed : Closed lanes (known_of v)
@@ -263,14 +265,14 @@ pub record Ended (lanes : ℕ) (v : View) : Type 0 where
   pub made : (i : ℕ) → i < lanes → (at i v).made ≡ length (known_of v i)
   pub placed : (i p : ℕ) → i < lanes → times p (at i v).places ≡ once_below p (length (known_of v i))
 
--- a load that changes nothing: who has the whole share and stands nowhere is at the end
+-- a load that changes nothing: a pass with the whole share that is idle is at the end
 abbrev pub settles : Step (Option Content) → Seated → ℕ → Seated → Type 0
 settles st m r m' = (m' ≡ m) × (m.0.share ≡ 2 ^ m.0.halvings → IsIdle m.0 → Ended (length m.0.lanes) m.0)
 
 abbrev pub made_in : LaneView → ℕ
 made_in a = a.made
 
--- what lies in the first lanes at the start: the value of an empty list
+-- at the start the slot of each of the first lanes has the value of an empty list
 abbrev pub AreStarts : ℕ → ℕ → List (Option Content) → Type 0
 AreStarts first count contents = (length contents ≡ count)
     × ((lane : ℕ) → lane < count → (c : Content) × (slice_get contents lane ≡ Some (Some c)) × Replays lane first [] c)

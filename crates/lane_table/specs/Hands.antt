@@ -1,4 +1,4 @@
--- What a pass has in its hands: the lanes that it holds, the one that it took last in front.
+-- The lanes that a pass holds, the last one first.
 use Rattle.std.specs.Prelude.{◌≡◌, ◌≢◌, ℕ, ◌<◌, ⊤, List, [], ◌∷◌, map, Option, None, length}
 use Rattle.lane_table.specs.declared.view.View.{View}
 use Rattle.lane_table.specs.declared.view.Content.{Content}
@@ -10,7 +10,7 @@ use Rattle.lane_table.specs.Meaning.{Model, replay}
 use Rattle.lane_table.specs.WorldRule.{at, known_of, last_stamp}
 use Rattle.lane_table.specs.Calls.{IsPassOf, IsAway, count_of, slots, view}
 
--- a lane that is held, with its next place and its last stamp as taken
+-- a held lane, with its next place and its last stamp when it was taken
 pub record HeldLane : Type 0 where
   pub lane : ℕ
   pub ticket : ℕ
@@ -18,7 +18,7 @@ pub record HeldLane : Type 0 where
   pub stamp : ℕ
   -- the place of the entry that names the held place
   pub owes : Option ℕ
-  -- 1 where this hold raised the generation
+  -- 1 if this hold raised the generation
   pub raised : ℕ
 
 abbrev pub hand : Turn → Option ℕ → ℕ → HeldLane
@@ -43,7 +43,7 @@ abbrev pub NotIn : ℕ → List HeldLane → Type 0
 NotIn lane [] = ⊤
 NotIn lane (h ∷ hands) = (lane ≢ h.lane) × NotIn lane hands
 
--- each is held, and no lane twice
+-- the pass holds each of them, and no lane is in the list twice
 abbrev pub AllInHand : View → List HeldLane → Type 0
 AllInHand v [] = ⊤
 AllInHand v (h ∷ hands) = IsInHand v h × NotIn h.lane hands × AllInHand v hands
@@ -51,7 +51,7 @@ AllInHand v (h ∷ hands) = IsInHand v h × NotIn h.lane hands × AllInHand v ha
 abbrev pub slot_of : HeldLane → ℕ × Option Content
 slot_of h = (h.lane, None)
 
--- the pass, of this table and this caller, has these lanes in its hands and stands at no other
+-- the pass is of this table and this caller, holds exactly these lanes, and waits for none
 pub record HoldsLanes (t : Lanes) (caller : ℕ) (hands : List HeldLane) (p : Pass) : Type 0 where
   pub pass : IsPassOf t p
   pub own : p.caller ≡ caller
@@ -59,6 +59,6 @@ pub record HoldsLanes (t : Lanes) (caller : ℕ) (hands : List HeldLane) (p : Pa
   pub held : AllInHand (view p) hands
   pub away : (lane : ℕ) → lane < count_of t → NotIn lane hands → IsAway lane (view p)
 
--- what the pass knows of a lane's list makes this of the lane
+-- the model of a lane by the list that the pass knows
 abbrev pub model : Pass → ℕ → Model
 model p lane = replay (known_of (view p) lane)

@@ -1,11 +1,11 @@
--- What is held, once its value was lent.
+-- A hold while its value is lent.
 use Rattle.std.specs.Borrow.{Lends, MutBor, Fml}
 use Rattle.lane_table.specs.declared.values.LaneState.{LaneState}
 use Rattle.lane_table.specs.declared.lanes.Held.{Held}
 use Rattle.lane_table.specs.contracts.lanes.Held.{the_row}
 use Rattle.lane_table.specs.contracts.values.LaneState as value
 
--- with another value
+-- the hold with another value
 abbrev pub with_state : Held → LaneState → Held
 with_state h state = record h { state = state }
 

@@ -1,4 +1,4 @@
--- A lane's value, once it was lent out of its box.
+-- A loan of a lane's value out of its box.
 use Rattle.std.specs.Borrow.{Lends, MutBor, Fml}
 use Rattle.lane_table.specs.declared.values.LaneState.{LaneState}
 use Rattle.lane_table.specs.contracts.values.Boxed.{the_row}

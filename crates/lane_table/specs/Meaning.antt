@@ -1,6 +1,6 @@
--- What a lane's list of visits means: its value after them, what each visit hands on, and which may come when. All of it
--- is read from the lane's own list, since a visit keeps what was handed to it. A lane's model has a part for each kind
--- of lane, and an entry changes the part of its own kind.
+-- The meaning of a lane's list of visits: its value after them, the key that each visit hands on, and the entries
+-- that may come next. The list alone determines all of it, since each visit includes the key that it received. A
+-- lane's model has a part for each kind of lane, and an entry changes the part of its own kind.
 use Rattle.std.specs.Prelude.{◌≡◌, ℕ, suc, ◌+◌, ◌/◌, ◌<◌, ◌≤◌, ◌==◌, ⊤, List, [], Option, Some, None, replicate, slice_index_or, if◌then◌else◌}
 use Rattle.std.specs.List.{fold}
 use Rattle.key_names.specs.declared.names.Who.{Who}
@@ -32,17 +32,17 @@ use Rattle.lane_table.specs.declared.view.LaneEntry.TheVariants.{Pool, Base, Cpu
 use Rattle.lane_table.specs.declared.view.Handed.{Handed}
 use Rattle.lane_table.specs.declared.view.Visit.{Visit}
 
--- which lane an entry is of: the pool is the lane 0, the base 1, and CPU c is 2 + c
+-- the lane of an entry: the pool is lane 0, the base 1, and CPU c is 2 + c
 abbrev pub IsOf : ℕ → LaneEntry → Type 0
 IsOf lane (Pool e) = lane ≡ 0
 IsOf lane (Base e) = lane ≡ 1
 IsOf lane (Cpu e) = 2 ≤ lane
 
--- the lane of the entries that those of a lane name behind them: the pool for the base, and the base for a CPU
+-- the parent lane, from which this lane's entries take keys: the pool for the base, and the base for a CPU
 abbrev pub parent : ℕ → ℕ
 parent lane = if lane == 1 then 0 else 1
 
--- the place that an entry names in the lane behind it: a root, or a refill
+-- the place in the parent lane that an entry names: of a root, or of a refill
 abbrev pub behind_of : LaneEntry → Option ℕ
 behind_of (Pool e) = None
 behind_of (Base e) = root_of e
@@ -56,7 +56,7 @@ abbrev pub cpu_lane : Option (ℕ × ℕ) → Option (ℕ × ℕ)
 cpu_lane None = None
 cpu_lane (Some named) = Some (named.0 + 2, named.1)
 
--- the lane ahead of it, and its place there, that an entry names
+-- the lane ahead that an entry names, and the place there
 abbrev pub ahead_of : LaneEntry → Option (ℕ × ℕ)
 ahead_of (Pool e) = base_lane (base_place_of e)
 ahead_of (Base e) = cpu_lane (refill_of e)
@@ -83,7 +83,7 @@ pub record Model : Type 0 where
   pub pool : PoolState
   pub base : BaseValue
   pub cpu : CpuModel
-  -- the least place that may be named behind next
+  -- the least place of the parent lane that the next entry may name
   pub least : ℕ
 
 abbrev pub cpu_start : CpuModel
@@ -95,7 +95,7 @@ start_model = record { pool = pool_start; base = base.start; cpu = cpu_start; le
 abbrev pub hand : List ℕ → ℕ → Handed
 hand key generation = record { key = key; generation = generation }
 
--- what an entry has that is handed nothing, or hands nothing on
+-- the empty `Handed`, of an entry that receives no key or hands none on
 abbrev pub nothing : Handed
 nothing = hand [] 0
 
@@ -109,7 +109,7 @@ base_after (Pool e) got b = b
 base_after (Base e) got b = base.after_entry e got.key b
 base_after (Cpu e) got b = b
 
--- a CPU's generator as the base hands it over
+-- a CPU's generator from the base's refill
 abbrev pub generator_of : Handed → CpuValue
 generator_of got = record { key = got.key; generation = got.generation }
 
@@ -117,7 +117,7 @@ generator_of got = record { key = got.key; generation = got.generation }
 abbrev pub cpu_used : CpuEntry → Handed → CpuValue → List ℕ
 cpu_used e got c = (refilled (base_refill_of e) (generator_of got) c).key
 
--- a fill's key and place are not kept, as no batch keeps them
+-- a CPU's model after an entry; the fills have no key and no place, since no batch keeps them
 abbrev pub cpu_entered : CpuEntry → Handed → CpuModel → CpuModel
 cpu_entered e got c = record {
   cpu = cpu.after_entry e (generator_of got) c.cpu;
@@ -131,12 +131,12 @@ cpu_after (Pool e) got c = c
 cpu_after (Base e) got c = c
 cpu_after (Cpu e) got c = cpu_entered e got c
 
--- the places that are named behind rise along the list
+-- the named places of the parent lane rise along the list
 abbrev pub least_after : Option ℕ → ℕ → ℕ
 least_after None least = least
 least_after (Some place) least = suc place
 
--- a lane's model after an entry, given what was handed to it
+-- a lane's model after an entry, given the key that it received
 abbrev pub made_of : Model → LaneEntry → Handed → Model
 made_of s e got = record {
   pool = pool_after e s.pool;
@@ -149,7 +149,7 @@ made_of s e got = record {
 abbrev pub call_key : List ℕ → List ℕ
 call_key used = keystream used 32 32
 
--- what an entry of each kind hands on
+-- the key that an entry of each kind hands on
 abbrev pub pool_gives : PoolState → PoolEntry → Handed
 pool_gives s (Mix text bits) = nothing
 pool_gives s (Input word kind code value now) = nothing
@@ -169,8 +169,8 @@ cpu_gives c got (Dump now) = nothing
 cpu_gives c got Prepare = nothing
 cpu_gives c got Online = nothing
 
--- what an entry hands on: an extraction its root, a refill a key with the base's generation, and a read the key of a
--- longer one
+-- the key that an entry hands on: an extraction its root, a refill a key with the base's generation, and a read the
+-- key of a longer one
 abbrev pub gave_of : Model → LaneEntry → Handed → Handed
 gave_of s (Pool e) got = pool_gives s.pool e
 gave_of s (Base e) got = base_gives s.base got e
@@ -183,7 +183,7 @@ model_step s x = made_of s x.entry x.got
 abbrev pub replay : List Visit → Model
 replay xs = fold model_step start_model xs
 
--- the state of a list that the words of a base's and a CPU's list are read on; what they do not read is left out
+-- a state for the words about a base's and a CPU's list; fields that these words do not use are left empty
 abbrev pub base_state : BaseValue → BaseState
 base_state b = record {
   place = 0;
@@ -199,7 +199,7 @@ base_state b = record {
 abbrev pub cpu_state : CpuModel → CpuState
 cpu_state c = record { place = 0; generation = c.cpu.generation; key = None; fills = c.fills }
 
--- a look that comes with a refill is at most the generation that is handed over
+-- a look with a refill is at most the generation that the refill hands over
 abbrev pub Reaches : Option ℕ → ℕ → Handed → Type 0
 Reaches None look got = ⊤
 Reaches (Some place) look got = look ≤ got.generation
@@ -212,7 +212,7 @@ LookReached (Dump now) got = ⊤
 LookReached Prepare got = ⊤
 LookReached Online got = ⊤
 
--- the entry fits the model before it and what is handed to it
+-- the entry fits the model before it and the key that it received
 abbrev pub Fits : Model → Handed → LaneEntry → Type 0
 Fits s got (Pool e) = ⊤
 Fits s got (Base e) = BaseFits (base_state s.base) e
@@ -222,12 +222,12 @@ abbrev pub IsLater : ℕ → Option ℕ → Type 0
 IsLater least None = ⊤
 IsLater least (Some place) = least ≤ place
 
--- a lane that is named is one of those that there are
+-- the named lane exists
 abbrev pub NamesWithin : ℕ → Option (ℕ × ℕ) → Type 0
 NamesWithin lanes None = ⊤
 NamesWithin lanes (Some named) = named.0 < lanes
 
--- the visit may come in a lane whose model is s
+-- the visit may come next in a lane with the model s
 pub record MayCome (lanes lane : ℕ) (s : Model) (x : Visit) : Type 0 where
   pub kind : IsOf lane x.entry
   pub within : NamesWithin lanes (ahead_of x.entry)
@@ -238,13 +238,14 @@ pub record MayCome (lanes lane : ℕ) (s : Model) (x : Visit) : Type 0 where
 abbrev pub LawfulLane : ℕ → ℕ → List Visit → Type 0
 LawfulLane lanes lane xs = LawfulFrom (MayCome lanes lane) model_step start_model xs
 
--- a value of the pool stands for a state of its list; many do, as a hash may stand for a text in several ways
+-- a value of the pool represents a state of its list; several values can represent one state, since a hash can
+-- represent a text in several ways
 pub record PoolLaneStands (lane : PoolLane) (s : PoolState) : Type 0 where
   pub pool : PoolStands lane.pool s
   pub value : lane.timer.value ≡ s.value
   pub timer : lane.timer.timer ≡ s.timer
 
--- a batch of this width after its last fill, with these bytes
+-- a batch of this width with these bytes, after its last fill
 abbrev pub batch_of : ℕ → Option Fill → List ℕ → BatchValue
 batch_of width None bytes = record { bytes = bytes; position = 96 / width; generation = 0 }
 batch_of width (Some fill) bytes = record { bytes = bytes; position = fill.count; generation = fill.look }
@@ -252,7 +253,7 @@ batch_of width (Some fill) bytes = record { bytes = bytes; position = fill.count
 abbrev pub batch_at : ℕ → CpuModel → BatchValue
 batch_at width c = batch_of width (c.fills width) (c.bytes width)
 
--- each part of a CPU is that of the model, zeros of the batches included
+-- each part of a CPU equals that of the model, zeros of the batches included
 pub record CpuLaneStands (lane : CpuLane) (c : CpuModel) : Type 0 where
   pub cpu : lane.cpu ≡ c.cpu
   pub b8 : lane.b8 ≡ batch_at 1 c
@@ -261,7 +262,7 @@ pub record CpuLaneStands (lane : CpuLane) (c : CpuModel) : Type 0 where
   pub b64 : lane.b64 ≡ batch_at 8 c
   pub fast : lane.fast ≡ c.fast
 
--- the value of this lane is of its kind, and stands for the model
+-- the value is of the lane's kind, and represents the model
 abbrev pub ValueRepresents : ℕ → LaneState → Model → Type 0
 ValueRepresents lane (PoolValue value) s = (lane ≡ 0) × PoolLaneStands value s.pool
 ValueRepresents lane (BaseLaneValue value) s = (lane ≡ 1) × (value.base ≡ s.base)
@@ -273,7 +274,7 @@ no_one = record { caller = 0; event = 0; step = 0 }
 abbrev pub no_visit : Visit
 no_visit = record { who = no_one; stamp = 0; entry = Pool Bits; got = nothing; gave = nothing }
 
--- what the visit at the named place hands on
+-- the key that the visit at the named place hands on
 abbrev pub got_of : Option ℕ → List Visit → Handed
 got_of None behind = nothing
 got_of (Some place) behind = (slice_index_or behind place no_visit).gave

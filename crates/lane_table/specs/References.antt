@@ -1,31 +1,32 @@
--- References between lanes: an entry of the base names an extraction behind it, and is named by it; an entry of a CPU
--- names a refill of the base behind it, and is named by it. What the one hands on was handed to the other.
+-- References between lanes: an entry of the base and an extraction of the pool name each other, and so do an entry
+-- of a CPU and a refill of the base. The visit of the base or the CPU receives the key that the named visit hands
+-- on.
 use Rattle.std.specs.Prelude.{◌≡◌, ◌⊎◌, ℕ, ◌<◌, ◌≤◌, List, Some, length}
 use mathlib.Core.Option.{some}
 use lib.ListN.{get_elem?}
 use Rattle.lane_table.specs.declared.view.Visit.{Visit}
 use Rattle.lane_table.specs.Meaning.{LawfulLane, behind_of, ahead_of, parent}
 
--- where an entry of the lane names a place behind it, a visit stands there that names this place, and that handed on
--- what was handed to this one
+-- if an entry of the lane names a place of the parent lane, the visit there names this place, and this one received
+-- its key
 abbrev pub Pointed : ℕ → List Visit → List Visit → Type 0
 Pointed lane behind here = (b p : ℕ) (x : Visit) → get_elem? here b ≡ some x → behind_of x.entry ≡ Some p
     → (y : Visit) × (get_elem? behind p ≡ some y) × (ahead_of y.entry ≡ Some (lane, b)) × (x.got ≡ y.gave)
 
--- a place of the lane that an entry behind it names is that of a visit that names the entry
+-- if an entry of the parent lane names a place of this lane, the visit there names that entry
 abbrev pub Answered : ℕ → List Visit → List Visit → Type 0
 Answered lane behind here = (p b : ℕ) (x : Visit) → get_elem? behind p ≡ some x → ahead_of x.entry ≡ Some (lane, b)
     → (y : Visit) × (get_elem? here b ≡ some y) × (behind_of y.entry ≡ Some p)
 
--- each reference backwards is answered
+-- all lanes' references to their parent lanes agree
 abbrev pub Closed : ℕ → (ℕ → List Visit) → Type 0
 Closed lanes lists = (lane : ℕ) → 1 ≤ lane → lane < lanes → Pointed lane (lists (parent lane)) (lists lane)
 
--- and each one forwards, where no visit is half finished
+-- all references ahead are answered: no visit is half finished
 abbrev pub AllAnswered : ℕ → (ℕ → List Visit) → Type 0
 AllAnswered lanes lists = (lane : ℕ) → 1 ≤ lane → lane < lanes → Answered lane (lists (parent lane)) (lists lane)
 
--- the same, but that the place which is named may be beyond the list
+-- the same, except that the named place may be beyond the list
 abbrev pub HalfAnswered : ℕ → List Visit → List Visit → Type 0
 HalfAnswered lane behind here = (p b : ℕ) (x : Visit) → get_elem? behind p ≡ some x → ahead_of x.entry ≡ Some (lane, b)
     → ((y : Visit) × (get_elem? here b ≡ some y) × (behind_of y.entry ≡ Some p)) ⊎ (length here ≤ b)
@@ -37,7 +38,7 @@ AllHalfAnswered lanes lists = (lane : ℕ) → 1 ≤ lane → lane < lanes
 abbrev pub LawfulLists : ℕ → (ℕ → List Visit) → Type 0
 LawfulLists lanes lists = (lane : ℕ) → lane < lanes → LawfulLane lanes lane (lists lane)
 
--- the lists of these lanes are lawful, references backwards are closed, and those forwards at most half finished
+-- the lists of these lanes are lawful, references to parent lanes agree, and those ahead are at most half finished
 pub record ConsistentLists (lanes : ℕ) (lists : ℕ → List Visit) : Type 0 where
   pub closed : Closed lanes lists
   pub lawful : LawfulLists lanes lists

@@ -1,5 +1,5 @@
--- What the rule of the lanes says, part by part, of any moment between two atomic steps: of the words, of the values
--- that lie in their slots, and of what all passes know.
+-- The rule of the lanes, part by part, for any moment between two atomic steps: the words, the values in the slots,
+-- and the knowledge of all passes.
 use Rattle.std.specs.Prelude.{◌≡◌, ◌⊎◌, ℕ, ◌+◌, ◌^◌, ◌<◌, ◌≤◌, List, [], All, length, Some, slice_index_or}
 use Rattle.std.specs.List.{sum_by}
 use mathlib.Core.Option.{some}
@@ -24,18 +24,18 @@ serving_of s lane = slice_index_or s.words (serving_word lane) 0
 abbrev pub generation_word : St → ℕ
 generation_word s = slice_index_or s.words 0 0
 
--- what the pass of number j knows
+-- pass number j has this view
 abbrev pub IsView : St → ℕ → View → Type 0
 IsView s j v = get_elem? s.views j ≡ some v
 
--- who stands so at a lane has this ticket
+-- a pass with this stage has this ticket
 abbrev pub HasTicket : Stage → ℕ → Type 0
 HasTicket Away t = ⊥
 HasTicket (Queued u) t = u ≡ t
 HasTicket (Holding u) t = u ≡ t
 
--- the tickets from the serving number on to the ticket number are out, each with one pass; who holds the lane has the
--- one that is served
+-- the tickets from the serving number up to the ticket number are out, each with one pass; the holder of the lane
+-- has the served one
 pub record Tickets (s : St) (lane : ℕ) : Type 0 where
   pub ordered : serving_of s lane ≤ ticket_of s lane
   pub counted : serving_of s lane + sum_by (λ a. has_ticket a.stage) (column lane s.views) ≡ ticket_of s lane
@@ -48,20 +48,20 @@ pub record Tickets (s : St) (lane : ℕ) : Type 0 where
   pub turn : (j t : ℕ) (v : View) → IsView s j v → (at lane v).stage ≡ Holding t → t ≡ serving_of s lane
   pub loaded : (j : ℕ) (v : View) → IsView s j v → (at lane v).loaded ≤ serving_of s lane
 
--- the ticket number is first and one more for each ticket that the passes drew; the serving number is below it by as
--- many as are out
+-- the ticket number is first, plus one for each ticket that the passes drew; the serving number is lower by the
+-- number of tickets that are out
 pub record CountsFrom (first : ℕ) (s : St) (lane : ℕ) : Type 0 where
   pub ticket : ticket_of s lane ≡ first + sum_by (λ a. a.tickets) (column lane s.views)
   pub serving : serving_of s lane + sum_by (λ a. has_ticket a.stage) (column lane s.views)
       ≡ first + sum_by (λ a. a.tickets) (column lane s.views)
 
--- whenever a pass knows exactly this, the ticket number and the serving number of each lane are first
+-- whenever a pass has exactly this view, the ticket number and the serving number of each lane are first
 abbrev pub NumbersAre : ℕ → View → Type 0
 NumbersAre first v = (s : St) (j lane : ℕ) → WorldRule first s → IsView s j v → lane < length s.homes →
     (ticket_of s lane ≡ first) × (serving_of s lane ≡ first)
 
--- what a pass knows of a lane begins the lane's list, and is all of it where the pass holds the lane; with an entry it
--- knows those that the entry names behind. The same holds of the lists that the lane's value carries
+-- each pass knows a prefix of each lane's list, and all of it if it holds the lane; with an entry it knows the entry
+-- of the parent lane that this one names. The lists that the lane's value carries have the same properties
 pub record KnownLists (s : St) (logs : ℕ → List Visit) : Type 0 where
   pub known : (j lane : ℕ) (v : View) → IsView s j v → lane < length s.homes → Begins (known_of v lane) (logs lane)
   pub heard : (j lane : ℕ) (v : View) → IsView s j v → lane < length s.homes → AllBegin (at lane v).heard (logs lane)
@@ -71,8 +71,8 @@ pub record KnownLists (s : St) (logs : ℕ → List Visit) : Type 0 where
   pub carried : (lane : ℕ) → lane < length s.homes →
       (lists : ℕ → List Visit) × Carries (length s.homes) logs lane lists
 
--- a value that lies in its slot is the replay of the lane's list, with the list's next place and last stamp; each other
--- one is with the pass that is served
+-- a value in its slot is the replay of the lane's list, with the list's next place and last stamp; any other value
+-- is with the served pass
 pub record Values (first : ℕ) (s : St) (logs : ℕ → List Visit) : Type 0 where
   pub replays : (lane : ℕ) (c : Content) → lane < length s.homes → get_elem? s.homes lane ≡ some (some (Some c)) →
       Replays lane first (logs lane) c
@@ -80,8 +80,8 @@ pub record Values (first : ℕ) (s : St) (logs : ℕ → List Visit) : Type 0 wh
       ((c : Content) × (get_elem? s.homes lane ≡ some (some (Some c))))
       ⊎ ((j : ℕ) × (v : View) × IsView s j v × ((at lane v).stage ≡ Holding (serving_of s lane)))
 
--- the visits that the passes count are those of the lists, each place once; their shares add up to the whole, and who
--- has none is spent
+-- the visits that the passes count are the visits of the lists, each place once; the shares add up to the whole, and
+-- a pass without a share knows no lane
 pub record Counts (s : St) (logs : ℕ → List Visit) : Type 0 where
   pub made : (lane : ℕ) → lane < length s.homes → sum_by (λ a. a.made) (column lane s.views) ≡ length (logs lane)
   pub placed : (lane p : ℕ) → lane < length s.homes →
@@ -91,13 +91,13 @@ pub record Counts (s : St) (logs : ℕ → List Visit) : Type 0 where
   pub whole : sum_by (weight top) s.views ≡ 2 ^ top
   pub spent : (j : ℕ) (v : View) → IsView s j v → v.share ≡ 0 → v.lanes ≡ []
 
--- each stamp in a list is above the one before it, and a pass has one that none of its visits is above, nor any that was
--- made before it was split off
+-- stamps rise along each list, and a pass's stamp is at least that of each visit that it made, or that was made
+-- before it was split off
 pub record Stamps (first : ℕ) (s : St) (logs : ℕ → List Visit) : Type 0 where
   pub rising : (lane : ℕ) → lane < length s.homes → Rising first (logs lane)
   pub passed : (j : ℕ) (v : View) → IsView s j v → All (λ n. n ≤ v.stamp) v.stamps
 
--- an entry of the lane behind that names a place ahead is answered there; or it is half finished: the place is the next
+-- the place that an entry of the parent lane names ahead is answered; or it is half finished: the place is the next
 -- one, and a pass that holds the lane owes the answer
 abbrev pub IsAnswered : St → (ℕ → List Visit) → ℕ → ℕ → ℕ → Type 0
 IsAnswered s logs lane p b =
@@ -105,7 +105,7 @@ IsAnswered s logs lane p b =
     ⊎ ((b ≡ length (logs lane))
     × ((j : ℕ) × (v : View) × IsView s j v × ((at lane v).owes ≡ Some p) × IsHolding (at lane v)))
 
--- the lists are lawful, but for visits that are half finished
+-- the lists are lawful, except for visits that are half finished
 pub record LawfulSoFar (s : St) (logs : ℕ → List Visit) : Type 0 where
   pub lawful : LawfulLists (length s.homes) logs
   pub closed : Closed (length s.homes) logs
@@ -113,8 +113,8 @@ pub record LawfulSoFar (s : St) (logs : ℕ → List Visit) : Type 0 where
       get_elem? (logs (parent lane)) p ≡ some x → ahead_of x.entry ≡ Some (lane, b) → IsAnswered s logs lane p b
   pub book : (callers : StateLists) → HalfFinishedLanes (book_lists (length s.homes) logs callers)
 
--- the generation word is how often the base's list raised it, and one more from a raise until the base is put. It is no
--- less than what a pass has seen, and than each CPU's generation
+-- the generation word is the number of raises in the base's list, plus one from a raise until the put of the base.
+-- It is at least each generation that a pass has seen, and each CPU's
 pub record Generation (s : St) (logs : ℕ → List Visit) : Type 0 where
   pub base : (replay (logs 1)).base.generation ≡ raises (logs 1)
   pub is : ((j : ℕ) (v : View) → IsView s j v → (at 1 v).raised ≡ 0) → generation_word s ≡ raises (logs 1)
@@ -127,7 +127,7 @@ pub record Generation (s : St) (logs : ℕ → List Visit) : Type 0 where
       (replay (logs lane)).cpu.cpu.generation ≤ generation_word s
   pub small : generation_word s < 2 ^ 63
 
--- Each follows from the rule, of the lists that the rule has
+-- Each law follows from the rule, for the lists of the rule
 
 abbrev pub EachTicketHasOneHolder : Type 0
 EachTicketHasOneHolder = (first : ℕ) (s : St) (lane : ℕ) → WorldRule first s → lane < length s.homes → Tickets s lane

@@ -1,4 +1,4 @@
--- What each kind of atomic step makes of a view, and what it tells.
+-- The effect of each kind of atomic step on a view.
 use Rattle.std.specs.Prelude.{◌≡◌, ◌≢◌, ◌⊎◌, ℕ, suc, ◌+◌, ◌*◌, ◌-◌, ◌^◌, ◌<◌, ◌≤◌, List, [], ◌∷◌, ◌++◌, map, max, length, Option, Some, None, slice_set, if◌then◌else◌, nat_lt, replicate}
 use Rattle.atomic_table.specs.Table.{Me, Step, rest}
 use Rattle.lane_table.specs.declared.view.Visit.{Visit}
@@ -13,11 +13,11 @@ use Rattle.lane_table.specs.declared.view.Stage.TheVariants.{Away, Queued, Holdi
 use Rattle.lane_table.specs.Meaning.{behind_of, ahead_of, raise_of, parent, replay, got_of, gave_of}
 use Rattle.lane_table.specs.WorldRule.{Begins, Rising, Replays, Consistent, at, blank, known_of, IsHolding, raises, ticket_word, serving_word}
 
--- what a pass knows, and the slots that are out with it, each with its value
+-- the view of a pass, and the slots that it has taken out, each with its value
 abbrev pub Seated : Type 0
 Seated = Me (Option Content) View
 
--- v with a as what it has of a lane
+-- v with a as its part of a lane
 abbrev pub with_at : ℕ → LaneView → View → View
 with_at lane a v = record v { lanes = slice_set v.lanes lane a }
 
@@ -29,47 +29,47 @@ with_drawn v = record v { drawn = v.drawn + 1 }
 
 -- Tickets
 
--- the pass waits with the ticket that it drew
+-- the pass drew the ticket t and waits with it
 abbrev pub waiting : ℕ → LaneView → LaneView
 waiting t a = record a { stage = Queued t; tickets = a.tickets + 1 }
 
--- a ticket is drawn
+-- after a ticket was drawn
 abbrev pub queued : ℕ → ℕ → Seated → Seated
 queued lane t m = (with_at lane (waiting t (at lane m.0)) (with_drawn m.0), m.1)
 
 abbrev pub finding : ℕ → LaneView → LaneView
 finding n a = record a { found = n }
 
--- the ticket word was found to be n
+-- after n was found in the ticket word
 abbrev pub found : ℕ → ℕ → Seated → Seated
 found lane n m = (with_at lane (finding n (at lane m.0)) m.0, m.1)
 
 abbrev pub loading : ℕ → LaneView → LaneView
 loading n a = record a { loaded = n }
 
--- the serving word was found to be n
+-- after n was found in the serving word
 abbrev pub loaded : ℕ → ℕ → Seated → Seated
 loaded lane n m = (with_at lane (loading n (at lane m.0)) m.0, m.1)
 
--- a load of the ticket word, which is no less than a serving number that was loaded
+-- a load of the ticket word, which is at least each serving number loaded before
 abbrev pub finds : Step (Option Content) → Seated → ℕ → Seated → Type 0
 finds st m r m' = (lane : ℕ) → st.word ≡ ticket_word lane → ((at lane m.0).loaded ≤ r) × (m' ≡ found lane r m)
 
--- an exchange of the ticket word, which draws where the word is as expected
+-- an exchange of the ticket word, which draws a ticket if the word is as expected
 abbrev pub draws : Step (Option Content) → Seated → ℕ → Seated → Type 0
 draws st m r m' = (lane : ℕ) → st.word ≡ ticket_word lane
     → (r ≡ st.first → m' ≡ queued lane st.first m) × (r ≢ st.first → m' ≡ m)
 
--- a ticket is drawn, and the number that was found is kept
+-- after a ticket was drawn and the found number was kept
 abbrev pub queued_found : ℕ → ℕ → Seated → Seated
 queued_found lane t m = (with_at lane (waiting t (finding t (at lane m.0))) (with_drawn m.0), m.1)
 
--- the same exchange, where what is found is kept
+-- the same exchange, with the found number kept
 abbrev pub tries : Step (Option Content) → Seated → ℕ → Seated → Type 0
 tries st m r m' = (lane : ℕ) → st.word ≡ ticket_word lane → ((at lane m.0).loaded ≤ r)
     × (r ≡ st.first → m' ≡ queued_found lane st.first m) × (r ≢ st.first → m' ≡ found lane r m)
 
--- a load of the serving word that is kept
+-- a load of the serving word, with the found number kept
 abbrev pub loads : Step (Option Content) → Seated → ℕ → Seated → Type 0
 loads st m r m' = (lane : ℕ) → st.word ≡ serving_word lane → ((at lane m.0).loaded ≤ r) × (m' ≡ loaded lane r m)
 
@@ -84,7 +84,7 @@ holder log t a = record a { known = log; stage = Holding t }
 abbrev pub learn : List Visit → LaneView → LaneView
 learn ys a = record a { known = longer a.known ys }
 
--- of each lane, from the k-th on, the longer of its own list and that of lists
+-- for each lane from the k-th on, the longer of its own list and that in lists
 abbrev pub learn_from : (ℕ → List Visit) → ℕ → List LaneView → List LaneView
 learn_from lists k [] = []
 learn_from lists k (a ∷ rest) = learn (lists k) a ∷ learn_from lists (suc k) rest
@@ -92,19 +92,19 @@ learn_from lists k (a ∷ rest) = learn (lists k) a ∷ learn_from lists (suc k)
 abbrev pub learned : (ℕ → List Visit) → View → View
 learned lists v = record v { lanes = learn_from lists 0 v.lanes }
 
--- what is known of the lanes that are held stays
+-- the parts of other lanes that the pass holds do not change
 abbrev pub KeepsHeld : ℕ → View → View → Type 0
 KeepsHeld lane v w = (j u : ℕ) → j < length v.lanes → j ≢ lane → (at j v).stage ≡ Holding u → at j w ≡ at j v
 
--- as much is known of each lane, or more
+-- each known list stays or grows
 abbrev pub Grows : View → View → Type 0
 Grows v w = (j : ℕ) → j < length v.lanes → Begins (known_of v j) (known_of w j)
 
--- what a pass that does not hold the lane cannot owe
+-- the pass owes no answer at the lane, and in a hold of the base it has not raised the generation
 abbrev pub OwesNothing : ℕ → View → Type 0
 OwesNothing lane v = ((at lane v).owes ≡ None) × (lane ≡ 1 → (at 1 v).raised ≡ 0)
 
--- the turn came: the whole list is known from now on, and of each other lane at least what the value carries
+-- the turn came: the pass knows the whole list, and of each other lane at least the list that the value carries
 pub record Got (lane t : ℕ) (m m' : Seated) : Type 0 where
   pub log : List Visit
   pub content : Content
@@ -119,14 +119,14 @@ pub record Got (lane t : ℕ) (m m' : Seated) : Type 0 where
   pub is : m' ≡ (with_at lane (holder log t (at lane m.0)) (learned lists m.0), (lane, Some content) ∷ m.1)
   pub grows : Grows m.0 m'.0
 
--- a load of the serving word by who has the ticket t
+-- a load of the serving word by a pass with the ticket t
 abbrev pub serves : Step (Option Content) → Seated → ℕ → Seated → Type 0
 serves st m r m' = (lane : ℕ) → st.word ≡ serving_word lane → (t : ℕ) → (at lane m.0).stage ≡ Queued t
     → ((at lane m.0).loaded ≤ r) × (r ≤ t) × (r ≡ t → Got lane t m m') × (r ≢ t → m' ≡ m)
 
 -- Visits
 
--- the visit is made
+-- a lane's part after a visit
 abbrev pub visited : Visit → LaneView → LaneView
 visited x a = record a {
   known = a.known ++ x ∷ [];
@@ -140,7 +140,7 @@ visited x a = record a {
 abbrev pub with_stamp : ℕ → View → View
 with_stamp n v = record v { stamp = n; stamps = v.stamps ++ n ∷ [] }
 
--- an entry, at this place, that names the held place of a lane ahead leaves a half-finished reference
+-- an entry at this place that names the held place of a lane ahead leaves a half-finished reference
 abbrev pub owing : Option (ℕ × ℕ) → ℕ → View → View
 owing None place v = v
 owing (Some named) place v = with_at named.0 (record (at named.0 v) { owes = Some place }) v
@@ -150,7 +150,7 @@ abbrev pub after : ℕ → Visit → View → View
 after lane x v =
     owing (ahead_of x.entry) (length (known_of v lane)) (with_at lane (visited x (at lane v)) (with_stamp x.stamp v))
 
--- the lane ahead is held, at the place that is named, and no other entry names it
+-- the pass holds the lane ahead at the named place, and no other entry names it
 pub record NamesHeld (lane : ℕ) (v : View) (ahead place : ℕ) : Type 0 where
   pub above : 1 ≤ ahead
   pub near : ahead < length v.lanes
@@ -159,18 +159,18 @@ pub record NamesHeld (lane : ℕ) (v : View) (ahead place : ℕ) : Type 0 where
   pub holding : IsHolding (at ahead v)
   pub free : (at ahead v).owes ≡ None
 
--- what an entry names: ahead nothing or a held place, and behind what this hold owes; and it raises the generation
--- exactly where this hold has
+-- an entry names ahead a held place or none, and in the parent lane the place that this hold owes; it raises the
+-- generation if and only if this hold did
 pub record MayName (lane : ℕ) (e : LaneEntry) (v : View) : Type 0 where
   pub ahead : (ahead_of e ≡ None) ⊎ ((l : ℕ) × (b : ℕ) × (ahead_of e ≡ Some (l, b)) × NamesHeld lane v l b)
   pub behind : behind_of e ≡ (at lane v).owes
   pub raise : lane ≡ 1 → (at 1 v).raised ≡ raise_of e
 
--- what is handed to an entry of the lane
+-- the key that an entry of the lane receives
 abbrev pub handed : ℕ → LaneEntry → View → Handed
 handed lane e v = got_of (behind_of e) (known_of v (parent lane))
 
--- a visit with what is handed to it, and what it hands on
+-- a visit with the keys that it receives and hands on
 abbrev pub filled : ℕ → Visit → View → Visit
 filled lane x v = record x {
   got = handed lane x.entry v;
@@ -181,7 +181,7 @@ abbrev pub puts : Visit → Step (Option Content) → Seated → ℕ → Seated 
 puts x st m r m' = (lane : ℕ) → st.word ≡ serving_word lane
     → (m' ≡ (after lane (filled lane x m.0) m.0, rest m.1)) × Consistent m'.0
 
--- the lane is given back
+-- after the lane was given back
 abbrev pub left : ℕ → Seated → Seated
 left lane m = (with_at lane (staged Away (at lane m.0)) m.0, rest m.1)
 
@@ -193,7 +193,7 @@ leaves st m r m' = (lane : ℕ) → st.word ≡ serving_word lane → m' ≡ lef
 abbrev pub saw : ℕ → Seated → Seated
 saw g m = (record m.0 { seen = g; looks = m.0.looks ++ g ∷ [] }, m.1)
 
--- a look is at least all that was seen of the generation, and all that is known of the base
+-- a look is at least each generation that was seen, and the one known of the base
 abbrev pub looks : Step (Option Content) → Seated → ℕ → Seated → Type 0
 looks st m r m' = st.word ≡ 0
     → (m.0.seen ≤ r) × (raises (known_of m.0 1) ≤ r) × (r < 2 ^ 63) × (m' ≡ saw r m) × Consistent m'.0
@@ -212,7 +212,7 @@ lifts st m r m' = (m' ≡ raised r m) × Consistent m'.0
 abbrev pub halved : View → View
 halved v = record v { halvings = v.halvings + 1 }
 
--- what a pass that is split off has of a lane: it knows as much, and did nothing yet
+-- the part of a lane for a pass that is split off: the same knowledge, and no own acts
 abbrev pub told : LaneView → LaneView
 told a = record a { made = 0; places = []; tickets = 0; stage = Away; owes = None; raised = 0 }
 
@@ -223,7 +223,7 @@ abbrev pub with_list : List Visit → List (List Visit) → List (List Visit)
 with_list [] lists = lists
 with_list (x ∷ xs) lists = (x ∷ xs) ∷ lists
 
--- what both knew is kept, since the pass does not learn that the longer begins with the shorter
+-- both known lists are kept in `heard`, since the pass does not learn that the longer begins with the shorter
 abbrev pub merged : LaneView → LaneView → LaneView
 merged a b = record a {
   known = longer a.known b.known;
@@ -240,7 +240,7 @@ merged_lanes [] bs = []
 merged_lanes (a ∷ rest) [] = a ∷ rest
 merged_lanes (a ∷ rest) (b ∷ bs) = merged a b ∷ merged_lanes rest bs
 
--- the sum of two shares, with as many halvings as the one that has more
+-- the sum of two shares, with the greater number of halvings
 abbrev pub both_of : View → View → View
 both_of v w = record v {
   share = v.share * 2 ^ (max v.halvings w.halvings - v.halvings) + w.share * 2 ^

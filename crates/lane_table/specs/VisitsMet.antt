@@ -1,5 +1,5 @@
--- What stands behind the mark of a visit, as its maker met it: read from the model that it met, and from what was
--- handed to it.
+-- The deed at the mark of a visit, as its maker met it: computed from the model before it and the key that it
+-- received.
 use Rattle.std.specs.Prelude.{◌≡◌, ℕ, ◌≤◌, ⊤, true, false, List, []}
 use Rattle.key_names.specs.declared.names.LaneId.TheVariants.{Pool as PoolLane, Base as BaseLane, Cpu as CpuLane}
 use Rattle.key_names.specs.declared.entries.PoolEntry.{PoolEntry}
@@ -20,11 +20,12 @@ use Rattle.lane_table.specs.declared.view.Handed.{Handed}
 use Rattle.lane_table.specs.Meaning.{CpuModel, generator_of, cpu_used, batch_at}
 use Rattle.lane_table.specs.BookLaws.{bare}
 
--- the bytes that an entry serves of a base as it was met, given the root that was handed to it
+-- the bytes that an entry serves from this value of the base, given the root that it received
 abbrev pub base_serving : BaseValue → Handed → BaseEntry → List ℕ
 base_serving b got e = base_serves (key_in_use (root_of e) got.key b.key) e
 
--- and of a CPU, given what the base handed over: an integer that fills no batch is the next one of its batch
+-- the bytes that an entry serves from this model of a CPU, given the base's refill: an integer that fills no batch
+-- is the next one of its batch
 abbrev pub cpu_serving : CpuModel → Handed → CpuEntry → List ℕ
 cpu_serving m got (Read look refill taken) = taken_bytes (cpu_used (Read look refill taken) got m.cpu) taken
 cpu_serving m got (Int look refill width true) = batched_int (cpu_used (Int look refill width true) got m.cpu) width 0
@@ -34,7 +35,7 @@ cpu_serving m got (Dump now) = []
 cpu_serving m got Prepare = []
 cpu_serving m got Online = []
 
--- integers of an entry fit a batch
+-- the width of an integer fits a batch
 pub record FitsBatch (width : ℕ) : Type 0 where
   pub some : 1 ≤ width
   pub within : width ≤ 96
@@ -47,20 +48,20 @@ IsIntOfBatch (Dump now) = ⊤
 IsIntOfBatch Prepare = ⊤
 IsIntOfBatch Online = ⊤
 
--- a visit of the pool at a place, that met this state
+-- the book's visit of the pool at this place met this state
 pub record PoolMet (lists : Lists) (place : ℕ) (s : PoolState) (e : PoolEntry) : Type 0 where
   pub deed : deed_at lists PoolLane place ≡ at_pool (pool_visit lists place e)
   pub before : (pool_visit lists place e).before ≡ s
   pub after : (pool_visit lists place e).after ≡ pool_step s e
 
--- one of the base, that met this value
+-- the book's visit of the base at this place met this value
 pub record BaseMet (lists : Lists) (place : ℕ) (b : BaseValue) (got : Handed) (e : BaseEntry) : Type 0 where
   pub deed : deed_at lists BaseLane place ≡ at_base (base_visit lists place e)
   pub before : base_at (base_visit lists place e).before b.key ≡ b
   pub after : base_at (base_visit lists place e).after (base.after_entry e got.key b).key ≡ base.after_entry e got.key b
   pub serves : (base_visit lists place e).serves ≡ base_serving b got e
 
--- one of CPU c, that met this model
+-- the book's visit of CPU c at this place met this model
 pub record CpuMet (lists : Lists) (c place : ℕ) (m : CpuModel) (got : Handed) (e : CpuEntry) : Type 0 where
   pub deed : deed_at lists (CpuLane c) place ≡ at_cpu (cpu_visit lists c place e)
   pub before : (cpu_visit lists c place e).before.generation ≡ m.cpu.generation

@@ -1,6 +1,5 @@
--- The rule of the lanes: how words, slots and the knowledge of all passes fit together whenever no atomic step is under
--- way. Word 0 is the generation; each lane has a ticket word and a serving word, and the slot of its
--- number has its value.
+-- The rule of the lanes: the invariant over words, slots and the knowledge of all passes between any two atomic
+-- steps. Word 0 is the generation. Each lane has a ticket word, a serving word, and a slot for its value.
 use Rattle.std.specs.Prelude.{◌≡◌, ◌⊎◌, ℕ, ◌+◌, ◌*◌, ◌-◌, ◌^◌, ◌<◌, ◌≤◌, List, [], ◌∷◌, ◌++◌, All, map, length, Option, Some, None, slice_index_or, ◌==◌, nat_lt, if◌then◌else◌}
 use Rattle.std.specs.List.{sum_by}
 use mathlib.Core.Option.{some, none}
@@ -16,7 +15,7 @@ use Rattle.lane_table.specs.declared.view.Stage.TheVariants.{Away, Queued, Holdi
 use Rattle.lane_table.specs.Meaning.{behind_of, ahead_of, raise_of, parent, replay, ValueRepresents}
 use Rattle.lane_table.specs.References.{Closed, LawfulLists, ConsistentLists}
 
--- Words and slots. A lane's two words have 128 bytes to themselves, so that lanes share no cache line
+-- Words and slots. A lane's two words have their own 128 bytes, so that lanes share no cache line
 
 abbrev pub ticket_word : ℕ → ℕ
 ticket_word lane = 16 * lane + 16
@@ -27,7 +26,7 @@ serving_word lane = 16 * lane + 17
 abbrev pub words_of : ℕ → ℕ
 words_of lanes = 16 * lanes + 16
 
--- what the table has in the slot of a lane: nothing known of it, or out with a pass, or at home
+-- the table's slot of a lane: none with this number, or out with a pass, or at home
 abbrev pub Home : Type 0
 Home = maybe.Option (maybe.Option (Option Content))
 
@@ -43,7 +42,7 @@ abbrev pub AllBegin : List (List Visit) → List Visit → Type 0
 AllBegin [] log = Unit {0}
 AllBegin (xs ∷ lists) log = Begins xs log × AllBegin lists log
 
--- the stamp of the last visit, or first where there is none
+-- the stamp of the last visit, or first if the list is empty
 abbrev pub last_stamp : ℕ → List Visit → ℕ
 last_stamp first [] = first
 last_stamp first (x ∷ xs) = last_stamp x.stamp xs
@@ -57,7 +56,7 @@ Rising first (x ∷ xs) = (first < x.stamp) × Rising x.stamp xs
 abbrev pub raises : List Visit → ℕ
 raises xs = sum_by (λ x. raise_of x.entry) xs
 
--- what lies in the lane stands for its list
+-- the content of the lane's slot represents its list
 pub record Replays (lane first : ℕ) (log : List Visit) (c : Content) : Type 0 where
   pub value : ValueRepresents lane c.state (replay log)
   pub place : c.place ≡ length log
@@ -79,14 +78,14 @@ blank = record {
   heard = [];
 }
 
--- what a view has of a lane
+-- a view's part of a lane
 abbrev pub at : ℕ → View → LaneView
 at lane v = slice_index_or v.lanes lane blank
 
 abbrev pub known_of : View → ℕ → List Visit
 known_of v lane = (at lane v).known
 
--- what all views have of a lane
+-- all views' parts of a lane
 abbrev pub column : ℕ → List View → List LaneView
 column lane views = map (at lane) views
 
@@ -104,8 +103,8 @@ Consistent v = ConsistentLists (length v.lanes) (known_of v)
 
 -- One lane
 
--- where the pass of number j stands: owner says whose each ticket is, and who is served knows the whole list, while the
--- slot is out
+-- the stage of pass number j fits the lane: owner gives the pass of each ticket, and the served pass knows the whole
+-- list while the slot is out
 module _ (ticket serving : ℕ) (owner : ℕ → ℕ) (home : Home) (log : List Visit) (j : ℕ) (known : List Visit) where
   abbrev pub Stands : Stage → Type 0
   Stands Away = Unit {0}
@@ -120,13 +119,13 @@ pub record PassOk (ticket serving : ℕ) (owner : ℕ → ℕ) (home : Home) (lo
   pub loaded : a.loaded ≤ serving
   pub found : a.found ≤ ticket
 
--- the value is at home and stands for the list, or it is out with the pass that is served
+-- the value is at home and represents the list, or it is out with the served pass
 abbrev pub IsHomeOrHeld : ℕ → ℕ → ℕ → Home → List LaneView → List Visit → Type 0
 IsHomeOrHeld lane first serving home col log =
     ((c : Content) × (home ≡ some (some (Some c))) × Replays lane first log c)
     ⊎ ((j : ℕ) × (a : LaneView) × (get_elem? col j ≡ some a) × (a.stage ≡ Holding serving))
 
--- how often a place stands in a list of places, and 1 for a place below n
+-- how often a place is in a list of places, and 1 for a place below n
 abbrev pub times : ℕ → List ℕ → ℕ
 times place places = sum_by (λ p. if p == place then 1 else 0) places
 
@@ -139,10 +138,10 @@ KnownWhole col log = (j : ℕ) × (a : LaneView) × (get_elem? col j ≡ some a)
 
 pub record LaneOk (lane first ticket serving : ℕ) (home : Home) (col : List LaneView) (log : List Visit)
     (owner : ℕ → ℕ) : Type 0 where
-  -- each ticket from the one that is served on is one pass's
+  -- each ticket from the served one on belongs to one pass
   pub ordered : serving ≤ ticket
   pub counted : serving + sum_by (λ a. has_ticket a.stage) col ≡ ticket
-  -- the ticket number counts the tickets that the passes drew, from first
+  -- the ticket number is first plus the tickets that the passes drew
   pub drawn : ticket ≡ first + sum_by (λ a. a.tickets) col
   pub passes : (j : ℕ) (a : LaneView) → get_elem? col j ≡ some a → PassOk ticket serving owner home log j a
   pub whereabouts : IsHomeOrHeld lane first serving home col log
@@ -154,8 +153,8 @@ pub record LaneOk (lane first ticket serving : ℕ) (home : Home) (col : List La
 
 -- References
 
--- a pass that owes an answer holds the place that is named, the entry that names it stands in the lane behind, and may
--- be named by the answer
+-- a pass that owes an answer holds the named place; the entry that names it is in the parent lane's list, and the
+-- answer may name that entry
 abbrev pub OwedAt : ℕ → LaneView → List Visit → Type 0
 OwedAt lane a behind = (p : ℕ) → a.owes ≡ Some p → IsHolding a
     × ((y : Visit) × (get_elem? behind p ≡ some y) × (ahead_of y.entry ≡ Some (lane, length a.known)))
@@ -168,8 +167,8 @@ Owed lanes v = (lane : ℕ) → lane < lanes → OwedAt lane (at lane v) (known_
 abbrev pub Owes : ℕ → ℕ → List View → Type 0
 Owes lane p views = (j : ℕ) × (v : View) × (get_elem? views j ≡ some v) × ((at lane v).owes ≡ Some p)
 
--- a place of the lane that an entry behind it names is that of a visit that names the entry; or it is the next place,
--- and a pass owes the answer
+-- a place of the lane that an entry of the parent lane names has a visit that names the entry; or it is the next
+-- place, and a pass owes the answer
 abbrev pub Pending : ℕ → List Visit → List Visit → List View → Type 0
 Pending lane behind here views =
     (p b : ℕ) (x : Visit) → get_elem? behind p ≡ some x → ahead_of x.entry ≡ Some (lane, b)
@@ -180,7 +179,7 @@ abbrev pub AllPending : ℕ → (ℕ → List Visit) → List View → Type 0
 AllPending lanes logs views = (lane : ℕ) → 1 ≤ lane → lane < lanes
     → Pending lane (logs (parent lane)) (logs lane) views
 
--- the lists that the value of a lane carries: what the pass knew that gave it home last
+-- the lists that the value of a lane carries: the knowledge of the pass that gave it back last
 pub record Carries (lanes : ℕ) (logs : ℕ → List Visit) (lane : ℕ) (lists : ℕ → List Visit) : Type 0 where
   pub begins : (j : ℕ) → j < lanes → Begins (lists j) (logs j)
   pub own : lists lane ≡ logs lane
@@ -188,15 +187,15 @@ pub record Carries (lanes : ℕ) (logs : ℕ → List Visit) (lane : ℕ) (lists
 
 -- Passes
 
--- only who holds the base can have raised the generation
+-- only the holder of the base can have raised the generation
 abbrev pub RaisedOk : LaneView → Type 0
 RaisedOk a = (a.raised ≡ 0) ⊎ ((a.raised ≡ 1) × IsHolding a)
 
--- what a view's share weighs, where the whole weighs 2 ^ top
+-- the weight of a view's share, if the whole weighs 2 ^ top
 abbrev pub weight : ℕ → View → ℕ
 weight top v = v.share * 2 ^ (top - v.halvings)
 
--- a view by itself. One without a share knows of no lane
+-- the rule of a single view; a view without a share knows no lane
 pub record ViewOk (first lanes top : ℕ) (v : View) : Type 0 where
   pub sized : 0 < v.share → (length v.lanes ≡ lanes) × (v.first ≡ first)
   pub spent : v.share ≡ 0 → v.lanes ≡ []

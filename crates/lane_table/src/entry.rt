@@ -1,8 +1,8 @@
-//! The values that tell an entry of some lane.
+//! The values that represent an entry of some lane.
 
 use key_names::{BaseEntry, CpuEntry, PoolNote};
 
-/// A value that tells one entry.
+/// A value that represents one entry.
 pub trait Entry: Drop {
     ghost use Rattle.lane_table.specs.declared.view.LaneEntry.{LaneEntry};
 

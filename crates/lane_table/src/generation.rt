@@ -8,8 +8,9 @@ use crate::lanes::{GENERATION, Held, Lanes, Pass};
 use crate::plays::{Look, Raise};
 
 impl Lanes {
-    /// One look at the generation: a load, which takes no lane and waits for nobody. It is below 2^63, and no less than
-    /// what earlier looks found, than the base's and each CPU's as far as they are known, and than what was raised to.
+    /// One look at the generation: a load, which takes no lane and never waits. The result is below 2^63. It is at
+    /// least as high as the result of each earlier look, as each generation known of the base and of a CPU, and as
+    /// the last raise.
     pub fn generation(&self, pass: &mut Pass) -> u64
         requires { IsPassOf self.now pass.old }
         ensures pass { IsSamePass self.now pass.old pass.new }
@@ -18,7 +19,7 @@ impl Lanes {
         self.table.shared.load::<Look>(&mut pass.seat, GENERATION)
     }
 
-    /// Stores the generation that the entry of this hold of the base makes, before its `put`.
+    /// Stores the generation that the entry of this hold of the base will have, before its `put`.
     pub fn raise(&self, pass: &mut Pass, _held: &Held, g: u64)
         requires pass { IsPassOf self.now pass.old }
         requires held { Holds self.now pass.old _held.now }

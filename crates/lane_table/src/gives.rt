@@ -1,4 +1,4 @@
-//! How a lane that is held goes home, with a visit or without.
+//! Gives back a lane that is held, with a visit or without.
 ghost use Rattle.std.specs.Prelude.{◌≡◌, ◌+◌, ◌*◌, ◌-◌, ◌^◌, ◌<◌, ◌++◌, ◌∷◌, [], Some, None, max};
 ghost use Rattle.atomic_table.specs.Table.{rest};
 ghost use Rattle.lane_table.specs.declared.view.Stage.TheVariants.{Holding};
@@ -16,7 +16,7 @@ use key_names::{Mark, Who};
 use std::marker::Brand;
 
 impl Lanes {
-    // The value into the slot that the pass took last.
+    // Puts the value into the slot that the pass took last.
     pub(crate) fn lay(&self, pass: &mut Pass, lane: usize, content: Content)
         requires pass { IsPassOf self.now pass.old }
         requires out { slots pass.old ≡ (lane, None) ∷ rest (slots pass.old) }
@@ -33,7 +33,7 @@ impl Lanes {
         }
     }
 
-    // Makes the visit of N: the value goes home, and its stamp is the pass's.
+    // Makes the visit of `N`: the value goes back into the table, and the visit's stamp becomes that of the pass.
     fn decide<N: Tells, E: Entry>(
         &self,
         pass: &mut Pass,
@@ -73,8 +73,8 @@ impl Lanes {
         pass.stamp = stamp;
     }
 
-    /// Makes a visit at the place that is held, and gives the lane home. Its stamp comes next after those of the pass
-    /// and of the lane, and is the last one of both from then on.
+    /// Makes a visit at the held place, and gives the lane back. Its stamp is one more than the greater of the
+    /// pass's and the lane's, and becomes the last stamp of both.
     pub fn put<E: Entry>(&self, pass: &mut Pass, held: Held, who: Who, entry: E) -> Mark
         requires pass { IsPassOf self.now pass.old }
         requires entry { CanPut self.now pass.old held (E.entry entry) }
@@ -108,7 +108,7 @@ impl Lanes {
         }
     }
 
-    /// Gives the lane home as it was taken, without a visit.
+    /// Gives the lane back as it was taken, without a visit.
     pub fn back(&self, pass: &mut Pass, held: Held)
         requires pass { IsPassOf self.now pass.old }
         requires held { CanLeave self.now pass.old held }

@@ -30,9 +30,10 @@ pub(crate) fn serving_word(lane: usize) -> usize
     ticket_word(lane) + 1
 }
 
-/// The pool, the base and some CPUs, each a lane behind a ticket lock of its own, and the generation word.
+/// The pool, the base and some CPUs, each a lane with its own ticket lock, and the generation word.
 ///
-/// What a pass knows is seen in contracts as its view, and what a call tells is said of the view before and after.
+/// In contracts the knowledge of a pass is its view, and the clauses of a call compare the view before with the view
+/// after.
 #[derive(Drop)]
 pub struct Lanes {
     pub(crate) table: Table<Slot, View, Plan, World, Global>,
@@ -41,7 +42,7 @@ pub struct Lanes {
     ghost few: { (1 ≤ cpus) × (cpus ≤ 256) },
 }
 
-/// One caller's token, with which it goes through the lanes.
+/// One caller's token for the lanes.
 #[derive(Drop)]
 pub struct Pass {
     pub(crate) seat: Seat<Slot, View>,
@@ -49,7 +50,7 @@ pub struct Pass {
     pub(crate) caller: u32,
 }
 
-/// Where a pass holds a lane: the lane's number, the ticket, and the lane's next place and last stamp as taken.
+/// The hold of a lane: the lane's number, the ticket, and the lane's next place and last stamp when it was taken.
 #[derive(Drop)]
 pub struct Turn {
     pub(crate) lane: usize,
@@ -60,24 +61,24 @@ pub struct Turn {
     ghost early: { (ticket < 2 ^ 62) × (place ≤ stamp) × (stamp < 2 ^ 62) },
 }
 
-/// A lane that a pass holds. It has to be given to `put` or `back`.
+/// A lane that a pass holds. It must be given to `put` or `back`.
 pub struct Held {
     pub(crate) turn: Turn,
     pub(crate) state: Boxed,
 }
 
-/// Why `try_take` did not get a lane. They are looked for in this order, but that the lane's last stamp is read only once
-/// the lane was got.
+/// The reason why `try_take` did not get a lane. `try_take` checks them in this order, except that it reads the
+/// lane's last stamp only after it got the lane.
 #[derive(Clone, Copy, Debug, PartialEq, Eq)]
 pub enum TakeFault {
-    /// Some number that would have to grow is 2^62 or more: the lane's tickets, its last stamp, or the stamp of the
+    /// A number that would have to grow is 2^62 or more: the lane's tickets, its last stamp, or the stamp of the
     /// pass.
     Spent,
-    /// The lane serves another: the ticket word was read as `ticket`, above `serving`, which was loaded.
+    /// The lane serves another ticket: the ticket word was read as `ticket`, above the loaded `serving`.
     Busy { serving: u64, ticket: u64 },
 }
 
-// The number of a lane, and the lane of a number.
+// The number of a lane, and the lane with a number.
 pub(crate) fn index_of(lane: LaneId) -> usize
     ensures { result ≡ index_of lane }
 {
@@ -100,7 +101,7 @@ pub(crate) fn lane_at(index: usize) -> LaneId
 }
 
 impl Lanes {
-    /// How many CPUs there are.
+    /// The number of CPUs.
     pub fn cpus(&self) -> u32
         ensures { result ≡ self.now.cpus }
     {
@@ -109,7 +110,7 @@ impl Lanes {
 }
 
 impl Pass {
-    /// The stamp of its last visit, or of the last one before it was split off.
+    /// Its stamp: at least that of each visit that it made, or that was made before it was split off.
     pub fn stamp(&self) -> u64
         ensures { result ≡ self.now.stamp }
     {
@@ -128,7 +129,7 @@ impl Held {
     ghost use Rattle.lane_table.specs.Lending.{LendsState};
     ghost use Rattle.std.specs.Borrow.{sem};
 
-    /// Which lane it is. It is for a caller that keeps several holds in one place: the core has a name for each.
+    /// The lane. It is for a caller that keeps several holds in one collection: the core has a variable for each.
     pub fn lane(&self) -> LaneId
         ensures { index_of result ≡ self.now.turn.lane }
     {
@@ -142,7 +143,8 @@ impl Held {
         self.turn.place
     }
 
-    /// The last stamp of the lane. It is for a caller that looks on: the core reads a visit's stamp off its mark.
+    /// The last stamp of the lane. It is for a caller that only watches: the core reads a visit's stamp off its
+    /// mark.
     pub fn stamp(&self) -> u64
         ensures { result ≡ self.now.turn.stamp }
     {
@@ -156,7 +158,7 @@ impl Held {
         self.state.get()
     }
 
-    /// The value of the lane, to be changed. What it becomes is what `put` asks about.
+    /// The value of the lane, to be changed. `put` has a precondition about its new value.
     pub fn state_mut(&mut self) -> &mut LaneState
         ensures* writes_back { sem 𝓛 (LendsState self.entry result) }
         ensures value { result.now ≡ self.old.state }

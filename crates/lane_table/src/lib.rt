@@ -1,11 +1,12 @@
-//! The lanes of the core: the input pool, the base and each CPU's generator, each behind a ticket lock of its own, and
-//! the generation word, which is read without a lock.
+//! The lanes of the core: the input pool, the base and each CPU's generator, each with its own ticket lock, and the
+//! generation word, which is read without a lock.
 //!
-//! For every interleaving of the passes it is promised that each visit has one place in its lane's list, with a risen
-//! stamp; that the value in a lane represents its list; and that a look never goes back. One rule over all lanes holds
-//! between any two atomic steps, and [`laws`] say what it means. That a turn comes is not promised.
+//! For every interleaving of the passes the crate promises three things. Each visit has one place in its lane's
+//! list, and stamps rise along the list. The value in a lane represents its list. A look never finds less than an
+//! earlier one. One rule over all lanes holds between any two atomic steps, and [`laws`] states it part by part. Not
+//! promised: that a waiting pass gets its turn.
 //!
-//! It stands on `atomic_table` for the words and the slots, and on the parts for what an entry makes of a value.
+//! The words and the slots come from `atomic_table`. The parts define how an entry changes a value.
 #![tactic(auto)]
 
 mod entry;

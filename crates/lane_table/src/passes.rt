@@ -1,4 +1,4 @@
-//! How a table starts and ends, and how passes are split and joined.
+//! The start and the end of a table, and the split and the join of passes.
 ghost use Rattle.std.specs.Prelude.{◌≡◌, ◌+◌, ◌*◌, ◌^◌, ◌<◌, ◌≤◌, ℕ, [], IfOk, length, replicate, slice_set, slice_get, Some, vec_len};
 ghost use Rattle.std.specs.List.{sum_by};
 ghost use Rattle.lane_table.specs.WorldRule.{Replays, words_of};
@@ -74,12 +74,13 @@ fn start_words(alloc: Global, count: usize, first: u64) -> Result<Vec<u64>, Allo
 }
 
 impl Lanes {
-    /// A table with this many CPUs, 1 to 256, each lane in its starting state and the generation 0, and the pass of
-    /// caller 0, which has the whole share. Stamps, tickets and serving numbers start at `first`, at most 2^62.
+    /// A table with this many CPUs, 1 to 256, and the pass of caller 0, which has the whole share. Each lane is in
+    /// its starting state, and the generation is 0. Stamps, tickets and serving numbers start at `first`, at most
+    /// 2^62.
     ///
     /// # Errors
     ///
-    /// There is no memory.
+    /// Memory ran out.
     pub fn start(alloc: Global, cpus: u32, first: u64) -> Result<(Lanes, Pass), AllocError>
         requires cpus { (1 ≤ cpus) × (cpus ≤ 256) }
         requires first { first ≤ 2 ^ 62 }
@@ -105,8 +106,8 @@ impl Lanes {
         }
     }
 
-    /// A pass for another caller, which knows as much as `pass` and goes on from its stamp. The share is cut in half
-    /// between them.
+    /// Makes a pass for another caller, with the knowledge and the stamp of `pass`. Each of the two has half of the
+    /// share.
     pub fn split(&self, pass: &mut Pass, caller: u32) -> Pass
         requires { IsPassOf self.now pass.old }
         ensures pass { IsSamePass self.now pass.old pass.new }
@@ -122,7 +123,8 @@ impl Lanes {
         }
     }
 
-    /// What the other pass knew and did is then this one's too, with the shares of both and the stamp that is greater.
+    /// Takes in another pass. Then this pass has the knowledge, the visits and the shares of both, and the greater
+    /// stamp.
     pub fn join(&self, pass: &mut Pass, other: Pass)
         requires pass { IsPassOf self.now pass.old }
         requires other { IsPassOf self.now other }
@@ -139,8 +141,8 @@ impl Lanes {
         pass.stamp = pass.stamp.max(stamp);
     }
 
-    /// Changes nothing. Where the pass stands at no lane and has the whole share, which it has once all others were
-    /// joined into it, it knows each lane's whole list then, and made all of its visits.
+    /// Changes nothing. If the pass is idle and has the whole share, it knows each lane's whole list, and its count
+    /// is all visits. A pass has the whole share once it has joined all others.
     pub fn settle(&self, pass: &mut Pass)
         requires { IsPassOf self.now pass.old }
         ensures pass { IsSamePass self.now pass.old pass.new }
@@ -151,7 +153,7 @@ impl Lanes {
         let _generation = self.table.shared.load::<Settle>(&mut pass.seat, GENERATION);
     }
 
-    /// Takes the table apart. The answer is how many visits there were, in all lanes together.
+    /// Takes the table apart, and returns the number of visits in all lanes together.
     pub fn close(self, pass: Pass) -> u128
         requires pass { IsPassOf self pass }
         requires idle { IsIdle (view pass) }

@@ -1,4 +1,4 @@
-//! The rule of the table, and what each kind of atomic step tells. These types are for the proofs alone.
+//! The rule of the table, and the contract of each kind of atomic step. These types are for the proofs alone.
 
 use crate::slot::Slot;
 use crate::view::{Plan, View, Visit};
@@ -30,7 +30,7 @@ impl Tells for Brand {
     ghost visit = { no_visit };
 }
 
-/// A ticket is drawn by an exchange of the ticket word.
+/// An exchange of the ticket word, which draws a ticket.
 pub struct Draw;
 
 impl Play<Slot, View> for Draw {
@@ -39,7 +39,7 @@ impl Play<Slot, View> for Draw {
     ghost then = { draws };
 }
 
-/// The same, where the number that is found is kept.
+/// The same exchange, with the found number kept.
 pub struct Try;
 
 impl Play<Slot, View> for Try {
@@ -57,7 +57,7 @@ impl Play<Slot, View> for Find {
     ghost then = { finds };
 }
 
-/// A load of the serving word by who has no ticket.
+/// A load of the serving word by a pass without a ticket.
 pub struct Load;
 
 impl Play<Slot, View> for Load {
@@ -66,7 +66,7 @@ impl Play<Slot, View> for Load {
     ghost then = { loads };
 }
 
-/// A load of the serving word by who waits. Where it is the ticket, the slot goes out.
+/// A load of the serving word by a waiting pass. If it finds the pass's ticket, the slot goes out to the pass.
 pub struct Serve;
 
 impl Play<Slot, View> for Serve {
@@ -75,7 +75,7 @@ impl Play<Slot, View> for Serve {
     ghost then = { serves };
 }
 
-/// The store of the serving word that makes the visit of `N`. The slot goes home.
+/// The store of the serving word that makes the visit of `N`. The slot goes back to the table.
 pub struct Put<N> {
     marker: PhantomData<N>,
 }
@@ -86,7 +86,7 @@ impl<N: Tells> Play<Slot, View> for Put<N> {
     ghost then = { puts N.visit };
 }
 
-/// The store of the serving word without a visit. The slot goes home.
+/// The store of the serving word without a visit. The slot goes back to the table.
 pub struct Leave;
 
 impl Play<Slot, View> for Leave {
@@ -122,7 +122,7 @@ impl Play<Slot, View> for Raise {
     ghost then = { lifts };
 }
 
-/// A pass is split.
+/// The split of a pass.
 pub struct Halves;
 
 impl Split<View> for Halves {
@@ -133,7 +133,7 @@ impl Split<View> for Halves {
     ghost right = { child };
 }
 
-/// A pass takes in another.
+/// The join of another pass.
 pub struct Merges;
 
 impl Join<View> for Merges {

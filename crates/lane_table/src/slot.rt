@@ -6,8 +6,8 @@ use crossbeam_utils::CachePadded;
 use std::marker::Model;
 use std::mem;
 
-/// What lies in a lane's slot, while it lies there, with nothing else on its cache lines: so callers on neighbouring CPUs
-/// do not fetch each other's cache lines. In contracts it is what lies there.
+/// The slot of a lane, alone on its cache lines, so that callers on neighbouring CPUs do not fetch each other's. In
+/// contracts it is its content, or `None` while a pass has taken that out.
 #[derive(Drop)]
 pub struct Slot {
     padded: CachePadded<Option<Content>>,
@@ -38,8 +38,8 @@ impl Slot {
         self.padded.into_inner()
     }
 
-    /// What lay there, in whose place this lies then. The unused bytes on both sides are not written, as they would be if
-    /// the slot was moved.
+    /// Puts this content into the slot, and returns the old one. It does not write the unused bytes on both sides,
+    /// as a move of the slot would.
     pub(crate) fn replace(&mut self, content: Option<Content>) -> Option<Content>
         ensures before { result ≡ self.old }
         ensures now { self.new ≡ content }

@@ -1,4 +1,4 @@
-//! How a lane is taken by a caller that waits for it.
+//! Takes a lane and waits for it.
 ghost use Rattle.std.specs.Prelude.{◌≡◌, ◌+◌, ◌*◌, ◌^◌, ◌<◌, ◌≤◌, ◌∷◌, None, Some};
 ghost use Rattle.atomic_table.specs.Table.{rest};
 ghost use Rattle.lane_table.specs.declared.view.Content.{Content};
@@ -15,7 +15,7 @@ use crossbeam_utils::Backoff;
 use key_names::LaneId;
 use std::sync::Wait;
 
-// From this ticket or stamp on a lane is not got any more.
+// The limit of tickets and stamps: from this number on no pass gets the lane.
 pub(crate) const LAST: u64 = 1 << 62;
 
 pub(crate) fn wait_for_ever<R: Wait>(rt: &R)
@@ -28,7 +28,7 @@ pub(crate) fn wait_for_ever<R: Wait>(rt: &R)
     unreachable!()
 }
 
-// The lane as it is held, out of what lay in its slot.
+// The hold of a lane, made from the content of its slot.
 pub(crate) fn held(lane: usize, ticket: u64, content: Content) -> Held
     requires near { lane < 258 }
     requires early { (ticket < 2 ^ 62) × (content.place ≤ content.stamp) × (content.stamp < 2 ^ 62) }
@@ -53,7 +53,7 @@ pub(crate) fn held(lane: usize, ticket: u64, content: Content) -> Held
 }
 
 impl Lanes {
-    // Draws a ticket, by an exchange that is tried again until it has one.
+    // Draws a ticket by a compare and exchange, with retries.
     fn draw<R: Wait>(&self, rt: &R, pass: &mut Pass, lane: usize) -> u64
         requires pass { IsPassOf self.now pass.old }
         requires lane { (lane < count_of self.now) × IsAway lane (view pass.old) }
@@ -79,7 +79,7 @@ impl Lanes {
         unreachable!()
     }
 
-    // Waits until the lane serves the ticket. A load that finds another number leaves the view as it was.
+    // Waits until the lane serves the ticket. A load that finds another number does not change the view.
     fn wait_for<R: Wait>(&self, rt: &R, pass: &mut Pass, lane: usize, ticket: u64)
         requires pass { IsPassOf self.now pass.old }
         requires lane { (lane < count_of self.now) × ((at lane (view pass.old)).stage ≡ Queued ticket) }
@@ -97,7 +97,7 @@ impl Lanes {
         unreachable!()
     }
 
-    // The value out of the slot that the pass took last.
+    // Takes the value out of the slot that the pass took last.
     pub(crate) fn lift(&self, pass: &mut Pass, lane: usize) -> Content
         requires pass { IsPassOf self.now pass.old }
         requires out { (c : Content) × (slots pass.old ≡ (lane, Some c) ∷ rest (slots pass.old)) }
@@ -126,8 +126,8 @@ impl Lanes {
         held(lane, ticket, content)
     }
 
-    /// Takes a lane: draws a ticket, and waits until the lane serves it. Where `try_take` would answer `Spent` it waits
-    /// for ever. Nothing is promised of when the turn comes.
+    /// Takes a lane: draws a ticket, and waits until the lane serves it. If `try_take` would return `Spent`, it
+    /// waits for ever. No clause promises when the turn comes.
     pub fn take<R: Wait>(&self, rt: &R, pass: &mut Pass, lane: LaneId) -> Held
         requires pass { IsPassOf self.now pass.old }
         requires lane { index_of lane < count_of self.now }

@@ -1,4 +1,4 @@
-//! How a lane is taken by a caller that waits for nobody.
+//! Takes a lane without a wait.
 ghost use Rattle.std.specs.Prelude.{◌≡◌, ◌≢◌, ◌+◌, ◌*◌, ◌^◌, ◌<◌, ◌≤◌, ◌∷◌, None, IfOk, IfErr};
 ghost use Rattle.atomic_table.specs.Table.{rest};
 ghost use Rattle.lane_table.specs.declared.view.Stage.TheVariants.{Queued, Holding};
@@ -51,7 +51,7 @@ impl Lanes {
             .compare_exchange::<Try>(&mut pass.seat, ticket_word(lane), ticket, ticket + 1)
     }
 
-    // The lane serves the ticket, which is a serving number that was loaded.
+    // Takes the turn at once: the ticket is a serving number that was loaded.
     fn turn(&self, pass: &mut Pass, lane: usize, ticket: u64)
         requires pass { IsPassOf self.now pass.old }
         requires lane { (lane < count_of self.now) × ((at lane (view pass.old)).stage ≡ Queued ticket) }
@@ -65,7 +65,7 @@ impl Lanes {
             .load::<Serve>(&mut pass.seat, serving_word(lane));
     }
 
-    // Gives back a lane whose value was not touched.
+    // Gives back a lane with an unchanged value.
     pub(crate) fn leave(&self, pass: &mut Pass, lane: usize, ticket: u64, content: Content)
         requires pass { IsPassOf self.now pass.old }
         requires lane { (lane < count_of self.now) × ((at lane (view pass.old)).stage ≡ Holding ticket)
@@ -114,14 +114,15 @@ impl Lanes {
         Ok(held(lane, serving, content))
     }
 
-    /// Takes a lane where that needs no wait. A refusal leaves the lane's value, place and stamp as they were. It draws no
-    /// ticket, except where the lane's last stamp is 2^62 or more: that is read behind the ticket, and the lane given back.
+    /// Takes a lane if that needs no wait. A refusal changes neither the lane's value nor its place nor its stamp.
+    /// It draws no ticket, except if the lane's last stamp is 2^62 or more: that stamp is read after the ticket was
+    /// drawn, and then the lane is given back.
     ///
     /// # Errors
     ///
-    /// `Spent` exactly where a number that would have to grow is 2^62 or more: the stamp of the pass, the ticket word
-    /// as it was read last, or the lane's last stamp, which is read once the lane was got. `Busy` where the ticket word
-    /// was read above the serving number that was loaded; no ticket was drawn then.
+    /// `Spent` if and only if a number that would have to grow is 2^62 or more: the stamp of the pass, the ticket
+    /// word as read last, or the lane's last stamp, which is read after the lane was got. `Busy` if the ticket word
+    /// was read above the loaded serving number; no ticket was drawn.
     pub fn try_take(&self, pass: &mut Pass, lane: LaneId) -> Result<Held, TakeFault>
         requires pass { IsPassOf self.now pass.old }
         requires lane { index_of lane < count_of self.now }

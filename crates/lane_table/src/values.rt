@@ -1,4 +1,4 @@
-//! What a lane's lock guards.
+//! The values that the lanes' locks guard.
 ghost use Rattle.std.specs.Prelude.{◌≡◌, IfOk};
 
 use base_gen::Base;
@@ -33,7 +33,7 @@ pub struct CpuLane {
     pub fast: FastPool,
 }
 
-/// The value of a lane. Each lane keeps its kind.
+/// The value of a lane. A lane never changes its kind.
 #[derive(Drop)]
 pub enum LaneState {
     Pool(PoolLane),
@@ -41,8 +41,7 @@ pub enum LaneState {
     Cpu(CpuLane),
 }
 
-/// A lane's value, in memory of its own: when a lane is taken or put, a pointer moves, and not the value. In contracts
-/// it is the value.
+/// A lane's value in a box: to take or put a lane moves a pointer, and not the value. In contracts it is the value.
 #[derive(Drop)]
 pub struct Boxed {
     inner: Box<LaneState>,

@@ -1,6 +1,6 @@
-//! What a caller knows of the lanes, and what lies in a lane's slot.
+//! The knowledge of a caller about the lanes, and the content of a lane's slot.
 //!
-//! No value of `Visit` or `View`, or of what they are made of, is ever made: they are what proofs say of a pass.
+//! No code makes a value of `Visit` or `View`, or of their fields' types: proofs use them to describe a pass.
 
 ghost use Rattle.std.specs.Prelude.{◌≡◌};
 
@@ -16,13 +16,13 @@ pub enum LaneEntry {
     Cpu(CpuEntry),
 }
 
-/// What an entry hands to the one that it names: a key, and the generation of the lane that it comes from.
+/// The key that an entry hands to the entry that it names, and the generation of its lane.
 pub struct Handed {
     pub key: LinkedList<u8>,
     pub generation: u64,
 }
 
-/// One visit of a lane. `got` is what the entry that it names handed to it, and `gave` is what it hands on.
+/// One visit of a lane. It received `got` from the entry that it names, and hands on `gave`.
 pub struct Visit {
     pub who: Who,
     pub stamp: u64,
@@ -31,23 +31,24 @@ pub struct Visit {
     pub gave: Handed,
 }
 
-/// Where a caller stands at a lane: it has no ticket, or waits with one, or holds the lane with one.
+/// The state of a caller at a lane: it has no ticket, or waits with a ticket, or holds the lane with it.
 pub enum Stage {
     Away,
     Queued(u64),
     Holding(u64),
 }
 
-/// What a caller knows of one lane.
+/// The knowledge of a caller about one lane.
 ///
-/// - `known`: a beginning of the lane's list of visits.
-/// - `made` and `places`: how many visits it made, and where they stand in the list.
-/// - `tickets`: how many tickets of the lane it drew.
-/// - `stage`: where it stands at the lane.
-/// - `owes`: the place of an entry that names the place that it holds here, and that this place has to answer.
-/// - `raised`: 1 where it raised the generation in this hold.
+/// - `known`: a prefix of the lane's list of visits.
+/// - `made` and `places`: the number of visits that it made, and their places in the list.
+/// - `tickets`: the number of tickets of the lane that it drew.
+/// - `stage`: its state at the lane.
+/// - `owes`: the place of an entry that names the place held here. The visit of the held place has to answer that
+///   entry.
+/// - `raised`: 1 if it raised the generation in this hold, else 0.
 /// - `loaded` and `found`: the serving number and the ticket number that it read last.
-/// - `heard`: what the passes that were joined into it, and it, knew at that moment.
+/// - `heard`: at each join, the prefixes that this pass and the joined one knew.
 pub struct LaneView {
     pub known: LinkedList<Visit>,
     pub made: u64,
@@ -61,16 +62,16 @@ pub struct LaneView {
     pub heard: LinkedList<LinkedList<Visit>>,
 }
 
-/// What a caller knows of the whole table.
+/// The knowledge of a caller about the whole table.
 ///
-/// - `first`: above it are the stamps of all visits of the table.
+/// - `first`: a bound below all stamps of the table's visits.
 /// - `share` and `halvings`: its share of the table, which is `share / 2^halvings`.
-/// - `stamp`: at least that of each visit that it made, or that a pass made before it was split off from it.
-/// - `stamps`: those of these visits.
-/// - `drawn`: how many tickets it drew.
+/// - `stamp`: at least the stamp of each visit that it made, or that a pass made before it was split off.
+/// - `stamps`: the stamps of these visits.
+/// - `drawn`: the number of tickets that it drew.
 /// - `seen`: the greatest generation that it looked at, or raised.
 /// - `looks`: the generations that it looked at, in order.
-/// - `lanes`: what it knows of each lane.
+/// - `lanes`: its knowledge of each lane.
 pub struct View {
     pub first: u64,
     pub share: u64,
@@ -83,14 +84,14 @@ pub struct View {
     pub lanes: LinkedList<LaneView>,
 }
 
-/// What a table is made by: the number of its lanes, and where its stamps, tickets and serving numbers start.
+/// The size of a table: the number of its lanes, and the first number of its stamps, tickets and serving numbers.
 #[derive(Drop)]
 pub struct Plan {
     pub count: usize,
     pub first: u64,
 }
 
-/// What lies in a lane's slot: the value, the place of the next visit, and the stamp of the last one.
+/// The content of a lane's slot: the value, the place of the next visit, and the stamp of the last one.
 #[derive(Drop)]
 pub struct Content {
     pub(crate) state: Boxed,

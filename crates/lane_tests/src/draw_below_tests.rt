@@ -1,4 +1,4 @@
-//! Draws out of lists of words, beside what the kernel's code makes of the same words.
+//! Draws from lists of words, compared with the results of the kernel's code for the same words.
 mod rows;
 
 use draw_below::{DrawSpent, ListWords, Rejected, below, between, draw_on_new_table, shuffle};
@@ -6,7 +6,7 @@ use rows::ROWS;
 use std::alloc::{AllocError, Global};
 use std::test::Fail;
 
-/// How many words each row of the table has.
+/// The number of words in each row of the table.
 const ROW_WORDS: u32 = 8;
 
 fn listed(alloc: Global, words: &[u32]) -> Result<ListWords, AllocError> {
@@ -76,7 +76,7 @@ fn draws_between(rt: HostRuntime) -> Result<(), Fail> {
     Ok(())
 }
 
-// The words of the second row of the table, of which none is rejected.
+// The words of the second row of the table; none is rejected.
 #[test]
 fn a_shuffle(rt: HostRuntime) -> Result<(), Fail> {
     let alloc = rt.alloc();

@@ -1,4 +1,4 @@
-//! A caller that waits for a CPU which a pass outside of the run holds.
+//! A caller that waits for a CPU while a pass outside the run holds it.
 ghost use Rattle.std.specs.Prelude.{◌≡◌, ◌*◌, ◌^◌, []};
 ghost use Rattle.key_names.specs.Texts.ScriptGrammar.{WellFormed};
 ghost use Rattle.lane_table.specs.declared.view.View.{View};
@@ -33,7 +33,7 @@ const SCRIPT: &[u8] = b"rngscript 1\n\
     bits\n\
     end\n";
 
-// What came to pass. Caller 1 is held before its read until caller 0 is queued for CPU 0.
+// The progress of the test. Caller 1 is held before its read until caller 0 is queued for CPU 0.
 #[derive(Drop)]
 struct HeldCpu {
     cpu_is_held: AtomicBool,
@@ -130,7 +130,7 @@ fn join_in(lanes: &Lanes, pass: &mut Pass, other: Pass, _caller: u32)
     lanes.join(pass, other);
 }
 
-// Ends a table whose first pass was split twice, and is a quarter with all that was split off it since.
+// Ends a table. Its first pass was split twice, and is again a quarter after it joined all that was split off since.
 fn closed(lanes: Lanes, mut pass: Pass, half: Pass, quarter: Pass) -> u128
     requires pass { HoldsLanes lanes 0 [] pass × ((view pass).share * 4 ≡ 2 ^ (view pass).halvings) }
     requires half { HoldsLanes lanes 2 [] half × ((view half).share ≡ 1) × ((view half).halvings ≡ 1) }
@@ -141,7 +141,7 @@ fn closed(lanes: Lanes, mut pass: Pass, half: Pass, quarter: Pass) -> u128
     lanes.close(pass)
 }
 
-// How many visits the table counts behind a run of the script during which CPU 0 was held.
+// The number of visits after a run of the script during which CPU 0 was held.
 fn visits_of<R: Threads + Wait + Sync>(
     rt: &R,
     alloc: Global,

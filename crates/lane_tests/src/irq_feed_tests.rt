@@ -1,4 +1,4 @@
-//! Feeders in threads: what they hand in is mixed whole, whatever the threads do to each other.
+//! Feeders in threads: all their samples are mixed, for any interleaving of the threads.
 ghost use Rattle.std.specs.Prelude.{IfOk, ◌≡◌, ◌*◌, length};
 ghost use Rattle.irq_feed.specs.Fed.{mixed_in};
 
@@ -16,7 +16,7 @@ use std::test::Fail;
 use std::thread;
 use std::thread::Threads;
 
-// More turns than a thread that runs needs to be seen.
+// More turns than any running thread needs before another sees it.
 const TURNS: u32 = 100_000_000;
 
 // Counts its calls.
@@ -43,7 +43,7 @@ impl Gate for CountingGate {
     }
 }
 
-// What a feeder is seen to do at the gate.
+// The progress of a feeder at the gate.
 #[derive(Drop)]
 struct Seen {
     came: AtomicU64,
@@ -58,7 +58,7 @@ impl Seen {
         }
     }
 
-    // It came, and waits so many turns and no more for the other.
+    // Reports that it came, and waits for the other, at most this many turns.
     fn meet(&self, other: &Seen) {
         self.came.store(1, Ordering::SeqCst);
         for _ in 0..TURNS {
@@ -75,7 +75,7 @@ impl Seen {
     }
 }
 
-// Feeder 0 is held before sample 0 until feeder 1 stands before sample 10, where that one waits for feeder 0 in turn.
+// Feeder 0 is held before sample 0 until feeder 1 is before sample 10, and feeder 1 waits there for feeder 0.
 #[derive(Drop)]
 struct CrossedGate {
     first: Seen,
@@ -92,7 +92,7 @@ impl Gate for CrossedGate {
     }
 }
 
-// What was mixed of some feeders on a table of its own.
+// The mixed samples of some feeders on a new table.
 fn mixed_of<R: Threads + Wait + Sync, G: Gate>(
     rt: &R,
     alloc: Global,
@@ -114,7 +114,7 @@ fn mixed_of<R: Threads + Wait + Sync, G: Gate>(
     mixed
 }
 
-// The samples of a feeder stand in order, each once.
+// Checks that the samples of a feeder are in order, each once.
 fn assert_whole<R: Abort>(rt: &R, mixed: &Mixed, feeder: u32, each: u32) {
     let mut next: u32 = 0;
     for i in 0..mixed.len() {
@@ -127,7 +127,7 @@ fn assert_whole<R: Abort>(rt: &R, mixed: &Mixed, feeder: u32, each: u32) {
     assert_eq!(rt; next, each, "feeder {feeder}");
 }
 
-// A body that ran one feeder to its end before the other, or that went round the queue, would leave one of them held.
+// If a body ran one feeder to its end before the other, or bypassed the queue, one of them would stay held.
 #[test]
 fn two_feeders_run_side_by_side(rt: HostRuntime) -> Result<(), Fail> {
     let alloc = rt.alloc();
@@ -185,7 +185,7 @@ fn sums_of_feeders_on_a_new_table(rt: HostRuntime) -> Result<(), Fail> {
     Ok(())
 }
 
-// What no caller of `feed` can bring about: no feeder gets a thread.
+// A case that no caller of `feed` can cause: no feeder gets a thread.
 #[test]
 fn feeders_without_threads_are_mixed_in_order(rt: HostRuntime) -> Result<(), Fail> {
     let alloc = rt.alloc();

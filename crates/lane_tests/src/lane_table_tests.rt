@@ -29,10 +29,11 @@ fn counted(lanes: Lanes, mut pass: Pass, other: Pass) -> u128
     lanes.close(pass)
 }
 
-// A lane that was got, its next place and its last stamp.
+// The lane, with its next place and its last stamp.
 type Found = (LaneId, u64, u64);
 
-// Why caller 1 does not get the lane now, or what it finds there. A lane that is got is given back.
+// Tries a lane for caller 1: returns its place and stamp, or the reason for the refusal. A lane that was got is
+// given back.
 fn find(lanes: &Lanes, pass: &mut Pass, lane: LaneId) -> Result<Found, TakeFault>
     requires has { HoldsLanes lanes.now 1 [] pass.old }
     requires lane { index_of lane < count_of lanes.now }
@@ -50,7 +51,7 @@ fn find(lanes: &Lanes, pass: &mut Pass, lane: LaneId) -> Result<Found, TakeFault
     }
 }
 
-// What caller 1 finds while caller 0 holds CPU 0: at that CPU, and at CPU 1.
+// The results for caller 1 while caller 0 holds CPU 0: at that CPU, and at CPU 1.
 fn beside<R: Wait>(
     rt: &R,
     lanes: &Lanes,
@@ -74,8 +75,8 @@ fn beside<R: Wait>(
     (same, another)
 }
 
-// What caller 1 finds on a new table: at CPU 0 while caller 0 holds it for the first time, at CPU 1, and at CPU 0 while
-// caller 0 holds it once more.
+// The results for caller 1 on a new table: at CPU 0 while caller 0 holds it for the first time, at CPU 1, and at CPU
+// 0 while caller 0 holds it again.
 fn found_from<R: Wait>(
     rt: &R,
     alloc: Global,
@@ -90,7 +91,7 @@ fn found_from<R: Wait>(
     Ok([same, another, again])
 }
 
-// Mixes an interrupt into the CPU that is held.
+// Mixes an interrupt into the held CPU.
 fn mix(held: &mut Held)
     requires { (i : ℕ) × (s : Model) × (2 ≤ i) × ValueRepresents i held.old.state s }
     ensures turn { held.new.turn ≡ held.old.turn }
@@ -151,8 +152,8 @@ struct Reseeded {
     after: u64,
 }
 
-// A root out of the pool becomes the base's key, and the generation is raised (`crng_reseed`). Before and after the
-// raise, while the base is held, the other pass looks.
+// Makes a root of the pool the base's key, and raises the generation (`crng_reseed`). Before and after the raise,
+// while the base is held, the other pass looks.
 fn reseed<R: Wait>(rt: &R, lanes: &Lanes, pass: &mut Pass, other: &mut Pass) -> Reseeded
     requires has { HoldsLanes lanes.now 0 [] pass.old }
     requires other { HoldsLanes lanes.now 1 [] other.old }

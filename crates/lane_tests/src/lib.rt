@@ -1,11 +1,13 @@
-//! Tests of the lanes, the core's calls, draws, runs and feeders, over their crates' public calls.
+//! Tests of the lanes, the core's calls, draws, forks, runs and feeders, over their crates' public calls.
 //!
-//! They stand apart because a crate with tests is proved twice, and these are the longest to prove. They promise
-//! nothing. They stand on contracts, as any caller does.
+//! They are a separate crate because a crate with tests is proved twice, and these take longest to prove. They
+//! promise nothing, and use the contracts as any caller does.
 #![tactic(auto)]
 
 #[cfg(test)]
 mod draw_below_tests;
+#[cfg(test)]
+mod fork_runs_tests;
 #[cfg(test)]
 mod hold_tests;
 #[cfg(test)]

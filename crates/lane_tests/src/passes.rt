@@ -1,4 +1,4 @@
-//! A table, its passes, and what one pass sees of another.
+//! A table, its passes, and one pass that watches another.
 ghost use Rattle.std.specs.Prelude.{◌≡◌, ◌+◌, ◌^◌, ◌<◌, ◌≤◌, [], IfOk};
 ghost use Rattle.lane_table.specs.LaneNumbers.{index_of};
 ghost use Rattle.lane_table.specs.Calls.{view, count_of};
@@ -12,7 +12,7 @@ use std::thread;
 
 const TURNS: u32 = 100_000_000;
 
-/// A table whose stamps go on from this one, and its pass.
+/// A table with stamps from `first` on, and its pass.
 pub(crate) fn started(alloc: Global, cpus: u32, first: u64) -> Result<(Lanes, Pass), AllocError>
     requires cpus { (1 ≤ cpus) × (cpus ≤ 256) }
     requires first { first ≤ 2 ^ 62 }
@@ -25,7 +25,7 @@ pub(crate) fn started(alloc: Global, cpus: u32, first: u64) -> Result<(Lanes, Pa
     Ok(started)
 }
 
-/// Splits the pass of another caller off that of caller 0.
+/// Splits another caller's pass off caller 0's.
 pub(crate) fn split_off(lanes: &Lanes, pass: &mut Pass, caller: u32) -> Pass
     requires { HoldsLanes lanes.now 0 [] pass.old }
     ensures has { HoldsLanes lanes.now 0 [] pass.new }
@@ -39,7 +39,7 @@ pub(crate) fn split_off(lanes: &Lanes, pass: &mut Pass, caller: u32) -> Pass
     lanes.split(pass, caller)
 }
 
-/// Whether the flag is set before long.
+/// Whether the flag is set within a limited number of turns.
 pub(crate) fn is_set_in_time(flag: &AtomicBool) -> bool {
     for _ in 0..TURNS {
         if flag.load(Ordering::SeqCst) {
@@ -50,7 +50,7 @@ pub(crate) fn is_set_in_time(flag: &AtomicBool) -> bool {
     false
 }
 
-/// Whether another is seen in the queue of a lane that is held under the first ticket.
+/// Whether another pass appears in the queue of a lane that is held under the first ticket.
 pub(crate) fn sees_another_queued(lanes: &Lanes, pass: &mut Pass, caller: u32, lane: LaneId) -> bool
     requires has { HoldsLanes lanes.now caller [] pass.old }
     requires lane { index_of lane < count_of lanes.now }

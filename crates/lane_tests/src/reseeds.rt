@@ -1,4 +1,4 @@
-//! A whole reseed (`crng_reseed`) in its parts.
+//! A whole reseed (`crng_reseed`) in parts.
 ghost use Rattle.std.specs.Prelude.{◌≡◌, ℕ, ◌+◌, ◌^◌, ◌<◌, ◌≤◌, [], ◌∷◌, Some, None};
 ghost use Rattle.key_names.specs.declared.entries.PoolEntry.TheVariants.{Extract};
 ghost use Rattle.key_names.specs.declared.entries.BaseEntry.TheVariants.{Reseed};
@@ -37,7 +37,7 @@ fn extract(state: &mut LaneState) -> [u8; 32]
     }
 }
 
-/// A root is installed in the base. The result is the new generation.
+/// Installs a root in the base, and returns the new generation.
 pub(crate) fn install(state: &mut LaneState, root: [u8; 32]) -> u64
     requires { (s : Model) × ValueRepresents 1 state.old s × (s.base.generation < 2 ^ 62) }
     ensures made { (s : Model) (place : ℕ) (got : Handed) → got.key ≡ root → ValueRepresents 1 state.old s
@@ -53,7 +53,7 @@ pub(crate) fn install(state: &mut LaneState, root: [u8; 32]) -> u64
     }
 }
 
-// Puts the pool with an extraction for the base that is held under it.
+// Puts the pool with an extraction for the held base.
 fn put_pool(lanes: &Lanes, pass: &mut Pass, base: &Held, pool: Held) -> Mark
     requires has { HoldsLanes lanes.now 0 (hand pool.turn None 0 ∷ hand base.now.turn None 0 ∷ []) pass.old }
     requires at { (pool.turn.lane ≡ 0) × (base.now.turn.lane ≡ 1) }
@@ -74,7 +74,7 @@ fn put_pool(lanes: &Lanes, pass: &mut Pass, base: &Held, pool: Held) -> Mark
     lanes.put(pass, pool, WHO, note)
 }
 
-/// A root for the base that is held, and the mark of its extraction.
+/// A root for the held base, and the mark of its extraction.
 pub(crate) fn rooted<R: Wait>(
     rt: &R,
     lanes: &Lanes,
@@ -96,7 +96,7 @@ pub(crate) fn rooted<R: Wait>(
     (root, extracted)
 }
 
-/// Raises the generation to that of the entry that the base is put with.
+/// Raises the generation to that of the base's entry to come.
 pub(crate) fn raise(lanes: &Lanes, pass: &mut Pass, base: &Held, root: u64, generation: u64)
     requires has { HoldsLanes lanes.now 0 (hand base.now.turn (Some root) 0 ∷ []) pass.old }
     requires at { base.now.turn.lane ≡ 1 }
@@ -112,7 +112,7 @@ pub(crate) fn raise(lanes: &Lanes, pass: &mut Pass, base: &Held, root: u64, gene
     lanes.raise(pass, base, generation);
 }
 
-/// Puts the base as it was reseeded.
+/// Puts the reseeded base.
 pub(crate) fn put_base(lanes: &Lanes, pass: &mut Pass, base: Held, root: u64) -> Mark
     requires has { HoldsLanes lanes.now 0 (hand base.turn (Some root) 1 ∷ []) pass.old }
     requires at { base.turn.lane ≡ 1 }

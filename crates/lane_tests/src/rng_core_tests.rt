@@ -1,4 +1,4 @@
-//! Little runs of one caller over a fresh table, with steps and bytes that another implementation gave.
+//! Short runs of one caller on a new table, with the steps and bytes of another implementation.
 ghost use Rattle.std.specs.Prelude.{◌≡◌, ◌≤◌, ◌<◌, ◌^◌, [], length};
 ghost use Rattle.std.specs.List.{AllByRecursion};
 ghost use Rattle.lane_table.specs.Hands.{HoldsLanes};
@@ -26,7 +26,7 @@ const COUNTING: [u8; 32] = [
     26, 27, 28, 29, 30, 31,
 ];
 
-// What the caller 0 has set, on a CPU at a moment.
+// The setting of caller 0, on a CPU at a moment.
 fn setting(event: u32, cpu: u32, now: u64) -> Setting
     ensures caller { result.caller ≡ 0 }
     ensures cpu { result.cpu ≡ cpu }
@@ -74,7 +74,7 @@ fn has_steps(trace: &Trace, want: &[Step]) -> bool {
     true
 }
 
-// A sample that is credited. Each call below answers whether its steps are those that are wanted, or what it gave.
+// A sample with credit. Each call below returns whether its steps are the expected ones, or its result.
 fn added<R: Wait>(
     rt: &R,
     lanes: &Lanes,
@@ -376,7 +376,7 @@ fn device_file_before_readiness(rt: HostRuntime) -> Result<(), Fail> {
     Ok(())
 }
 
-// A read of 64 bytes with acts inside: the answer and the bytes, where its steps are those that are wanted.
+// A read of 64 bytes with acts inside: the result and the bytes, if its steps are the expected ones.
 fn inside_of<'x, R: Wait>(
     rt: &'x R,
     lanes: &'x Lanes,

@@ -1,5 +1,5 @@
-//! Runs with forks, in threads and without. Their bytes are another implementation's, and so are those of a first read
-//! behind 256 bits credited for nothing.
+//! Runs with forks, in threads and without. Their bytes come from another implementation, and so do those of a first
+//! read after a credit of 256 bits without any input.
 ghost use Rattle.key_names.specs.Texts.ScriptGrammar.{WellFormed};
 
 use caller_run::{Children, run_new, run_on_new_table};
@@ -42,7 +42,7 @@ const WAITS_SCRIPT: &[u8] = b"rngscript 1\n\
     read 4 0\n\
     end\n";
 
-// Where the child runs here: its parent finds the core ready.
+// The child runs in its parent's thread: the parent finds the core ready.
 const WAKES_HERE: &[u8] = b"rngtranscript 1\n\
     0.0 fork ok b:0@1,b:1@2,b:4@6 -\n\
     0.1 read ok ~1,~1,b:5@7,c0:0@8 93271463\n\
@@ -51,7 +51,7 @@ const WAKES_HERE: &[u8] = b"rngtranscript 1\n\
     1.1 end ok b:3@5 -\n\
     end\n";
 
-// The stalled parent does not count as running, so its child is interrupted, and it is itself.
+// The stalled parent does not count as running, so its child is interrupted, and later the parent too.
 const WAITS_HERE: &[u8] = b"rngtranscript 1\n\
     0.0 fork ok b:0@1,b:1@2,b:5@6 -\n\
     0.1 read EINTR ~0,b:6@7,b:7@8 -\n\
@@ -73,7 +73,7 @@ e075b16b0c4452a518eca3ab47632384e594d8d16878e30fbdc2dd5f21bd4ce02c16be73d82f3107
     1.1 end ok b:4@8 -\n\
     end\n";
 
-// The text up to the mark of caller 0's end: so far no caller's steps depend on another's.
+// The text up to the mark of caller 0's end. Up to there no caller's steps depend on another's.
 const IN_THREADS: &[u8] = b"rngtranscript 1\n\
     0.0 credit ok p:0@1,p:1@2,b:0@3 -\n\
     0.1 vread ok ~1,~1,~1,~1,b:1@4,c0:0@5,~1 \
@@ -82,11 +82,11 @@ e075b16b0c4452a518eca3ab47632384e594d8d16878e30fbdc2dd5f21bd4ce02c16be73d82f3107
     0.3 vread ok ~1 88d46304e1bb3ad98e2f9e1c279b5a3f74567d0f498d570538395a332c27435cc73f7317729c1235\n\
     0.4 end ok b:";
 
-// What the child reads, in a batch of its own.
+// The bytes that the child reads, from its own batch.
 const CHILDS_BYTES: &[u8] =
     b"223f1a93c3ab801c80b3bd773ec991fe8e669d8a1a244d0e108dd1221c8b9c27088f786b2ea8fd14";
 
-// Holds both callers before their reads behind the fork until the other is there too.
+// Holds both callers before their reads after the fork, until the other is there too.
 #[derive(Drop)]
 struct Meeting {
     parent: AtomicU64,

@@ -1,4 +1,4 @@
--- Acts, and what the lists close.
+-- Acts, and the facts of lawful lists.
 use Rattle.std.proofs.Common.{◌≡◌, ℕ, [], ◌∷◌, refl, ap, Option, Some, None, take, slice_get}
 use Rattle.key_names.specs.declared.names.LaneId.{LaneId}
 use Rattle.key_names.specs.declared.names.LaneId.TheVariants.{Pool as PoolLane, Base as BaseLane, Cpu as CpuLane}

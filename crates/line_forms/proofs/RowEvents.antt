@@ -1,4 +1,4 @@
--- Steps of an event's line with a row's kinds and the entries that they tell are a form.
+-- Steps of an event's line are a form if their kinds are a row and they have the inferred entries.
 use Rattle.std.proofs.Common.{◌≡◌, ℕ, zero, suc, ◌≤◌, Bool, true, false, List, [], ◌∷◌, ◌⊎◌, inl, inr, refl, sym, subst}
 use Rattle.std.proofs.Common.{ap, ◌∙◌, arith, None}
 use Rattle.std.specs.Prelude.{◌==◌, MatchBool}
@@ -173,7 +173,7 @@ module _ (c : LaneFacts) (set : Setting) where
 
   -- ---- credits
 
-  -- what follows a credit: the credit's visit, and what is told of the steps behind it
+  -- the steps after a credit: the crossing of its visit, and their inferred entries
   cross_row : (v : PoolVisit) (crossed : Crossed) (r : List Deed) →
       crossing_of crossed ≡ crossing v.before.bits v.after.bits →
       c.crossed_at v.place ≡ crossing v.before.bits v.after.bits → IsBehindCredit crossed (kinds_of set.cpu r) →

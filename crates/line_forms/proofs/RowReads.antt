@@ -1,4 +1,4 @@
--- Steps with a row's kinds and the entries that they tell are a form.
+-- Steps are a form if their kinds are a row and they have the inferred entries.
 use Rattle.std.proofs.Common.{◌≡◌, ℕ, Bool, true, false, List, [], ◌∷◌, ◌⊎◌, inl, inr, refl, ◌++◌, sym, subst, ap, ◌∙◌}
 use Rattle.std.proofs.Common.{arith}
 use Rattle.std.specs.Prelude.{◌==◌, ◌&&◌, not, nat_le, if◌then◌else◌, MatchBool}
@@ -95,7 +95,7 @@ module _ (c : LaneFacts) (set : Setting) (sooner : Taken) (n : ℕ) (first : Sig
       go true is = is
       go false is = (let k : Base ≡ Resumed = sym (ap base_kind is) ∙ kind in cc)
 
-  -- a wait that went on, with what follows it
+  -- a wait that went on, with the steps after it
   goes_on : (ds : List Deed) (v w : BaseVisit) (rest : List Deed) → ds ≡ at_base v ∷ at_base w ∷ rest →
       v.entry ≡ Wait → w.entry ≡ Resume → MatchBool (n == 0) (rest ≡ []) (CpuReadForm set (User n) rest) →
       Waited set n ds
@@ -243,7 +243,7 @@ system_rows c set n flags deeds fill row =
     system_by c set (User n) n flags (first_sign deeds) nowhere nowhere deeds
     (unlike c set (User n) (first_sign deeds) nowhere nowhere deeds fill) row
 
--- what is told in front of a look is told without it
+-- entries inferred before a look are inferred without it
 module _ (c : LaneFacts) (set : Setting) (sooner taken : Taken) (first : Sign) where
   abbrev OneOf : Taken → Sign → Sign → Sign → Deed → Type 0
   OneOf t a b behind d = Fills c set (reads t) first (record { second_before = a; before = b; behind = behind }) d

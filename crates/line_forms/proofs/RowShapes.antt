@@ -1,4 +1,4 @@
--- Deeds whose kinds are a row are visits of these kinds, one after another, and the other way round.
+-- Deeds whose kinds are a row are visits of these kinds in sequence, and conversely.
 use Rattle.std.proofs.Common.{◌≡◌, ℕ, ◌≤◌, Bool, true, false, List, [], ◌∷◌, refl, subst, ap, ◌∙◌, arith}
 use Rattle.std.specs.Prelude.{◌==◌, ⊤, if◌then◌else◌}
 use Rattle.std.proofs.lemmas.Bool.Decides.{nat_tests}
@@ -14,7 +14,7 @@ pub is_zero : (g : ℕ) → g ≡ 0 → (g == 0) ≡ true
 is_zero g p = grind (arith, nat_tests)
 
 module _ (cpu : ℕ) where
-  -- what stands behind a step of a kind
+  -- the content of a step of a kind
   abbrev pub One : Kind → Type 0
   One Unready = (g : ℕ) × (g ≡ 0)
   One Ready = (g : ℕ) × (1 ≤ g)

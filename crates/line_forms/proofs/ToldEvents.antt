@@ -1,4 +1,4 @@
--- The steps around each visit of an event's line tell its entry.
+-- Each visit of an event's line has the entry that is inferred from the steps around it.
 use Rattle.std.proofs.Common.{◌≡◌, ℕ, zero, suc, ◌≤◌, Bool, true, false, List, [], ◌∷◌, ◌⊎◌, inl, inr, refl, sym, subst}
 use Rattle.std.proofs.Common.{ap, ◌∙◌, arith, None}
 use Rattle.std.specs.Prelude.{◌==◌, MatchBool}
@@ -61,7 +61,7 @@ module _ (c : LaneFacts) (set : Setting) where
 
   -- ---- integers
 
-  -- an integer behind a look that found 0 is a read of the kernel's
+  -- an integer after a look that found 0 is a read of the kernel's
   as_int : (w : ℕ) (first : Sign) (a b : Sign) (ds : List Deed) →
       AllFill (Fills c set (reads (Kernel w)) first) a b ds →
       AllFill (Fills c set (ints w) (saw 0)) a b ds
@@ -72,7 +72,7 @@ module _ (c : LaneFacts) (set : Setting) where
   as_int w first a b (at_cpu v ∷ ds) h = (h.0, as_int w first b (in_cpu v.cpu v.place) ds h.1)
   as_int w first a b (nothing_there ∷ ds) h = (tt, as_int w first b nowhere ds h.1)
 
-  -- a batch is filled where it must be
+  -- a batch is filled if it must be
   batch_fills : (s : CpuState) (e : CpuEntry) (look w : ℕ) (filled : Bool) → e ≡ Int look None w filled → CpuFits s e →
       e ≡ Int look None w (must_fill look w (s.fills w))
   batch_fills s e look w filled is fits =
@@ -99,7 +99,7 @@ module _ (c : LaneFacts) (set : Setting) where
 
   -- ---- credits
 
-  -- what a credit crossed, and where
+  -- the crossing of a credit, and its place
   crossed_as : (x y : Crossing) (root : ℕ) (e : BaseEntry) → x ≡ y → e ≡ crossed_entry y root set.now →
       e ≡ crossed_entry x root set.now
   crossed_as x y root e p is = is ∙ ap (λ k. crossed_entry k root set.now) (sym p)
@@ -132,7 +132,7 @@ module _ (c : LaneFacts) (set : Setting) where
 
   -- ---- interrupts
 
-  -- what a dump of a line mixes
+  -- the mix of a line's dump
   mixed : (sample dump : CpuVisit) (mix : PoolVisit) (rest : List Deed) → dump.entry ≡ Dump set.now →
       SamplesStand c.fast (at_cpu sample ∷ at_cpu dump ∷ at_pool mix ∷ rest) →
       mix.entry ≡ Mix (dump_bytes (c.fast dump.cpu dump.place)) (dump_bits (c.fast dump.cpu dump.place))

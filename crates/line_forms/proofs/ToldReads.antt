@@ -1,4 +1,4 @@
--- The steps around each visit of a read tell its entry.
+-- Each visit of a read has the entry that is inferred from the steps around it.
 use Rattle.std.proofs.Common.{◌≡◌, ℕ, ◌≤◌, Bool, true, false, List, [], ◌∷◌, ◌⊎◌, inl, inr, refl, ◌++◌, sym, subst, ap}
 use Rattle.std.proofs.Common.{◌∙◌, arith}
 use Rattle.std.specs.Prelude.{◌==◌, ◌&&◌, not, nat_le, if◌then◌else◌, MatchBool}
@@ -46,7 +46,7 @@ module _ (c : LaneFacts) (set : Setting) (early taken : Taken) (first : Sign) wh
   read_by a g ds (inl f) = draw_by a g ds f.1
   read_by a g ds (inr f) = cpu_read_by a (saw g) ds f
 
--- the generation before tells a resume from an interrupt
+-- the generation before determines whether the wait went on or was interrupted
 went_on : (s : BaseState) (e : BaseEntry) → e ≡ Resume → BaseFits s e →
     e ≡ (if nat_le 1 s.generation then Resume else Interrupt)
 went_on s e p fits =
@@ -74,7 +74,7 @@ module _ (c : LaneFacts) (set : Setting) (early : Taken) (n : ℕ) (first : Sign
       fill_at c set early (User n) first a (saw g) f.deeds_are
       (f.waits, (stopped f.interrupt.before f.interrupt.entry f.interrupts fits.1.0, tt))
 
-  -- what follows the wait begins with a look, or there is nothing
+  -- the steps after the wait begin with a look, or there are none
   resumed : (a : Sign) (g : ℕ) (ds : List Deed) → Waited set n ds → AllFit c ds → FillU a (saw g) ds
   resumed a g ds f fit = go (n == 0) f.rest f.reads f.deeds_are
     where
@@ -136,7 +136,7 @@ module _ (c : LaneFacts) (set : Setting) (taken : Taken) (first : Sign) where
   same_taken nowhere = refl
   same_taken _ = refl
 
-  -- where all take the same, the step behind tells nothing of it
+  -- if all reads take the same, the next step does not matter
   pub alike : (a b : Sign) (ds : List Deed) → AllFill (FillsPart c set taken taken first) a b ds →
       AllFill (Fills c set (reads taken) first) a b ds
   alike a b [] h = tt
@@ -163,7 +163,7 @@ system_told c set n flags deeds form fit =
     alike c set (User n) (first_sign deeds) nowhere nowhere deeds
     (system_by c set (User n) n flags (first_sign deeds) nowhere nowhere deeds form fit)
 
--- a key's call is told before more steps: a look stands behind it
+-- the entries of the system call for a key can be inferred before more steps, since a look follows it
 module _ (c : LaneFacts) (set : Setting) (early taken : Taken) (first : Sign) where
   abbrev One : Taken → Sign → Sign → Sign → Deed → Type 0
   One t a b behind d = Fills c set (reads t) first (record { second_before = a; before = b; behind = behind }) d
@@ -192,7 +192,7 @@ module _ (c : LaneFacts) (set : Setting) (early taken : Taken) (first : Sign) wh
       (fill.0, in_front (at_cpu v ∷ xs) h ys b (sign_of d) there.1 fill.1 more)
   in_front (d ∷ nothing_there ∷ xs) h ys a b there fill more = absurd there.1.0
 
--- a key's call, a look, and what is told behind them
+-- the system call for a key, a look, and the inferred entries after them
 pub key_told : KeyCallIsTold
 key_told c set n first xs h ys a b there form fit more =
     in_front c set (User 32) (User n) first xs h ys a b there

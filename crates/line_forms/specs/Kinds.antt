@@ -6,21 +6,21 @@ use Rattle.key_names.specs.Deeds.{Deed, looked, at_pool, at_base, at_cpu, nothin
 use Rattle.line_forms.specs.declared.kind.Kind.{Kind}
 use Rattle.line_forms.specs.declared.kind.Kind.TheVariants.{Unready, Ready, Pool, Base, Resumed, Cpu, OtherCpu}
 
--- by whether a look found the core ready
+-- a look that found generation 0 has another kind than one that found more
 abbrev pub look_kind : ℕ → Kind
 look_kind g = if g == 0 then Unready else Ready
 
--- by whether a waiting caller went on with the visit
+-- a visit with which a waiting caller went on has a kind of its own
 abbrev pub base_kind : BaseEntry → Kind
 base_kind Resume = Resumed
 base_kind _ = Base
 
--- by whether it is the line's CPU
+-- a visit of the line's CPU has another kind than one of a different CPU
 abbrev pub cpu_kind : Bool → Kind
 cpu_kind true = Cpu
 cpu_kind false = OtherCpu
 
--- cpu being the one that the caller is on
+-- the kind of a step, with cpu as the line's CPU
 abbrev pub kind_of : ℕ → Deed → Kind
 kind_of cpu (looked g) = look_kind g
 kind_of cpu (at_pool v) = Pool
@@ -31,7 +31,7 @@ kind_of cpu nothing_there = OtherCpu
 abbrev pub kinds_of : ℕ → List Deed → List Kind
 kinds_of cpu deeds = map (kind_of cpu) deeds
 
--- a waiting caller went on with it
+-- a waiting caller went on with this entry
 abbrev pub is_resume : BaseEntry → Bool
 is_resume Resume = true
 is_resume _ = false

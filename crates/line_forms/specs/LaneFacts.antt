@@ -1,4 +1,5 @@
--- What the lanes know that a line's steps do not show: what the pool's bits crossed at a place, and the fast pools.
+-- Facts of the lanes that a line's steps do not show: what the entry at each place of the pool crossed, and the fast
+-- pools.
 use Rattle.std.specs.Prelude.{ℕ, ◌≡◌, ⊤, Option, Some, None, List, [], ◌∷◌, take, slice_get}
 use Rattle.key_names.specs.declared.entries.PoolEntry.{PoolEntry}
 use Rattle.key_names.specs.PoolList.{Crossing, none, crossing, PoolState, pool_after, pool_step}
@@ -8,24 +9,24 @@ use Rattle.key_names.specs.FastPool.{FastPool, fast_after}
 use Rattle.key_names.specs.Book.{Lists, cpu_list}
 use Rattle.key_names.specs.Deeds.{Deed, looked, at_pool, at_base, at_cpu, nothing_there}
 
--- what the entry at a place of the pool crossed, and each CPU's fast pool before a place of its list
+-- the crossing of the entry at each place of the pool, and each CPU's fast pool before each place of its list
 pub record LaneFacts : Type 0 where
   pub crossed_at : ℕ → Crossing
   pub fast : ℕ → ℕ → FastPool
 
--- what an entry crosses from this state, if there is one
+-- the crossing of an entry from this state, if there is one
 abbrev pub crossed_by : PoolState → Option PoolEntry → Crossing
 crossed_by s None = none
 crossed_by s (Some e) = crossing s.bits (pool_step s e).bits
 
--- what these lists know
+-- the facts of these lists
 abbrev pub facts_of : Lists → LaneFacts
 facts_of lists = record {
   crossed_at = λ p. crossed_by (pool_after (take p lists.pool)) (slice_get lists.pool p);
   fast = λ cpu k. fast_after (take k (cpu_list lists cpu));
 }
 
--- the entry fits the lane's state, and of the pool's the crossing is known
+-- the entry fits the lane's state, and the facts have the crossing of a visit of the pool
 abbrev pub DeedFits : LaneFacts → Deed → Type 0
 DeedFits c (looked g) = ⊤
 DeedFits c (at_pool v) = c.crossed_at v.place ≡ crossing v.before.bits v.after.bits
@@ -37,7 +38,7 @@ abbrev pub AllFit : LaneFacts → List Deed → Type 0
 AllFit c [] = ⊤
 AllFit c (d ∷ ds) = DeedFits c d × AllFit c ds
 
--- what the first visit of the pool crossed
+-- the crossing of the first visit of the pool
 abbrev pub first_crossing : List Deed → Crossing
 first_crossing [] = none
 first_crossing (at_pool v ∷ ds) = crossing v.before.bits v.after.bits
@@ -46,7 +47,7 @@ first_crossing (at_base v ∷ ds) = first_crossing ds
 first_crossing (at_cpu v ∷ ds) = first_crossing ds
 first_crossing (nothing_there ∷ ds) = first_crossing ds
 
--- what a visit of the pool crossed is known
+-- the facts have the crossing of a visit of the pool
 abbrev pub CrossingKnown : LaneFacts → Deed → Type 0
 CrossingKnown c (looked g) = ⊤
 CrossingKnown c (at_pool v) = c.crossed_at v.place ≡ crossing v.before.bits v.after.bits

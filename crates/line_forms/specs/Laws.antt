@@ -1,4 +1,4 @@
--- The laws of forms, rows and what is told. The functions of src/laws.rt state each as a contract.
+-- The laws of forms, rows and inferred entries. The functions of src/laws.rt state each as a contract.
 use Rattle.std.specs.Prelude.{ℕ, ◌≡◌, List, [], ◌∷◌, ◌++◌}
 use Rattle.key_names.specs.declared.entries.Taken.TheVariants.{User}
 use Rattle.key_names.specs.declared.events.Event.{Event}
@@ -25,7 +25,8 @@ use Rattle.key_names.specs.LineSamples.{SamplesStand}
 use Rattle.line_forms.specs.Told.{LineFills, telling, reads, ends}
 use Rattle.input_pool.specs.declared.pool.Crossing.{Crossing as Crossed}
 
--- every form's visits have the entries that the steps around them tell
+-- in every form, each visit has the entry that is inferred from the steps around it, if the entries fit and the samples
+-- hold
 abbrev pub FormIsTold : Type 0
 FormIsTold = (c : LaneFacts) (set : Setting) (event : Event) (deeds : List Deed) → Form set event deeds →
     AllFit c deeds → SamplesStand c.fast deeds → LineFills c set (telling set event) deeds
@@ -33,18 +34,18 @@ FormIsTold = (c : LaneFacts) (set : Setting) (event : Event) (deeds : List Deed)
 abbrev pub EndIsTold : Type 0
 EndIsTold = (c : LaneFacts) (set : Setting) (deeds : List Deed) → EndForm deeds → LineFills c set ends deeds
 
--- a system call by itself, as an act or behind a vread has it
+-- the same for a system call, alone, as an act, or at the end of a vread, if its entries fit
 abbrev pub SystemCallIsTold : Type 0
 SystemCallIsTold = (c : LaneFacts) (set : Setting) (n flags : ℕ) (deeds : List Deed) → SysForm set n flags deeds →
     AllFit c deeds → LineFills c set (reads (User n)) deeds
 
--- a system call's steps that have the entries they tell, and whose kinds are a row, are one
+-- steps are a system call if they have the inferred entries and their kinds are a row
 abbrev pub SystemRowIsForm : Type 0
 SystemRowIsForm = (c : LaneFacts) (set : Setting) (n flags : ℕ) (deeds : List Deed) →
     LineFills c set (reads (User n)) deeds → IsSystemCall n flags (kinds_of set.cpu deeds) → SysForm set n flags deeds
 
--- steps that have the entries they tell, and whose kinds are a row of their event, are a form of it; crossed is what
--- the first visit of the pool crossed
+-- steps are a form of an event if they have the inferred entries and their kinds are a row of the event; crossed is the
+-- crossing of the first visit of the pool
 abbrev pub RowIsForm : Type 0
 RowIsForm = (c : LaneFacts) (set : Setting) (event : Event) (crossed : Crossed) (deeds : List Deed) →
     crossing_of crossed ≡ first_crossing deeds → CrossingsKnown c deeds → LineFills c set (telling set event) deeds →
@@ -54,7 +55,7 @@ abbrev pub EndRowIsForm : Type 0
 EndRowIsForm = (c : LaneFacts) (set : Setting) (deeds : List Deed) → LineFills c set ends deeds →
     IsEnd (kinds_of set.cpu deeds) → EndForm deeds
 
--- the kinds of a form whose entries fit are a row of its event
+-- the kinds of a form are a row of its event, if its entries fit
 abbrev pub FormIsRow : Type 0
 FormIsRow = (c : LaneFacts) (set : Setting) (event : Event) (crossed : Crossed) (deeds : List Deed) →
     crossing_of crossed ≡ first_crossing deeds → Form set event deeds → AllFit c deeds →
@@ -74,7 +75,7 @@ ActForm set WipeAct deeds = deeds ≡ []
 ActForm set (VreadAct n) deeds = SysForm set n 0 deeds
 ActForm set ReseedAct deeds = Form set Reseed deeds
 
--- behind the steps of a line of lawful lists all entries fit, and the lists close them as they were
+-- in lawful lists, the entries of any steps fit
 abbrev pub LawfulListsFit : Type 0
 LawfulListsFit = (lists : Lists) → ForwardLawful lists → (steps : List Step) →
     AllFit (facts_of lists) (deeds_of lists steps)
@@ -94,19 +95,20 @@ abbrev pub ActFormIsRow : Type 0
 ActFormIsRow = (c : LaneFacts) (set : Setting) (act : InsideAct) (deeds : List Deed) → ActForm set act deeds →
     AllFit c deeds → IsActRow act (kinds_of set.cpu deeds)
 
--- the key's call of an attempt, the look at the attempt's end, and what follows it
+-- a system call for the key of an attempt, and the steps after it, have the inferred entries, if the call's entries fit
+-- and the later ones are the inferred ones
 abbrev pub KeyCallIsTold : Type 0
 KeyCallIsTold = (c : LaneFacts) (set : Setting) (n : ℕ) (first : Sign) (call : List Deed) (h : ℕ) (rest : List Deed)
     (a b : Sign) → AllThere call → SysForm set 32 0 call → AllFit c call →
     ((a b : Sign) → AllFill (FillsPart c set (User 32) (User n) first) a b (looked h ∷ rest)) →
     AllFill (FillsPart c set (User 32) (User n) first) a b (call ++ looked h ∷ rest)
 
--- the system call that a vread ends in
+-- the system call at the end of a vread has the inferred entries, if its entries fit
 abbrev pub LastCallIsTold : Type 0
 LastCallIsTold = (c : LaneFacts) (set : Setting) (n flags : ℕ) (first : Sign) (call : List Deed) (a b : Sign) →
     SysForm set n flags call → AllFit c call → AllFill (FillsPart c set (User 32) (User n) first) a b call
 
--- steps in front of a look that have a key call's kinds, and the entries that they tell in the vread, are one
+-- the steps before a look are the system call for a key, if they have its kinds and the entries inferred in the vread
 abbrev pub KeyRowIsCall : Type 0
 KeyRowIsCall = (c : LaneFacts) (set : Setting) (n : ℕ) (first : Sign) (call : List Deed) (h : ℕ) (rest : List Deed)
     (a b : Sign) → AllThere call → AllFill (FillsPart c set (User 32) (User n) first) a b (call ++ looked h ∷ rest) →

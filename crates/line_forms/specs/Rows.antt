@@ -1,4 +1,4 @@
--- Rows of kinds that are the kinds of a form.
+-- The rows of kinds that forms have.
 use Rattle.std.specs.Prelude.{ℕ, ◌≡◌, ◌⊎◌, ◌==◌, ◌&&◌, not, Bool, true, false, List, [], ◌∷◌, MatchBool}
 use Rattle.key_names.specs.Flags.{is_bad, is_nonblock, is_insecure}
 use Rattle.key_names.specs.declared.events.Event.{Event}
@@ -24,19 +24,19 @@ IsDraw kinds = (kinds ≡ Pool ∷ Base ∷ []) ⊎ (kinds ≡ Base ∷ [])
 abbrev pub IsCpuRead : List Kind → Type 0
 IsCpuRead kinds = (kinds ≡ Ready ∷ Cpu ∷ []) ⊎ (kinds ≡ Ready ∷ Base ∷ Cpu ∷ [])
 
--- what follows the first look of a read
+-- the steps of a read after its first look
 abbrev pub IsRead : Bool → List Kind → Type 0
 IsRead ready kinds = ((ready ≡ false) × IsDraw kinds) ⊎ IsCpuRead kinds
 
--- what follows a wait that went on
+-- the steps after a wait that went on
 abbrev pub GoesOn : ℕ → List Kind → Type 0
 GoesOn len kinds = MatchBool (len == 0) (kinds ≡ []) (IsCpuRead kinds)
 
--- a wait, which was interrupted or went on
+-- a wait that was interrupted, or that went on
 abbrev pub IsWait : ℕ → List Kind → Type 0
 IsWait len kinds = (kinds ≡ Base ∷ Base ∷ []) ⊎ ((rest : List Kind) × (kinds ≡ Base ∷ Resumed ∷ rest) × GoesOn len rest)
 
--- what follows the first look of a system call
+-- the steps of a system call after its first look
 abbrev pub IsBehindLook : ℕ → ℕ → Bool → List Kind → Type 0
 IsBehindLook len flags ready kinds =
     MatchBool (not ready && not (is_insecure flags))
@@ -54,7 +54,7 @@ abbrev pub IsLookedRead : List Kind → Type 0
 IsLookedRead kinds = ((rest : List Kind) × (kinds ≡ Unready ∷ rest) × IsRead false rest)
     ⊎ ((rest : List Kind) × (kinds ≡ Ready ∷ rest) × IsRead true rest)
 
--- a read of the kernel's or of a user's memory, which takes no steps for no bytes
+-- a read into the kernel's or a user's memory; a read of no bytes has no steps
 abbrev pub IsPlainRead : ℕ → List Kind → Type 0
 IsPlainRead len kinds = MatchBool (len == 0) (kinds ≡ []) (IsLookedRead kinds)
 
@@ -67,17 +67,17 @@ IsInt kinds = ((rest : List Kind) × (kinds ≡ Unready ∷ rest) × (IsDraw res
 abbrev pub IsReseed : List Kind → Type 0
 IsReseed kinds = (kinds ≡ Unready ∷ []) ⊎ (kinds ≡ Ready ∷ Pool ∷ Base ∷ [])
 
--- what follows a credit
+-- the steps after a credit
 abbrev pub IsBehindCredit : Crossed → List Kind → Type 0
 IsBehindCredit Nothing kinds = kinds ≡ []
 IsBehindCredit CrossedEarly kinds = (kinds ≡ Pool ∷ Base ∷ []) ⊎ (kinds ≡ Base ∷ [])
 IsBehindCredit CrossedReady kinds = kinds ≡ Pool ∷ Base ∷ []
 
--- a credit, and what it set off
+-- a credit, and its effects
 abbrev pub IsCredit : Crossed → List Kind → Type 0
 IsCredit crossed kinds = (rest : List Kind) × (kinds ≡ Pool ∷ rest) × IsBehindCredit crossed rest
 
--- a sample; or a sample, a dump and what it set off
+-- a sample; or a sample, a dump and the dump's effects
 abbrev pub IsInterrupt : Crossed → List Kind → Type 0
 IsInterrupt crossed kinds = (kinds ≡ Cpu ∷ [])
     ⊎ ((rest : List Kind) × (kinds ≡ Cpu ∷ Cpu ∷ Pool ∷ rest) × IsBehindCredit crossed rest)
@@ -86,7 +86,7 @@ IsInterrupt crossed kinds = (kinds ≡ Cpu ∷ [])
 abbrev pub IsTick : List Kind → Type 0
 IsTick kinds = (kinds ≡ Base ∷ []) ⊎ (kinds ≡ Pool ∷ Base ∷ [])
 
--- a fork, or one whose thread was handed back
+-- a fork, or one whose child ran in its parent's thread
 abbrev pub IsFork : List Kind → Type 0
 IsFork kinds = (kinds ≡ Base ∷ []) ⊎ (kinds ≡ Base ∷ Base ∷ Base ∷ [])
 
@@ -98,8 +98,8 @@ IsVmfork kinds = (kinds ≡ Pool ∷ Unready ∷ []) ⊎ (kinds ≡ Pool ∷ Rea
 abbrev pub IsEnd : List Kind → Type 0
 IsEnd kinds = kinds ≡ Base ∷ []
 
--- the rows of an event by itself, crossed being what the line's first visit of the pool crossed; a vread and the acts
--- inside it have forms of their own, and what asks nothing of the core has no steps
+-- the rows of a single event; crossed is the crossing of the line's first visit of the pool. A vread and the acts
+-- inside it have forms of their own. An event that needs nothing of the core has no steps
 abbrev pub IsRow : Event → Crossed → List Kind → Type 0
 IsRow (Write text) crossed kinds = kinds ≡ Pool ∷ []
 IsRow (Device word text) crossed kinds = kinds ≡ Pool ∷ []

@@ -1,4 +1,4 @@
--- What the steps around a visit tell of its entry.
+-- The entry of a visit, inferred from the steps around it.
 use Rattle.std.specs.Prelude.{ℕ, zero, suc, ◌≡◌, ⊤, true, Option, Some, None, List, [], ◌∷◌, nat_le, if◌then◌else◌}
 use Rattle.key_names.specs.declared.entries.Taken.{Taken}
 use Rattle.key_names.specs.declared.entries.Taken.TheVariants.{User, Kernel}
@@ -37,7 +37,7 @@ use Rattle.line_forms.specs.declared.told.BaseTold.TheVariants.{Is as base_is, C
 use Rattle.line_forms.specs.declared.told.CpuTold.{CpuTold}
 use Rattle.line_forms.specs.declared.told.CpuTold.TheVariants.{Is as cpu_is, Batch as batch}
 
--- what a step shows of itself
+-- the visible part of a step
 abbrev pub sign_of : Deed → Sign
 sign_of (looked g) = saw g
 sign_of (at_pool v) = in_pool v.place
@@ -45,25 +45,25 @@ sign_of (at_base v) = in_base v.place
 sign_of (at_cpu v) = in_cpu v.cpu v.place
 sign_of nothing_there = nowhere
 
--- what follows a credit with a root
+-- the entry of the base after a credit with a root
 abbrev pub crossed_entry : Crossing → ℕ → ℕ → BaseEntry
 crossed_entry ready root now = Reseeded root now
 crossed_entry early root now = Early (Some root)
 crossed_entry none root now = Early (Some root)
 
--- the visit has the entry told
+-- the visit has the inferred entry
 abbrev pub FillsBase : LaneFacts → BaseTold → BaseVisit → Type 0
 FillsBase c (base_is e) v = v.entry ≡ e
 FillsBase c (crossed root now p) v = v.entry ≡ crossed_entry (c.crossed_at p) root now
 FillsBase c woken v = v.entry ≡ (if nat_le 1 v.before.generation then Resume else Interrupt)
 
--- the same of a CPU
+-- the same for a CPU
 abbrev pub FillsCpu : CpuTold → CpuVisit → Type 0
 FillsCpu (cpu_is e) v = v.entry ≡ e
 FillsCpu (batch look width) v = v.entry ≡ Int look None width (must_fill look width (v.before.fills width))
 
--- what kind of line tells: reads, integers of a width, an event with one pool entry, a credit, an interrupt, a
--- reseed, a tick, a fork, an entry of a CPU, a pool entry with a reseed, the end, or nothing
+-- the kind of a line, for inferring its entries: reads, integers of a width, an event with one pool entry, a credit, an
+-- interrupt, a reseed; or a tick, a fork, an entry of a CPU, a pool entry with a reseed, the end, or no visits
 pub data Telling : Type 0 where
   reads : Taken → Telling
   ints : ℕ → Telling
@@ -78,7 +78,7 @@ pub data Telling : Type 0 where
   ends : Telling
   silent : Telling
 
--- what kind of line an event has
+-- the kind of an event's line
 abbrev pub telling : Setting → Event → Telling
 telling set (Write text) = mixes (Mix text 0)
 telling set (Device word text) = mixes (device_entry word text)
@@ -103,12 +103,12 @@ telling set (Vmfork word text) = vmforks (device_entry word text)
 telling set (Irq v1 v2) = samples v1 v2
 telling set _ = silent
 
--- the root that a visit of the pool in front extracted
+-- the root that the visit of the pool just before extracted
 abbrev pub root_before : Sign → Option ℕ
 root_before (in_pool p) = Some p
 root_before _ = None
 
--- the place, or the look, that a step shows
+-- the place or the look of a step
 abbrev pub pool_place_in : Sign → ℕ
 pool_place_in (in_pool p) = p
 pool_place_in _ = 0
@@ -128,12 +128,12 @@ abbrev pub own_or_extracted : Sign → Sign → PoolTold
 own_or_extracted behind nowhere = own
 own_or_extracted behind _ = extracted (base_place_in behind)
 
--- behind a CPU stands what a dump mixes
+-- the visit of the pool after a CPU mixes the dump
 abbrev pub dumped_or_extracted : Sign → Sign → PoolTold
 dumped_or_extracted behind (in_cpu cpu k) = dumped cpu k
 dumped_or_extracted behind _ = extracted (base_place_in behind)
 
--- what is told of a visit of the pool
+-- the inferred entry of a visit of the pool
 abbrev pub pool_told : Telling → Around → PoolTold
 pool_told (mixes e) around = own_or_extracted around.behind around.before
 pool_told (credits e) around = own_or_extracted around.behind around.before
@@ -148,7 +148,7 @@ own_entry (credits e) = e
 own_entry (vmforks e) = e
 own_entry _ = ReadBits
 
--- the visit has the entry told
+-- the visit has the inferred entry
 abbrev pub FillsPool : LaneFacts → Setting → Telling → PoolTold → PoolVisit → Type 0
 FillsPool c set t own v = v.entry ≡ own_entry t
 FillsPool c set t (extracted i) v = v.entry ≡ Extract set.hw i
@@ -156,12 +156,12 @@ FillsPool c set t (dumped cpu k) v = v.entry ≡ Mix (dump_bytes (c.fast cpu k))
 
 -- ---- the base
 
--- a refill stands before its CPU, a wait before the visit that ended it
+-- a base visit after another base visit ended a wait; any other is a draw
 abbrev pub drawn_or_woken : Taken → Sign → BaseTold
 drawn_or_woken taken (in_base i) = woken
 drawn_or_woken taken before = base_is (Draw (root_before before) taken)
 
--- what a read tells of a visit of the base
+-- the inferred entry of a visit of the base in a read
 abbrev pub read_told : Setting → Taken → Around → BaseTold
 read_told set taken around = by around.behind
   where
@@ -170,7 +170,7 @@ read_told set taken around = by around.behind
     by (in_base i) = base_is Wait
     by _ = drawn_or_woken taken around.before
 
--- behind a credit alone, or behind a credit and a root
+-- a visit of the base after a credit alone, or after a credit and a root
 abbrev pub crossed_told : Setting → Sign → Sign → BaseTold
 crossed_told set (in_pool p) before = crossed (pool_place_in before) set.now p
 crossed_told set _ before = base_is (Early None)
@@ -181,7 +181,7 @@ forked_told child second_before nowhere = base_is (Forked child)
 forked_told child nowhere before = base_is Stall
 forked_told child second_before before = base_is Unstall
 
--- what is told of a visit of the base
+-- the inferred entry of a visit of the base
 abbrev pub base_told : Setting → Telling → Around → BaseTold
 base_told set (reads taken) around = read_told set taken around
 base_told set (ints width) around = read_told set (Kernel width) around
@@ -195,17 +195,17 @@ base_told set _ around = base_is End
 
 -- ---- a CPU
 
--- what a read tells of a visit of a CPU
+-- the inferred entry of a visit of a CPU in a read
 abbrev pub cpu_read_told : Taken → Sign → Sign → CpuTold
 cpu_read_told taken second_before (in_base b) = cpu_is (CpuRead (look_in second_before) (Some b) taken)
 cpu_read_told taken second_before before = cpu_is (CpuRead (look_in before) None taken)
 
--- a batch that a refilled CPU fills, or any other
+-- a batch that a refilled CPU fills, or any other batch
 abbrev pub cpu_int_told : ℕ → Sign → Sign → CpuTold
 cpu_int_told width second_before (in_base b) = cpu_is (Int (look_in second_before) (Some b) width true)
 cpu_int_told width second_before before = batch (look_in before) width
 
--- the first look of the line tells whether an integer is a read
+-- an integer is a read if the line's first look found 0
 abbrev pub int_told : ℕ → ℕ → Sign → Sign → CpuTold
 int_told width zero second_before before = cpu_read_told (Kernel width) second_before before
 int_told width (suc g) second_before before = cpu_int_told width second_before before
@@ -215,7 +215,7 @@ abbrev pub sample_told : Setting → ℕ → ℕ → Sign → CpuTold
 sample_told set v1 v2 nowhere = cpu_is (IrqSample v1 v2 set.now)
 sample_told set v1 v2 before = cpu_is (Dump set.now)
 
--- what is told of a visit of a CPU
+-- the inferred entry of a visit of a CPU
 abbrev pub cpu_told : Setting → Telling → Sign → Around → CpuTold
 cpu_told set (reads taken) first around = cpu_read_told taken around.second_before around.before
 cpu_told set (ints width) first around = int_told width (look_in first) around.second_before around.before
@@ -225,7 +225,7 @@ cpu_told set _ first around = cpu_is Prepared
 
 -- ---- a line
 
--- what stands behind a step has the entry that the steps around it tell
+-- the visit has the entry that is inferred from the steps around it
 abbrev pub Fills : LaneFacts → Setting → Telling → Sign → Around → Deed → Type 0
 Fills c set t first around (looked g) = ⊤
 Fills c set t first around (at_pool v) = FillsPool c set t (pool_told t around) v
@@ -233,22 +233,22 @@ Fills c set t first around (at_base v) = FillsBase c (base_told set t around) v
 Fills c set t first around (at_cpu v) = FillsCpu (cpu_told set t first around) v
 Fills c set t first around nothing_there = ⊤
 
--- what the first step shows
+-- the visible part of the first step
 abbrev pub first_sign : List Deed → Sign
 first_sign [] = nowhere
 first_sign (d ∷ ds) = sign_of d
 
--- F holds of each step with those around it, a and b standing before the first
+-- F holds of each step with those around it; a and b come before the first
 abbrev pub AllFill : (Around → Deed → Type 0) → Sign → Sign → List Deed → Type 0
 AllFill F a b [] = ⊤
 AllFill F a b (d ∷ ds) =
     F (record { second_before = a; before = b; behind = first_sign ds }) d × AllFill F b (sign_of d) ds
 
--- each visit of a line has the entry that the steps around it tell
+-- each visit of a line has the entry that is inferred from the steps around it
 abbrev pub LineFills : LaneFacts → Setting → Telling → List Deed → Type 0
 LineFills c set t deeds = AllFill (Fills c set t (first_sign deeds)) nowhere nowhere deeds
 
--- the same in a line of several reads, where the last one takes something else than those before it
+-- in a line of several reads, the last one takes other bytes than those before it
 abbrev pub taken_by : Taken → Taken → Sign → Taken
 taken_by sooner taken nowhere = taken
 taken_by sooner taken _ = sooner
@@ -256,7 +256,7 @@ taken_by sooner taken _ = sooner
 abbrev pub FillsPart : LaneFacts → Setting → Taken → Taken → Sign → Around → Deed → Type 0
 FillsPart c set sooner taken first around d = Fills c set (reads (taken_by sooner taken around.behind)) first around d
 
--- something stands behind each step
+-- the step is a look, or a visit that the lists have
 abbrev pub IsThere : Deed → Type 0
 IsThere nothing_there = ⊥
 IsThere _ = ⊤

@@ -1,9 +1,9 @@
-//! The forms that the steps of a line can have, decided by rows of kinds; and which entries the steps around each visit
-//! tell, where the line has a form.
+//! The forms that the steps of a line can have, decided by rows of kinds, and the entry of each visit, inferred from
+//! the steps around it.
 //!
-//! It is promised that, where all entries fit and the samples of the line stand, steps are a form of their event exactly
-//! where their kinds are a row of it and each visit has the entry that is told. It stands on the forms of `key_names`, and
-//! on `input_pool` for what a credit can cross. Lists and values are not looked at.
+//! The contracts: let all entries fit, and the samples of the line hold. Then steps are a form of their event exactly
+//! if their kinds are a row of it and each visit has the inferred entry. The contracts use the forms of `key_names`,
+//! and `input_pool` for the crossings of a credit. This crate does not look at lists or values.
 #![tactic(auto)]
 
 pub mod kind;

@@ -1,4 +1,4 @@
-//! Which rows of kinds are the kinds of a form.
+//! The rows of kinds that forms have.
 ghost use Rattle.std.specs.Prelude.{◌≡◌, ◌↔◌, IsTrue, ℕ};
 ghost use Rattle.line_forms.specs.Rows.{IsDraw, IsCpuRead, IsRead, IsBehindLook, IsSystemCall, IsLookedRead};
 ghost use Rattle.line_forms.specs.Rows.{IsPlainRead, IsInt, IsReseed, IsBehindCredit, IsCredit, IsInterrupt};
@@ -15,7 +15,7 @@ fn is_draw(kinds: &[Kind]) -> bool
     matches!(kinds, [Kind::Pool, Kind::Base] | [Kind::Base])
 }
 
-/// Bytes from a CPU, which may first have got a new key from the base.
+/// Bytes from a CPU, after a new key from the base if it needs one.
 fn is_cpu_read(kinds: &[Kind]) -> bool
     ensures { IsTrue result ↔ IsCpuRead kinds.now }
 {
@@ -25,14 +25,14 @@ fn is_cpu_read(kinds: &[Kind]) -> bool
     )
 }
 
-/// What follows the first look of a read, `ready` saying what the look found.
+/// The steps of a read after its first look. `ready` is whether that look found the core ready.
 fn is_read(ready: bool, kinds: &[Kind]) -> bool
     ensures { IsTrue result ↔ IsRead ready kinds.now }
 {
     (!ready && is_draw(kinds)) || is_cpu_read(kinds)
 }
 
-/// What follows the first look of a system call of `len` bytes (getrandom(2)).
+/// The steps of a system call of `len` bytes after its first look (getrandom(2)).
 fn is_behind_look(len: u32, flags: u32, ready: bool, kinds: &[Kind]) -> bool
     ensures { IsTrue result ↔ IsBehindLook len flags ready kinds.now }
 {
@@ -84,7 +84,7 @@ fn is_looked_read(kinds: &[Kind]) -> bool
     }
 }
 
-/// A read of `len` bytes by the kernel or into user memory: no steps for no bytes.
+/// A read of `len` bytes by the kernel or into user memory; a read of no bytes has no steps.
 fn is_plain_read(len: u32, kinds: &[Kind]) -> bool
     ensures { IsTrue result ↔ IsPlainRead len kinds.now }
 {
@@ -116,7 +116,7 @@ fn is_reseed(kinds: &[Kind]) -> bool
     )
 }
 
-/// What follows a credit of the pool that crossed this.
+/// The steps after a credit of the pool with this crossing.
 fn is_behind_credit(crossed: Crossing, kinds: &[Kind]) -> bool
     ensures { IsTrue result ↔ IsBehindCredit crossed kinds.now }
 {
@@ -127,7 +127,7 @@ fn is_behind_credit(crossed: Crossing, kinds: &[Kind]) -> bool
     }
 }
 
-/// A credit of the pool, and what it set off.
+/// A credit of the pool, and its effects.
 fn is_credit(crossed: Crossing, kinds: &[Kind]) -> bool
     ensures { IsTrue result ↔ IsCredit crossed kinds.now }
 {
@@ -137,7 +137,7 @@ fn is_credit(crossed: Crossing, kinds: &[Kind]) -> bool
     }
 }
 
-/// An interrupt: its sample, and where the fast pool was dumped into the pool what that set off.
+/// An interrupt: its sample, and the effects of a dump of the fast pool into the pool, if there is one.
 fn is_interrupt(crossed: Crossing, kinds: &[Kind]) -> bool
     ensures { IsTrue result ↔ IsInterrupt crossed kinds.now }
 {
@@ -148,14 +148,14 @@ fn is_interrupt(crossed: Crossing, kinds: &[Kind]) -> bool
     }
 }
 
-/// A tick of the reseed timer, which fired or did not.
+/// A tick of the reseed timer, which fires or does not.
 fn is_tick(kinds: &[Kind]) -> bool
     ensures { IsTrue result ↔ IsTick kinds.now }
 {
     matches!(kinds, [Kind::Base] | [Kind::Pool, Kind::Base])
 }
 
-/// A fork, whose child may have been run by its parent's own thread.
+/// A fork. The child may have run in its parent's thread.
 fn is_fork(kinds: &[Kind]) -> bool
     ensures { IsTrue result ↔ IsFork kinds.now }
 {
@@ -179,8 +179,8 @@ pub fn is_end(kinds: &[Kind]) -> bool
     matches!(kinds, [Kind::Base])
 }
 
-/// The rows of an event by itself, `crossed` being what the line's first visit of the pool crossed. A `vread` and the
-/// acts inside it have forms of their own.
+/// The rows of a single event. `crossed` is the crossing of the line's first visit of the pool. A `vread` and the acts
+/// inside it have forms of their own.
 pub fn is_row(event: &Event, crossed: Crossing, kinds: &[Kind]) -> bool
     ensures { IsTrue result ↔ IsRow event.now crossed kinds.now }
 {

@@ -1,10 +1,10 @@
-//! What a caller has set.
+//! The setting of a caller.
 use key_names::Event;
 use std::marker::Model;
 
 /// A caller's CPU, its moment in milliseconds and its hardware words.
 ///
-/// Contracts see it as the `Setting` of the calls.
+/// In contracts it is the `Setting` of the calls.
 #[derive(Drop)]
 pub struct Setting {
     cpu: u32,
@@ -24,7 +24,7 @@ impl Setting {
     ghost use Rattle.std.specs.Prelude.{◌≡◌};
     ghost use Rattle.key_names.specs.Calls.{first_setting, setting_after};
 
-    /// What caller 0 starts with: CPU 0, moment 0, zeros for hardware words.
+    /// The setting of caller 0 at its start: CPU 0, moment 0 and zeros as hardware words.
     pub fn first() -> Setting
         ensures { result ≡ first_setting }
     {
@@ -35,7 +35,7 @@ impl Setting {
         }
     }
 
-    /// The same once more.
+    /// A copy.
     pub fn again(&self) -> Setting
         ensures { result ≡ self.now }
     {
@@ -46,7 +46,7 @@ impl Setting {
         }
     }
 
-    /// Sets what the event sets.
+    /// Changes the setting as the event does.
     pub fn follow(&mut self, event: &Event)
         ensures { self.new ≡ setting_after self.old event.now }
     {
@@ -58,7 +58,7 @@ impl Setting {
         }
     }
 
-    /// The CPU that the caller is on.
+    /// The caller's CPU.
     pub fn cpu(&self) -> u32
         ensures { result ≡ self.now.cpu }
     {

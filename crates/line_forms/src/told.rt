@@ -1,12 +1,12 @@
-//! What the steps around a visit tell of its entry. The functions are total: of a visit that fits in no form of its
-//! line they tell some entry.
+//! The entry of a visit, inferred from the steps around it. The functions are total: for a visit that no form of its
+//! line has, they return some entry.
 ghost use Rattle.std.specs.Prelude.{◌≡◌};
 ghost use Rattle.line_forms.specs.Told as told;
 
 use crate::setting::Setting;
 use key_names::{BaseEntry, CpuEntry, Event, Taken};
 
-/// What a step shows of itself: the generation that a look found, or lane and place of a visit.
+/// The visible part of a step: the generation that a look found, or the lane and place of a visit.
 #[derive(Clone, Copy, Debug, PartialEq, Eq)]
 pub enum Sign {
     /// A look that found this generation.
@@ -17,11 +17,11 @@ pub enum Sign {
     InBase(u64),
     /// A visit of a CPU, by its number and its place.
     InCpu(u32, u64),
-    /// Where the line has no step.
+    /// No step, beyond an end of the line.
     Nowhere,
 }
 
-/// The two steps before a step, and the one behind it; `Sign::Nowhere` beyond the ends of the line.
+/// The two steps before a step, and the one after it; `Sign::Nowhere` beyond the ends of the line.
 #[derive(Clone, Copy, Debug, PartialEq, Eq)]
 pub struct Around {
     pub second_before: Sign,
@@ -29,35 +29,35 @@ pub struct Around {
     pub behind: Sign,
 }
 
-/// What is told of a visit of the pool.
+/// The inferred entry of a visit of the pool.
 #[derive(Clone, Copy, Debug, PartialEq, Eq)]
 pub enum PoolTold {
     /// The event's own entry.
     Own,
     /// An extraction for this place of the base.
     Extracted(u64),
-    /// What the dump at this place of a CPU mixes.
+    /// The mix of the dump at this place of a CPU.
     Dumped(u32, u64),
 }
 
-/// What is told of a visit of the base.
+/// The inferred entry of a visit of the base.
 #[derive(Clone, Copy, Debug, PartialEq, Eq)]
 pub enum BaseTold {
     /// This entry.
     Is(BaseEntry),
-    /// A reseed with this root at this moment where the credit at this place of the pool made the core ready, and else
+    /// A reseed with this root at this moment, if the credit at this place of the pool made the core ready; otherwise
     /// an early key from the root.
     Crossed { root: u64, now: u64, credit: u64 },
-    /// A waiting caller went on where the base had a generation, and else was interrupted.
+    /// The end of a wait: the caller went on if the base had a generation, and was interrupted otherwise.
     Woken,
 }
 
-/// What is told of a visit of a CPU.
+/// The inferred entry of a visit of a CPU.
 #[derive(Clone, Copy, Debug, PartialEq, Eq)]
 pub enum CpuTold {
     /// This entry.
     Is(CpuEntry),
-    /// An integer of this many bytes with this look, which fills its batch where it must.
+    /// An integer of this many bytes with this look. It fills its batch if it must.
     Batch { look: u64, width: u8 },
 }
 
@@ -79,7 +79,7 @@ fn pool_place_in(sign: Sign) -> u64
     }
 }
 
-/// The base's place that is visited there, 0 where none is.
+/// The base's place that a step visits, or 0 if it visits none.
 pub fn base_place_in(sign: Sign) -> u64
     ensures { result ≡ told.base_place_in sign }
 {
@@ -116,7 +116,7 @@ fn dumped_or_extracted(behind: Sign, before: Sign) -> PoolTold
     }
 }
 
-/// What the steps around a visit of the pool tell of it, in a line of an event.
+/// The inferred entry of a visit of the pool, in a line of an event.
 pub fn pool_told(set: &Setting, event: &Event, around: Around) -> PoolTold
     ensures { result ≡ told.pool_told (told.telling set.now event.now) around }
 {
@@ -145,7 +145,7 @@ fn drawn_or_woken(taken: Taken, before: Sign) -> BaseTold
     }
 }
 
-/// What the steps around a visit of the base tell of it, in a read or a system call that takes these bytes.
+/// The inferred entry of a visit of the base, in a read or a system call that takes these bytes.
 pub fn read_told(set: &Setting, taken: Taken, around: Around) -> BaseTold
     ensures { result ≡ told.read_told set.now taken around }
 {
@@ -182,8 +182,8 @@ fn forked_told(child: u32, second_before: Sign, before: Sign) -> BaseTold
     }
 }
 
-/// What the steps around a visit of the base tell of it, in a line of an event; a caller's last line tells what an
-/// event without visits of the base does.
+/// The inferred entry of a visit of the base, in a line of an event. A caller's last line is inferred like an event
+/// without visits of the base.
 pub fn base_told(set: &Setting, event: &Event, around: Around) -> BaseTold
     ensures { result ≡ told.base_told set.now (told.telling set.now event.now) around }
 {
@@ -214,7 +214,8 @@ pub fn base_told(set: &Setting, event: &Event, around: Around) -> BaseTold
     }
 }
 
-/// What the two steps before a visit of a CPU tell of it, in a read or a system call that takes these bytes.
+/// The inferred entry of a visit of a CPU, from the two steps before it, in a read or a system call that takes these
+/// bytes.
 pub fn cpu_read_told(taken: Taken, second_before: Sign, before: Sign) -> CpuTold
     ensures { result ≡ told.cpu_read_told taken second_before before }
 {
@@ -261,7 +262,7 @@ fn int_told(width: u8, found: u64, second_before: Sign, before: Sign) -> CpuTold
     }
 }
 
-/// What the steps around a visit of a CPU tell of it, in a line of an event whose first step is `first`.
+/// The inferred entry of a visit of a CPU, in a line of an event whose first step is `first`.
 pub fn cpu_told(set: &Setting, event: &Event, first: Sign, around: Around) -> CpuTold
     ensures { result ≡ told.cpu_told set.now (told.telling set.now event.now) first around }
 {

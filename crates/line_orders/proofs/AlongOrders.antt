@@ -1,4 +1,4 @@
--- What goes along the orders of callers, from each parent to its children.
+-- Values along the orders of callers, from each parent to its children.
 use Rattle.std.proofs.Common.{◌≡◌, ℕ, Bool, true, false, suc, ◌+◌, ◌<◌, ◌≤◌, Option, Some, None, List, [], ◌∷◌, ◌++◌, length, take, drop, min, get_or, map, eq-eqb, refl, sym, subst, ap, ◌∙◌, arith, append_assoc}
 use Rattle.std.specs.Prelude.{slice_get}
 use Rattle.std.specs.Prelude.{◌==◌, ◌||◌}
@@ -27,7 +27,7 @@ use Rattle.line_orders.proofs.Carried.{get_front, along_parts, along_both}
 use Rattle.line_orders.proofs.SettingsFound.{list_found}
 use Rattle.line_orders.proofs.Forks.{AtParent, at_parent, rises, steps_before}
 
--- the parent of a caller's fork forks it
+-- the parent in a caller's fork forks that caller
 parent_forks : (c : ℕ) (forks : List Fork) (fork : Fork) → front_in c forks ≡ Some fork →
     is_parent_in fork.parent forks ≡ true
 parent_forks c [] fork is = cc
@@ -57,7 +57,7 @@ module _ (after : Option ℕ → Step → Option ℕ) (May : Option ℕ → Step
     abbrev begun : ℕ → Option ℕ
     begun c = fold after None (start_of callers c)
 
-    -- the steps of a caller may all follow, and what is kept of it where it forks another
+    -- the steps of a caller may all follow, and its values are kept if it forks another caller
     pub record KeptOf (c : ℕ) (kept : List (Vec (Option ℕ))) : Type 0 where
       pub stands : Along after May None (start_of callers c ++ calls_steps (list_at callers c))
       pub values : Vec (Option ℕ)
@@ -65,7 +65,7 @@ module _ (after : Option ℕ → Step → Option ℕ) (May : Option ℕ → Step
       pub along : is_parent_in c (all_forks 0 callers) ≡ true →
           AreAlong after (fold after None (start_of callers c)) (calls_steps (list_at callers c)) values.items
 
-    -- what a caller begins with, and that all steps before it may follow
+    -- the value that a caller starts with; and all steps before it may follow
     pub record Begins (c : ℕ) (kept : List (Vec (Option ℕ))) (forks : List Fork) : Type 0 where
       pub value : begin_in kept (front_in c forks) ≡ fold after None (start_of callers c)
       pub stands : Along after May None (start_of callers c)
@@ -75,7 +75,7 @@ module _ (after : Option ℕ → Step → Option ℕ) (May : Option ℕ → Step
       abbrev started : Option Parent → List Step
       started o = inherited_steps (ancestors_steps callers c) o
 
-      -- behind the parent's front of n steps
+      -- after the first n steps of the parent
       behind : (p n : ℕ) → p < c → is_parent_in p (all_forks 0 callers) ≡ true →
           start_of callers c ≡ start_of callers p ++ take n (own p) → n ≤ length (own p) →
           (kept_at (slice_get kept p) n ≡ begun c) × Along after May None (start_of callers c)
@@ -136,7 +136,7 @@ module _ (after : Option ℕ → Step → Option ℕ) (May : Option ℕ → Step
         orders_long (ancestors_steps callers (length callers)) callers in omega arith) in
         subst (λ (s : List Step). Along after May None s) (sym (order_is_start_and_own callers c low')) (each c low').stands)
 
-    -- the own steps of a caller may follow what it begins with
+    -- the own steps of a caller may follow its start value
     pub own_follow : (c : ℕ) → c < length callers → AllByRecursion (Along after May None) (caller_orders callers) →
         Along after May (fold after None (start_of callers c)) (calls_steps (list_at callers c))
     own_follow c low all =
@@ -151,7 +151,7 @@ module _ (after : Option ℕ → Step → Option ℕ) (May : Option ℕ → Step
 pub seen_long : (callers : List (Vec Called)) → length (seen_calls callers) ≡ length callers
 seen_long callers = length-map callers (λ (calls : Vec Called). map seen_call calls.items)
 
--- one caller more is gone along
+-- one more caller
 module _ (after : Option ℕ → Step → Option ℕ) (May : Option ℕ → Step → Type 0) (called : List (Vec Called)) where
   abbrev callers : List (List Call)
   callers = seen_calls called

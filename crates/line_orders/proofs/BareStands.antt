@@ -1,4 +1,4 @@
--- Lines and marks stand for a transcript exactly where they stand for its bare lines.
+-- The clauses on lines and marks hold for a transcript exactly if they hold for its bare lines.
 use Rattle.std.proofs.Common.{◌≡◌, ℕ, suc, List, [], ◌∷◌, map, refl, sym, subst, ap, ◌∙◌}
 use Rattle.std.specs.Prelude.{◌↔◌}
 use Rattle.std.specs.List.{AllByRecursion}
@@ -74,7 +74,7 @@ marks_both script t = (
   }),
 )
 
--- a line is as bare as its bare form
+-- the bare form of a bare line is itself
 bare_twice : (ls : List SeenLine) → map bare (map bare ls) ≡ map bare ls
 bare_twice [] = refl
 bare_twice (l ∷ ls) = ap (λ ks. bare l ∷ ks) (bare_twice ls)

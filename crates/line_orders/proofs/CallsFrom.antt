@@ -1,4 +1,4 @@
--- Calls as they come, event by event.
+-- Calls in sequence, event by event.
 use Rattle.std.proofs.Common.{◌≡◌, ℕ, zero, suc, ◌+◌, ◌<◌, Bool, true, false, List, [], ◌∷◌, ◌++◌, length, get_or, take, drop, refl, sym, ap, ◌∙◌, arith, map, subst, append_assoc}
 use Rattle.std.specs.Prelude.{nat_lt, ◌||◌, if◌then◌else◌}
 use Rattle.std.proofs.lemmas.Bool.Decides.{nat_tests}
@@ -58,7 +58,7 @@ module _ (es : List Event) (i : ℕ) (e : Event) (low : i < length es) (at : e �
   one_more : (k : ℕ) → drop k (take (i + 1) es) ≡ drop k (take i es ++ e ∷ [])
   one_more k = ap (drop k) (take_more es i e low ∙ ap (λ x. take i es ++ x ∷ []) (sym at))
 
-  -- one event more is looked at
+  -- one more event
   pub ends_at_vread : is_vread e ≡ true → (k : ℕ) → has_vread (drop k (take (i + 1) es)) ≡ nat_lt k (i + 1)
   ends_at_vread is k =
       ap has_vread (one_more k) ∙ vread_last (take i es) e is k
@@ -67,7 +67,7 @@ module _ (es : List Event) (i : ℕ) (e : Event) (low : i < length es) (at : e �
   pub ends_before : is_vread e ≡ false → (k : ℕ) → has_vread (drop k (take (i + 1) es)) ≡ has_vread (drop k (take i es))
   ends_before is k = ap has_vread (one_more k) ∙ other_last (take i es) e is k
 
--- an event by itself
+-- a single event
 pub alone_first : (w : List BoundAct) (e : Event) (es : List Event) (l : SeenLine) (ls : List SeenLine) →
     ((n f : ℕ) → e ≡ Vread n f → ⊥) → ((p : Point) (a : InsideAct) → e ≡ Inside p a → ⊥) →
     calls_from w (e ∷ es) (l ∷ ls) ≡ alone e l ∷ calls_from w es ls
@@ -75,7 +75,7 @@ alone_first w (Vread n f) es l ls not_vread not_inside = absurd (not_vread n f r
 alone_first w (Inside p a) es l ls not_vread not_inside = absurd (not_inside p a refl)
 alone_first w e es l ls not_vread not_inside = refl
 
--- one event more of those that make calls
+-- one more event with its calls
 module _ (events : List Event) (lines : List BareLine) (n : ℕ) (e : Event) (l : BareLine) (low : n < length events)
     (low' : n < length lines) (is : e ≡ get_or events n e) (is' : l ≡ get_or lines n l) (calls : List Called)
     (waiting : List ActLine) (whole : List Call)

@@ -1,4 +1,4 @@
--- What is carried, step by step.
+-- A carried value, step by step.
 use Rattle.std.proofs.Common.{◌≡◌, ℕ, zero, suc, ◌+◌, ◌<◌, ◌≤◌, Option, Some, List, [], ◌∷◌, ◌++◌, length, get_or, take, drop, refl, sym, subst, ap, ◌∙◌, arith}
 use Rattle.std.specs.Prelude.{◌↔◌, slice_get}
 use Rattle.std.specs.List.{fold}
@@ -19,7 +19,7 @@ pub get_last : {X : Type 0} (xs : List X) (x : X) → slice_get (xs ++ x ∷ [])
 get_last [] x = refl
 get_last (y ∷ xs) x = get_last xs x
 
--- what holds of each element at its place, as one more comes
+-- a fact of each element at its place, with one more element
 pub each_found : {X : Type 0} (P : ℕ → X → Type 0) (xs : List X) (y : X) →
     ((p : ℕ) (x : X) → slice_get xs p ≡ Some x → P p x) → P (length xs) y →
     (p : ℕ) (x : X) → slice_get (xs ++ y ∷ []) p ≡ Some x → P p x
@@ -73,7 +73,7 @@ module _ (after : Option ℕ → Step → Option ℕ) (May : Option ℕ → Step
   pub gone_nowhere : (walk : Walk) → HasGone after May walk [] walk
   gone_nowhere walk = record { carried = refl; follows = ((λ h. (h, tt)), (λ h. h.0)) }
 
-  -- one went along some steps, and then along more
+  -- a walk along some steps, and then along more
   pub gone_on : (walk middle on : Walk) (xs ys : List Step) → HasGone after May walk xs middle →
       HasGone after May middle ys on → HasGone after May walk (xs ++ ys) on
   gone_on walk middle on xs ys a b = record {

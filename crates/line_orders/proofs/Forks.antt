@@ -1,4 +1,4 @@
--- Where a caller's order begins in its parent's: as it is kept, and as the definitions say.
+-- The place of a caller's fork in its parent's order, in the code and in the definitions.
 use Rattle.std.proofs.Common.{◌≡◌, ℕ, suc, ◌+◌, ◌<◌, Bool, true, false, Option, Some, None, List, [], ◌∷◌, ◌++◌, length, take, refl, sym, subst, ap, ◌∙◌, arith, append_assoc, length-append}
 use Rattle.std.specs.Prelude.{◌==◌, if◌then◌else◌}
 use Rattle.std.specs.List.{AllByRecursion}
@@ -27,7 +27,7 @@ take_past (x ∷ a) r k =
 abbrev pub steps_before : ForkPoint → List Step
 steps_before f = calls_steps f.before ++ through_visit f.line.steps
 
--- the first fork of c among these, and then in more, is this one, behind k calls and n steps
+-- the first fork of c among these and then among more is this one, after k calls and n steps
 record Found (c p k n : ℕ) (calls : List Call) (more : List Fork) (f : ForkPoint) : Type 0 where
   fork : Fork
   here : front_in c (forks_in p k n calls ++ more) ≡ Some fork
@@ -92,7 +92,7 @@ at_point c p k n (alone (ForkEvent child) line ∷ calls) more = by (child == c)
 at_point c p k n (call ∷ calls) more = one_more c p k n call calls more (fork_point c calls) refl
     (at_point c p (suc k) (n + length (call_steps call)) calls more)
 
--- the first fork of c by these callers, p being the number of the first, is by the one k behind it
+-- the first fork of c by these callers is by the caller k after the first, which has the number p
 pub record FoundIn (c p : ℕ) (callers : List (List Call)) (parent : Parent) : Type 0 where
   pub fork : Fork
   pub here : front_in c (all_forks p callers) ≡ Some fork
@@ -151,7 +151,7 @@ at_parent c p (calls ∷ callers) =
       front = at.front;
     }
 
--- a fork that is found is that of a number above its parent's
+-- the fork of a caller has a parent with a lower number
 pub rises : (c : ℕ) (forks : List Fork) (fork : Fork) → AllByRecursion (λ f. f.parent < f.child) forks →
     front_in c forks ≡ Some fork → fork.parent < c
 rises c [] fork all here = cc

@@ -1,4 +1,4 @@
--- Lists that are gone through from the front.
+-- Lists that are read from the front.
 use Rattle.std.specs.Prelude.{slice_get}
 use Rattle.std.proofs.Common.{Some, zero, suc, ◌≡◌, ℕ, ◌+◌, ◌<◌, ◌≤◌, List, [], ◌∷◌, ◌++◌, length, get_or, take, drop, map, sym, ap, ◌∙◌, append_assoc}
 use Rattle.std.proofs.lemmas.List.{map-append, take_more, drop_more, at_drop_all, append-nil}
@@ -21,7 +21,7 @@ found_or [] i x is = cc
 found_or (y ∷ xs) zero x is = same_Some y x is
 found_or (y ∷ xs) (suc i) x is = found_or xs i x is
 
--- what an element gives goes from the rest to what is done
+-- the output of one element moves from the rest to the finished part
 pub goes_on : {X Y : Type 0} (F G : List X → List Y) (xs : List X) (i : ℕ) (x : X) (done piece whole : List Y) →
     i < length xs → x ≡ get_or xs i x → F (x ∷ drop (i + 1) xs) ≡ piece ++ G (drop (i + 1) xs) →
     done ++ F (drop i xs) ≡ whole → (done ++ piece) ++ G (drop (i + 1) xs) ≡ whole
@@ -29,7 +29,7 @@ goes_on F G xs i x done piece whole low is splits so_far =
     append_assoc done piece (G (drop (i + 1) xs))
     ∙ ap (λ r. done ++ r) (sym splits ∙ ap F (sym (dropped xs i x low is))) ∙ so_far
 
--- at the end all is done
+-- at the end all is finished
 pub all_done : {X Y : Type 0} (F : List X → List Y) (xs : List X) (i : ℕ) (done whole : List Y) → length xs ≤ i →
     F [] ≡ [] → done ++ F (drop i xs) ≡ whole → done ≡ whole
 all_done F xs i done whole high none so_far =

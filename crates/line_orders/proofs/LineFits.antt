@@ -1,4 +1,4 @@
--- The lines of a caller, and the callers, one after another.
+-- The lines of a caller in sequence, and the callers in sequence.
 use Rattle.std.proofs.Common.{◌≡◌, ℕ, suc, ◌+◌, ◌<◌, List, [], ◌∷◌, length, get_or, drop, map, refl, sym, subst, arith, add-one, Some}
 use Rattle.std.specs.Prelude.{◌↔◌, slice_get}
 use Rattle.std.proofs.lemmas.List.{at_drop_all}
@@ -14,7 +14,7 @@ use Rattle.line_orders.specs.Seen.{seen_bare, seen_callers}
 use Rattle.line_orders.proofs.Fronts.{dropped}
 
 module _ (c n : ℕ) (es : List Event) (ls : List BareLine) where
-  -- one line more is looked at
+  -- one more line
   pub fits_more : (e : Event) (l : BareLine) → n < length es → n < length ls → e ≡ get_or es n e → l ≡ get_or ls n l →
       LinesFit c n (drop n es) (map seen_bare (drop n ls))
       ↔ LineIs c n (event_word e) (seen_bare l) × LinesFit c (n + 1) (drop (n + 1) es) (map seen_bare (drop (n + 1) ls))
@@ -44,7 +44,7 @@ callers_long c (es ∷ ess) [] fit = absurd fit
 callers_long c (es ∷ ess) (ls ∷ t) fit =
     let rest : length t ≡ length ess = callers_long (suc c) ess t fit.1 in omega arith
 
--- one caller more is looked at
+-- one more caller
 pub callers_more : (c : ℕ) (ess : List (List Event)) (t : List (Vec BareLine)) (es : List Event) (ls : Vec BareLine) →
     slice_get ess c ≡ Some es → c < length t → ls ≡ get_or t c ls →
     EachCaller CallerFits c (drop c ess) (seen_callers (drop c t))

@@ -1,4 +1,4 @@
--- Whether the marks of a lane stand does not hang on the order in which all marks are told.
+-- Whether the marks of a lane are lawful does not depend on the order of all marks.
 use Rattle.std.proofs.Common.{◌≡◌, ℕ, ◌+◌, Bool, true, false, cond, List, [], ◌∷◌, length, refl, sym, subst, ap, ◌∙◌, arith}
 use Rattle.std.specs.Prelude.{count_by, ◌==◌, ◌&&◌, IsPermutation}
 use Rattle.std.specs.List.{AllByRecursion, range_with_len}

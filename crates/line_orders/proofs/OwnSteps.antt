@@ -50,7 +50,7 @@ no_forks_here : (p k n : ℕ) (c : Call) (calls : List Call) (later : Bool) → 
 no_forks_here p k n (alone (ForkEvent child) line) calls later none rest = cc
 no_forks_here p k n c calls later none rest = rest none
 
--- who forks nobody has no forks
+-- a caller without fork events has no forks
 pub no_forks : (p k n : ℕ) (calls : List Called) → list_any (λ call. is_fork (seen_call call)) calls ≡ false →
     forks_in p k n (map seen_call calls) ≡ []
 no_forks p k n [] none = refl

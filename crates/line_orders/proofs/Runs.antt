@@ -1,4 +1,4 @@
--- Marks sorted by lane and stamp: each lane's stand exactly where the runs count up.
+-- Marks sorted by lane and stamp: the places of each lane count up exactly if the runs do.
 use Rattle.std.proofs.Common.{◌≡◌, ℕ, suc, ◌+◌, ◌<◌, ◌≤◌, Bool, true, false, cond, Option, Some, None, List, [], ◌∷◌, length, get_or, drop, map, inl, inr, refl, sym, subst, ap, ◌∙◌, arith}
 use Rattle.std.specs.Prelude.{◌↔◌, ◌⊎◌, ◌==◌, MatchBool, nat_lt, IsSortedByKey}
 use Rattle.std.specs.Ordering.{is_lt, ordering_then, nat_cmp}
@@ -68,7 +68,7 @@ left : (lane : LaneId) (m : MarkOf) (marks : List MarkOf) → is_same_lane m.mar
     of_lane lane (m ∷ marks) ≡ of_lane lane marks
 left lane m marks e = rw e refl
 
--- what holds of all marks of a lane
+-- a fact of all marks of a lane
 in_lane : (P : Mark → Type 0) (lane : LaneId) (marks : List MarkOf) →
     AllByRecursion (λ (m : MarkOf). is_same_lane m.mark.lane lane ≡ true → P m.mark) marks → AllByRecursion P (of_lane lane marks)
 in_lane P lane [] all = tt
@@ -79,7 +79,7 @@ in_lane P lane (m ∷ marks) all = go (is_same_lane m.mark.lane lane) refl (in_l
     go true e rest = subst (λ (ms : List Mark). AllByRecursion P ms) (sym (taken lane m marks e)) (all.0 e, rest)
     go false e rest = subst (λ (ms : List Mark). AllByRecursion P ms) (sym (left lane m marks e)) rest
 
--- a lane of which none is left
+-- a lane without marks in the rest
 none_left : (lane : LaneId) (marks : List MarkOf) →
     AllByRecursion (λ (m : MarkOf). is_same_lane m.mark.lane lane ≡ false) marks → of_lane lane marks ≡ []
 none_left lane [] none = refl
@@ -108,13 +108,13 @@ lane_sorted lane (m ∷ marks) sorted =
     )
     go false e rest = subst ByStamp (sym (left lane m marks e)) rest
 
--- the marks behind a go on with its lane, and begin the others
+-- the marks after a continue its lane, and begin the others
 record GoesOn (a : Mark) (marks : List MarkOf) : Type 0 where
   run : InOrder (suc a.place) (of_lane a.lane marks)
   above : AllByRecursion (λ n. a.stamp < n.stamp) (of_lane a.lane marks)
   others : (lane : LaneId) → is_same_lane a.lane lane ≡ false → InOrder 0 (of_lane lane marks)
 
--- a first mark and those behind it
+-- a first mark and those after it
 first_of : (m : MarkOf) (marks : List MarkOf) (i : ℕ) → m.mark.place ≡ i → GoesOn m.mark marks →
     InOrder i (of_lane m.mark.lane (m ∷ marks))
 first_of m marks i here on = subst (InOrder i) (sym (taken m.mark.lane m marks (lane_itself m.mark.lane)))
@@ -129,7 +129,7 @@ of_first m marks i order =
     subst (InOrder i) (taken m.mark.lane m marks (lane_itself m.mark.lane)) order in
     (h.0, h.1, subst (λ j. InOrder (suc j) (of_lane m.mark.lane marks)) (sym h.0) h.2)
 
--- the marks of other lanes behind a first mark
+-- the marks of other lanes after a first mark
 others_of : (m : MarkOf) (marks : List MarkOf) (order : (lane : LaneId) → InOrder 0 (of_lane lane (m ∷ marks))) →
     (lane : LaneId) → is_same_lane m.mark.lane lane ≡ false → InOrder 0 (of_lane lane marks)
 others_of m marks order lane e = subst (InOrder 0) (left lane m marks e) (order lane)
@@ -186,7 +186,7 @@ module _ (a m : MarkOf) (marks : List MarkOf) (sorted : IsSortedByLane (a ∷ m 
           },
         )
 
-  -- the next is of another
+  -- the next is of another lane
   module _ (e : is_same_lane a.mark.lane m.mark.lane ≡ false) where
     below : lane_rank a.mark.lane < lane_rank m.mark.lane
     below = go sorted.0
@@ -282,7 +282,7 @@ counted (m ∷ marks) sorted =
           (run.0, both.1 (record { run = run.2; above = run.1; others = others_of m marks order }))),
     )
 
--- one mark more is looked at
+-- one more mark
 pub runs_more : (last : Option Mark) (marks : List MarkOf) (i : ℕ) (d : MarkOf) → i < length marks →
     RunsCount last (drop i marks)
     ↔ Follows last (get_or marks i d).mark × RunsCount (Some (get_or marks i d).mark) (drop (i + 1) marks)
@@ -291,7 +291,7 @@ runs_more last marks i d low = rw (drop_more marks i d low) ((λ h. h), (λ h. h
 pub runs_end : (last : Option Mark) (marks : List MarkOf) (i : ℕ) → length marks ≤ i → RunsCount last (drop i marks)
 runs_end last marks i high = rw (at_drop_all (λ x. x) marks i high) tt
 
--- each lane's marks stand exactly where the runs count up
+-- the places of each lane count up exactly if the runs do
 pub runs_stand : (marks : List MarkOf) → IsSortedByLane marks →
     RunsCount None marks ↔ ((lane : LaneId) → PlacesStand (lane_marks lane (map seen_mark marks)))
 runs_stand marks sorted = (

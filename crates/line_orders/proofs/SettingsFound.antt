@@ -1,4 +1,4 @@
--- What calls find set, and what a child starts with.
+-- The settings before calls, and the start setting of a child.
 use Rattle.std.proofs.Common.{◌≡◌, inl, inr, ℕ, zero, suc, ◌+◌, ◌<◌, Option, Some, None, List, [], ◌∷◌, ◌++◌, length, get_or, take, drop, map, refl, sym, subst, ap, ◌∙◌, arith}
 use Rattle.std.specs.Prelude.{slice_get, unwrap_or}
 use Rattle.std.specs.List.{fold, AllByRecursion}
@@ -16,7 +16,7 @@ use Rattle.line_orders.specs.Settings.{settings_from, found_by, first_found}
 use Rattle.line_orders.proofs.Forks.{AtParent, at_parent, rises}
 use Rattle.line_orders.proofs.Fronts.{goes_on}
 
--- one call more has found its setting
+-- one more call with its setting
 pub found_next : (calls : List Called) (n : ℕ) (call : Called) (set : Setting) (found whole : List Setting) →
     n < length calls → call ≡ get_or calls n call → found ++ settings_from set (map seen_call (drop n calls)) ≡ whole →
     (found ++ set ∷ []) ++ settings_from (setting_after_call set (seen_call call)) (map seen_call (drop (n + 1) calls))
@@ -32,7 +32,7 @@ at_settings set [] k low = absurd (omega arith)
 at_settings set (call ∷ calls) zero low = refl
 at_settings set (call ∷ calls) (suc k) low = at_settings (setting_after_call set call) calls k (omega arith)
 
--- what callers start with
+-- start settings of callers
 
 abbrev begun : List (List Call) → ℕ → Setting
 begun callers c = inherited_setting (first_settings callers c) (parent_from c 0 callers)
@@ -53,7 +53,7 @@ get_some [] p low = absurd (omega arith)
 get_some (x ∷ xs) zero low = (x, refl)
 get_some (x ∷ xs) (suc p) low = get_some xs p (omega arith)
 
--- of each caller so far what its calls find
+-- for each caller so far, the settings of its calls
 abbrev pub EachFound : List (List Call) → List (Vec Setting) → Type 0
 EachFound callers settings = (c : ℕ) (found : Vec Setting) → slice_get settings c ≡ Some found →
     found.items ≡ settings_from (start_setting callers c) (list_at callers c)
@@ -87,7 +87,7 @@ module _ (callers : List (List Call)) (settings : List (Vec Setting)) (c : ℕ) 
       ∙ ap (λ s. fold setting_after_call s parent.fork.before)
       (begins_at callers (length callers) p (omega arith) ∙ sym (begins_at callers c p lower))
 
-  -- what a caller is forked with is what it starts with
+  -- the setting at a caller's fork is its start setting
   pub first_is : first_found settings (front_in c (all_forks 0 callers)) ≡ start_setting callers c
   first_is = at_front (parent_from c 0 callers) (at_parent c 0 callers) ∙ sym starts
 

@@ -1,4 +1,4 @@
--- Stamps rise along some steps exactly where each step may follow the last stamp.
+-- Stamps rise along some steps exactly if each step may follow the last stamp.
 use Rattle.std.proofs.Common.{ℕ, Option, Some, None, List, [], ◌∷◌}
 use Rattle.std.specs.Prelude.{◌↔◌}
 use Rattle.std.specs.List.{AllByRecursion}
@@ -13,7 +13,7 @@ use Rattle.line_orders.specs.Stamps.{stamp_after, IsAbove}
 abbrev Follow : Option ℕ → List Step → Type 0
 Follow last steps = Along stamp_after IsAbove last steps
 
--- behind a stamp
+-- after a stamp
 rise_above : (last : ℕ) (steps : List Step) → Follow (Some last) steps → Rises (last ∷ stamps_of steps)
 rise_above last [] h = tt
 rise_above last (Look g ∷ steps) h = rise_above last steps h.1

@@ -1,4 +1,4 @@
--- What is judged of lines and marks.
+-- The judgement of lines and marks.
 use Rattle.std.specs.Prelude.{◌≡◌, List, map, IsPermutation}
 use Rattle.key_names.specs.Texts.ScriptGrammar.{Script}
 use Rattle.key_names.specs.SeenLine.{SeenLine}
@@ -13,7 +13,7 @@ use Rattle.line_orders.specs.Called.{seen_calls}
 use Rattle.line_orders.specs.Marks.{seen_mark, IsSortedByLane}
 use Rattle.line_orders.specs.Orders.{all_forks}
 
--- lines and marks stand, and these are their parts
+-- the clauses on lines and marks hold, and these are the transcript's parts
 pub record PartsStand (script : Script) (t : List (List SeenLine)) (parts : Parts) : Type 0 where
   pub lines : HasLines script t
   pub marks_stand : MarksStand script t
@@ -22,7 +22,7 @@ pub record PartsStand (script : Script) (t : List (List SeenLine)) (parts : Part
   pub sorted : IsSortedByLane parts.marks.items
   pub forks : parts.forks.items ≡ all_forks 0 (script_calls script t)
 
--- this clause is the first that fails, and it is that on lines or that on marks
+-- this clause is the first that fails, and it is the clause on lines or on marks
 abbrev pub IsEarlyFault : Script → List (List SeenLine) → Clause → Type 0
 IsEarlyFault script t Lines = FirstFails script t lines_clause
 IsEarlyFault script t Marks = FirstFails script t marks_clause

@@ -1,4 +1,4 @@
--- A caller's calls as they are kept, and as the definitions see them.
+-- A caller's calls in the code, and in the definitions.
 use Rattle.std.specs.Prelude.{Bool, true, false, List, map}
 use Rattle.std.specs.Global.{Vec}
 use Rattle.key_names.specs.declared.events.Event.{Event}

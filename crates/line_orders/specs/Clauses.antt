@@ -1,4 +1,4 @@
--- The clauses of a lawful transcript, and as the definitions name them.
+-- The clauses of a lawful transcript in the code, and in the definitions.
 use Rattle.key_names.specs.IsTranscript as laws
 use Rattle.line_orders.specs.declared.clause.Clause.{Clause}
 use Rattle.line_orders.specs.declared.clause.Clause.TheVariants.{Lines, Marks, Forms, Answers, Data, Looks}

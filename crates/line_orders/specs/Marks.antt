@@ -11,7 +11,7 @@ use Rattle.line_orders.specs.declared.marks.MarkOf.{MarkOf}
 abbrev pub seen_mark : MarkOf → MarkBy
 seen_mark of = record { mark = of.mark; who = of.who }
 
--- the lane is one of those whose marks are gathered together
+-- the lane belongs to this group
 abbrev pub is_in : Group → LaneId → Bool
 is_in Pool PoolLane = true
 is_in Base BaseLane = true
@@ -27,17 +27,17 @@ lane_rank PoolLane = 0
 lane_rank BaseLane = 1
 lane_rank (CpuLane c) = 2 + c
 
--- the one is of an earlier lane, or of the same and has no higher stamp
+-- mark a is of an earlier lane than b, or of the same lane with no higher stamp
 abbrev pub NotBehind : Mark → Mark → Type 0
 NotBehind a b = (lane_rank a.lane < lane_rank b.lane) ⊎ ((lane_rank a.lane ≡ lane_rank b.lane) × (a.stamp ≤ b.stamp))
 
--- no mark is behind the next
+-- each mark and the next are in order
 abbrev pub IsSortedByLane : List MarkOf → Type 0
 IsSortedByLane [] = ⊤
 IsSortedByLane (a ∷ []) = ⊤
 IsSortedByLane (a ∷ b ∷ marks) = NotBehind a.mark b.mark × IsSortedByLane (b ∷ marks)
 
--- the mark is the next of the last one's lane, or the first of its own
+-- the mark is the next one of the last mark's lane, or the first one of its own lane
 abbrev pub Follows : Option Mark → Mark → Type 0
 Follows None mark = mark.place ≡ 0
 Follows (Some last) mark =

@@ -1,4 +1,4 @@
--- The forks among callers' calls, and how many steps of a parent come before its child's.
+-- The forks among callers' calls, and the number of a parent's steps before its child's.
 use Rattle.std.specs.Prelude.{ℕ, Bool, true, false, suc, ◌+◌, ◌==◌, Option, Some, None, List, [], ◌∷◌, ◌++◌, length, if◌then◌else◌}
 use Rattle.std.specs.List.{list_any}
 use Rattle.key_names.specs.declared.events.Event.TheVariants.{Fork as ForkEvent}
@@ -6,7 +6,7 @@ use Rattle.key_names.specs.Calls.{Call, alone}
 use Rattle.key_names.specs.History.{call_steps, through_visit}
 use Rattle.line_orders.specs.declared.order.Fork.{Fork}
 
--- the fork that a call of caller p makes behind k of its calls and n of its steps
+-- the fork of a call of caller p, after k of its calls and n of its steps
 abbrev pub fork_here : ℕ → ℕ → ℕ → Call → List Fork
 fork_here p k n (alone (ForkEvent child) line) =
     record { parent = p; child = child; calls = k; steps = n + length (through_visit line.steps) } ∷ []
@@ -16,12 +16,12 @@ abbrev pub is_fork : Call → Bool
 is_fork (alone (ForkEvent child) line) = true
 is_fork _ = false
 
--- those of some calls behind k calls and n steps
+-- the forks of some calls, after k calls and n steps
 abbrev pub forks_in : ℕ → ℕ → ℕ → List Call → List Fork
 forks_in p k n [] = []
 forks_in p k n (call ∷ calls) = fork_here p k n call ++ forks_in p (suc k) (n + length (call_steps call)) calls
 
--- those of some callers, p being the number of the first
+-- the forks of some callers; p is the number of the first
 abbrev pub all_forks : ℕ → List (List Call) → List Fork
 all_forks p [] = []
 all_forks p (calls ∷ callers) = forks_in p 0 0 calls ++ all_forks (suc p) callers

@@ -1,4 +1,4 @@
--- The lines that a replay reads, as contracts see them: with any answer, and without data.
+-- The lines that a replay reads, in contracts: with any answer, and without data.
 use Rattle.std.specs.Prelude.{List, map}
 use Rattle.std.specs.Global.{Vec}
 use Rattle.key_names.specs.declared.events.Answer.TheVariants.{Ok as Done}

@@ -1,4 +1,4 @@
--- The settings that calls find.
+-- The settings before calls.
 use Rattle.std.specs.Prelude.{ℕ, ◌≡◌, Option, Some, None, List, [], ◌∷◌, length, slice_get, unwrap_or}
 use Rattle.std.specs.Global.{Vec}
 use Rattle.key_names.specs.Book.{list_at}
@@ -10,17 +10,17 @@ abbrev pub settings_from : Setting → List Call → List Setting
 settings_from set [] = []
 settings_from set (call ∷ calls) = set ∷ settings_from (setting_after_call set call) calls
 
--- the setting that a call of a caller found, if it is kept
+-- the setting before a call of a caller, if it is kept
 abbrev pub found_by : Option (Vec Setting) → ℕ → Setting
 found_by None k = first_setting
 found_by (Some settings) k = unwrap_or (slice_get settings.items k) first_setting
 
--- what a caller starts with that is forked here
+-- the start setting of a caller with this fork
 abbrev pub first_found : List (Vec Setting) → Option Fork → Setting
 first_found settings None = first_setting
 first_found settings (Some fork) = found_by (slice_get settings fork.parent) fork.calls
 
--- of each caller and each of its calls the setting that the call finds
+-- settings has the setting before each call of each caller
 pub record AreSettings (callers : List (List Call)) (settings : List (Vec Setting)) : Type 0 where
   pub long : length settings ≡ length callers
   pub each : (c : ℕ) (found : Vec Setting) → slice_get settings c ≡ Some found →

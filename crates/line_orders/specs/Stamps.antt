@@ -1,4 +1,4 @@
--- The last stamp, and the next one above it.
+-- The last stamp, and a higher next one.
 use Rattle.std.specs.Prelude.{ℕ, ◌<◌, ⊤, Option, Some, None}
 use Rattle.key_names.specs.declared.names.Step.{Step}
 use Rattle.key_names.specs.declared.names.Step.TheVariants.{Look, Visit as Marked}

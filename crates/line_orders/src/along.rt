@@ -1,5 +1,5 @@
-//! What goes along the orders of callers: it begins with nothing, each step changes it, and a child begins with what its
-//! parent had at the fork.
+//! A value that is carried along the orders of callers. It begins as nothing, each step changes it, and a child begins
+//! with its parent's value at the fork.
 ghost use Rattle.std.specs.Prelude.{◌≡◌, ◌↔◌, ◌<◌, ℕ, [], ◌∷◌, true, IsTrue, IfOk, Option, None, map};
 ghost use Rattle.std.specs.Bool.{OnTrue};
 ghost use Rattle.std.specs.List.{AllByRecursion};
@@ -14,12 +14,12 @@ use crate::order::{Fork, cut, front_of, is_parent, own_steps};
 use key_names::{Point, Step};
 use std::alloc::{AllocError, Global};
 
-/// What is carried from step to step, a number or nothing, and which step may follow it.
+/// A value carried from step to step, a number or nothing, and the steps that may follow it.
 pub trait Carry {
-    /// What is carried behind a step.
+    /// The value after a step.
     ghost after: { Self → Option ℕ → Step → Option ℕ };
 
-    /// The step may stand where this is carried.
+    /// The step may follow this value.
     ghost MayFollow: { Self → Option ℕ → Step → Type 0 };
 
     fn may_follow(&self, carried: Option<u64>, step: Step) -> bool
@@ -29,7 +29,7 @@ pub trait Carry {
         ensures { result ≡ after self.now carried step };
 }
 
-/// How far one has come along an order: what is carried there, and whether each step so far could follow.
+/// A position in an order: the value there, and whether each step so far was allowed to follow.
 #[derive(Clone, Copy)]
 pub(crate) struct Walk {
     pub(crate) carried: Option<u64>,
@@ -105,7 +105,7 @@ impl Walk {
     }
 }
 
-// Whether each step of some calls may follow what is carried to it.
+// Whether each step of some calls may follow the value before it.
 fn may_go<C: Carry>(carry: &C, start: Option<u64>, calls: &[Called<'_>]) -> bool
     ensures { IsTrue result ↔ Along (C.after carry.now) (C.MayFollow carry.now) start
         (calls_steps (map seen_call calls.now)) }
@@ -117,7 +117,7 @@ fn may_go<C: Carry>(carry: &C, start: Option<u64>, calls: &[Called<'_>]) -> bool
     walk.follows
 }
 
-// What is carried behind each front of some steps that may all follow, the empty one first.
+// The values after each prefix of some steps, the empty one first.
 fn along<C: Carry>(
     alloc: Global,
     carry: &C,
@@ -136,7 +136,7 @@ fn along<C: Carry>(
     Ok(kept)
 }
 
-// What is kept of a caller: what is carried along its steps, where it forks another, and otherwise nothing.
+// The values along a caller's steps, if it forks another caller; otherwise nothing.
 fn kept_of<C: Carry>(
     alloc: Global,
     carry: &C,
@@ -154,7 +154,7 @@ fn kept_of<C: Carry>(
     }
 }
 
-// What a child begins with, of what its ancestors carried.
+// The value that a child starts with, from those of its ancestors.
 fn start_of(forks: &[Fork], kept: &[Vec<Option<u64>>], caller: usize) -> Option<u64>
     ensures { result ≡ begin_in kept.now (front_in caller forks.now) }
 {
@@ -163,11 +163,11 @@ fn start_of(forks: &[Fork], kept: &[Vec<Option<u64>>], caller: usize) -> Option<
     *parent.get(fork.steps)?
 }
 
-/// Whether each step of each caller's order may follow what is carried to it.
+/// Whether each step of each caller's order may follow the value before it.
 ///
 /// # Errors
 ///
-/// `AllocError` where there is no memory for what is carried.
+/// `AllocError` if there is no memory for the values.
 pub fn all_may_follow<C: Carry>(
     alloc: Global,
     callers: &[Vec<Called<'_>>],

@@ -1,9 +1,9 @@
-//! A line of a transcript without its answer and its data: all that a replay reads of it.
+//! A line of a transcript without its answer and data: the part that a replay reads.
 ghost use Rattle.std.specs.Prelude.{◌≤◌, length};
 
 use key_names::{Step, Word};
 
-/// A line without its answer and its data.
+/// A line without its answer and data.
 #[derive(Clone, Copy)]
 pub struct BareLine<'a> {
     pub caller: u32,

@@ -1,4 +1,4 @@
-//! The clauses on lines and marks: what the steps of a transcript are judged by before any list is made.
+//! The clauses on lines and marks, which are judged before any list is made.
 ghost use Rattle.std.specs.Prelude.{◌≡◌, ◌≤◌, length, IfOk};
 ghost use Rattle.key_names.specs.Texts.ScriptGrammar.{WellFormed};
 ghost use Rattle.key_names.specs.IsTranscript.{HasLines, script_calls};
@@ -17,7 +17,7 @@ use crate::stamps::Stamps;
 use event_script::Script;
 use std::alloc::{AllocError, Global};
 
-/// The calls, marks and forks of a transcript whose lines and marks stand.
+/// The calls, marks and forks of a transcript whose lines and marks are lawful.
 #[derive(Drop)]
 pub struct Parts<'a> {
     pub calls: Vec<Vec<Called<'a>>>,
@@ -25,7 +25,7 @@ pub struct Parts<'a> {
     pub forks: Vec<Fork>,
 }
 
-/// What lines and marks were judged to be.
+/// The judgement of lines and marks.
 #[derive(Drop)]
 pub enum Begun<'a> {
     Stands(Parts<'a>),
@@ -50,12 +50,12 @@ fn all_calls<'a>(
     Ok(calls)
 }
 
-/// Judges lines and marks: no caller lacks a line or has one too many, a lane's places are 0, 1, 2 and so on, and
-/// stamps rise, both in a lane and in what one caller does behind its ancestors.
+/// Judges lines and marks. Each caller must have exactly its lines. In each lane the places must be 0, 1, 2 and so on.
+/// Stamps must rise in each lane, and along the steps of each caller after those of its ancestors.
 ///
 /// # Errors
 ///
-/// `AllocError` where there is no memory for the parts.
+/// `AllocError` if there is no memory for the parts.
 pub fn begin<'a>(
     alloc: Global,
     script: &'a Script,

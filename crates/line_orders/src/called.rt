@@ -1,4 +1,4 @@
-//! A caller's events with their lines, as the calls that it makes one after another.
+//! A caller's events with their lines, as its calls in sequence.
 ghost use Rattle.std.specs.Prelude.{◌≡◌, ◌+◌, ◌<◌, ℕ, IsTrue, IfOk, map, length, drop, nat_lt};
 ghost use Rattle.key_names.specs.Calls.{calls_of, has_vread};
 ghost use Rattle.line_orders.specs.Seen.{seen_bare};
@@ -17,8 +17,8 @@ pub struct ActLine<'a> {
     pub line: BareLine<'a>,
 }
 
-/// What a caller does at once, with its lines: an event by itself, a `vread` with the acts inside it, an act that no
-/// `vread` follows, or its end.
+/// One call of a caller with its lines: a single event, a `vread` with the acts inside it, an act that no `vread`
+/// follows, or the end.
 #[derive(Drop)]
 pub enum Called<'a> {
     Alone {
@@ -41,7 +41,7 @@ fn is_vread(event: &Event) -> bool
     matches!(event, Event::Vread { .. })
 }
 
-// How many events there are up to and with the last `vread`.
+// The number of events up to and including the last `vread`.
 fn vreads_end(events: &[Event]) -> usize
     ensures { (k : ℕ) → has_vread (drop k events.now) ≡ nat_lt k result }
 {
@@ -58,7 +58,7 @@ fn vreads_end(events: &[Event]) -> usize
 ///
 /// # Errors
 ///
-/// `AllocError` where there is no memory for them.
+/// `AllocError` if there is no memory for them.
 pub(crate) fn caller_calls<'a>(
     alloc: Global,
     events: &'a [Event],

@@ -3,25 +3,25 @@ ghost use Rattle.std.specs.Prelude.{◌≡◌};
 ghost use Rattle.key_names.specs.IsTranscript.{clause_number};
 ghost use Rattle.line_orders.specs.Clauses.{clause_of};
 
-/// What a transcript has to fulfil to be lawful, beside that its text is one. They are judged in this order.
+/// The conditions for a lawful transcript, besides that its text is a transcript's. They are judged in this order.
 #[derive(Clone, Copy, Debug, PartialEq, Eq)]
 pub enum Clause {
     /// Each caller has its lines.
     Lines,
-    /// In each lane places count up from 0, and stamps rise, there and along each caller's order.
+    /// In each lane places count up from 0, and stamps rise in each lane and along each caller's order.
     Marks,
-    /// The steps of each line are a form of its event, of one book.
+    /// The steps of each line are a form of its event, all in one book.
     Forms,
-    /// Each answer is what its line means.
+    /// Each answer is the one that the steps and the lists require.
     Answers,
-    /// So is what each line shows.
+    /// The data of each line are those that the steps and the lists give.
     Data,
-    /// No look finds less than its caller had seen, or more than the base ever had.
+    /// Each look finds at least what its caller has seen of the generation, and at most what the base ever had.
     Looks,
 }
 
 impl Clause {
-    /// Its number, 2 to 7. Number 1 is that the text is a transcript's.
+    /// The clause's number, 2 to 7. Clause 1 is about the text.
     pub fn number(self) -> u8
         ensures { result ≡ clause_number (clause_of self) }
     {

@@ -1,13 +1,14 @@
-//! The lines of a transcript without their answers and data: the calls that they make, their marks and forks, and what goes
-//! along the orders of what callers do.
+//! A transcript's lines, without answers and data. The crate finds their calls, marks and forks, and carries a value
+//! along the order of each caller's steps.
 //!
-//! [`begin::begin`] gives the calls, marks and forks of a transcript, or the first of the clauses on lines and marks that
-//! fails, both ways: each caller has its lines; in each lane the places of the visits count up from 0, with rising stamps;
-//! and stamps rise along what each caller does, behind what its ancestors did before the fork.
-//! [`settings::all_settings`] gives what each call finds set. [`along::all_may_follow`] goes along each caller's order.
+//! [`begin::begin`] checks two clauses. Lines: each caller has its lines. Marks: in each lane the places of the visits
+//! count up from 0, with rising stamps; and stamps rise along the steps of each caller, after those of its ancestors
+//! before the fork. It returns the calls, marks and forks of a transcript if both hold, and otherwise the first clause
+//! that fails. [`settings::all_settings`] returns the setting before each call. [`along::all_may_follow`] returns
+//! whether each step in each caller's order may follow the value carried to it.
 //!
-//! It stands on the definitions of `key_names`, and on scripts and transcripts as they are read. Nothing that the lists of
-//! the lanes demand is looked at.
+//! The crate uses the definitions of `key_names`, and takes scripts and transcripts that were already read. It does not
+//! check what the lanes' lists require.
 #![tactic(auto)]
 
 pub mod along;

@@ -1,4 +1,4 @@
-//! The marks of all lines, and whether in each lane their places count up with their stamps.
+//! The marks of all lines, and whether the places of each lane count up with their stamps.
 ghost use Rattle.std.specs.Prelude.{◌≡◌, ◌↔◌, ◌+◌, ◌++◌, ◌<◌, ◌≤◌, ℕ, IsTrue, IfOk, OnOk, List, [], map, length, IsPermutation};
 ghost use Rattle.std.specs.List.{filter, flat_map, AllByRecursion};
 ghost use Rattle.key_names.specs.declared.names.LaneId.{LaneId};
@@ -10,7 +10,7 @@ use crate::bare::BareLine;
 use key_names::{LaneId, Mark, Step, Who};
 use std::alloc::{AllocError, Global};
 
-/// A mark, and who made its visit.
+/// A mark, with the caller, the line and the number of its step.
 #[derive(Clone, Copy, Debug, PartialEq, Eq)]
 pub struct MarkOf {
     pub mark: Mark,
@@ -87,8 +87,8 @@ fn push_group(
     Ok(())
 }
 
-// All marks, those of the pool first and then those of the base: where one caller made them all on one CPU, they stand
-// as they are to be sorted.
+// All marks, first those of the pool and then those of the base. If one caller made them all on one CPU, this is the
+// sorted order.
 fn gathered(alloc: Global, callers: &[Vec<BareLine<'_>>]) -> Result<Vec<MarkOf>, AllocError>
     ensures { IfOk result (λ marks. IsPermutation (all_marks (seen_callers callers.now)) (map seen_mark marks.items)) }
 {
@@ -99,7 +99,7 @@ fn gathered(alloc: Global, callers: &[Vec<BareLine<'_>>]) -> Result<Vec<MarkOf>,
     Ok(marks)
 }
 
-// Where a lane stands among all lanes: the pool, the base, and then the CPUs.
+// The place of a lane among all lanes: the pool, the base, and then the CPUs.
 fn lane_rank(lane: LaneId) -> u64
     ensures { result ≡ lane_rank lane }
 {
@@ -110,11 +110,11 @@ fn lane_rank(lane: LaneId) -> u64
     }
 }
 
-/// All marks, lane after lane, those of one lane by their stamps.
+/// All marks, lane by lane, those of one lane by their stamps.
 ///
 /// # Errors
 ///
-/// `AllocError` where there is no memory for them.
+/// `AllocError` if there is no memory for them.
 pub(crate) fn sorted_marks(
     alloc: Global,
     callers: &[Vec<BareLine<'_>>],

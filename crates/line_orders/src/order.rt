@@ -1,4 +1,4 @@
-//! In what order a caller's steps happen, and where its order begins in that of its parent.
+//! The order of a caller's steps, and the place in its parent's order where it begins.
 ghost use Rattle.std.specs.Prelude.{◌≡◌, ◌<◌, ◌≤◌, ◌^◌, ◌++◌, IfOk, OnOk, map, length, take, drop};
 ghost use Rattle.std.specs.List.{list_any};
 ghost use Rattle.key_names.specs.History.{is_mark, through_visit, steps_at_point, cut_behind_visits, cut_behind_rekey};
@@ -10,8 +10,8 @@ use crate::called::{ActLine, Called};
 use key_names::{Event, Point, Step};
 use std::alloc::{AllocError, Global};
 
-/// Where a caller is forked: by whom, behind how many of the parent's calls, and how many of the parent's own steps come
-/// before the child's.
+/// The fork of a caller: its parent, the number of the parent's calls before the fork, and the number of the parent's
+/// own steps before the child's.
 #[derive(Clone, Copy, Debug, PartialEq, Eq)]
 pub struct Fork {
     pub parent: u32,
@@ -26,7 +26,7 @@ fn is_visit(step: Step) -> bool
     matches!(step, Step::Visit(_))
 }
 
-// How many visits stand together at the front.
+// The number of consecutive visits at the start.
 fn visits_in_front(steps: &[Step]) -> usize
     ensures within { result ≤ length steps.now }
     ensures front { take result steps.now ≡ (cut_behind_visits steps.now).0 }
@@ -38,7 +38,7 @@ fn visits_in_front(steps: &[Step]) -> usize
     }
 }
 
-// How many of a `vread`'s steps from the third on come before its points `Serve` and `End`.
+// The number of a `vread`'s steps, from the third on, before its points `Serve` and `End`.
 fn rekey_end(steps: &[Step]) -> usize
     ensures within { result ≤ length steps.now }
     ensures front { take result steps.now ≡ (cut_behind_rekey steps.now).0 }
@@ -51,7 +51,7 @@ fn rekey_end(steps: &[Step]) -> usize
     }
 }
 
-// How many steps there are up to and with the first visit.
+// The number of steps up to and including the first visit.
 fn first_visit_end(steps: &[Step]) -> usize
     ensures within { result ≤ length steps.now }
     ensures front { take result steps.now ≡ through_visit steps.now }
@@ -75,8 +75,8 @@ fn push_at_point(own: &mut Vec<Step>, acts: &[ActLine<'_>], point: Point) -> Res
     push_at_point(own, rest, point)
 }
 
-/// The steps of a `vread` before its points `Start` and `Written`, between them and its points `Serve` and `End`, and
-/// behind these.
+/// The steps of a `vread` in three parts: those before its points `Start` and `Written`, those from there to its points
+/// `Serve` and `End`, and the rest.
 pub(crate) fn cut(steps: &[Step]) -> (&[Step], &[Step], &[Step])
     ensures looks { result.0.now ≡ take 2 steps.now }
     ensures rekey { result.1.now ≡ (cut_behind_rekey (drop 2 steps.now)).0 }
@@ -114,7 +114,7 @@ fn push_call(own: &mut Vec<Step>, call: &Called<'_>) -> Result<(), AllocError>
     }
 }
 
-// One more fork, if the call is one: behind so many of the parent's calls and steps.
+// Adds a fork if the call is one, after this many of the parent's calls and steps.
 fn push_fork(
     forks: &mut Vec<Fork>,
     parent: u32,
@@ -146,7 +146,7 @@ fn push_fork(
 ///
 /// # Errors
 ///
-/// `AllocError` where there is no memory for them.
+/// `AllocError` if there is no memory for them.
 pub(crate) fn own_steps(alloc: Global, calls: &[Called<'_>]) -> Result<Vec<Step>, AllocError>
     ensures { IfOk result (λ own. own.items ≡ calls_steps (map seen_call calls.now)) }
 {
@@ -157,11 +157,11 @@ pub(crate) fn own_steps(alloc: Global, calls: &[Called<'_>]) -> Result<Vec<Step>
     Ok(own)
 }
 
-/// Those of each caller.
+/// The own steps of each caller.
 ///
 /// # Errors
 ///
-/// `AllocError` where there is no memory for them.
+/// `AllocError` if there is no memory for them.
 pub fn all_own_steps(
     alloc: Global,
     callers: &[Vec<Called<'_>>],
@@ -191,7 +191,7 @@ fn has_fork(calls: &[Called<'_>]) -> bool
     calls.iter().any(|call| is_fork(call))
 }
 
-// The forks of a caller, behind those of others. The steps of who forks nobody are not gone through.
+// Adds the forks of a caller. Steps are counted only for a caller with forks.
 fn push_forks(
     alloc: Global,
     caller: u32,
@@ -215,7 +215,7 @@ fn push_forks(
 ///
 /// # Errors
 ///
-/// `AllocError` where there is no memory for them.
+/// `AllocError` if there is no memory for them.
 pub(crate) fn all_forks(alloc: Global, callers: &[Vec<Called<'_>>]) -> Result<Vec<Fork>, AllocError>
     requires { length callers.now ≤ 64 }
     ensures { IfOk result (λ forks. forks.items ≡ all_forks 0 (seen_calls callers.now)) }
@@ -227,7 +227,7 @@ pub(crate) fn all_forks(alloc: Global, callers: &[Vec<Called<'_>>]) -> Result<Ve
     Ok(forks)
 }
 
-/// Where a caller is forked, if it is.
+/// The fork of a caller, if it has one.
 pub fn front_of(forks: &[Fork], child: usize) -> Option<Fork>
     ensures { result ≡ front_in child forks.now }
 {

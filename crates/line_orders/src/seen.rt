@@ -1,4 +1,4 @@
-//! The lines of a transcript without their answers and data: all that a replay reads.
+//! The lines of a transcript without their answers and data: the part that a replay reads.
 ghost use Rattle.std.specs.Prelude.{◌≡◌, ◌≤◌, length, map, IfOk};
 ghost use Rattle.transcript_text.specs.Views.{seen};
 ghost use Rattle.key_names.specs.SameSteps.{bare};
@@ -34,7 +34,7 @@ fn bare_lines(alloc: Global, lines: &CallerLines) -> Result<Vec<BareLine<'_>>, A
 ///
 /// # Errors
 ///
-/// `AllocError` where there is no memory for them.
+/// `AllocError` if there is no memory for them.
 pub fn bare_callers(alloc: Global, t: &Transcript) -> Result<Vec<Vec<BareLine<'_>>>, AllocError>
     ensures { IfOk result (λ callers. seen_callers callers.items ≡ map (map bare) t.now) }
 {

@@ -1,4 +1,4 @@
-//! The setting that each call finds.
+//! The setting before each call.
 ghost use Rattle.std.specs.Prelude.{◌≡◌, ◌<◌, IfOk, map};
 ghost use Rattle.std.specs.List.{AllByRecursion};
 ghost use Rattle.key_names.specs.Calls.{setting_after_call};
@@ -11,7 +11,7 @@ use crate::order::{Fork, front_of};
 use line_forms::setting::Setting;
 use std::alloc::{AllocError, Global};
 
-// Sets what the call sets.
+// Changes the setting as the call does.
 fn follow(set: &mut Setting, call: &Called<'_>)
     ensures { set.new ≡ setting_after_call set.old (seen_call call.now) }
 {
@@ -21,7 +21,7 @@ fn follow(set: &mut Setting, call: &Called<'_>)
     }
 }
 
-// The settings that these calls find, where the first finds this one.
+// The settings before these calls; `start` is the first.
 fn caller_settings(
     alloc: Global,
     start: Setting,
@@ -38,7 +38,7 @@ fn caller_settings(
     Ok(settings)
 }
 
-// What a caller starts with: what its parent has at the fork.
+// The setting of a caller at its start: its parent's at the fork.
 fn start_setting(forks: &[Fork], settings: &[Vec<Setting>], caller: usize) -> Setting
     ensures { result ≡ first_found settings.now (front_in caller forks.now) }
 {
@@ -54,11 +54,11 @@ fn start_setting(forks: &[Fork], settings: &[Vec<Setting>], caller: usize) -> Se
     }
 }
 
-/// Of each caller, and of each of its calls, the setting that the call finds.
+/// The setting before each call of each caller.
 ///
 /// # Errors
 ///
-/// `AllocError` where there is no memory for them.
+/// `AllocError` if there is no memory for them.
 pub fn all_settings(
     alloc: Global,
     callers: &[Vec<Called<'_>>],

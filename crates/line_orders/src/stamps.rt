@@ -5,7 +5,7 @@ ghost use Rattle.line_orders.specs.Stamps.{stamp_after, IsAbove};
 use crate::along::Carry;
 use key_names::Step;
 
-/// The stamp of the last visit goes along an order, and the next has a higher one.
+/// The stamp of the last visit is carried along an order, and the next visit must have a higher one.
 pub struct Stamps;
 
 impl Carry for Stamps {

@@ -1,4 +1,4 @@
--- The base along its list, on what is kept of the pool.
+-- The base along its list, with the data kept of the pool.
 use Rattle.std.proofs.Common.{◌≡◌, ◌<◌, ◌≤◌, ◌+◌, ℕ, suc, List, [], ◌∷◌, ◌++◌, length, take, Option, Some, None, refl, sym, subst, ap, ◌∙◌, arith, ◌⊎◌, inl, inr}
 use Rattle.std.specs.Prelude.{slice_get, option_and_then, nat_le, if◌then◌else◌}
 use Rattle.key_names.specs.declared.entries.PoolEntry.{PoolEntry}
@@ -28,7 +28,7 @@ use Rattle.list_replay.proofs.Dumps.{some_or_none, and_then_is}
 use Rattle.list_replay.proofs.Filling.{closed_fills, closes_base}
 use Rattle.list_replay.proofs.Loops.{Behind, behind_more, at_too, fold_at}
 
--- ---- what is kept of the pool
+-- ---- the data kept of the pool
 
 root_place : (s : PoolState) (e : PoolEntry) →
     option_and_then (λ (root : Root). Some root.base_place) (root_kept s e) ≡ base_place_of e
@@ -48,7 +48,7 @@ module _ (lists : Lists) (pool : List KeptPool) (keeps : KeepsPoolLane pool list
   abbrev state : ℕ → PoolState
   state p = pool_after (take p lists.pool)
 
-  -- at each place both have nothing, or both something
+  -- at each place both have an element, or neither has
   pub record Both (p : ℕ) : Type 0 where
     pub kept : KeptPool
     pub entry : PoolEntry
@@ -130,7 +130,7 @@ root_within pool least place r h =
     let kept = and_then_is (λ (k : KeptPool). k.root) (slice_get pool r) root.0 root.1 in
     slice_get_within pool r kept.0 kept.1
 
--- ---- what fits
+-- ---- which entries fit
 
 fits_same : (s : BaseState) (value : List ℕ) (e : BaseEntry) →
     (Fits (base_at s value) e → BaseFits s e) × (BaseFits s e → Fits (base_at s value) e)
@@ -162,7 +162,7 @@ BaseMay lists i e = BaseMayCome lists.pool (base_after (take i lists.base)) e
 abbrev pub BaseKeeps : Lists → ℕ → KeptBase → BaseEntry → Type 0
 BaseKeeps lists i k e = KeepsBase (base_used_at lists.pool lists.base i) k (base_visit lists i e)
 
--- the base stands behind the entries below i
+-- the base after the entries below i
 pub record BaseBehind (lists : Lists) (i : ℕ) (base : BaseValue) (least : ℕ) (made : List KeptBase) : Type 0 where
   pub behind : Behind (BaseMay lists) (BaseKeeps lists) lists.base i made
   pub base_stands : base ≡ base_at (base_after (take i lists.base)) (base_value_after lists.pool (take i lists.base))
@@ -262,7 +262,7 @@ module _ (told : Tables) (pool : List KeptPool) (keeps : KeepsPoolLane pool (clo
           let f : base.generation ≤ i = h.few in omega arith);
     }
 
--- the same with all that the code makes by itself
+-- the same for equal values in the code
 pub base_next : (lists : Lists) (i : ℕ) (base : BaseValue) (least : ℕ) (made : List KeptBase) (next : BaseValue)
     (above : ℕ) (items : List KeptBase) → BaseBehind lists i base least made → next ≡ base → above ≡ least →
     items ≡ made → BaseBehind lists i next above items

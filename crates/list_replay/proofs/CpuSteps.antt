@@ -1,4 +1,4 @@
--- A CPU along its list, on what is kept of the base.
+-- A CPU along its list, with the data kept of the base.
 use Rattle.std.proofs.Common.{◌≡◌, ◌<◌, ◌≤◌, ◌+◌, ◌/◌, ℕ, suc, List, [], ◌∷◌, ◌++◌, take, true, false, Bool, not, Option, Some, None, refl, sym, subst, ap, ◌∙◌, arith, inl, inr}
 use Rattle.std.specs.Prelude.{slice_get, option_and_then, option_map, IsSome, nat_le, ◌||◌, ◌==◌, if◌then◌else◌}
 use Rattle.key_names.specs.declared.names.KeyName.{KeyName}
@@ -32,7 +32,7 @@ use Rattle.list_replay.proofs.Loops.{Behind, behind_none, behind_more, at_too, f
 
 -- ---- batches
 
--- what is kept of a fill, given the key in use at each place
+-- the data kept of a fill, given the key in use at each place
 abbrev kept_fill : (ℕ → List ℕ) → Option Fill → Option LastFill
 kept_fill keys None = None
 kept_fill keys (Some fill) = Some (record { look = fill.look; key = keys fill.place; count = fill.count })
@@ -64,7 +64,7 @@ module _ (keys : ℕ → List ℕ) (fills : ℕ → Option Fill) (f : LastFills)
       go None = refl
       go (Some fill) = refl
 
--- a batch that is not to be filled has bytes
+-- a batch that need not be filled has bytes
 used_up : (w count : ℕ) → IsWidth w → (b : Bool) → nat_le (96 / w) count || b ≡ false → count < 96
 used_up w count wide b is = elim wide [
   | inl e ↦ (let P : ℕ → Type 0 = λ x. nat_le (96 / x) count || b ≡ false in let h = subst P e is in below 96 h (omega arith))
@@ -162,7 +162,7 @@ module _ (keys : ℕ → List ℕ) where
   fills_more fills f place name Online wide h =
       record { one = h.one; two = h.two; four = h.four; eight = h.eight }
 
-  -- what the bytes come from
+  -- the source of the bytes
   source_in_is : (o : Option Fill) → source_kept (kept_fill keys o) ≡ source_in keys o
   source_in_is None = refl
   source_in_is (Some fill) = refl
@@ -178,7 +178,7 @@ module _ (keys : ℕ → List ℕ) where
   source_is fills f place Prepare wide h = refl
   source_is fills f place Online wide h = refl
 
-  -- what fits
+  -- which entries fit
   fits_is : (s : CpuState) (f : LastFills) (e : CpuEntry) → EntryIsWide e → FillsStand keys s.fills f →
       (FitsKept s.generation f e → CpuFits s e) × (CpuFits s e → FitsKept s.generation f e)
   fits_is s f (Read look refill taken) wide h = (
@@ -225,7 +225,7 @@ refill_keeps Interrupt named is = cc
 refill_keeps Stall named is = cc
 refill_keeps Unstall named is = cc
 
--- what the base handed over, of visits that keep their keys
+-- the key that the base handed over, from visits whose keys are kept
 pub handed_none : (base : List KeptBase) → KeysKept base → (c place look b : ℕ) (kept : KeptBase) →
     slice_get base b ≡ Some kept → NamesIn c place look (Some kept) → kept.key ≡ None → ⊥
 handed_none base keys c place look b kept is names none =
@@ -237,7 +237,7 @@ module _ (lists : Lists) (base : List KeptBase) (keeps : KeepsBaseLane base list
   entry_at : (b : ℕ) (k : KeptBase) → slice_get base b ≡ Some k → (e : BaseEntry) × (slice_get lists.base b ≡ Some e)
   entry_at b k is = at_too lists.base base b k (sym keeps.count) is
 
-  -- what erases its key keeps it
+  -- an entry that erases its key has it kept
   erased_key : (b : ℕ) (k : KeptBase) → slice_get base b ≡ Some k → base_erases k.entry ≡ true →
       k.key ≡ Some (base_used_at lists.pool lists.base b)
   erased_key b k is erases =
@@ -367,7 +367,7 @@ CpuMay lists c k e = CpuMayCome lists.base c (cpu_after lists.base c (take k (cp
 abbrev pub CpuKeeps : Lists → ℕ → ℕ → KeptCpu → CpuEntry → Type 0
 CpuKeeps lists c place k e = KeepsCpu (cpu_used_at lists c) k (cpu_visit lists c place e)
 
--- the CPU stands behind the entries below i
+-- the CPU after the entries below i
 pub record CpuBehind (lists : Lists) (c i : ℕ) (cpu : CpuValue) (f : LastFills) (made : List KeptCpu) : Type 0 where
   pub behind : Behind (CpuMay lists c) (CpuKeeps lists c) (cpu_list lists c) i made
   pub cpu_stands : cpu ≡ cpu_at (cpu_after lists.base c (take i (cpu_list lists c)))
@@ -489,7 +489,7 @@ module _ (told : Tables) (base : List KeptBase) (keeps : KeepsBaseLane base (clo
       place = ap (λ (x : CpuState). x.place) state_more ∙ ap suc h.place ∙ (let n : suc i ≡ i + 1 = omega arith in n);
     }
 
--- the same with all that the code makes by itself
+-- the same for equal values in the code
 pub cpu_next : (lists : Lists) (c i : ℕ) (cpu : CpuValue) (f : LastFills) (made : List KeptCpu) (next : CpuValue)
     (fills : LastFills) (items : List KeptCpu) → CpuBehind lists c i cpu f made → next ≡ cpu → fills ≡ f →
     items ≡ made → CpuBehind lists c i next fills items

@@ -1,4 +1,4 @@
--- Fast pools along told visits, and the dumps that the pool mixes.
+-- Fast pools along inferred visits, and the dumps that the pool mixes.
 use Rattle.std.proofs.Common.{◌≡◌, ◌<◌, ◌+◌, ℕ, zero, suc, List, [], ◌∷◌, ◌++◌, length, Bool, Option, Some, None, refl, sym, subst, ap, ◌∙◌, arith, ◌⊎◌, inl, inr}
 use Rattle.std.specs.Prelude.{slice_get, option_and_then}
 use Rattle.key_names.specs.declared.entries.PoolEntry.{PoolEntry}
@@ -103,7 +103,7 @@ module _ (told : Tables) (c i : ℕ) (t : ToldCpu) (f : FastPool) (is : slice_ge
       dump =
           dump_same f t.entry (cpu_visit (closed told) c i there.0) filled ∙ ap (λ g. dump_by g there.0) before
 
--- ---- what the pool mixes
+-- ---- the mixes of the pool
 
 dumped_by : (f : FastPool) (e : CpuEntry) (d : Dumped) → Some d ≡ dump_by f e →
     (now : ℕ) × (e ≡ Dump now) × (d ≡ record { bytes = dump_bytes f; bits = dump_bits f })

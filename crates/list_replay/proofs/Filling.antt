@@ -1,4 +1,4 @@
--- The closed lists are as told, and all lists that are as told have their lanes.
+-- The completed lists match the inferred entries, and all lists that match have the same lanes.
 use Rattle.std.proofs.Common.{◌≡◌, ◌+◌, ℕ, zero, suc, List, [], ◌∷◌, length, take, map, Some, None, refl, sym, subst, ap, ◌∙◌, arith}
 use Rattle.std.specs.Prelude.{slice_get}
 use Rattle.std.specs.List.{fold}
@@ -138,7 +138,7 @@ cpus_same base c (lane ∷ lanes) (es ∷ ess) count all =
     ∙ ap (λ xs. closed_cpu base c lane ∷ xs)
     (cpus_same base (suc c) lanes ess same (λ n m is. all (suc n) m (omega arith)))
 
--- ---- the closed lists are as told
+-- ---- the completed lists match
 
 closed_lane : (told : Tables) (c : ℕ) →
     list_at (closed_cpus (closed_base told) 0 told.cpus) c ≡ closed_cpu (closed_base told) c (list_at told.cpus c)
@@ -163,7 +163,7 @@ cpu_counted told c =
     ∙ filled_count (λ s (u : ToldCpu). cpu_told_entry s u.entry) (cpu_step (closed_base told) c) cpu_start
     (list_at told.cpus c)
 
--- the fast pools of lists whose CPUs are as told
+-- the fast pools of lists whose CPUs match
 pub fast_same : (told : Tables) (lists : Lists) (c : ℕ) →
     length (cpu_list lists c) ≡ length (list_at told.cpus c) →
     ((k : ℕ) (t : ToldCpu) (e : CpuEntry) → slice_get (list_at told.cpus c) k ≡ Some t →
@@ -210,7 +210,7 @@ closed_fills told = record {
   cpu = λ c k t e is at. cpu_filled told c k t e is at;
 }
 
--- ---- and all that are, have the same lanes
+-- ---- all lists that match have the same lanes
 
 pub record SameLanes (a b : Lists) : Type 0 where
   pub pool : a.pool ≡ b.pool

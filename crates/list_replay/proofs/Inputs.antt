@@ -8,7 +8,7 @@ use Rattle.input_pool.proofs.Callers.{mixed, mixed_and_credited, input_bytes, cr
 use Rattle.sample_credit.specs.LastInput.{LastInput}
 use Rattle.list_replay.specs.PoolLane.{LaneStands}
 
--- the sample of an event with another value was mixed, and its value kept
+-- the sample of an event with another value was mixed, and the value kept
 pub record Mixed (s : PoolState) (word kind code value : ℕ) (before between : PoolParts) (last kept : LastInput)
     (text : List ℕ) : Type 0 where
   pub pool : PoolStands before s
@@ -27,7 +27,7 @@ module _ (s : PoolState) (word kind code value now : ℕ) (before between : Pool
   uncredited : between.bits ≡ s.bits
   uncredited = m.mixes.credited ∙ credit-none s.bits m.pool.capped
 
-  -- where the pool is full, nothing is credited
+  -- nothing is credited if the pool is full
   pub untimed : 256 ≤ between.bits →
       LaneStands (record { pool = between; timer = kept }) (pool_step s (Input word kind code value now))
   untimed full = let full' : 256 ≤ s.bits = (let u = uncredited in omega arith) in let e =
@@ -38,7 +38,7 @@ module _ (s : PoolState) (word kind code value now : ℕ) (before between : Pool
         timer = ap (λ (k : LastInput). k.timer) m.keeps ∙ m.timer_stood ∙ sym (ap (λ (z : PoolState). z.timer) e);
       }
 
-  -- and where it is not, what the timer gives
+  -- otherwise the timer determines the credit
   module _ (after : PoolParts) (next : LastInput) (bits : ℕ) (room : between.bits < 256)
       (worth : bits ≡ timer_bits kept.timer now) (credits : PoolStands after (mixed_and_credited s text bits)) where
     room' : s.bits < 256

@@ -1,4 +1,4 @@
--- Lanes of CPUs, held in vectors.
+-- Lanes of CPUs, kept in vectors.
 use Rattle.std.proofs.Common.{◌≡◌, ◌<◌, ◌+◌, ℕ, zero, suc, List, [], ◌∷◌, ◌++◌, length, map, get_or, Vec, Global, refl, sym, subst, ap, arith}
 use Rattle.std.specs.Prelude.{slice_index_or, All}
 use Rattle.std.proofs.lemmas.List.{length-map}
@@ -36,7 +36,7 @@ list_index [] c = refl
 list_index (xs ∷ xss) zero = refl
 list_index (xs ∷ xss) (suc c) = list_index xss c
 
--- what holds of all lanes holds of one
+-- a fact of all lanes is true of one
 pub all_at : {E : Type 0} (P : List E → Type 0) (xss : List (List E)) (c : ℕ) → c < length xss → All P xss →
     P (list_at xss c)
 all_at P xss c below all = subst P (list_index xss c) (all c [] below)

@@ -1,4 +1,4 @@
--- Going along a list: what holds of the places behind, and what is kept of them.
+-- Going along a list: facts of the places so far, and the data kept of them.
 use Rattle.std.proofs.Common.{◌≡◌, ◌<◌, ◌+◌, ℕ, zero, suc, List, [], ◌∷◌, ◌++◌, length, take, Some, None, get_or, refl, sym, subst, ap, ◌∙◌, arith, inl, inr, ◌⊎◌}
 use Rattle.std.specs.Prelude.{slice_get}
 use Rattle.std.specs.List.{fold}
@@ -8,13 +8,13 @@ use Rattle.std.proofs.lemmas.Option.{slice_get_within, slice_get-get_or, get_or_
 use Rattle.key_names.specs.LawfulList.{LawfulFrom}
 use Rattle.list_replay.specs.Places.{AllPlaces, AllKept}
 
--- the element that a loop reads, in a list that is the same
+-- the element that a loop reads, in an equal list
 pub found : {T : Type 0} (xs ys : List T) (i : ℕ) (d : T) → xs ≡ ys → i < length xs →
     slice_get ys i ≡ Some (get_or xs i d)
 found xs ys i d same below =
     subst (λ zs. slice_get zs i ≡ Some (get_or xs i d)) same (slice_get-get_or xs i d below)
 
--- one more entry behind
+-- one more entry
 pub take_at : {E : Type 0} (list : List E) (i : ℕ) (e : E) → slice_get list i ≡ Some e →
     take (i + 1) list ≡ take i list ++ e ∷ []
 take_at list i e is =
@@ -26,7 +26,7 @@ pub fold_at : {S E : Type 0} (step : S → E → S) (s : S) (list : List E) (i :
 fold_at step s list i e is =
     ap (fold step s) (take_at list i e is) ∙ fold-append step s (take i list) (e ∷ [])
 
--- what is in a list with one more thing
+-- the elements of a list with one more item
 pub push_at : {K : Type 0} (made : List K) (k x : K) (j : ℕ) → slice_get (made ++ k ∷ []) j ≡ Some x →
     (slice_get made j ≡ Some x) ⊎ ((j ≡ length made) × (x ≡ k))
 push_at [] k x zero is = let same : k ≡ x = cc in inr (refl, sym same)
@@ -44,7 +44,7 @@ below_or_at (suc j) (suc i) below = elim (below_or_at j i (omega arith)) [
   | inr h ↦ inr (ap suc h)
 ]
 
--- another list has as much
+-- another list of the same length has an element there
 pub at_too : {E T : Type 0} (list : List E) (told : List T) (i : ℕ) (t : T) → length list ≡ length told →
     slice_get told i ≡ Some t → (e : E) × (slice_get list i ≡ Some e)
 at_too [] [] i t same is = let never : None ≡ Some t = is in cc
@@ -53,7 +53,7 @@ at_too (e ∷ list) [] i t same is = cc
 at_too (e ∷ list) (u ∷ told) zero t same is = (e, refl)
 at_too (e ∷ list) (u ∷ told) (suc i) t same is = let s : length list ≡ length told = cc in at_too list told i t s is
 
--- the places below i are as P says, and S holds of each and what was made of it
+-- P holds of the places below i, and S of each with its kept item
 pub record Behind {K E : Type 0} (P : ℕ → E → Type 0) (S : ℕ → K → E → Type 0) (list : List E) (i : ℕ)
     (made : List K) : Type 0 where
   pub holds : (j : ℕ) (e : E) → j < i → slice_get list j ≡ Some e → P j e
@@ -102,7 +102,7 @@ module _ {K E : Type 0} (P : ℕ → E → Type 0) (S : ℕ → K → E → Type
     record { count = h.count ∙ sym all; each = h.each },
   )
 
--- a list is lawful exactly where each of its entries may come
+-- a list is lawful exactly if each of its entries is allowed at its place
 pub lawful_by_place : {S E : Type 0} (May : S → E → Type 0) (step : S → E → S) (s : S) (list : List E) →
     AllPlaces (λ i e. May (fold step s (take i list)) e) list → LawfulFrom May step s list
 lawful_by_place May step s [] all = tt

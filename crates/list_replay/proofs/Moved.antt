@@ -1,4 +1,4 @@
--- What holds of lists holds of all lists with the same lanes: the lists of vgetrandom states do not matter.
+-- Facts of lists are facts of all lists with the same lanes: the lists of vgetrandom states do not matter.
 use Rattle.std.proofs.Common.{◌≡◌, ℕ, List, [], ◌∷◌, take, Option, Some, None, true, false, refl, sym, subst, ap, ◌∙◌}
 use Rattle.std.specs.Prelude.{slice_get, if◌then◌else◌}
 use Rattle.std.specs.List.{fold}

@@ -28,7 +28,7 @@ Any p e = Unit {0}
 abbrev pub PoolKeeps : Lists → ℕ → KeptPool → PoolEntry → Type 0
 PoolKeeps lists p k e = KeepsPool k (pool_visit lists p e)
 
--- the pool stands behind the entries below i
+-- the pool after the entries below i
 pub record PoolBehind (told : Tables) (i : ℕ) (lane : Lane) (made : List KeptPool) : Type 0 where
   pub stands : LaneStands lane (pool_after (take i (closed told).pool))
   pub mixed : (j : ℕ) (t : ToldPool) → j < i → slice_get told.pool j ≡ Some t → MixStands (closed told) t
@@ -77,7 +77,7 @@ pub pool_next : (told : Tables) (i : ℕ) (lane : Lane) (made items : List KeptP
     items ≡ made → PoolBehind told i lane items
 pool_next told i lane made items h is = subst (λ x. PoolBehind told i lane x) (sym is) h
 
--- the same from what a visit by the code answers
+-- the same from the answer of the code for a visit
 pub pool_visited : (told : Tables) (dumps : List (List (Option Dump))) (all : AllDumps (closed told) dumps) (i : ℕ)
     (t : ToldPool) → slice_get told.pool i ≡ Some t → (lane : Lane) (made : List KeptPool) → PoolBehind told i lane made →
     (next : Lane) (result : Option (Option Root)) → (entry_found dumps t ≡ None → result ≡ None) →

@@ -1,4 +1,4 @@
--- The closed lists are lawful exactly where each lane was found so, and each name is answered in what is kept.
+-- The completed lists are lawful exactly if each lane was found lawful and all names in the kept data are mutual.
 use Rattle.std.proofs.Common.{◌≡◌, ℕ, zero, suc, List, [], ◌∷◌, length, map, Option, Some, None, refl, sym, subst, ap, ◌∙◌}
 use Rattle.std.specs.Prelude.{slice_get, option_and_then}
 use Rattle.key_names.specs.PoolList.{extraction_at}
@@ -31,7 +31,7 @@ use Rattle.list_replay.proofs.Filling.{closed_fills, fills_same}
 use Rattle.list_replay.proofs.Loops.{lawful_by_place}
 use Rattle.list_replay.proofs.Moved.{kept_of_same, lawful_of_same}
 
--- what a thing kept names is what its entry names
+-- a kept item has the name that its entry has
 names_same : {K E B : Type 0} (f : K → Option B) (g : E → Option B) (kept : List K) (list : List E) →
     length kept ≡ length list →
     ((i : ℕ) (k : K) (e : E) → slice_get kept i ≡ Some k → slice_get list i ≡ Some e → f k ≡ g e) → (i : ℕ) →
@@ -160,7 +160,7 @@ module _ (told : Tables) where
     mixes = λ p c k is. mixed p (dumped c k) is;
   }
 
--- what is found of the closed lists holds of all that are as told
+-- the findings about the completed lists are true of all lists that match
 pub closed_lawful : (told : Tables) (lists : Lists) → Fills told lists → Lawful told lists → Lawful told (closed told)
 closed_lawful told lists fills lawful =
     lawful_of_same lists (closed told) (fills_same told lists fills) told lawful

@@ -1,4 +1,4 @@
--- The base as it goes along its list.
+-- The base along its list.
 use Rattle.std.specs.Prelude.{ℕ, ◌≡◌, ◌≤◌, ⊤, Option, Some, None, List, take, slice_get, option_and_then}
 use Rattle.key_names.specs.declared.entries.BaseEntry.{BaseEntry}
 use Rattle.key_names.specs.PoolList.{Crossing, none}
@@ -10,7 +10,7 @@ use Rattle.list_replay.specs.declared.kept.Root.{Root}
 use Rattle.list_replay.specs.declared.kept.KeptPool.{KeptPool}
 use Rattle.list_replay.specs.Places.{AllPlaces}
 
--- the state that a base is in, but for what it does not keep: its place, its roots and its key's name
+-- the state of a base, without the parts that it does not keep: its place, its roots and the name of its key
 abbrev pub state_of : BaseValue → BaseState
 state_of b = record {
   place = 0;
@@ -26,7 +26,7 @@ state_of b = record {
 abbrev pub Fits : BaseValue → BaseEntry → Type 0
 Fits b e = BaseFits (state_of b) e
 
--- what the entry at a place of the pool crossed
+-- the crossing of the entry at a place of the pool
 abbrev pub crossing_kept : Option KeptPool → Crossing
 crossing_kept None = none
 crossing_kept (Some kept) = crossing_of kept.crossing
@@ -34,19 +34,19 @@ crossing_kept (Some kept) = crossing_of kept.crossing
 abbrev pub crossed_of : List KeptPool → ℕ → Crossing
 crossed_of pool place = crossing_kept (slice_get pool place)
 
--- the root that the pool gave at a place
+-- the root from the pool's visit at a place
 abbrev pub root_in : List KeptPool → ℕ → Option Root
 root_in pool r = option_and_then (λ (kept : KeptPool). kept.root) (slice_get pool r)
 
 abbrev pub root_value_in : List KeptPool → ℕ → Option (List ℕ)
 root_value_in pool r = option_and_then (λ (root : Root). Some root.value) (root_in pool r)
 
--- a root that is named is at least so much, and its extraction names this place
+-- a named root is not below least, and its extraction names this place
 abbrev pub RootStandsIn : List KeptPool → ℕ → ℕ → Option ℕ → Type 0
 RootStandsIn pool least place None = ⊤
 RootStandsIn pool least place (Some r) =
     (least ≤ r) × (option_and_then (λ (root : Root). Some root.base_place) (root_in pool r) ≡ Some place)
 
--- each entry of the base may come
+-- each entry of the base is allowed at its place
 abbrev pub AllBaseMay : Lists → Type 0
 AllBaseMay lists = AllPlaces (λ i e. BaseMayCome lists.pool (base_after (take i lists.base)) e) lists.base

@@ -1,5 +1,5 @@
--- The lists that are as told: made by closing what is told lane by lane, first of CPUs what changes their fast pools,
--- then the pool, the base and the CPUs.
+-- The lists that match the inferred entries. They are made by completing the entries lane by lane: first the fast pools
+-- of the CPUs, then the pool, the base and the CPUs.
 use Rattle.std.specs.Prelude.{ℕ, suc, None, List, [], ◌∷◌, map, take, nat_le, if◌then◌else◌, slice_get}
 use Rattle.std.specs.List.{fold}
 use Rattle.key_names.specs.declared.entries.PoolEntry.{PoolEntry}
@@ -23,12 +23,12 @@ use Rattle.list_replay.specs.declared.told.ToldCpu.{ToldCpu}
 use Rattle.list_replay.specs.Fills.{pool_entry}
 use Rattle.list_replay.specs.Tables.{Tables}
 
--- each entry is closed in the state that the entries before it leave
+-- each entry is completed in the state after the entries before it
 abbrev pub filled : {S T E : Type 0} → (S → T → E) → (S → E → S) → S → List T → List E
 filled close step s [] = []
 filled close step s (t ∷ ts) = close s t ∷ filled close step (step s (close s t)) ts
 
--- what is told of a visit changes a fast pool: an integer does not
+-- the fast pool after an inferred entry; an integer does not change it
 abbrev pub fast_told : FastPool → CpuTold → FastPool
 fast_told f (cpu_is e) = fast_step f e
 fast_told f (batch look width) = f

@@ -1,4 +1,4 @@
--- A CPU as it goes along its list.
+-- A CPU along its list.
 use Rattle.std.specs.Prelude.{ℕ, ◌+◌, ◌/◌, ◌≡◌, ◌≤◌, ◌<◌, ◌↔◌, ◌⊎◌, ⊤, Bool, true, false, not, ◌||◌, ◌==◌, nat_le}
 use Rattle.std.specs.Prelude.{Option, Some, None, List, take, slice_get, IsSome, if◌then◌else◌}
 use Rattle.key_names.specs.declared.entries.CpuEntry.{CpuEntry}
@@ -47,7 +47,7 @@ abbrev pub HasRoom : Option LastFill → Type 0
 HasRoom None = ⊤
 HasRoom (Some fill) = fill.count < 96
 
--- a batch that is not filled has bytes
+-- the entry fills its batch, or the batch has bytes
 abbrev pub RoomFor : LastFills → CpuEntry → Type 0
 RoomFor f (Int look refill width true) = ⊤
 RoomFor f (Int look refill width false) = HasRoom (slot f width)
@@ -86,11 +86,11 @@ refill_named (Dump now) = None
 refill_named Prepare = None
 refill_named Online = None
 
--- of each entry of the base that erases its key, that is kept
+-- the key is kept of each base entry that erases its key
 abbrev pub KeysKept : List KeptBase → Type 0
 KeysKept base = (b : ℕ) (kept : KeptBase) → slice_get base b ≡ Some kept → base_erases kept.entry ≡ true → IsSome kept.key
 
--- what is kept of the base at a place names this place of a CPU, at a generation of at least the look
+-- the base's visit at a place names this place of a CPU, and has a generation of at least the look
 abbrev pub NamesIn : ℕ → ℕ → ℕ → Option KeptBase → Type 0
 NamesIn cpu place look None = ⊥
 NamesIn cpu place look (Some kept) = (refill_of kept.entry ≡ Some (cpu, place)) × (look ≤ kept.generation)
@@ -99,13 +99,13 @@ abbrev pub RefillStandsIn : List KeptBase → ℕ → ℕ → Option (ℕ × ℕ
 RefillStandsIn base cpu place None = ⊤
 RefillStandsIn base cpu place (Some named) = NamesIn cpu place named.0 (slice_get base named.1)
 
--- what the base handed over in a refill that is named
+-- the key and generation that the base handed over in a named refill
 abbrev pub HandedStands : List KeptBase → Option (ℕ × ℕ) → Option CpuValue → Type 0
 HandedStands base None handed = handed ≡ None
 HandedStands base (Some named) handed = (kept : KeptBase) (key : List ℕ) → slice_get base named.1 ≡ Some kept →
     kept.key ≡ Some key → handed ≡ Some (record { key = keystream key 32 32; generation = kept.generation })
 
--- ---- what an entry makes
+-- ---- the effect of an entry
 
 abbrev pub used : Option CpuValue → CpuValue → CpuValue
 used None c = c
@@ -147,7 +147,7 @@ source_entered Online key f = no_source
 
 -- ---- lanes
 
--- each entry of a CPU may come
+-- each entry of a CPU is allowed at its place
 abbrev pub AllCpuMay : Lists → ℕ → Type 0
 AllCpuMay lists c =
     AllPlaces (λ k e. CpuMayCome lists.base c (cpu_after lists.base c (take k (cpu_list lists c))) e) (cpu_list lists c)

@@ -1,4 +1,4 @@
--- What CPUs dump.
+-- The dumps of CPUs.
 use Rattle.std.specs.Prelude.{ℕ, ◌≡◌, ⊤, Bool, Option, Some, None, List, take, slice_get}
 use Rattle.key_names.specs.declared.entries.CpuEntry.{CpuEntry}
 use Rattle.key_names.specs.declared.entries.CpuEntry.TheVariants.{Read, Int, Irq, Dump, Prepare, Online}
@@ -17,7 +17,7 @@ abbrev pub DueTold : FastPool → Bool → CpuTold → Type 0
 DueTold f dumps (cpu_is e) = DueStands f dumps e
 DueTold f dumps (batch look width) = ⊤
 
--- what an entry dumps, if it is a dump
+-- the dump of an entry, if it is one
 abbrev pub dump_by : FastPool → CpuEntry → Option Dumped
 dump_by f (Dump now) = Some (record { bytes = dump_bytes f; bits = dump_bits f })
 dump_by f (Read look refill taken) = None
@@ -34,7 +34,7 @@ dump_told f (batch look width) = None
 abbrev pub fast_at : Lists → ℕ → ℕ → FastPool
 fast_at lists c k = fast_after (take k (cpu_list lists c))
 
--- dumps are due at a place where they are told
+-- if the entry at this place is an interrupt, it makes a dump due exactly if its line dumps
 abbrev pub DueAt : Tables → ℕ → ℕ → CpuEntry → Type 0
 DueAt told c k e = (t : ToldCpu) → slice_get (list_at told.cpus c) k ≡ Some t →
     DueStands (fast_at (closed told) c k) t.dumps e
@@ -42,7 +42,7 @@ DueAt told c k e = (t : ToldCpu) → slice_get (list_at told.cpus c) k ≡ Some 
 abbrev pub AllDue : Tables → Type 0
 AllDue told = AllPlaces (λ c lane. AllPlaces (DueAt told c) lane) (closed told).cpus
 
--- what the visit at a place dumps
+-- the dump of the visit at a place
 abbrev pub DumpIs : Lists → ℕ → ℕ → Option Dumped → CpuEntry → Type 0
 DumpIs lists c k dump e = dump ≡ dump_by (fast_at lists c k) e
 

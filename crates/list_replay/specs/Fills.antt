@@ -1,4 +1,4 @@
--- Lists that are as told.
+-- Lists that match the inferred entries.
 use Rattle.std.specs.Prelude.{ℕ, ◌≡◌, Some, length, slice_get}
 use Rattle.key_names.specs.declared.entries.PoolEntry.{PoolEntry}
 use Rattle.key_names.specs.declared.entries.PoolEntry.TheVariants.{Mix}
@@ -16,12 +16,12 @@ use Rattle.list_replay.specs.declared.told.ToldPool.TheVariants.{Is as pool_is, 
 use Rattle.list_replay.specs.declared.told.ToldCpu.{ToldCpu}
 use Rattle.list_replay.specs.Tables.{Tables}
 
--- the entry of the pool that is told, given the fast pools
+-- the inferred entry of the pool, given the fast pools
 abbrev pub pool_entry : LaneFacts → ToldPool → PoolEntry
 pool_entry c (pool_is note) = entry_of note
 pool_entry c (dumped cpu place) = Mix (dump_bytes (c.fast cpu place)) (dump_bits (c.fast cpu place))
 
--- each lane has a visit for each that is told, with the entry that is told
+-- each lane has as many visits as inferred entries, and each visit has its inferred entry
 pub record Fills (told : Tables) (lists : Lists) : Type 0 where
   pub pool_count : length lists.pool ≡ length told.pool
   pub base_count : length lists.base ≡ length told.base

@@ -1,4 +1,4 @@
--- What is kept of lists.
+-- The data kept of lists.
 use Rattle.std.specs.Prelude.{ℕ, ◌≡◌, Option, Some, None, List, map, true, false, if◌then◌else◌}
 use Rattle.key_names.specs.declared.entries.PoolEntry.{PoolEntry}
 use Rattle.key_names.specs.declared.entries.PoolEntry.TheVariants.{Mix, Input, Bits, Extract}
@@ -19,7 +19,7 @@ use Rattle.list_replay.specs.declared.kept.Lists.{Lists as KeptLists}
 use Rattle.list_replay.specs.declared.kept.Source.{Source}
 use Rattle.list_replay.specs.Places.{AllKept}
 
--- the root that an entry of the pool gives in a state
+-- the root of an extraction in a state of the pool
 abbrev pub root_kept : PoolState → PoolEntry → Option Root
 root_kept s (Extract hw base_place) = Some (record { value = root_of_extraction s hw; base_place = base_place })
 root_kept s (Mix text bits) = None
@@ -44,7 +44,7 @@ abbrev pub source_in : (ℕ → List ℕ) → Option Fill → Source
 source_in used None = no_source
 source_in used (Some fill) = record { key = Some (used fill.place); served = fill.count }
 
--- what the bytes of an entry come from, given the key in use at each place of its CPU
+-- the source of an entry's bytes, given the key in use at each place of its CPU
 abbrev pub source_of : (ℕ → List ℕ) → (ℕ → Option Fill) → ℕ → CpuEntry → Source
 source_of used fills place (Read look refill taken) = record { key = Some (used place); served = 0 }
 source_of used fills place (Int look refill width true) = record { key = Some (used place); served = 0 }
@@ -70,7 +70,7 @@ KeepsBaseLane kept lists =
 abbrev pub KeepsCpuLane : Lists → ℕ → List KeptCpu → List CpuEntry → Type 0
 KeepsCpuLane lists c kept es = AllKept (λ place k e. KeepsCpu (cpu_used_at lists c) k (cpu_visit lists c place e)) kept es
 
--- of each visit of each lane what it met is kept
+-- the data are kept of each visit of each lane
 pub record Keeps (kept : KeptLists) (lists : Lists) : Type 0 where
   pub pool : KeepsPoolLane kept.pool.items lists
   pub base : KeepsBaseLane kept.base.items lists

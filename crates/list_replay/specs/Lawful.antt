@@ -1,4 +1,4 @@
--- When lists that are as told are lawful: as lanes, and in the dumps of the fast pools.
+-- Lawful among the lists that match the inferred entries: as lanes, and in the dumps of the fast pools.
 use Rattle.std.specs.Prelude.{ℕ, ◌≡◌, ⊤, Bool, Some, take, slice_get}
 use Rattle.key_names.specs.declared.entries.CpuEntry.{CpuEntry}
 use Rattle.key_names.specs.declared.entries.CpuEntry.TheVariants.{Read, Int, Irq, Dump, Prepare, Online}
@@ -8,7 +8,7 @@ use Rattle.list_replay.specs.declared.told.ToldPool.TheVariants.{Dumped as dumpe
 use Rattle.list_replay.specs.declared.told.ToldCpu.{ToldCpu}
 use Rattle.list_replay.specs.Tables.{Tables}
 
--- an interrupt makes a dump due exactly where its line dumps
+-- an interrupt makes a dump due exactly if its line dumps
 abbrev pub DueStands : FastPool → Bool → CpuEntry → Type 0
 DueStands f dumps (Irq v1 v2 now) = makes_due f now ≡ dumps
 DueStands f dumps (Read look refill taken) = ⊤
@@ -24,8 +24,8 @@ pub record DumpsAt (lists : Lists) (cpu place : ℕ) : Type 0 where
 
 pub record Lawful (told : Tables) (lists : Lists) : Type 0 where
   pub lanes : LawfulLanes lists
-  -- a dump is due where one is told to follow, and nowhere else
+  -- an interrupt makes a dump due exactly if its line dumps next
   pub dues : (c k : ℕ) (t : ToldCpu) (e : CpuEntry) → slice_get (list_at told.cpus c) k ≡ Some t →
       slice_get (cpu_list lists c) k ≡ Some e → DueStands (fast_after (take k (cpu_list lists c))) t.dumps e
-  -- what is told to mix a dump's bytes names a dump
+  -- a mix of a dump names a place where the CPU dumps
   pub mixes : (p cpu place : ℕ) → slice_get told.pool p ≡ Some (dumped cpu place) → DumpsAt lists cpu place

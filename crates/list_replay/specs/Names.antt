@@ -1,4 +1,4 @@
--- Names that are answered, in what is kept.
+-- Names in both directions, in the kept data.
 use Rattle.std.specs.Prelude.{ℕ, ◌≡◌, ⊤, Option, Some, None, List, slice_get, option_and_then}
 use Rattle.key_names.specs.BaseList.{root_of, refill_of}
 use Rattle.key_names.specs.CpuList.{base_refill_of}
@@ -19,7 +19,7 @@ abbrev pub AllExtractionsAnswered : List KeptPool → List KeptBase → Type 0
 AllExtractionsAnswered pool base = (p : ℕ) (kept : KeptPool) (root : Root) → slice_get pool p ≡ Some kept →
     kept.root ≡ Some root → root_named_in base root.base_place ≡ Some p
 
--- what a visit of the base names, names it
+-- the CPU's entry that a visit of the base names also names that visit
 abbrev pub AnsweredBy : List (List KeptCpu) → ℕ → Option (ℕ × ℕ) → Type 0
 AnsweredBy cpus b None = ⊤
 AnsweredBy cpus b (Some named) = refill_named_in cpus named.0 named.1 ≡ Some b

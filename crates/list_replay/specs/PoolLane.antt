@@ -1,4 +1,4 @@
--- The pool as it goes along its list.
+-- The pool along its list.
 use Rattle.std.specs.Prelude.{ℕ, ◌≡◌, ⊤, Option, Some, List, slice_get, option_and_then}
 use Rattle.key_names.specs.declared.entries.PoolEntry.{PoolEntry}
 use Rattle.key_names.specs.declared.entries.PoolEntry.TheVariants.{Mix}
@@ -27,12 +27,12 @@ dump_in dumps c k = option_and_then (λ lane. option_and_then (λ dump. dump) (s
 abbrev pub mix_of : Dump → Option PoolEntry
 mix_of dump = Some (Mix dump.bytes dump.bits)
 
--- the entry that is told, given the dumps
+-- the inferred entry, given the dumps
 abbrev pub entry_found : List (List (Option Dump)) → ToldPool → Option PoolEntry
 entry_found dumps (pool_is note) = Some (entry_of note)
 entry_found dumps (dumped c k) = option_and_then mix_of (dump_in dumps c k)
 
--- what is told to mix a dump's bytes names a dump
+-- a mix of a dump names a place where the CPU dumps
 abbrev pub MixStands : Lists → ToldPool → Type 0
 MixStands lists (pool_is note) = ⊤
 MixStands lists (dumped c k) = DumpsAt lists c k

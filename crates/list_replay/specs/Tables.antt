@@ -1,4 +1,4 @@
--- The tables of what is told, as lists, and the entries that are told. Numbers of tables are in ranges that all lines keep.
+-- The tables of inferred entries, as lists. Their numbers are in ranges that all lines respect.
 use Rattle.std.specs.Prelude.{ℕ, ◌≡◌, ◌<◌, ◌^◌, ◌⊎◌, ⊤, List, map, length, All}
 use Rattle.key_names.specs.declared.notes.PoolNote.{PoolNote}
 use Rattle.key_names.specs.declared.notes.PoolNote.TheVariants.{Mix as MixNote, Device, Input as InputNote}
@@ -31,7 +31,7 @@ tables_of told = record {
 
 -- ---- ranges
 
--- a moment of an input event is below 2^40
+-- the moment of an input event is below 2^40
 abbrev pub NoteIsNear : PoolNote → Type 0
 NoteIsNear (InputNote word kind code value now) = now < 2 ^ 40
 NoteIsNear (MixNote text bits) = ⊤
@@ -43,7 +43,7 @@ abbrev pub PoolIsNear : ToldPool → Type 0
 PoolIsNear (pool_is note) = NoteIsNear note
 PoolIsNear (dumped cpu place) = ⊤
 
--- and so is that of a reseed or a tick
+-- so is the moment of a reseed or a tick
 abbrev pub EntryIsNear : BaseEntry → Type 0
 EntryIsNear (Reseed root now) = now < 2 ^ 40
 EntryIsNear (Tick now root) = now < 2 ^ 40
@@ -79,7 +79,7 @@ abbrev pub CpuIsWide : CpuTold → Type 0
 CpuIsWide (cpu_is e) = EntryIsWide e
 CpuIsWide (batch look width) = IsWidth width
 
--- what a transcript's tables keep: fewer than 2^32 CPUs, moments below 2^40, and the widths of integers
+-- the ranges of a transcript's tables: fewer than 2^32 CPUs, moments below 2^40, and the widths of integers
 pub record InRange (told : Tables) : Type 0 where
   pub cpus_count : length told.cpus < 2 ^ 32
   pub notes : All PoolIsNear told.pool

@@ -18,7 +18,7 @@ use key_names::BaseEntry;
 use line_forms::told::BaseTold;
 use std::alloc::{AllocError, Global};
 
-/// Whether phase, generation, timer and running count let an entry come.
+/// Whether the base's phase, generation, timer and running count allow an entry.
 fn fits(base: &Base, entry: BaseEntry) -> bool
     ensures { IsTrue result ↔ Fits base.now entry }
 {
@@ -36,8 +36,8 @@ fn fits(base: &Base, entry: BaseEntry) -> bool
     }
 }
 
-/// The base after an entry that fits it, given the root that the entry names; and the key in use, if the entry erases
-/// it.
+/// Changes the base by an entry that fits it. `root` is the value of the root that the entry names. Returns the key in
+/// use if the entry erases it.
 fn enter(base: &mut Base, entry: BaseEntry, root: [u8; 32]) -> Option<[u8; 32]>
     requires generation { base.old.generation < 2 ^ 63 }
     requires moment { EntryIsNear entry }
@@ -64,7 +64,7 @@ fn enter(base: &mut Base, entry: BaseEntry, root: [u8; 32]) -> Option<[u8; 32]>
     None
 }
 
-/// What the entry at a place of the pool crossed.
+/// The crossing of the entry at a place of the pool.
 fn crossed_at(pool: &[KeptPool], place: u64) -> Crossing
     ensures { crossing_of result ≡ crossed_of pool.now place }
 {
@@ -74,7 +74,7 @@ fn crossed_at(pool: &[KeptPool], place: u64) -> Crossing
     }
 }
 
-/// The entry that is told.
+/// The inferred entry, completed.
 fn close(base: &Base, told: BaseTold, pool: &[KeptPool]) -> BaseEntry
     ensures { result ≡ base_entry (crossed_of pool.now) (state_of base.now) told }
 {
@@ -94,8 +94,8 @@ fn close(base: &Base, told: BaseTold, pool: &[KeptPool]) -> BaseEntry
     }
 }
 
-/// The value of the root that is named, zeros where none is; `None` where it is below `least`, or its extraction does
-/// not name this place.
+/// The value of the named root, or zeros if no root is named. `None` if the root is below `least`, or if its extraction
+/// does not name this place.
 fn root_value(pool: &[KeptPool], least: u64, place: u64, named: Option<u64>) -> Option<[u8; 32]>
     ensures { MatchOption result (RootStandsIn pool.now least place named → ⊥) (λ value.
         RootStandsIn pool.now least place named × ((r : ℕ) → named ≡ Some r → root_value_in pool.now r ≡ Some value)) }
@@ -111,7 +111,7 @@ fn root_value(pool: &[KeptPool], least: u64, place: u64, named: Option<u64>) -> 
     }
 }
 
-/// What the base's list keeps, if it is lawful.
+/// The data kept of the base's list, if it is lawful.
 pub(crate) fn replay_base(
     alloc: Global,
     told: &Told,

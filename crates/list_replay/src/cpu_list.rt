@@ -54,14 +54,14 @@ fn refills(kept: &KeptBase, cpu: u32, place: u64, look: u64) -> bool
     }
 }
 
-/// What is kept of the base at a place.
+/// The data kept of the base's visit at a place.
 fn kept_at(base: &[KeptBase], place: u64) -> Option<KeptBase>
     ensures { result ≡ slice_get base.now place }
 {
     base.get(place as usize).copied()
 }
 
-/// What the base hands over, if its visit keeps the key in use.
+/// The key and generation that the base hands over; `None` if no key in use is kept of its visit.
 fn hand_over(kept: &KeptBase) -> Option<Cpu>
     ensures { MatchOption result (kept.now.key ≡ None) (λ handed. (key : List ℕ) → kept.now.key ≡ Some key
         → handed ≡ record { key = keystream key 32 32; generation = kept.now.generation }) }
@@ -70,8 +70,8 @@ fn hand_over(kept: &KeptBase) -> Option<Cpu>
     Some(Cpu::with(derive_key(&mut key), kept.generation))
 }
 
-/// What the base handed over in the refill that the entry at this place of a CPU names, if it names one; `None` where
-/// that does not name the place, or is of a generation below the look.
+/// The key and generation from the refill that the entry at this place of a CPU names, if it names one. `None` if that
+/// refill does not name the place, or has a generation below the look.
 fn handed(base: &[KeptBase], cpu: u32, place: u64, entry: CpuEntry) -> Option<Option<Cpu>>
     requires { KeysKept base.now }
     ensures { MatchOption result (RefillStandsIn base.now cpu place (refill_named entry) → ⊥) (λ handed.
@@ -95,7 +95,7 @@ pub(crate) struct Lane {
 }
 
 impl Lane {
-    /// The entry that is told.
+    /// The inferred entry, completed.
     fn close(&self, told: CpuTold) -> CpuEntry
         requires { CpuIsWide told }
         ensures { result ≡ cpu_closed self.now.fills told }
@@ -111,7 +111,7 @@ impl Lane {
         }
     }
 
-    /// Whether generation and batches let an entry come.
+    /// Whether the generation and the batches allow an entry.
     fn fits(&self, entry: CpuEntry) -> bool
         requires { EntryIsWide entry }
         ensures { IsTrue result ↔ FitsKept self.now.cpu.generation self.now.fills entry }
@@ -137,7 +137,7 @@ impl Lane {
         }
     }
 
-    /// An integer out of a batch that has bytes.
+    /// Serves an integer from a batch that has bytes.
     fn serve(&mut self, width: u8) -> Source
         requires { HasRoom (slot self.old.fills width) }
         ensures fills { self.new.fills ≡ put width (one_more_kept (slot self.old.fills width)) self.old.fills }
@@ -162,8 +162,8 @@ impl Lane {
         }
     }
 
-    /// The lane after an entry that fits it, given what the base handed over in the refill that it names; and what its
-    /// bytes come from.
+    /// Changes the lane by an entry that fits it. `handed` is the key and generation from the refill that the entry
+    /// names. Returns the source of the entry's bytes.
     fn enter(&mut self, entry: CpuEntry, handed: Option<Cpu>) -> Source
         requires wide { EntryIsWide entry }
         requires room { RoomFor self.old.fills entry }
@@ -208,7 +208,7 @@ impl Lane {
     }
 }
 
-/// What a CPU's list keeps, if it is lawful.
+/// The data kept of a CPU's list, if it is lawful.
 fn replay_cpu(
     alloc: Global,
     told: &Told,
@@ -247,7 +247,7 @@ fn replay_cpu(
     Ok(Some(kept))
 }
 
-/// What the lists of all CPUs keep, if they are lawful.
+/// The data kept of the lists of all CPUs, if they are lawful.
 pub(crate) fn replay_cpus(
     alloc: Global,
     told: &Told,

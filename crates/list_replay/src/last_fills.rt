@@ -6,8 +6,8 @@ ghost use Rattle.list_replay.specs.Tables.{IsWidth};
 /// The bytes of a batch.
 const BATCH_BYTES: u8 = 96;
 
-/// The last fill of a batch: its look, the key in use at it, and how many integers were served since, the first one
-/// included.
+/// The last fill of a batch: its look, the key in use then, and the number of integers served since, including the
+/// first.
 #[derive(Clone, Copy)]
 pub(crate) struct LastFill {
     pub(crate) look: u64,
@@ -50,7 +50,7 @@ impl LastFills {
         }
     }
 
-    /// The last fill of the batch of this width is now this one.
+    /// Sets the last fill of the batch of this width.
     pub(crate) fn put(&mut self, width: u8, fill: Option<LastFill>)
         ensures { self.new ≡ put width fill self.old }
     {
@@ -63,7 +63,8 @@ impl LastFills {
         }
     }
 
-    /// Whether an integer of this width fills its batch first: there is no fill, it is used up, or its look is another.
+    /// Whether an integer of this width fills its batch first: the batch was never filled, it is used up, or it has
+    /// another look.
     pub(crate) fn wants(&self, look: u64, width: u8) -> bool
         requires { IsWidth width }
         ensures { result ≡ wants_kept look width (slot self.now width) }

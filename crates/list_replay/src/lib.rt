@@ -1,11 +1,13 @@
-//! The lists of the lanes, made anew from what a transcript's steps tell of them.
+//! The lists of the lanes, replayed from the entries that are inferred from a transcript's steps.
 //!
-//! What the steps around a visit tell leaves four things open: what a credit crossed, whether a waiting caller went
-//! on, whether an integer filled its batch, and what a dump mixed. [`replay_lists`] closes them in the order CPUs' fast
-//! pools, pool, base, CPUs, judges each list as it goes, on the parts themselves, and keeps of each visit what its line's
-//! answer and bytes are made from. It answers `None` exactly where no lists are as told and lawful: `specs/Fills` says when
-//! lists are as told, `specs/Lawful` when they are lawful, and `specs/Kept` what is kept of them. It stands on `line_forms`
-//! for what is told, and on the parts for what an entry does.
+//! An inferred entry leaves four things open: what a credit crossed, whether a waiting caller went on, whether an
+//! integer filled its batch, and what a dump mixed. [`replay_lists`] completes the entries in the order CPUs' fast
+//! pools, pool, base, CPUs. It judges each list as it goes, on the parts themselves. For each visit it keeps the data
+//! from which its line's answer and bytes are made. It returns `None` exactly if no lawful lists match the inferred
+//! entries.
+//!
+//! `specs/Fills` defines the lists that match, `specs/Lawful` the lawful ones, and `specs/Kept` the data kept of them.
+//! `line_forms` infers the entries, and the parts carry them out.
 #![tactic(auto)]
 
 mod base_list;
@@ -34,11 +36,11 @@ use samples::all_dumps;
 use std::alloc::{AllocError, Global};
 pub use told::{Told, ToldCpu, ToldPool};
 
-/// What the lists that are as told keep, if they are lawful.
+/// The data kept of the lists that match the inferred entries, if these lists are lawful.
 ///
 /// # Errors
 ///
-/// `AllocError` where there is no memory for what is kept.
+/// `AllocError` if there is no memory for the data.
 pub fn replay_lists(alloc: Global, told: &Told) -> Result<Option<Lists>, AllocError>
     requires { InRange (tables_of told.now) }
     ensures some { IfOk result (λ o. IfSome o (λ kept. (lists : BookLists) × Fills (tables_of told.now) lists

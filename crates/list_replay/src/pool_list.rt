@@ -18,13 +18,13 @@ use key_names::PoolNote;
 use sample_credit::{Dump, InputTimer, input_sample};
 use std::alloc::{AllocError, Global};
 
-/// The bits at which the core becomes ready, and nothing more is credited (`POOL_READY_BITS`).
+/// With this number of bits the core becomes ready, and nothing more is credited (`POOL_READY_BITS`).
 const READY_BITS: u32 = 256;
 
-/// The bits at which the core is seeded early (`POOL_EARLY_BITS`).
+/// With this number of bits the core is seeded early (`POOL_EARLY_BITS`).
 const EARLY_BITS: u32 = 128;
 
-/// What a change of the bits crosses.
+/// The crossing of a change of the bits.
 fn crossed(before: u32, after: u32) -> Crossing
     ensures { crossing_of result ≡ crossing before after }
 {
@@ -54,8 +54,8 @@ impl Lane {
         }
     }
 
-    /// An input event's entry: nothing where it repeats the last value; else its sample, with a credit by its moment
-    /// while the pool is not full.
+    /// Adds an input event. An event that repeats the last value has no effect. Otherwise its sample is mixed, with a
+    /// credit by its moment while the pool is not full.
     fn input(&mut self, word: u64, kind: u16, code: u16, value: u8, now: u64)
         requires { now < 2 ^ 40 }
         ensures { (s : PoolState) → LaneStands self.old s
@@ -72,7 +72,7 @@ impl Lane {
         self.pool.credit(bits);
     }
 
-    /// The pool after an entry, and the root that it gives.
+    /// Changes the pool by an entry, and returns the root if the entry is an extraction.
     fn enter(&mut self, note: PoolNote) -> Option<Root>
         requires { NoteIsNear note }
         ensures state { (s : PoolState) → LaneStands self.old s → LaneStands self.new (pool_step s (entry_of note.entry)) }
@@ -115,7 +115,8 @@ fn dump_at(dumps: &[Vec<Option<Dump>>], cpu: u32, place: u64) -> Option<Dump>
     *dumps.get(cpu as usize)?.get(place as usize)?
 }
 
-/// The pool goes past a visit; the root that it gives, and `None` where a dump is told and its CPU does not dump there.
+/// Takes the pool past a visit, and returns the root of an extraction. `None` if the visit mixes a dump, and its CPU
+/// has none at the place.
 fn visit(lane: &mut Lane, told: &ToldPool, dumps: &[Vec<Option<Dump>>]) -> Option<Option<Root>>
     requires { PoolIsNear told.now }
     ensures none { (result ≡ None) ↔ (entry_found (map (λ lane. lane.items) dumps.now) told.now ≡ None) }
@@ -135,7 +136,7 @@ fn visit(lane: &mut Lane, told: &ToldPool, dumps: &[Vec<Option<Dump>>]) -> Optio
     }
 }
 
-/// What the pool's list keeps; `None` where what is told to mix a dump's bytes names no dump.
+/// The data kept of the pool's list; `None` if a visit mixes a dump that is not at its place.
 pub(crate) fn replay_pool(
     alloc: Global,
     told: &Told,

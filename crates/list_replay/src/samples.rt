@@ -1,4 +1,5 @@
-//! The fast pools of the CPUs: whether dumps are due where they are told, and what each dump gives.
+//! The fast pools of the CPUs: whether interrupts make dumps due exactly if their lines dump, and the bytes of each
+//! dump.
 ghost use Rattle.std.specs.Prelude.{◌≡◌, ◌↔◌, ◌<◌, IsTrue, IfOk, IfSome, IsSome, map, length};
 ghost use Rattle.key_names.specs.Book.{list_at, cpu_list};
 ghost use Rattle.list_replay.specs.Closed.{closed, fast_told};
@@ -12,16 +13,16 @@ use line_forms::told::CpuTold;
 use sample_credit::{Dump, FastPool};
 use std::alloc::{AllocError, Global};
 
-/// What a visit of a CPU does with its fast pool.
+/// The effect of a CPU's visit on its fast pool.
 #[derive(Drop)]
 pub(crate) struct Sample {
-    /// An interrupt makes a dump due exactly where its line dumps.
+    /// An interrupt makes a dump due exactly if its line dumps.
     pub(crate) fits: bool,
-    /// What the visit dumps.
+    /// The dump, if the visit is one.
     pub(crate) dump: Option<Dump>,
 }
 
-/// The fast pool goes past a visit.
+/// Takes the fast pool past a visit.
 fn take_sample(fast: &mut FastPool, told: &ToldCpu) -> Sample
     ensures state { fast.new ≡ fast_told fast.old told.now.entry }
     ensures fits { IsTrue result.fits ↔ DueTold fast.old told.now.dumps told.now.entry }
@@ -51,7 +52,7 @@ fn take_sample(fast: &mut FastPool, told: &ToldCpu) -> Sample
     }
 }
 
-/// What each visit of a CPU dumps, if dumps are due where they are told.
+/// The dump of each visit of a CPU, if interrupts make dumps due exactly if their lines dump.
 fn dumps_of(alloc: Global, told: &Told, cpu: usize) -> Result<Option<Vec<Option<Dump>>>, AllocError>
     requires { cpu < length told.now.cpus.items }
     ensures some { IfOk result (λ o. IfSome o (λ dumps. AllPlaces (DueAt (tables_of told.now) cpu)
@@ -72,7 +73,7 @@ fn dumps_of(alloc: Global, told: &Told, cpu: usize) -> Result<Option<Vec<Option<
     Ok(Some(dumps))
 }
 
-/// What each visit of each CPU dumps, if dumps are due where they are told.
+/// The dump of each visit of each CPU, if interrupts make dumps due exactly if their lines dump.
 pub(crate) fn all_dumps(
     alloc: Global,
     told: &Told,

@@ -9,7 +9,7 @@ fn draws_hand_out_the_second_half(rt: HostRuntime) {
     assert_eq!(rt; Some(&out[..]), zero_stream(32, 64));
     assert_eq!(rt; rest.key, [0; 32]);
     assert_eq!(rt; rest.next_block, 1);
-    // The kept key is the first half: its own second half begins so.
+    // The kept key is the first half; its own second half begins with these bytes.
     assert!(rt;
         base.call_key()
             .starts_with(b"\xaf\xbd\xad\x28\x45\xb9\x3c\xdb")

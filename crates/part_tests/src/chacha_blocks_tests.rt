@@ -5,7 +5,7 @@ fn zero_key() -> [u8; 32] {
     [0; 32]
 }
 
-// 32 bytes and none: the key becomes the first half of block 0, and the second half goes out.
+// 32 bytes and none: the key becomes the first half of block 0, and the second half is returned.
 #[test]
 fn erasure_of_the_zero_key(rt: HostRuntime) {
     let mut key = zero_key();

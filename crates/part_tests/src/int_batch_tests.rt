@@ -9,7 +9,7 @@ fn count_bytes(bytes: &mut [u8; 96]) {
     }
 }
 
-// The bytes that a batch has when it is filled at this generation, which is to be a new one.
+// The bytes of a batch after a fill at this generation, which must be a new one.
 fn bytes_before<const W: usize>(batch: &mut Batch<W>, generation: u64) -> [u8; 96]
     requires some { 0 < W }
     requires fits { W ≤ 96 }

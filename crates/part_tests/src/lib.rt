@@ -1,9 +1,9 @@
-//! Tests of the parts, one module a crate, over the crates' public calls.
+//! Tests of the parts, one module for each crate, over the crates' public calls.
 //!
-//! They stand apart because a crate with tests is proved twice. Expected values come from outside: standards and other
-//! implementations. Tables of vectors are rows of the program `vectors`.
+//! They are a separate crate because a crate with tests is proved twice. Expected values come from outside:
+//! standards and other implementations. Tables of vectors are rows of the program `vectors`.
 //!
-//! They promise nothing. They stand on contracts, as any caller does.
+//! The tests promise nothing, and use the contracts as any caller does.
 #![tactic(auto)]
 
 #[cfg(test)]

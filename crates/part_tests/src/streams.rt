@@ -1,4 +1,4 @@
-//! Bytes of a keystream, by another implementation.
+//! Bytes of a keystream, from another implementation.
 
 /// The zero key's, from 0 on.
 pub(crate) const ZERO_STREAM: [u8; 128] =

@@ -1,5 +1,6 @@
-//! Forks at all eight points and attempts, on a host that publishes a list of generations and answers each system call
-//! with bytes of its own. What is expected is worked out by the keystream of the keys that the host gave.
+//! Forks at all eight points and attempts, on a host that publishes a list of generations and answers each system
+//! call with bytes of a different value. The expected bytes are computed from the keystream of the keys that the
+//! host gave.
 
 ghost use Rattle.std.specs.Prelude.{◌≡◌, ◌-◌, ◌≤◌, ◌^◌};
 
@@ -16,7 +17,7 @@ struct ListHost {
     published: [u64; 5],
     looks: usize,
     calls: usize,
-    // What the next system call answers with, in each byte.
+    // The value of each byte in the next system call's answer.
     byte: u8,
     floor: u64,
 }
@@ -69,15 +70,15 @@ impl VHost for ListHost {
     fn at(&mut self, _point: Point, _st: &mut VState) {}
 }
 
-// What a call gives: bytes of a key from a block on, or those of a system call.
+// The result of a call: bytes of a key from a block on, or those of a system call.
 #[derive(Clone, Copy)]
 enum Given {
     Stream { key: u8, block: u64 },
     Call(u8),
 }
 
-// Keys 1, 2 .. are the parent's, and 101, 102 .. the child's. A copy on a state that was keyed anew takes whole blocks and
-// two more; one on wiped memory takes 96 bytes of zeros first.
+// Keys 1, 2 .. are the parent's, and 101, 102 .. the child's. A copy on a state with a new key takes whole blocks
+// and two more; one on wiped memory takes 96 bytes of zeros first.
 fn parent_gives(attempt: Turn, n: u64) -> Given
     requires { n ≤ 2 ^ 20 }
 {
@@ -207,7 +208,7 @@ fn parent_and_child_give_bytes_of_their_own(rt: HostRuntime) -> Result<(), Fail>
     Ok(())
 }
 
-// A point that is not reached is run past: a state whose key is current reads none.
+// A call runs past a point that it does not reach: a state with a current key needs no new one.
 #[test]
 fn a_point_that_does_not_come_is_run_past(rt: HostRuntime) {
     let mut host = ListHost::publishing([2; 5], 1, 0);

@@ -1,4 +1,4 @@
-//! A host that publishes a list of generations, answers a list of system calls and wipes where it is told.
+//! A host that publishes a list of generations, answers a list of system calls and wipes the state at given points.
 
 ghost use Rattle.std.specs.Prelude.{◌≡◌, ◌-◌};
 
@@ -6,7 +6,7 @@ use crate::streams::zero_stream;
 use key_names::Errno;
 use vdso_state::{Local, Point, VEnd, VHost, VState, local, vgetrandom};
 
-// The keystream of the key 01 01 .. 01, by another implementation.
+// The keystream of the key 01 01 .. 01, from another implementation.
 const ONES_KEY_AT_0: [u8; 32] = *b"\x02\x3f\x37\x20\x3a\x24\x76\xc4\x25\x66\xa6\x1c\xc5\x5c\x3c\xa8\
     \x75\xdb\xb4\xcc\x41\xc0\xde\xb7\x89\xf8\xe7\xbf\x88\x18\x36\x38";
 
@@ -35,7 +35,7 @@ struct ListHost {
 }
 
 impl ListHost {
-    /// Publishes 2 throughout and answers each system call with bytes 1.
+    /// Always publishes 2, and answers each system call with bytes 1.
     fn steady(wipes: [Option<Place>; 2]) -> ListHost
         ensures looks { result.looks ≡ 0 }
         ensures calls { result.calls ≡ 0 }
@@ -100,12 +100,12 @@ impl VHost for ListHost {
     }
 }
 
-// The key of a state: what a copy of no bytes goes over is a stretch of no bytes of its stream.
+// The key of a state, read from a copy of no bytes.
 fn key_of(st: &mut VState) -> [u8; 32] {
     st.pass(0, 0).key
 }
 
-// The generation, how many bytes of the batch are left, and whether a call is inside.
+// The generation, the number of bytes left in the batch, and whether a call is inside.
 fn shown(st: &VState) -> (u64, usize, bool) {
     (st.generation(), st.left(), st.is_in_use())
 }
@@ -152,8 +152,8 @@ fn wipe_at(point: Point, attempt: u8) -> Option<Place> {
     Some(Place { point, attempt })
 }
 
-// A wipe at each point of the first attempt, and of the second, which a wipe at the end of the first leads to. Bytes
-// of a wiped batch are never given out, and the second attempt goes on with block 2.
+// A wipe at each point of the first attempt, and of the second, which a wipe at the end of the first causes. Bytes
+// of a wiped batch are never served, and the second attempt continues with block 2.
 #[test]
 fn a_wipe_at_each_point(rt: HostRuntime) {
     let last = wipe_at(Point::End, 1);
@@ -228,7 +228,7 @@ fn a_wipe_at_both_ends_leaves_zeros(rt: HostRuntime) {
     assert_eq!(rt; batch, [0; 96]);
 }
 
-// The system call for a key fails, and the one for the bytes does or does not.
+// The system call for a key fails, and the one for the bytes succeeds or fails.
 #[test]
 fn a_failed_rekey_goes_to_the_system_call(rt: HostRuntime) {
     let mut host = ListHost::steady([None, None]);

@@ -1,4 +1,4 @@
--- What an act does at a site: a read, a reseed, or nothing to the core.
+-- The effect of an act at a site: a read, a reseed, or no call of the core.
 use Rattle.std.proofs.Common.{◌≡◌, ℕ, ◌+◌, Ok, List, length, refl, arith}
 use Rattle.std.specs.Prelude.{Result}
 use Rattle.key_names.specs.declared.errno.Errno.{Errno}
@@ -14,7 +14,7 @@ use Rattle.rng_core.specs.Sites.{IsNew, Does, Completes, at, most_steps}
 use Rattle.rng_core.specs.SiteWaits.{waiting_at}
 use Rattle.rng_core.proofs.ActLines.{wipe_done, read_done, reseed_done}
 
--- what an act did, with this answer and these bytes
+-- the effect of an act, with this answer and these bytes
 abbrev pub DoesAct : InsideAct → Result (Unit {0}) Errno → List ℕ → Site → Site → Type 0
 DoesAct act result out m n = Does most_steps (λ deeds. ActMeans (setting_of m.set) act (done_line deeds result out)) m n
 

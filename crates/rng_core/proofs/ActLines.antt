@@ -1,4 +1,4 @@
--- What an act does: a read, a reseed, or nothing to the core.
+-- The effect of an act: a read, a reseed, or no call of the core.
 use Rattle.std.proofs.Common.{◌≡◌, ℕ, ◌<◌, Ok, Err, List, [], length, refl, ap, ◌∙◌, subst}
 use Rattle.std.specs.Prelude.{Result}
 use Rattle.key_names.specs.declared.errno.Errno.{Errno}

@@ -1,4 +1,4 @@
--- What acts at a point do to what a pass knows.
+-- The effect of acts at a point on the knowledge of a pass.
 use Rattle.std.proofs.Common.{◌≡◌, ℕ, ◌≤◌, Bool, true, false, not, List, [], ◌∷◌, ◌++◌, length, map, refl, sym, ap, ◌∙◌, subst, arith, append-nil, append_assoc}
 use Rattle.std.specs.Prelude.{MatchBool, ◌&&◌, ◌||◌, ⊤}
 use Rattle.std.specs.List.{AllByRecursion, list_any}
@@ -25,7 +25,7 @@ use Rattle.rng_core.specs.Acts.{Ask, ActOutcome, ActRan, ActAt, ActsAt, done_lin
 use Rattle.rng_core.proofs.Makings.{After, did_floor, deeds_then}
 use Rattle.rng_core.proofs.TellLemmas.{told_then, trace_then, fits_then}
 
--- a pass knows no less
+-- a pass knows at least as much
 pub record Onward (v w : View) : Type 0 where
   pub sized : length w.lanes ≡ length v.lanes
   pub grows : Grows v w
@@ -102,8 +102,7 @@ sees_risen w low high (visited mark e ∷ made_steps) h =
 
 -- The caller's own steps, with those of acts between them
 
--- from l to m these are the caller's own steps, and of the deeds behind them this holds; alone they are all that was
--- done
+-- from l to m these are the caller's own steps, and P holds of their deeds; without acts they are all steps
 pub record Own (set : Setting) (Alone : Type 0) (P : List Deed → Type 0) (l m : Moment) : Type 0 where
   pub made_steps : List MadeStep
   pub trace : m.steps ≡ l.steps ++ map step_of made_steps
@@ -160,7 +159,7 @@ own_then {set} l m n a b = record {
   };
 }
 
--- behind acts
+-- after acts
 pub own_behind : {set : Setting} {Alone : Type 0} {P : List Deed → Type 0} (l m n : Moment) → m.steps ≡ l.steps →
     Onward l.view m.view → (Alone → m.view ≡ l.view) → Own set Alone P m n → Own set Alone P l n
 own_behind {set} l m n same onward idle k = record {
@@ -175,9 +174,10 @@ own_behind {set} l m n same onward idle k = record {
   stands = k.stands;
 }
 
--- What came of the acts
+-- The outcomes of the acts
 
--- an act that was done means what it is to mean, in all lists that go on, and one that was not has no steps
+-- an act that ran has its meaning in all lists that continue the known ones, and an act that did not run has no
+-- steps
 pub record Meant (set : Setting) (w : View) (a : Ask) (z : ActOutcome) : Type 0 where
   pub done : z.done ≡ true → (lanes : ℕ) (visits : ℕ → List Visit) (callers : StateLists) → Continues lanes w visits →
       ActMeans (setting_of set) a.act (done_line (deeds_of (book_lists lanes visits callers) z.steps) z.answer z.bytes)
@@ -235,11 +235,11 @@ module _ (set : Setting) (point : Point) where
     meant_at asks k.0 w xs ys k.2 (all_onward set v k.0 asks xs (at_onward set point a v k.0 x y k.1) all.1),
   )
 
--- whether a call came to the point of an act
+-- whether a call reached the point of an act
 abbrev pub came : List PointReached → Ask → Bool
 came points a = list_any (λ reached. is_same_point reached.point a.point) points
 
--- the acts that were not done are done exactly where the call came to their points
+-- an act that had not run yet runs if and only if the call reached its point
 abbrev pub AllDone : List PointReached → List Ask → List ActOutcome → List ActOutcome → Type 0
 AllDone points [] [] [] = ⊤
 AllDone points [] [] (z ∷ zs) = ⊥

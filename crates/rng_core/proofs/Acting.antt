@@ -1,4 +1,4 @@
--- What a caller does as the host of a call with acts inside, step after step.
+-- The work of a caller as the host of a call with acts inside, step by step.
 use Rattle.std.proofs.Common.{◌≡◌, Bool, true, false, List, [], ◌∷◌, ◌++◌, length, ◌<◌, refl, sym, ap, ◌∙◌, subst, arith}
 use Rattle.std.specs.Prelude.{MatchBool, ◌&&◌, if◌then◌else◌}
 use Rattle.std.specs.List.{AllByRecursion}
@@ -32,7 +32,7 @@ step_asks s t (publishes g) k = k.acts.asks
 step_asks s t (system_call n flags answer) k = k.acts.asks
 step_asks s t (at_point point wiped) k = k.asks
 
--- the acts of a point were done, or nothing was
+-- the acts of a point ran, or none did
 abbrev Ran : Setting → Point → List Ask → Bool → View → View → List ActOutcome → List ActOutcome → Type 0
 Ran set point asks b v w xs ys = MatchBool b (ActsAt set point asks v w xs ys) ((ys ≡ xs) × (w ≡ v))
 
@@ -41,7 +41,7 @@ ran_onward : (set : Setting) (point : Point) (asks : List Ask) (b : Bool) (v w :
 ran_onward set point asks true v w xs ys k = acts_onward set point asks v w xs ys k
 ran_onward set point asks false v w xs ys k = onward_is v w k.1
 
--- without acts nothing is done
+-- without acts the view does not change
 ran_none : (set : Setting) (point : Point) (b : Bool) (v w : View) (xs ys : List ActOutcome) →
     Ran set point [] b v w xs ys → w ≡ v
 ran_none set point true v w [] [] k = k
@@ -60,7 +60,7 @@ step_onward s t (at_point point wiped) k = ran_onward s.core.set point s.asks (i
 
 -- Points of the attempts
 
--- the points of the first attempt among those that come, and those after it, by the attempt that runs
+-- of the points to come, those in the first attempt or after it, by the current attempt
 abbrev pub active : Attempt → List PointReached → List PointReached
 active Before points = first_points points
 active First points = before_start points
@@ -71,7 +71,7 @@ resting Before points = second_points points
 resting First points = from_start points
 resting Later points = points
 
--- Step after step
+-- Step by step
 
 pub acted_asks : (steps : List HostStep) (s t : ActStand) → DoesAll acting s steps t → t.asks ≡ s.asks
 acted_asks [] s t does = ap (λ (k : ActStand). k.asks) (sym does)
@@ -94,7 +94,7 @@ acted_up_to (publishes g ∷ steps) s t does =
 acted_up_to (system_call n flags answer ∷ steps) s t does = acted_up_to steps does.0 t does.2
 acted_up_to (at_point point wiped ∷ steps) s t does = acted_up_to steps does.0 t does.2
 
--- the caller's own steps are what stands behind the host's, and without acts they are all that it did
+-- the deeds of the caller's own steps are those of the host's steps, and without acts they are all steps
 pub acted_own : (steps : List HostStep) (set : Setting) (asks : List Ask) (s t : ActStand) → s.core.set ≡ set →
     s.asks ≡ asks → 1 < length s.core.moment.view.lanes → DoesAll acting s steps t
     → Own set (asks ≡ []) (Shows (setting_of set) steps) s.core.moment t.core.moment
@@ -139,7 +139,7 @@ acted_own (at_point point wiped ∷ steps) set asks s t same is_asks two does =
     (subst (λ (l : List Ask). Ran s.core.set point l (is_first does.0.attempt) s.core.moment.view
     does.0.core.moment.view s.outcomes does.0.outcomes) (is_asks ∙ none) k.ran)) own
 
--- the first attempt wipes as its acts do, and no other
+-- the first attempt wipes as its acts do, and a later one never
 abbrev AsAsked : List Ask → PointReached → Type 0
 AsAsked asks reached = reached.wiped ≡ wipes_at asks reached.point
 
@@ -181,7 +181,7 @@ acted_wipes (at_point point wiped ∷ steps) asks attempt s t same now does =
     (k.wipes ∙ (λ i. is_first (next i) && wipes_at (same i) point))
     (acted_wipes steps asks (attempt_at attempt point) does.0 t (k.asks ∙ same) next does.2)
 
--- an act is done exactly where the first attempt came to its point
+-- an act runs if and only if the first attempt reached its point
 ran_done : (set : Setting) (point : Point) (wiped b : Bool) (asks : List Ask) (v w : View) (points : List PointReached)
     (xs ys zs : List ActOutcome) → Ran set point asks b v w xs ys → AllDone points asks ys zs →
     AllDone (if b then record { point = point; wiped = wiped } ∷ points else points) asks xs zs
@@ -243,7 +243,7 @@ acted_done (at_point point wiped ∷ steps) asks attempt s t same now long does 
     (ran_long s.core.set point (is_first (attempt_at attempt point)) asks _ _ s.outcomes does.0.outcomes long ran)
     does.2))
 
--- what was done means what its act means
+-- the acts that ran have their meanings
 ran_meant : (set : Setting) (point : Point) (b : Bool) (asks : List Ask) (v w : View) (xs ys : List ActOutcome) →
     Ran set point asks b v w xs ys → AllMeant set v asks xs → AllMeant set w asks ys
 ran_meant set point true asks v w xs ys k all = meant_at set point asks v w xs ys k all

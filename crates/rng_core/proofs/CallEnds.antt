@@ -1,5 +1,5 @@
--- Where a call of vgetrandom ends: its state's generation is one that was published, and only a call for no bytes ends
--- with none.
+-- The end of a call of vgetrandom: its state's generation is one that was published, and only a call for no bytes
+-- ends with none.
 use Rattle.std.proofs.Common.{◌≡◌, ℕ, ◌≤◌, Bool, true, false, List, [], ◌∷◌, ◌++◌, refl, sym, ap, ◌∙◌, subst, arith}
 use Rattle.std.specs.Prelude.{MatchBool, ◌==◌, ⊤}
 use Rattle.std.proofs.lemmas.Bool.{eqb-true}
@@ -11,7 +11,7 @@ use Rattle.key_names.proofs.Vgetrandom.CopiesKeep.{copy_keeps_generation}
 use Rattle.key_names.specs.VgetrandomState.{VgetrandomState, state_left}
 use Rattle.key_names.specs.Vgetrandom.{SystemAnswer, read, failed, HostStep, publishes, system_call, at_point, Attempt, AttemptEnd, holds, outdated, not_keyed, AtPoint, FromEnd, FromServe, AfterKeyRead, FromWritten, FromStart, IsAttempt, no_bytes, by_batch, by_system, Outcome, BySystem, ByBatch, AfterAttempt, AttemptAndRest, AfterBoth, SecondAttempt, FirstAttempt, ByNothing, FromPublished, FromLook, IsCall}
 
--- no generation above this one is published
+-- each published generation is at most this
 abbrev pub PublishesUpTo : ℕ → List HostStep → Type 0
 PublishesUpTo top [] = ⊤
 PublishesUpTo top (publishes g ∷ steps) = (g ≤ top) × PublishesUpTo top steps
@@ -30,7 +30,7 @@ up_to_rest top (publishes g ∷ xs) ys h = up_to_rest top xs ys h.1
 up_to_rest top (system_call n flags answer ∷ xs) ys h = up_to_rest top xs ys h
 up_to_rest top (at_point point wiped ∷ xs) ys h = up_to_rest top xs ys h
 
--- how a call of n bytes ended
+-- the end of a call for n bytes
 pub record EndsWell (top n : ℕ) (outcome : Outcome) : Type 0 where
   pub low : outcome.state.generation ≤ top
   pub none : outcome.ending ≡ no_bytes → n ≡ 0

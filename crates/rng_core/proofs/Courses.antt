@@ -1,4 +1,4 @@
--- What calls one after another did on a table: exactly their visits. On a table of three lanes these are all that it has.
+-- The visits of successive calls on a table. On a table of three lanes they are all of its visits.
 use Rattle.std.proofs.Common.{◌≡◌, ℕ, zero, suc, ◌+◌, ◌<◌, List, [], ◌∷◌, ◌++◌, length, map, refl, sym, ap, ◌∙◌, subst, arith, Bool, true, false, cond, nat_eq, lit<, length-append, append_assoc}
 use Rattle.std.specs.Prelude.{slice_index_or}
 use Rattle.std.specs.List.{AllByRecursion, sum_by}
@@ -30,7 +30,7 @@ use Rattle.rng_core.specs.Traces.{TraceRecords, knowing}
 abbrev pub either : Bool → Mark → List Mark → List Mark
 either here m ms = cond here (m ∷ ms) ms
 
--- those of a lane among some marks
+-- the marks of one lane among these
 abbrev pub lane_of : ℕ → List MarkBy → List Mark
 lane_of lane [] = []
 lane_of lane (by ∷ marks) = cond (nat_eq (index_of by.mark.lane) lane) (by.mark ∷ lane_of lane marks) (lane_of lane marks)
@@ -56,9 +56,9 @@ lane_append lane (by ∷ xs) ys = go (nat_eq (index_of by.mark.lane) lane) (lane
 pub marks_both : (lane : ℕ) (xs ys : List MarkBy) → marks_in lane (xs ++ ys) ≡ marks_in lane xs + marks_in lane ys
 marks_both lane xs ys = ap length (lane_append lane xs ys) ∙ length-append (lane_of lane xs) (lane_of lane ys)
 
--- ---- what was done so far
+-- ---- the calls so far
 
--- the mark is that of a visit that is known
+-- the view knows the visit of the mark
 abbrev pub IsKnown : View → MarkBy → Type 0
 IsKnown v by = (e : LaneEntry) × IsMarkOf v by.mark by.who e
 
@@ -71,7 +71,7 @@ pub record Course (v w : View) (marks : List MarkBy) : Type 0 where
   pub climbs : Climbs v.stamp (stamps_of marks) w.stamp
   pub known : AllByRecursion (IsKnown w) marks
 
--- what is known stays known
+-- known visits stay known
 pub known_grown : (v w : View) (marks : List MarkBy) → length w.lanes ≡ length v.lanes → Grows v w →
     AllByRecursion (IsKnown v) marks → AllByRecursion (IsKnown w) marks
 known_grown v w marks sized grows = each_weaker (IsKnown v) (IsKnown w) marks
@@ -165,7 +165,7 @@ course_then u v w xs ys a b = record {
   known = each_append (IsKnown w) xs ys (known_grown v w xs b.same.sized b.grows a.known) b.known;
 }
 
--- ---- a table of three lanes in the end
+-- ---- a table of three lanes at its end
 
 one_lane : (i : ℕ) → i < 3 → cond (nat_eq i 0) 1 0 + cond (nat_eq i 1) 1 0 + cond (nat_eq i 2) 1 0 ≡ 1
 one_lane zero low = refl
@@ -205,7 +205,7 @@ made_of_three v n = go v.lanes n
         omega arith
     go (a ∷ b ∷ c ∷ d ∷ l) e = absurd (omega arith)
 
--- visits that are known, as many in each lane as were made, are the visits of the table's book
+-- known visits, in each lane as many as were made, are the visits of the table's book
 pub three_visits : (w : View) (marks : List MarkBy) → length w.lanes ≡ 3 → Ended (length w.lanes) w →
     ((lane : ℕ) → lane < 3 → (at lane w).made ≡ marks_in lane marks) → AllByRecursion (IsKnown w) marks →
     VisitsAre (book_of (length w.lanes) (known_of w) []) marks
@@ -232,7 +232,7 @@ three_visits w marks wide ended made known = ended_visits w [] (let n = wide in 
         let c = made 2 (lit< tt) in
         omega arith
 
--- all that a new table of three lanes knows
+-- the view of a new table of three lanes
 abbrev pub start : View
 start = first_view (plan_of 3 0)
 

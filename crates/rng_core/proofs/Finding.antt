@@ -1,4 +1,4 @@
--- The deeds that stand behind the marks of a pass, in lists that go on from what it knows.
+-- The deeds at the marks of a pass, in lists that continue those that it knows.
 use Rattle.std.proofs.Common.{◌≡◌, ℕ, ◌+◌, List, ◌++◌, take, Some, refl, ap, ◌∙◌, subst, arith}
 use Rattle.std.specs.Prelude.{slice_get}
 use Rattle.std.proofs.lemmas.List.{take-append-le}
@@ -47,7 +47,7 @@ lane_cpu PoolLane c e = absurd (omega arith)
 lane_cpu BaseLane c e = absurd (omega arith)
 lane_cpu (CpuLane d) c e = let h : d ≡ c = omega arith in ap CpuLane h
 
--- the visit at a mark, in the lists that go on
+-- the visit at a mark, in the continued lists
 record InList (xs : List Visit) (place : ℕ) (s : Model) (e : LaneEntry) (got : Handed) : Type 0 where
   pub visit : Visit
   pub there : slice_get xs place ≡ Some visit

@@ -1,4 +1,4 @@
--- The events that deeds of a form fulfil.
+-- The events for the deeds of each form.
 use Rattle.std.proofs.Common.{◌≡◌, ℕ, zero, suc, ◌<◌, ◌≤◌, List, [], ◌∷◌, length, Some, None, refl, sym, ap, ◌∙◌, subst, inl, inr, arith, Bool, cond}
 use Rattle.std.proofs.lemmas.Bool.{ne_eqb}
 use Rattle.std.specs.Prelude.{MatchBool, ◌==◌}

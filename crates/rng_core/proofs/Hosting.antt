@@ -1,6 +1,6 @@
--- What a caller does as the host of its own vgetrandom calls.
+-- The work of a caller as the host of its own vgetrandom calls.
 use Rattle.std.proofs.Common.{◌≡◌, ℕ, zero, suc, ◌+◌, ◌<◌, ◌≤◌, true, Option, Some, None, Ok, Err, List, [], ◌∷◌, ◌++◌, length, map, refl, sym, ap, ◌∙◌, arith}
-use Rattle.std.specs.Prelude.{Result, slice_get}
+use Rattle.std.specs.Prelude.{IsOk, Result, slice_get}
 use mathlib.Core.Option.{some}
 use lib.ListN.{get_elem?}
 use Rattle.atomic_table.proofs.Lists.{at_longer}
@@ -38,9 +38,9 @@ use Rattle.rng_core.specs.declared.setting.Setting.{Setting}
 use Rattle.rng_core.specs.Traces.{Moment}
 use Rattle.lane_table.specs.BookLaws.{Continues}
 use Rattle.rng_core.specs.Makes.{Makes, IsOutcomeOf, setting_of, result_answer, given}
-use Rattle.rng_core.specs.Hosted.{is_away, IsFree, SystemCall}
+use Rattle.rng_core.specs.Hosted.{is_away, IsFree, IsRead, SystemCall}
 
--- Empty hands
+-- No lane held
 
 pub none_left : {A : Type 0} (xs : List A) → length xs ≡ 0 → xs ≡ []
 none_left [] e = refl
@@ -60,14 +60,14 @@ free_has t caller p k = record {
   away = λ lane low no. away_of (at lane (view p)).stage (k.away lane low);
 }
 
--- What is published
+-- Published generations
 
 pub published_more : (a b : ℕ) → a ≤ b → published_by a ≤ published_by b
 published_more zero b h = omega arith
 published_more (suc a) zero h = absurd (omega arith)
 published_more (suc a) (suc b) h = omega arith
 
--- What a system call answered
+-- The answer of a system call
 
 abbrev cpu_place : LaneId → ℕ → Option CpuPlace
 cpu_place PoolLane place = None
@@ -78,13 +78,13 @@ abbrev place_in : MadeStep → Option CpuPlace
 place_in (looked g) = None
 place_in (visited mark e) = cpu_place mark.lane mark.place
 
--- the visit of a CPU that some deals end with, if they do
+-- the visit of a CPU at the end of some deeds, if they end with one
 abbrev pub visit_of : List MadeStep → Option CpuPlace
 visit_of [] = None
 visit_of (made_step ∷ []) = place_in made_step
 visit_of (made_step ∷ next ∷ made_steps) = visit_of (next ∷ made_steps)
 
--- it is that of the deeds, in all lists that go on
+-- it is the visit of the deeds, in all lists that continue the known ones
 module _ (lanes : ℕ) (v : View) (visits : ℕ → List Visit) (callers : List (List (List VEntry)))
     (k : Continues lanes v visits) where
   abbrev book : Lists
@@ -144,7 +144,7 @@ shown_bytes (x ∷ xs) = refl
 same_bytes : (xs ys : List ℕ) → bytes_or_none xs ≡ bytes_or_none ys → xs ≡ ys
 same_bytes xs ys e = sym (shown_bytes xs) ∙ ap bytes_in e ∙ shown_bytes ys
 
--- what was answered, by what was returned
+-- the answer for a returned result
 abbrev pub answer_by : Result (Unit {0}) Errno → List ℕ → Option CpuPlace → SystemAnswer
 answer_by (Ok x) bytes visit = read bytes visit
 answer_by (Err errno) bytes visit = failed errno
@@ -153,6 +153,12 @@ pub is_answer : (result : Result (Unit {0}) Errno) (bytes : List ℕ) (visit : O
     IsAnswer (answer_by result bytes visit) result bytes
 is_answer (Ok x) bytes visit = (refl, refl)
 is_answer (Err errno) bytes visit = refl
+
+-- a call without an error read its bytes
+pub is_read : (result : Result (Unit {0}) Errno) (bytes : List ℕ) (visit : Option CpuPlace) → IsOk result →
+    IsRead (answer_by result bytes visit)
+is_read (Ok x) bytes visit ok = tt
+is_read (Err errno) bytes visit ok = absurd (cc ok)
 
 errno_is : (errno : Errno) → errno_of (answer_of_errno errno) ≡ Some errno
 errno_is NoData = refl
@@ -171,7 +177,7 @@ answered_behind flags (Err errno) bytes visit deeds a s v =
     ap (λ (o : Option Errno). answer_with o deeds) (sym (errno_is errno))
     ∙ ap (λ (w : Answer). answer_with (errno_of w) deeds) a
 
--- a read that was made is a system call with its answer
+-- a read is a system call with its answer
 pub system_called : (set : Setting) (n flags : ℕ) (result : Result (Unit {0}) Errno) (bytes : List ℕ) (l m : Moment)
     (k : Makes (IsOutcomeOf (setting_of set) (Read n flags) (result_answer result) (bytes_or_none (given result bytes)))
     set

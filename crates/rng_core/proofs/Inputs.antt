@@ -12,7 +12,7 @@ pub record InputStands (parts : PoolParts) (last : LastInput) (s : PoolState) : 
   pub value : last.value ≡ s.value
   pub timer : last.timer ≡ s.timer
 
--- its bytes were mixed, and its value kept
+-- the bytes were mixed, and the value was kept
 pub record Mixed (s : PoolState) (word kind code value : ℕ) (before between : PoolParts) (last kept : LastInput)
     (text : List ℕ) : Type 0 where
   pub stood : InputStands before last s
@@ -29,7 +29,7 @@ module _ (s : PoolState) (word kind code value now : ℕ) (before between : Pool
   uncredited : between.bits ≡ s.bits
   uncredited = m.mixes.credited ∙ credit-none s.bits m.stood.pool.capped
 
-  -- where the pool is full, nothing is credited
+  -- a full pool gets no credit
   pub untimed : 256 ≤ between.bits → InputStands between kept (pool_step s (Input word kind code value now))
   untimed full = let full' : 256 ≤ s.bits = (let u = uncredited in omega arith) in let e =
       pool_step-untimed s word kind code value now differs full' in record {
@@ -39,7 +39,7 @@ module _ (s : PoolState) (word kind code value now : ℕ) (before between : Pool
         timer = ap (λ (k : LastInput). k.timer) m.keeps ∙ m.stood.timer ∙ sym (ap (λ (z : PoolState). z.timer) e);
       }
 
-  -- and where it is not, what the timer gives
+  -- a pool that is not full gets the timer's credit
   module _ (after : PoolParts) (next : LastInput) (bits : ℕ) (room : between.bits < 256)
       (worth : bits ≡ timer_bits kept.timer now) (credits : PoolStands after (mixed_and_credited s text bits)) where
     room' : s.bits < 256

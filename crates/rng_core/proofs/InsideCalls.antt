@@ -1,4 +1,4 @@
--- What a read out of a caller's vgetrandom state did, out of a call on its host, with acts inside or without.
+-- The effect of a read out of a caller's vgetrandom state, from a call on its host, with acts inside or without.
 use Rattle.std.proofs.Common.{◌≡◌, ℕ, ◌<◌, ◌≤◌, Bool, true, false, not, List, [], ◌∷◌, length, map, drop, refl, sym, ap, ◌∙◌, subst, arith}
 use Rattle.std.specs.Prelude.{MatchBool, ◌==◌, ◌&&◌, ◌||◌, ◌^◌, if◌then◌else◌}
 use Rattle.std.specs.List.{AllByRecursion}
@@ -43,7 +43,7 @@ use Rattle.rng_core.proofs.CallEnds.{EndsWell, call_ends}
 use Rattle.rng_core.proofs.Hosting.{none_left, free_has, published_more}
 use Rattle.rng_core.proofs.Readings.{ending_is, same_looks, never_fall}
 
--- Acts as they are handed over
+-- Acts before a call
 
 fresh_one : (b : Bound) → IsWaitingAct b → is_ready b ≡ true
 fresh_one b k = ap (λ (x : Bool). x && (b.done || length b.trace == 0)) (le-leb (wants b.act) (2 ^ 20) k.short)
@@ -53,7 +53,7 @@ pub fresh_ready : (bounds : List Bound) → AllByRecursion IsWaitingAct bounds �
 fresh_ready [] all = refl
 fresh_ready (b ∷ bounds) all = ap (λ (x : Bool). x && all_ready bounds) (fresh_one b all.0) ∙ fresh_ready bounds all.1
 
--- an act that was not done
+-- an act that did not run
 pub record IsUndone (x : ActOutcome) : Type 0 where
   pub idle : x.done ≡ false
   pub empty : x.steps ≡ []
@@ -70,7 +70,7 @@ pub outcomes_long : (bounds : List Bound) (out : List ℕ) → length (outcomes_
 outcomes_long [] out = refl
 outcomes_long (b ∷ bounds) out = let e = outcomes_long bounds (drop (wants b.act) out) in omega arith
 
--- they mean nothing yet
+-- acts that did not run have empty meanings
 pub undone_meant : (set : Setting) (v : View) (asks : List Ask) (xs : List ActOutcome) → AllByRecursion IsUndone xs →
     length xs ≡ length asks → AllMeant set v asks xs
 undone_meant set v [] [] all long = tt
@@ -85,7 +85,7 @@ undone_meant set v (a ∷ asks) (x ∷ xs) all long = (
   undone_meant set v asks xs all.1 (omega arith),
 )
 
--- What the acts mean
+-- The meanings of the acts
 
 all_fit : (set : Setting) (w : View) (asks : List Ask) (zs : List ActOutcome) → AllMeant set w asks zs →
     AllByRecursion (λ z. AllByRecursion StepFits z.steps) zs
@@ -145,7 +145,7 @@ no_local n flags set w (a ∷ asks) (z ∷ zs) some all =
     ap (λ (b : Bool). b && (not (n == 0) && not (is_bad flags)))
     (ne_eqb (length (bound_acts set (a ∷ asks) (z ∷ zs))) 0 (λ e. absurd (omega arith)))
 
--- a call on the host over the lanes, h being where it began
+-- a call on the host over the lanes, which began as h
 module _ {R : Type 0} {h last : LaneHost R} {finish : Finish} (n flags : ℕ) (s : VgetrandomState)
     (runs : Runs hosting (IsCall n flags s) h last finish) where
   abbrev from : ActStand

@@ -30,13 +30,13 @@ use Rattle.rng_core.specs.Integers.{IsWidth, int_event}
 use Rattle.rng_core.proofs.Finding.{found_base, found_cpu}
 use Rattle.rng_core.proofs.Makings.{did_map, did_behind, did_then, did_cpu, serving_looked}
 
--- whether a batch has to be filled is read from its last fill
+-- the last fill determines whether a batch has to be filled
 pub wants_of : (look width : ℕ) (f : Option Fill) (bytes : List ℕ) →
     wants look width (batch_of width f bytes) ≡ must_fill look width f
 wants_of look width None bytes = wants-start look width
 wants_of look width (Some fill) bytes = refl
 
--- a batch that was just filled has some, and serves the first of them
+-- a batch that was just filled has integers left, and serves the first
 pub some_of : (width : ℕ) → IsWidth width → 0 < 96 / width
 some_of width (inl e) = subst (λ (w : ℕ). 0 < 96 / w) (sym e) (omega arith)
 some_of width (inr (inl e)) = subst (λ (w : ℕ). 0 < 96 / w) (sym e) (omega arith)
@@ -49,7 +49,7 @@ filled_bytes width look key some = let fill : Fill = record { key = None; place 
     next_bytes-batched_int width key fill (filled (keystream key 32 96) look) (IsBatchOf-filled width key fill refl)
     some
 
--- an integer leaves the batches of the other widths
+-- an integer does not change the batches of the other widths
 pub other_width : (w width look : ℕ) (refill : Option ℕ) (filled : Bool) (got : Handed) (c : CpuModel) → w ≢ width →
     batch_at w c ≡ batch_at w (cpu_entered (Int look refill width filled) got c)
 other_width w width look refill true got c ne = rw (ne_eqb w width ne) refl
@@ -147,7 +147,7 @@ fits_batch width (inr (inl e)) = record { some = omega arith; within = omega ari
 fits_batch width (inr (inr (inl e))) = record { some = omega arith; within = omega arith }
 fits_batch width (inr (inr (inr e))) = record { some = omega arith; within = omega arith }
 
--- behind the look of the call
+-- after the look of the call
 pub int_unready : (set : FormSetting) (width g : ℕ) (rest : List Deed) → g ≡ 0 → ReadForm set (Kernel width) g rest →
     IntForm set width g rest
 int_unready set width g rest zero h = ⊎_elim (λ (d : (g ≡ 0) × DrawForm set (Kernel width) rest). inl (zero, inl d.1))

@@ -18,6 +18,7 @@ pub mod InsideCalls
 pub mod Inputs
 pub mod IntFulfilling
 pub mod Readings
+pub mod Rising
 pub mod Sampling
 pub mod SysFulfilling
 pub mod TellLemmas

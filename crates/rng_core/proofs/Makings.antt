@@ -1,4 +1,4 @@
--- Calls out of visits: what is done one after another, and the forms of the most used pieces.
+-- Calls from their visits: successive calls, and the forms of the most used pieces.
 use Rattle.std.proofs.Common.{◌≡◌, ℕ, ◌+◌, ◌<◌, ◌≤◌, length, arith, List, [], ◌∷◌, ◌++◌, map, Some, None, sym, refl, ap, ◌∙◌, subst, append-nil}
 use Rattle.std.proofs.lemmas.List.{map-append}
 use Rattle.key_names.specs.declared.entries.Taken.{Taken}
@@ -36,7 +36,7 @@ use Rattle.rng_core.specs.Makes.{MakesIn, Makes, Serving, Served, IsOutcomeOf, s
 use Rattle.rng_core.proofs.TellLemmas.{told_then, told_idly}
 use Rattle.rng_core.proofs.Finding.{found_pool, found_base, found_cpu}
 
--- what was seen of the generation does not fall
+-- the generation that the pass has seen does not fall
 pub did_floor : {P : (ℕ → List Visit) → List Deed → Type 0} (set : Setting) (m n : Moment) → MakesIn P set m n →
     floor m.view ≤ floor n.view
 did_floor set m n k = sees_up n.view (floor m.view) (floor n.view) k.made_steps k.told.went.sees
@@ -64,7 +64,7 @@ pub served_of : (set : Setting) (m n : Moment) (lane place : ℕ) (s : Model) (e
     Visited set m n lane place s e got → Served set m n lane place e (serving e s got)
 served_of set m n lane place s e got x = record { model = s; got = got; visited = x; serves = refl }
 
--- behind what no step tells
+-- after changes that are no steps
 pub did_after : {P : (ℕ → List Visit) → List Deed → Type 0} (set : Setting) (l m n : Moment) → TraceRecords set l m [] →
     MakesIn P set m n → MakesIn P set l n
 did_after set l m n a k = record {
@@ -150,7 +150,7 @@ did_rooted set l m n root base s got entry bytes x y = record {
       };
 }
 
--- a read from a CPU, behind its look
+-- a read from a CPU, after its look
 pub did_plain_read : (set : Setting) (l m n : Moment) (g place : ℕ) (taken : Taken) (bytes : List ℕ) →
     TraceRecords set l m (went.looked g ∷ []) → Served set m n (set.cpu + 2) place (Cpu (Read g None taken)) bytes
     → Makes (Serving (PlainRead (setting_of set) taken) bytes) set l n
@@ -202,7 +202,7 @@ did_refilled_read set k l m n g base place s got taken bytes a x y = record {
       };
 }
 
--- nothing at all
+-- no step at all
 pub did_nothing : {P : List Deed → Type 0} (set : Setting) (m : Moment) → 1 < length m.view.lanes → P [] →
     Makes P set m m
 did_nothing set m two p = record {
@@ -219,7 +219,7 @@ pub did_look : (set : Setting) (l m : Moment) (g : ℕ) → TraceRecords set l m
     Makes (λ (deeds : List Deed). deeds ≡ looked g ∷ []) set l m
 did_look set l m g a = record { made_steps = went.looked g ∷ []; told = a; stands = λ lanes visits callers c. refl }
 
--- a visit of the pool that credits bits, and what they cross
+-- a visit of the pool that credits bits, and the threshold that they cross
 pub did_credit : (set : Setting) (l m n : Moment) (place : ℕ) (s : Model) (e : PoolEntry) (got : Handed)
     (crossed : Crossing) → Visited set l m 0 place s (Pool e) got →
     crossed ≡ crossing s.pool.bits (pool_step s.pool e).bits
@@ -255,7 +255,7 @@ did_bits set m n place b s got x is = record {
   };
 }
 
--- one call after another
+-- successive calls
 pub record After (P Q : List Deed → Type 0) (deeds : List Deed) : Type 0 where
   pub first : List Deed
   pub rest : List Deed
@@ -287,7 +287,7 @@ pub did_then : {P Q : List Deed → Type 0} (set : Setting) (l m n : Moment) →
     Makes (After P Q) set l n
 did_then set l m n a b = did_in_then set l m n a b
 
--- behind a look that found g
+-- after a look that found g
 pub record Behind (g : ℕ) (P : List Deed → Type 0) (deeds : List Deed) : Type 0 where
   pub rest : List Deed
   pub deeds_are : deeds ≡ looked g ∷ rest

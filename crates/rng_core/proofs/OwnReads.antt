@@ -1,4 +1,4 @@
--- Two reads out of a state of a caller's own, as the law of such states wants them.
+-- Two reads out of a caller's own state, as the law of such states needs them.
 use Rattle.std.proofs.Common.{◌≡◌, ℕ, ◌+◌, ◌<◌, ◌≤◌, cond, List, [], ◌∷◌, ◌++◌, length, get_or, refl, sym, ap, ◌∙◌, subst, arith}
 use Rattle.std.specs.Prelude.{◌==◌}
 use Rattle.std.specs.List.{sum_by}
@@ -22,7 +22,7 @@ use Rattle.rng_core.specs.OwnStates.{OwnUse, by_vread, IsKnown, OwnStates, visit
 use Rattle.rng_core.proofs.OwnStates.{own_states_are_lawful}
 use Rattle.rng_core.proofs.Readings.{stayed}
 
--- a read went from one view to the other, and made these visits of a lane
+-- a read from one view to the other, with its visits of a lane
 module _ {n flags : ℕ} {s t : VgetrandomState} {answer : Answer} {shown : Shown} {set : Setting} {l m : Moment}
     (k : VreadMakes n flags s t answer shown set l m) where
   lanes : k.looked.lanes ≡ l.view.lanes
@@ -41,13 +41,13 @@ module _ {n flags : ℕ} {s t : VgetrandomState} {answer : Answer} {shown : Show
       (at lane m.view).places ≡ (get_or z lane blank).places ++ places_in lane k.did.made_steps)
       lanes k.did.told.went.places
 
--- one view has no more visits than all
+-- one view has at most as many visits as all
 one_of_all : (f : View → ℕ) (views : List View) (j : ℕ) (v : View) (s : St) → views ≡ s.views → IsView s j v →
     f nobody ≡ 0 → f v ≤ sum_by f views
 one_of_all f views j v s are is none = let e = sum_at_set f s.views j v nobody is in
     let same = ap (sum_by f) are in omega arith
 
--- a second read goes on from where the first left the state and the pass
+-- a second read begins with the state and the pass that the first left
 module _ {n₁ n₂ f₁ f₂ : ℕ} {t₁ t₂ : VgetrandomState} {a₁ a₂ : Answer} {h₁ h₂ : Shown} {set₁ set₂ : Setting}
     {l₁ m₁ l₂ m₂ : Moment} (k₁ : VreadMakes n₁ f₁ wiped_state t₁ a₁ h₁ set₁ l₁ m₁)
     (k₂ : VreadMakes n₂ f₂ t₁ t₂ a₂ h₂ set₂ l₂ m₂) (goes_on : l₂.view ≡ m₁.view) (share : 0 < m₂.view.share) where

@@ -1,4 +1,4 @@
--- States of a caller's own: what each use leaves, and what the laws of books say of all.
+-- A caller's own states: the effect of each use, and the laws of books for all.
 use Rattle.std.proofs.Common.{◌≡◌, ℕ, zero, suc, ◌+◌, ◌<◌, ◌≤◌, Bool, true, false, cond, eq-eqb, ne_eqb, List, [], ◌∷◌, length, map, refl, sym, ap, ◌∙◌, subst, arith, Some, None, append-nil, inl, inr}
 use Rattle.std.specs.Prelude.{◌==◌, ◌&&◌, not, nat_lt, if◌then◌else◌, slice_get}
 use Rattle.std.specs.List.{sum_by, AllByRecursion}
@@ -57,12 +57,12 @@ use Rattle.rng_core.specs.OwnStates.{OwnUse, by_vread, by_vread_inside, by_vread
 
 -- The visits of steps, counted as marks and as places
 
--- c and p name a place of a CPU
+-- c and p are a place of a CPU
 module _ (c p : ℕ) where
   one_more : (place : ℕ) (rest : List ℕ) → times p (place ∷ rest) ≡ hit (place == p) + times p rest
   one_more place rest = sum_by-cons (λ (q : ℕ). cond (q == p) 1 0) place rest
 
-  -- a mark of a lane whose number is that of the CPU or not
+  -- a mark of the CPU's lane, or of another
   counted_if : (b : Bool) (place n : ℕ) (rest : List ℕ) → n ≡ times p rest →
       (if b then hit (place == p) else 0) + n ≡ times p (if b then place ∷ rest else rest)
   counted_if true place n rest is = let more = one_more place rest in omega arith
@@ -93,8 +93,8 @@ module _ (c p : ℕ) where
 
 -- One use
 
--- from s to t a use left these entries, by these steps of its own: in the list of any state they go on in order, each read
--- that they take as a key is one of 32 bytes and among the steps, and they replay to t
+-- from s to t a use left these entries, by its own steps. In the list of any state they continue in order, each read
+-- that they take as a key has 32 bytes and is among the steps, and their replay is t
 record Leaves (lists : Lists) (s t : VgetrandomState) (es : List VEntry) (steps : List MadeStep) : Type 0 where
   keeps : (caller : ℕ) (x : NamedState) → Settled x s → Keeps caller 0 (λ y. Settled y t) x es
   reads : AllByRecursion (TakesRead (cpu_list lists)) es
@@ -102,11 +102,11 @@ record Leaves (lists : Lists) (s t : VgetrandomState) (es : List VEntry) (steps 
   holds : (caller : ℕ) (x : replay.Both lists caller 0) → replay.Holds lists caller 0 x s →
       replay.Holds lists caller 0 (replay.after lists caller 0 x es) t
 
--- a caller whose one state is this
+-- a caller with this one state
 abbrev standing : CallSetting → VgetrandomState → CallerState
 standing set s = record { setting = set; states = s ∷ []; current = 0 }
 
--- a batch that serves locally has as many left
+-- a batch that serves locally has enough bytes left
 left_of : (g n : ℕ) (s : VgetrandomState) → serves_locally g s n ≡ true → has_left s n ≡ true
 left_of g n s serves = right (not s.in_use) (has_left s n)
     (right (g == s.generation) (not s.in_use && has_left s n)
@@ -131,7 +131,7 @@ module _ (lists : Lists) (s : VgetrandomState) (n : ℕ) (some : 1 ≤ n) (left 
     holds = λ caller x h. replay.copy_holds lists caller 0 x s 0 n some h;
   }
 
--- a read, by what it means
+-- a read, by its meaning
 module _ (lists : Lists) (set : CallSetting) (n flags : ℕ) (acts : List BoundAct) (steps : List MadeStep)
     (s t : VgetrandomState) (answer : Answer) (shown : Shown) (lines : List LineMeaning) (es : List VEntry) where
   abbrev deeds : List Deed
@@ -146,7 +146,7 @@ module _ (lists : Lists) (set : CallSetting) (n flags : ℕ) (acts : List BoundA
     after = with_state (standing set s) t;
   }
 
-  -- by a call of vgetrandom
+  -- a read by a call of vgetrandom
   called : NeverFall (looks_of deeds) → ByVgetrandom n flags acts meaning → Leaves lists s t es steps
   called rising by = let to : t ≡ by.outcome.state = ap current_state by.after in
       let there = all_there lists (map step_of steps) in
@@ -163,7 +163,7 @@ module _ (lists : Lists) (set : CallSetting) (n flags : ℕ) (acts : List BoundA
       subst (λ (z : VgetrandomState × List VEntry). Leaves lists s z.0 z.1 steps)
       (λ i. (sym to i, sym by.entries i)) done
 
-  -- by a copy behind one look
+  -- a read by a copy after one look
   served : (look : ℕ) (rest : List Deed) → 1 ≤ n → serves_locally (published_by look) s n ≡ true →
       ByLocalCopy n rest meaning → Leaves lists s t es steps
   served look rest some serves by = let to : t ≡ state_after_copy s 0 n = ap current_state by.after in
@@ -180,7 +180,7 @@ module _ (lists : Lists) (set : CallSetting) (n flags : ℕ) (acts : List BoundA
       (λ no by. called means.looks by)
       means.ways
 
--- a use, whatever lists go on from what its caller knew
+-- a use, for all lists that continue those that its caller knew
 abbrev UseLeaves : Lists → OwnUse → Type 0
 UseLeaves lists u = Leaves lists (before_use u) (after_use u) (entries_of u) (steps_of u)
 
@@ -242,7 +242,7 @@ module _ (lists : Lists) where
 
 -- The states together
 
--- the list of a state of the caller's own, and of each other state of the book
+-- the list of a caller's own state, and of each other state of the book
 abbrev own : List OwnUse → List (List VEntry)
 own uses = entries_left uses ∷ []
 
@@ -254,7 +254,7 @@ each_lawful cpus caller (uses ∷ states) all zero zero = all.0 caller
 each_lawful cpus caller (uses ∷ states) all zero (suc k) = record { comes = tt; ends = refl }
 each_lawful cpus caller (uses ∷ states) all (suc i) k = each_lawful cpus caller states all.1 i k
 
--- what each of them leaves, as if one call of a caller had
+-- the entries of each state, as if one call of a caller had left them
 meanings : List (List OwnUse) → List (List CallMeaning)
 meanings [] = []
 meanings (uses ∷ states) = (record {
@@ -368,7 +368,7 @@ module _ {first : ℕ} {s : St} (r : WorldRule first s) (states : List (List Own
   both : AllByRecursion (λ uses. Follow wiped_state uses × AllByRecursion (UseLeaves lists) uses) states
   both = each_both (Follow wiped_state) (AllByRecursion (UseLeaves lists)) states mine.follow all_leave
 
-  -- a place of a CPU is that of one visit at most
+  -- a place of a CPU belongs to at most one visit
   one_visit : (c p : ℕ) → c + 2 < n → all_takes c p (meanings states) ≤ 1
   one_visit c p near = let within = all_within lists c p states all_leave in let counted = mine.counted c p near in
       let placed = (counts r).placed (c + 2) p near in

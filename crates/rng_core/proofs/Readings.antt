@@ -1,4 +1,4 @@
--- What a read out of a caller's vgetrandom state did, out of a copy or a call.
+-- The effect of a read out of a caller's vgetrandom state, from a copy or a call.
 use Rattle.std.proofs.Common.{◌≡◌, ℕ, ◌≤◌, Bool, true, false, not, Ok, List, [], ◌∷◌, length, map, refl, sym, ap, ◌∙◌, subst, arith, inl, inr}
 use Rattle.std.specs.Prelude.{Result, ◌⊎◌, MatchBool, Option, Some, None, ◌==◌, ◌&&◌}
 use Rattle.std.proofs.lemmas.Bool.{ne_eqb}
@@ -68,7 +68,7 @@ told_rise lists set l m made_steps told =
     subst (λ (looks : List ℕ). Risen (floor l.view) looks (floor m.view)) (sym (same_looks lists made_steps))
     (sees_risen m.view (floor l.view) (floor m.view) made_steps told.went.sees)
 
--- A batch that did not serve does not serve later either
+-- A batch that cannot serve cannot serve later either
 
 nothing_and : (x : Bool) → (x && false) ≡ false
 nothing_and true = refl
@@ -104,7 +104,7 @@ ending_is n (by_system (failed errno)) result buf long none e =
 
 -- Reads
 
--- what was seen does not fall, and a read that the batch does not serve knows as much of the lanes as before
+-- the generation seen does not fall, and a read that the batch does not serve leaves the known lists as they were
 pub record Stayed (v w : View) : Type 0 where
   pub same : SameView v w
   pub lanes : w.lanes ≡ v.lanes
@@ -145,7 +145,7 @@ stayed n flags s t answer shown set l m k = go k.began
     go (inl served) = stayed_at l.view k.looked served.0
     go (inr unserved) = stayed_by n flags s l.view k.looked unserved (tries_local n flags []) refl
 
--- out of the batch
+-- a read out of the batch
 module _ (n flags : ℕ) (s t : VgetrandomState) (out : List ℕ) (set : Setting) (l m : Moment)
     (k : LocallyServed n flags s t out set l m) where
   local_line : (before : CallerState) → current_state before ≡ s →
@@ -187,7 +187,7 @@ good_flags true true e = absurd (cc e)
 good_flags false true e = absurd (cc e)
 good_flags x false e = refl
 
--- by a call
+-- a read by a call
 module _ (n flags : ℕ) (s t : VgetrandomState) (answer : Answer) (shown : Shown) (set : Setting) (l m o : Moment)
     (low : s.generation ≤ published_by (floor l.view))
     (left : Unserved n flags s l.view m.view) (k : Called n flags s t answer shown set m o)
@@ -212,7 +212,8 @@ module _ (n flags : ℕ) (s t : VgetrandomState) (answer : Answer) (shown : Show
         after = ap (with_state before) k.state;
       }
 
-      -- the call begins with a look, which is no earlier than the one that found that the batch cannot serve
+      -- the call begins with a look, which finds at least the generation of the look that found that the batch
+      -- cannot serve
       behind_look : (refused : Refused n s l.view m.view) → FromLook n flags s k.steps k.outcome →
           Looked (LocalOrCall n flags [] meant) deeds
       behind_look refused from =
@@ -261,7 +262,7 @@ module _ (n flags : ℕ) (s t : VgetrandomState) (answer : Answer) (shown : Show
           (knowing m.view z) o) same called_did;
     }
 
--- where the batch did not serve and nothing was done
+-- the batch did not serve, and nothing changed
 pub left_read : (n n' flags : ℕ) (s s' t : VgetrandomState) (answer : Answer) (shown : Shown) (set : Setting)
     (l m o : Moment) → s.generation ≤ published_by (floor l.view) → n' ≡ n →
     LeftToSystem n flags s s' l m → Called n' flags s' t answer shown set m o →

@@ -1,4 +1,4 @@
--- Calls at a site whose visits are of the pool, and of a CPU's fast pool.
+-- Calls at a site with visits of the pool and of a CPU's fast pool.
 use Rattle.std.proofs.Common.{◌≡◌, ℕ, ◌+◌, ◌<◌, ◌≤◌, length, ap, ◌∙◌, arith}
 use Rattle.key_names.specs.declared.entries.PoolEntry.{PoolEntry}
 use Rattle.key_names.specs.declared.entries.PoolEntry.TheVariants.{Bits}
@@ -30,7 +30,7 @@ does_bits h k bits l m n a b is = does_behind (λ set visits. IsOutcomeOf (setti
     a.walked a.trace
     (does_visited 0 k (Pool Bits) m n b (λ x. did_bits m.set (at m) (at n) _ bits _ _ x is))
 
--- a visit of the pool that credits bits, and what they cross
+-- a visit of the pool that credits bits, and the threshold that they cross
 pub does_credit : (h k : Held) (e : PoolEntry) (crossed : Crossing) (j l m n : Site) → Entered pool_lane h j l →
     VisitedIdly pool_lane k (Pool e) l m →
     crossed ≡ crossing (lane_of l pool_lane).pool.bits (pool_step (lane_of l pool_lane).pool e).bits →
@@ -44,13 +44,13 @@ does_credit h k e crossed j l m n a b is d = does_behind (λ set visits. CreditF
           (by_set (λ set visits. Cross (setting_of set) crossed) l m n b.same d.did);
     })
 
--- a visit of the CPU that the caller runs on, and the fast pool that it met
+-- a visit of the caller's CPU, and the fast pool that it met
 pub does_met : (h : Held) (e : CpuEntry) (m n : Site) → IsIntOfBatch e → VisitedIdly (own_lane m) h (Cpu e) m n →
     DoesIn 1 (CpuMet m.set.cpu h.turn.place e (own_cpu m).fast) m n
 does_met h e m n fits b = does_visited (own_lane m) h (Cpu e) m n b
     (λ x. did_met m.set (at m) (at n) m.set.cpu h.turn.place _ e _ fits x)
 
--- its place is behind those that were known before it was taken
+-- its place is not one of those known before the lane was taken
 pub taken_behind : (h : Held) (l m : Site) → IsIdle 4 l → IsOnCpu l → Entered (own_lane m) h l m →
     own_places l ≤ h.turn.place
 taken_behind h l m idle cpu a =
@@ -60,7 +60,7 @@ taken_behind h l m idle cpu a =
     ∙ ap (λ (lane : ℕ). length (known_of (view m.pass.now) lane)) a.holds.lane_is
     ∙ ap (λ (s : Setting). length (known_of (view m.pass.now) (s.cpu + 2))) a.walked.same.set in omega arith
 
--- and it is known behind the visit
+-- its place is known after the visit
 pub visit_below : (h : Held) (e : CpuEntry) (m n : Site) → VisitedIdly (own_lane m) h (Cpu e) m n →
     h.turn.place < own_places n
 visit_below h e m n b =

@@ -1,4 +1,4 @@
--- The samples of an interrupt: what its visits of the CPU met, and what a dump leaves behind.
+-- The samples of an interrupt: the fast pool that its visits of the CPU met, and the effect of a dump.
 use Rattle.std.proofs.Common.{◌≡◌, ℕ, ◌+◌, ◌<◌, ◌≤◌, inl, inr, false, List, [], ◌∷◌, ◌++◌, length, refl, sym, ap, ◌∙◌, subst, arith}
 use Rattle.std.specs.Prelude.{IsTrue}
 use Rattle.std.specs.List.{AllByRecursion}
@@ -34,7 +34,7 @@ use Rattle.rng_core.specs.SampleDeeds.{Sampled, DumpStands, fast_in}
 use Rattle.rng_core.proofs.Makings.{After}
 use Rattle.rng_core.proofs.Finding.{found_cpu}
 
--- what follows a credit mixes nothing, and visits no CPU
+-- the steps after a credit mix no bytes, and visit no CPU
 rooted : (set : CallSetting) (entry : ℕ → BaseEntry) (deeds : List Deed) → Rooted set entry deeds →
     AllByRecursion IsCrossing deeds
 rooted set entry deeds f = subst (AllByRecursion IsCrossing) (sym f.deeds_are)
@@ -66,14 +66,14 @@ did_met set m n cpu place s e got fits x = record {
       };
 }
 
--- the place of a visit is known behind it
+-- the place of a visit is known after it
 pub visited_below : (set : Setting) (m n : Moment) (lane place : ℕ) (s : Model) (e : LaneEntry) (got : Handed) →
     Visited set m n lane place s e got → place < length (known_of n.view lane)
 visited_below set m n lane place s e got x =
     let low = at_below (known_of n.view (index_of x.mark.lane)) x.mark.place x.met.visit x.met.there in
     let on = ap (λ (l : ℕ). length (known_of n.view l)) x.lane_is in let at = x.place_is in omega arith
 
--- a dump, and what it mixes
+-- a dump, and the bytes that it mixes
 pub dump_stands : (set : CallSetting) (place from : ℕ) (fast : FastPool) (text : List ℕ) (bits : ℕ)
     (visits : ℕ → List Visit)
     (deeds : List Deed) → from ≤ place → text ≡ dump_bytes fast → bits ≡ dump_bits fast →
@@ -118,7 +118,7 @@ sample_quiet set v1 v2 place fast visits deeds quiet h = let only = h.only in re
   ));
 }
 
--- and one that did, with the dump
+-- an interrupt that made a dump due, with the dump
 pub sample_dumped : (set : CallSetting) (v1 v2 place from : ℕ) (fast : FastPool) (visits : ℕ → List Visit)
     (deeds : List Deed) → IsTrue (makes_due fast set.now) → place < from →
     After (CpuMet set.cpu place (Irq v1 v2 set.now) fast visits) (DumpStands set from visits) deeds →

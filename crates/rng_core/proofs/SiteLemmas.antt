@@ -1,4 +1,4 @@
--- Calls at a site, out of its visits.
+-- Calls at a site, from their visits.
 use Rattle.std.proofs.Common.{◌≡◌, ℕ, ◌+◌, List, [], ◌∷◌, ◌++◌, subst, refl, ◌∙◌, length, length-append, ap, ◌≤◌, arith}
 use Rattle.key_names.specs.declared.entries.PoolEntry.{PoolEntry}
 use Rattle.key_names.specs.declared.entries.BaseEntry.{BaseEntry}
@@ -34,7 +34,7 @@ same_then l m n a b = record {
   trace = b.trace ∙ a.trace;
 }
 
--- what was made by the setting of a site, by that of an equal one
+-- a fact about one site's setting holds for an equal setting
 pub by_set : (P : Setting → (ℕ → List Visit) → List Deed → Type 0) (l m n : Site) → Same l m →
     MakesIn (P m.set) m.set (at m) (at n) → MakesIn (P l.set) l.set (at m) (at n)
 by_set P l m n same k = subst (λ (s : Setting). MakesIn (P s) s (at m) (at n)) same.set k
@@ -46,7 +46,7 @@ walked_then l m n xs ys a b = record {
       (subst (λ (s : Setting). TraceRecords s (at m) (at n) ys) a.same.set b.told);
 }
 
--- what is weaker
+-- a weaker property
 pub does_in_map : {P Q : (ℕ → List Visit) → List Deed → Type 0} (steps : ℕ) (m n : Site) →
     ((visits : ℕ → List Visit) (deeds : List Deed) → P visits deeds → Q visits deeds) → DoesIn steps P m n →
     DoesIn steps Q m n
@@ -61,7 +61,7 @@ pub does_map : {P Q : List Deed → Type 0} (steps : ℕ) (m n : Site) → ((dee
     Does steps P m n → Does steps Q m n
 does_map steps m n f k = does_in_map steps m n (λ visits. f) k
 
--- in more steps than were needed
+-- a larger number of steps
 pub does_within : {P : (ℕ → List Visit) → List Deed → Type 0} (few many : ℕ) (m n : Site) → few ≤ many →
     DoesIn few P m n →
     DoesIn many P m n
@@ -78,7 +78,7 @@ pub does_formed : {F : List Deed → Type 0} {bytes : List ℕ} (steps : ℕ) (m
     Does steps F m n
 does_formed steps m n k = does_map steps m n (λ deeds h. h.form) k
 
--- behind what no step tells, of what is said by the setting
+-- after changes that are no steps, for a property of the setting
 pub does_behind : (P : Setting → (ℕ → List Visit) → List Deed → Type 0) (steps : ℕ) (l m n : Site) → Walked [] l m →
     m.trace.now ≡ l.trace.now → DoesIn steps (P m.set) m n → DoesIn steps (P l.set) l n
 does_behind P steps l m n a e k = record {
@@ -92,7 +92,7 @@ pub does_after : {P : (ℕ → List Visit) → List Deed → Type 0} (steps : �
     m.trace.now ≡ l.trace.now → DoesIn steps P m n → DoesIn steps P l n
 does_after {P} steps l m n a e k = does_behind (λ s. P) steps l m n a e k
 
--- one call after another, of which the second is said by the setting
+-- successive calls, the second with a property of the setting
 pub does_in_then : {P : (ℕ → List Visit) → List Deed → Type 0} (Q : Setting → (ℕ → List Visit) → List Deed → Type 0)
     (first second : ℕ) (l m n : Site) → DoesIn first P l m → DoesIn second (Q m.set) m n →
     DoesIn (first + second) (λ visits. After (P visits) (Q l.set visits)) l n
@@ -107,7 +107,7 @@ pub does_then : {P : List Deed → Type 0} (Q : Setting → List Deed → Type 0
     Does first P l m → Does second (Q m.set) m n → Does (first + second) (After P (Q l.set)) l n
 does_then Q first second l m n a b = does_in_then (λ s visits. Q s) first second l m n a b
 
--- behind a look
+-- after a look
 pub does_looked : (P : Setting → ℕ → List Deed → Type 0) (bytes : List ℕ) (steps g : ℕ) (l m n : Site) →
     Looked g l m → Does steps (Serving (P m.set g) bytes) m n →
     Does (steps + 1) (Serving (forms.Looked (P l.set)) bytes) l n
@@ -119,7 +119,7 @@ does_looked P bytes steps g l m n a k = record {
       (by_set (λ s visits. Serving (P s g) bytes) l m n a.walked.same k.did);
 }
 
--- the same, with what the look found
+-- the same, with the found generation
 pub does_found : (P : Setting → List Deed → Type 0) (steps g : ℕ) (l m n : Site) → Looked g l m →
     Does steps (P m.set) m n →
     Does (steps + 1) (Behind g (P l.set)) l n
@@ -139,7 +139,7 @@ does_look g m n a = record {
   did = did_look m.set (at m) (at n) g a.looked.walked.told;
 }
 
--- nothing at all
+-- no step at all
 pub does_nothing : {P : List Deed → Type 0} (steps : ℕ) (m : Site) → IsIdle steps m → P [] → Does steps P m m
 does_nothing steps m idle p = record {
   same = record { lanes = refl; set = refl; pass = refl; trace = refl };

@@ -1,4 +1,4 @@
--- Reads and integers at a site, out of their visits.
+-- Reads and integers at a site, from their visits.
 use Rattle.std.proofs.Common.{◌≡◌, ℕ, ◌+◌, ◌≤◌, Bool, true, List, length, Some, None, subst, arith}
 use Rattle.key_names.specs.declared.entries.PoolEntry.TheVariants.{Extract}
 use Rattle.key_names.specs.declared.entries.BaseEntry.{BaseEntry}
@@ -48,7 +48,7 @@ serves_rooted h place s entry bytes l m n same one v b is = record {
       (record { model = _; got = _; visited = b.visited; serves = is }));
 }
 
--- what a CPU serves that was entered
+-- the bytes that a CPU serves after it was taken
 cpu_serves : {Q : List Deed → Type 0} (h : Held) (e : LaneEntry) (bytes : List ℕ) (steps : ℕ) (l m n : Site) →
     Same l m →
     length m.trace.now + 1 ≤ length l.trace.now + steps → VisitedServing (own_lane m) h e bytes m n →
@@ -60,7 +60,7 @@ cpu_serves h e bytes steps l m n same few b f = record {
   did = f (subst (λ (s : Setting). Served s (at m) (at n) (s.cpu + 2) h.turn.place e bytes) same.set b.served);
 }
 
--- a read from a CPU that was looked at
+-- a read from a CPU, after a look
 pub serves_plain_read : (h : Held) (g : ℕ) (taken : Taken) (bytes : List ℕ) (l m n : Site) → EnteredCpu h g l m →
     VisitedServing (own_lane m) h (Cpu (Read g None taken)) bytes m n →
     Does 3 (Serving (PlainRead (setting_of l.set) taken) bytes) l n
@@ -68,7 +68,7 @@ serves_plain_read h g taken bytes l m n a b = cpu_serves h _ bytes 3 l m n a.wal
     b
     (λ x. did_plain_read l.set (at l) (at m) (at n) g h.turn.place taken bytes a.walked.told x)
 
--- one that was looked at and refilled
+-- a read from a CPU, after a look and a refill
 pub serves_refilled_read : (h : Held) (base : KeyHandoff) (g : ℕ) (taken : Taken) (bytes : List ℕ) (j l m n : Site) →
     EnteredCpu h g j l → Refilled h base l m → VisitedServing (own_lane m) h (Cpu (Read g (Some base.place) taken)) bytes m
     n →
@@ -79,7 +79,7 @@ serves_refilled_read h base g taken bytes j l m n a b d = cpu_serves h _ bytes 3
     a.walked.told (subst (λ (s : Setting). Visited s (at l) (at m) 1 base.place b.visited.0
     (Base (Refill s.cpu h.turn.place)) nothing) a.walked.same.set b.visited.1) x)
 
--- an integer of a CPU that was looked at
+-- an integer of a CPU, after a look
 pub serves_batch : (h : Held) (g width : ℕ) (fills : Bool) (bytes : List ℕ) (l m n : Site) → FitsBatch width →
     EnteredCpu h g l m → VisitedServing (own_lane m) h (Cpu (Int g None width fills)) bytes m n →
     Does 3 (Serving (BatchForm (setting_of l.set) width) bytes) l n
@@ -87,7 +87,7 @@ serves_batch h g width fills bytes l m n fits a b = cpu_serves h _ bytes 3 l m n
     (let q = a.room in omega arith) b
     (λ x. did_batch l.set (at l) (at m) (at n) g h.turn.place width fills bytes fits a.walked.told x)
 
--- one that was looked at and refilled
+-- an integer of a CPU, after a look and a refill
 pub serves_refilled_batch : (h : Held) (base : KeyHandoff) (g width : ℕ) (bytes : List ℕ) (j l m n : Site) →
     FitsBatch width → EnteredCpu h g j l → Refilled h base l m →
     VisitedServing (own_lane m) h (Cpu (Int g (Some base.place) width true)) bytes m n →

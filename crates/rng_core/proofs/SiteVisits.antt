@@ -1,4 +1,4 @@
--- What a visit of a lane is at a site.
+-- Visits of a lane at a site.
 use Rattle.std.proofs.Common.{◌≡◌, ◌≢◌, ℕ, ◌<◌, ◌≤◌, ◌++◌, List, [], ◌∷◌, length, Option, Some, None, sym, ap, subst, inr, ◌∙◌, arith}
 use Rattle.std.proofs.Math.Seq.{get_or-append_seam}
 use Rattle.atomic_table.specs.Table.{rest}
@@ -26,13 +26,13 @@ use Rattle.rng_core.specs.Sites.{at, HasInHands, HoldsWith, IsMade, Same, Took, 
 use Rattle.rng_core.proofs.TellLemmas.{told_idly, visited_after}
 use Rattle.rng_core.proofs.SiteLemmas.{walked_then}
 
--- what is held by the table and the caller of a site is held at the next
+-- the lanes that a site's caller holds are held at the next site
 pub held_at : (hands : List HeldLane) (m n : Site) → Same m n → HoldsLanes m.lanes.now m.set.caller hands n.pass.now →
     HasInHands hands n
 held_at hands m n same k = subst (λ (t : Lanes). HoldsLanes t n.set.caller hands n.pass.now) (sym same.lanes)
     (subst (λ (s : Setting). HoldsLanes m.lanes.now s.caller hands n.pass.now) (sym same.set) k)
 
--- the lane was taken, while only the pass moved
+-- the lane was taken, and only the pass changed
 pub took : (lane : ℕ) (h : Held) (m n : Site) → Same m n → n.trace.now ≡ m.trace.now →
     IsPassOf m.lanes.now m.pass.now → IsSamePass m.lanes.now m.pass.now n.pass.now →
     Taken lane h m.pass.now.seat.me n.pass.now.seat.me → n.pass.now.stamp < last_stamp →
@@ -54,7 +54,7 @@ took lane h m n same trace is has taken early hands = record {
   agrees = λ _. agrees_lawful _ _ (taken.consistent.lawful 1 (let a = has.pass.sized in omega arith));
 }
 
--- it was not got at first
+-- the lane was taken after a refusal
 pub took_later : (lane : ℕ) (h : Held) (l m n : Site) → Same l m → m.trace.now ≡ l.trace.now →
     IsPassOf l.lanes.now l.pass.now → Tried lane l.pass.now.seat.me m.pass.now.seat.me →
     ((hands : List HeldLane) → NotIn lane hands → HasInHands hands l → HasInHands hands m) → Took lane h m n →
@@ -77,7 +77,7 @@ took_later lane h l m n same trace is tried hands k = record {
   agrees = k.agrees;
 }
 
--- a lane that is held under another may be given back with an entry that names the other
+-- a lane taken after another may be given back with an entry that names the other
 pub can_put_naming : (lane : ℕ) (h : Held) (outer : HeldLane) (e : LaneEntry) (s : Site) →
     HasInHands (hand h.turn (behind_of e) (raise_of e) ∷ outer ∷ []) s → h.turn.lane ≡ lane → IsOf lane e →
     ahead_of e ≡ Some (outer.lane, outer.place) → 1 ≤ outer.lane → parent outer.lane ≡ lane → outer.owes ≡ None →
@@ -112,7 +112,7 @@ can_put_naming lane h outer e s has on kind names above parent_is owes makes fit
   };
 }
 
--- what such a visit leaves
+-- the effect of such a visit
 pub record Named (lane : ℕ) (h : Held) (outer : Turn) (e : LaneEntry) (m n : Site) : Type 0 where
   pub has : HasInHands (hand outer (Some h.turn.place) 0 ∷ []) n
   pub early : n.pass.now.stamp ≤ last_stamp
@@ -146,14 +146,14 @@ named lane h outer e m n has on names early v =
       visited = v.visited lane on;
     }
 
--- a visit behind what no step tells, of an entry that is said by the setting
+-- a visit after changes that are no steps, with an entry that depends on the setting
 pub visited_behind : (F : Setting → LaneEntry) (lane place : ℕ) (s : Model) (got : Handed) (l m n : Site) →
     Walked [] l m →
     Visited m.set (at m) (at n) lane place s (F m.set) got → Visited l.set (at l) (at n) lane place s (F l.set) got
 visited_behind F lane place s got l m n a v = visited_after _ _ _ _ _ _ _ _ _ a.told
     (subst (λ (x : Setting). Visited x (at m) (at n) lane place s (F x) got) a.same.set v)
 
--- what was under the lane that was taken is as it was, and so is its value
+-- the lane held before the taken one is as it was, and so is its value
 pub kept_under : (lane outer : ℕ) (h o : Held) (owes : Option ℕ) (raised : ℕ) (l m : Site) →
     HoldsWith owes raised outer o l → outer ≢ lane → Took lane h l m → lane_of m outer ≡ lane_of l outer
 kept_under lane outer h o owes raised l m holds other k = let in_hand = holds.has.held.0 in

@@ -1,4 +1,4 @@
--- The system call that deeds of a form fulfil.
+-- The system call for the deeds of each form.
 use Rattle.std.proofs.Common.{◌≡◌, ℕ, ◌<◌, List, [], ◌∷◌, ◌++◌, refl, sym, ap, ◌∙◌, subst, inl, inr, ◌⊎◌, ⊎_elim, arith, append-nil, Bool, true, false, cond}
 use Rattle.std.specs.Prelude.{MatchBool, ◌==◌, ◌&&◌, not}
 use Rattle.std.proofs.lemmas.Bool.{ne_eqb, eq-eqb}
@@ -51,7 +51,7 @@ module _ (set : Setting) (n flags g : ℕ) (good : is_bad flags ≡ false) where
   answer_is rest deeds b c e is was = (λ i. cond (sym good i) Invalid
       (cond (sym is i) Again (cond (sym was i) Interrupted Done))) ∙ ap (system_answer flags) (sym e)
 
-  -- the core was found not ready, and the caller wants what counts
+  -- the core was found not ready, and the caller needs it ready
   module _ (must : (g == 0 && not (is_insecure flags)) ≡ true) where
     waits_form : (rest : List Deed) → MatchBool (is_nonblock flags) (rest ≡ [])
         (WaitedInVain rest ⊎ Waited set n rest) → LookedForm set n flags g rest
@@ -77,7 +77,7 @@ module _ (set : Setting) (n flags g : ℕ) (good : is_bad flags ≡ false) where
       not_again : (g == 0 && (is_nonblock flags && not (is_insecure flags))) ≡ false
       not_again = not_all (g == 0) (is_nonblock flags) (is_insecure flags) patient
 
-      -- a wait, and what ended it
+      -- a wait, and the entry that ended it
       ended_is : (first second deeds rest : List Deed) (e : BaseEntry) (w : BaseOnly Wait first)
           (x : BaseOnly e second) → deeds ≡ looked g ∷ (first ++ (second ++ rest)) →
           deeds ≡ looked g ∷ (at_base w.base ∷ at_base x.base ∷ rest)
@@ -174,7 +174,7 @@ module _ (set : Setting) (n flags g : ℕ) (good : is_bad flags ≡ false) where
             shows = ap bytes_or_none (r.bytes_are ∙ sym on.1 ∙ ap served_bytes (sym e));
           }
 
-  -- the core was found ready, or the caller takes what there is
+  -- the core was found ready, or the caller takes bytes anyway
   module _ (takes : (g == 0 && not (is_insecure flags)) ≡ false) where
     takes_form : (rest : List Deed) → MatchBool (n == 0) (rest ≡ []) (ReadForm set (User n) g rest) →
         LookedForm set n flags g rest

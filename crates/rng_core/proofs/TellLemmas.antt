@@ -1,4 +1,4 @@
--- What is told, call after call.
+-- The trace, call after call.
 use Rattle.std.proofs.Common.{◌≡◌, ℕ, List, [], ◌∷◌, ◌++◌, map, take, length, ◌+◌, ◌<◌, ◌≤◌, ◌^◌, max, sym, refl, ap, ◌∙◌, subst, arith, append_assoc, append-nil, length-append}
 use Rattle.std.proofs.lemmas.List.{map-append}
 use Rattle.std.proofs.Math.Seq.{take-append_seam}
@@ -31,7 +31,7 @@ length_map : (xs : List MadeStep) → length (map step_of xs) ≡ length xs
 length_map [] = refl
 length_map (x ∷ xs) = let e = length_map xs in omega arith
 
--- one after another
+-- successive calls
 pub trace_then : (l m n : Moment) (xs ys : List MadeStep) → m.steps ≡ l.steps ++ map step_of xs →
     n.steps ≡ m.steps ++ map step_of ys → n.steps ≡ l.steps ++ map step_of (xs ++ ys)
 trace_then l m n xs ys a b = b ∙ ap (λ (s : List Step). s ++ map step_of ys) a
@@ -64,7 +64,7 @@ lane_fits PoolLane low = tt
 lane_fits BaseLane low = tt
 lane_fits (CpuLane c) low = omega arith
 
--- the mark of a visit, whose lane was held with these numbers
+-- the mark of a visit of a lane held with these numbers
 pub mark_fits : (mark : Mark) (lane place stamp own : ℕ) → index_of mark.lane ≡ lane → lane < 258 →
     mark.place ≡ place → place ≤ stamp → stamp < 2 ^ 62 → own ≤ 2 ^ 62 → mark.stamp ≡ max own stamp + 1 → MarkFits mark
 mark_fits mark lane place stamp own on near there low early late is = record {
@@ -109,7 +109,7 @@ visited_by_put set m m' told told' mark who e lane on there near two by trace fi
   };
 }
 
--- a visit behind what no step tells
+-- a visit after changes that are no steps
 pub visited_after : (set : Setting) (l m n : Moment) (lane place : ℕ) (s : Model) (e : LaneEntry) (got : Handed) →
     TraceRecords set l m [] → Visited set m n lane place s e got → Visited set l n lane place s e got
 visited_after set l m n lane place s e got a b =
@@ -125,7 +125,7 @@ pub visited_is : (set : Setting) (m n : Moment) (lane place : ℕ) (s : Model) (
     e ≡ e' → Visited set m n lane place s e got → Visited set m n lane place s e' got
 visited_is set m n lane place s e e' got is k = subst (λ (z : LaneEntry). Visited set m n lane place s z got) is k
 
--- a visit of the lane that was held
+-- a visit of the held lane
 pub visited_at : (set : Setting) (m m' : Seated) (told told' : List Step) (mark : Mark) (who : Who) (e : LaneEntry)
     (held lane : ℕ) → held ≡ lane → index_of mark.lane ≡ held → mark.place ≡ length (known_of m.0 held) →
     held < length m.0.lanes → 1 < length m.0.lanes
@@ -138,12 +138,12 @@ visited_at set m m' told told' mark who e held lane same on there near two by tr
     mark.place (replay (known_of m.0 l)) e (handed l e m.0)) same
     (visited_by_put set m m' told told' mark who e held on there near two by trace fits k)
 
--- by the place as it was taken
+-- the same, by an equal place
 pub visited_place : (set : Setting) (m n : Moment) (lane p q : ℕ) (s : Model) (e : LaneEntry) (got : Handed) → p ≡ q →
     Visited set m n lane p s e got → Visited set m n lane q s e got
 visited_place set m n lane p q s e got is k = subst (λ (z : ℕ). Visited set m n lane z s e got) is k
 
--- it stands where no more is known of the lane
+-- the visit of a moment is also that of a later one, if the known list did not change and no step was made
 pub visited_stays : (set : Setting) (l m n : Moment) (lane place : ℕ) (s : Model) (e : LaneEntry) (got : Handed) →
     Visited set l m lane place s e got → TraceRecords set m n [] → known_of n.view lane ≡ known_of m.view lane →
     Visited set l n lane place s e got

@@ -1,4 +1,4 @@
--- A caller as the host of a vgetrandom call with acts inside: what it does over the lanes at each step of the host.
+-- A caller as the host of a vgetrandom call with acts inside: its work over the lanes at each step of the host.
 use Rattle.std.specs.Prelude.{◌≡◌, ℕ, ◌&&◌, Bool, true, false, MatchBool, List, if◌then◌else◌}
 use Rattle.key_names.specs.declared.point.Point.{Point}
 use Rattle.key_names.specs.declared.point.Point.TheVariants.{Start}
@@ -14,7 +14,7 @@ use Rattle.rng_core.specs.Traces.{BeginsWithLook}
 use Rattle.rng_core.specs.Hosted.{Stand, Published, Answered}
 use Rattle.rng_core.specs.Acts.{Ask, ActOutcome, ActsAt, wipes_at}
 
--- the attempt that a call is in at a point: an attempt begins at the point Start
+-- the attempt of a call at a point: each point Start begins one
 abbrev pub attempt_at : Attempt → Point → Attempt
 attempt_at Before point = First
 attempt_at First point = if is_same_point point Start then Later else First
@@ -25,7 +25,7 @@ is_first Before = false
 is_first First = true
 is_first Later = false
 
--- where a caller stands in a call with acts inside
+-- the state of a caller in a call with acts inside
 pub record ActStand : Type 0 where
   pub core : Stand
   pub attempt : Attempt
@@ -36,25 +36,25 @@ abbrev pub act_stand : Stand → Attempt → List Ask → List ActOutcome → Ac
 act_stand core attempt asks outcomes =
     record { core = core; attempt = attempt; asks = asks; outcomes = outcomes }
 
--- nothing came of the acts
+-- the acts changed nothing
 pub record SameActs (s t : ActStand) : Type 0 where
   pub attempt : t.attempt ≡ s.attempt
   pub asks : t.asks ≡ s.asks
   pub outcomes : t.outcomes ≡ s.outcomes
 
--- it looked at the generation, and this is what it published
+-- the caller looked at the generation, and published this
 pub record ActPublished (s : ActStand) (g : ℕ) (t : ActStand) : Type 0 where
   pub core : Published s.core g t.core
   pub consistent : Consistent t.core.moment.view
   pub acts : SameActs s t
 
--- it made this system call
+-- the caller made this system call
 pub record ActAnswered (s : ActStand) (n flags : ℕ) (answer : SystemAnswer) (t : ActStand) : Type 0 where
   pub core : Answered s.core n flags answer t.core
   pub begins : is_bad flags ≡ false → BeginsWithLook s.core.moment.steps t.core.moment.steps
   pub acts : SameActs s t
 
--- at a point of the first attempt it did the acts that are bound to it, and otherwise nothing
+-- at a point of the first attempt the caller ran the acts bound to it; at any other point it did nothing
 pub record ActPassed (s : ActStand) (point : Point) (wiped : Bool) (t : ActStand) : Type 0 where
   pub set : t.core.set ≡ s.core.set
   pub steps : t.core.moment.steps ≡ s.core.moment.steps
@@ -69,8 +69,8 @@ pub record ActPassed (s : ActStand) (point : Point) (wiped : Bool) (t : ActStand
 abbrev pub acting : Doings ActStand
 acting = doings ActPublished ActAnswered ActPassed
 
--- from a stand to another, in whichever attempt, the caller ran a call for n bytes on the state s, which left t: these
--- are its steps, each with what it did over the lanes
+-- from one moment to another, in any attempt, the caller ran a call for n bytes on the state s, which became t:
+-- these are its steps, each with its work over the lanes
 pub record InsideRan (n flags : ℕ) (s t : VgetrandomState) (from : ActStand) (to : Attempt → ActStand) : Type 0 where
   pub steps : List HostStep
   pub outcome : Outcome

@@ -1,4 +1,4 @@
--- Acts inside a vgetrandom call: what each asks, and what came of it.
+-- Acts inside a vgetrandom call: each request and its outcome.
 use Rattle.std.specs.Prelude.{◌≡◌, ℕ, ◌+◌, ◌==◌, ◌&&◌, ◌||◌, not, nat_le, ◌^◌, Bool, true, false, MatchBool, Result}
 use Rattle.std.specs.Prelude.{List, [], ◌∷◌, take, drop, map, length}
 use Rattle.key_names.specs.declared.errno.Errno.{Errno}
@@ -17,20 +17,20 @@ use Rattle.rng_core.specs.declared.setting.Setting.{Setting}
 use Rattle.rng_core.specs.Traces.{knowing}
 use Rattle.rng_core.specs.Makes.{Makes, setting_of, result_answer, given}
 
--- what an act asks, where, and in which event
+-- a request: the act, its point, and its event
 pub record Ask : Type 0 where
   pub point : Point
   pub act : InsideAct
   pub event : ℕ
 
--- what came of it: the bytes are those of its place
+-- the outcome of an act, with the bytes of its part of `out`
 pub record ActOutcome : Type 0 where
   pub done : Bool
   pub answer : Result (Unit {0}) Errno
   pub steps : List Step
   pub bytes : List ℕ
 
--- how many bytes an act asks for
+-- the number of bytes that an act reads
 abbrev pub wants : InsideAct → ℕ
 wants Wipe = 0
 wants (Vread n) = n
@@ -49,7 +49,7 @@ asks_of bounds = map ask_of bounds
 abbrev pub outcome_of : Bound → List ℕ → ActOutcome
 outcome_of b bytes = record { done = b.done; answer = b.answer; steps = b.trace; bytes = bytes }
 
--- the places of the acts' bytes follow each other
+-- the parts of the acts' bytes follow each other
 abbrev pub outcomes_of : List Bound → List ℕ → List ActOutcome
 outcomes_of [] out = []
 outcomes_of (b ∷ bounds) out =
@@ -60,7 +60,7 @@ abbrev pub wipes_at : List Ask → Point → Bool
 wipes_at [] point = false
 wipes_at (a ∷ asks) point = (is_same_point a.point point && is_wipe a.act) || wipes_at asks point
 
--- an act that can still run, or has run, and asks for no more than a read gives
+-- an act that can still run, or has run, and reads no more bytes than a read may
 abbrev pub is_ready : Bound → Bool
 is_ready b = nat_le (wants b.act) (2 ^ 20) && (b.done || length b.trace == 0)
 
@@ -68,7 +68,7 @@ abbrev pub all_ready : List Bound → Bool
 all_ready [] = true
 all_ready (b ∷ bounds) = is_ready b && all_ready bounds
 
--- acts that can still run, or have run, with a place for the bytes of each
+-- acts that can still run, or have run, with a part of `out` for the bytes of each
 pub record AreReady (bounds : List Bound) (out : List ℕ) : Type 0 where
   pub fits : length out ≡ all_wanted (asks_of bounds)
   pub ready : all_ready bounds ≡ true
@@ -81,19 +81,19 @@ done_line deeds answer bytes =
 abbrev pub at_event : ℕ → Setting → Setting
 at_event event set = record set { event = event }
 
--- from v to w the act was done, with this outcome
+-- from v to w the act ran, with this outcome
 pub record ActRan (set : Setting) (ask : Ask) (v w : View) (y : ActOutcome) : Type 0 where
   pub done : y.done ≡ true
   pub did : Makes (λ deeds. ActMeans (setting_of set) ask.act (done_line deeds y.answer y.bytes))
       (at_event ask.event set)
       (knowing v []) (knowing w y.steps)
 
--- at a point an act is done that is bound to it and was not done yet
+-- at a point an act runs if it is bound to the point and has not run yet
 abbrev pub ActAt : Setting → Point → Ask → View → View → ActOutcome → ActOutcome → Type 0
 ActAt set point ask v w x y = MatchBool (is_same_point point ask.point && not x.done) (ActRan set ask v w y)
     ((y ≡ x) × (w ≡ v))
 
--- and so are all of a list, one after another
+-- the same for all acts of a list, in order
 abbrev pub ActsAt : Setting → Point → List Ask → View → View → List ActOutcome → List ActOutcome → Type 0
 ActsAt set point [] v w [] [] = w ≡ v
 ActsAt set point [] v w [] (y ∷ ys) = ⊥

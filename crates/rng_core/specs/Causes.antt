@@ -1,4 +1,4 @@
--- Why a call fails: its errors, by its own steps and by what its caller had seen.
+-- The causes of a call's errors: its own steps, and the generations that its caller had seen.
 use Rattle.std.specs.Prelude.{◌≡◌, ℕ, ◌≤◌, List, [], ◌∷◌, ◌++◌, Bool, true, false, Result, Ok, Err}
 use Rattle.key_names.specs.declared.errno.Errno.{Errno}
 use Rattle.key_names.specs.declared.errno.Errno.TheVariants.{NoData, Again, Invalid, Interrupted}
@@ -8,18 +8,19 @@ use Rattle.key_names.specs.Flags.{is_bad, is_nonblock, is_insecure}
 use Rattle.rng_core.specs.Sites.{seen_by}
 use Rattle.rng_core.specs.declared.site.Site.{Site}
 
--- the first step is a look that found the core not ready, as its caller had never seen it, and these follow
+-- the caller had never seen the core ready, and the first step is a look that found it not ready, followed by these
+-- steps
 pub record FoundUnready (rest : List Step) (m n : Site) : Type 0 where
   pub unseen : seen_by m ≡ 0
   pub steps : n.trace.now ≡ m.trace.now ++ Look 0 ∷ rest
 
--- by these flags a read takes only what a ready core gives, and waits for it unless nonblock is set
+-- with these flags a read needs a ready core, and waits for it unless nonblock is set
 pub record NeedsReady (nonblock : Bool) (flags : ℕ) : Type 0 where
   pub good : is_bad flags ≡ false
   pub secure : is_insecure flags ≡ false
   pub waits : is_nonblock flags ≡ nonblock
 
--- what the result of a read tells of its flags and of the core
+-- each result of a read implies this of its flags and of the core
 abbrev pub ReadCause : {T : Type 0} → Result T Errno → ℕ → Site → Site → Type 0
 ReadCause (Ok x) flags m n = is_bad flags ≡ false
 ReadCause (Err Invalid) flags m n = (is_bad flags ≡ true) × (n.trace.now ≡ m.trace.now)
@@ -34,7 +35,7 @@ pub record FoundReady (m n : Site) : Type 0 where
   pub steps : n.trace.now ≡ m.trace.now ++ Look look ∷ rest
   pub ready : 1 ≤ look
 
--- what the result of a reseed tells of the core
+-- each result of a reseed implies this of the core
 abbrev pub ReseedCause : {T : Type 0} → Result T Errno → Site → Site → Type 0
 ReseedCause (Ok x) m n = FoundReady m n
 ReseedCause (Err e) m n = (e ≡ NoData) × FoundUnready [] m n

@@ -1,4 +1,4 @@
--- A pass that is split, behind the visit that tells of it.
+-- A pass that is split, after the visit that records the fork.
 use Rattle.std.specs.Prelude.{◌≡◌, ℕ, ◌+◌, List, [], ◌∷◌, ◌++◌, length}
 use Rattle.key_names.specs.declared.names.Mark.{Mark}
 use Rattle.key_names.specs.declared.names.Step.{Step}
@@ -17,7 +17,7 @@ use Rattle.rng_core.specs.Makes.{Makes}
 use Rattle.rng_core.specs.declared.site.Site.{Site}
 use Rattle.rng_core.specs.Sites.{Same, Does, HasInHands, at}
 
--- from m on the pass did what a fork does, its trace had these steps then, and what it knew was cut in half
+-- from m on the pass made a fork's visit, the trace had these steps then, and the share was cut in half
 pub record Forked (set : Setting) (m : Moment) (told : List Step) (number : ℕ) (pass child : Pass) : Type 0 where
   pub before : View
   pub did : Makes (BaseOnly (Fork number)) set m (knowing before told)
@@ -26,13 +26,13 @@ pub record Forked (set : Setting) (m : Moment) (told : List Step) (number : ℕ)
   pub pass_is : view pass ≡ halved before
   pub child_is : view child ≡ steps.child before
 
--- the base was told of a child, in one visit
+-- the base recorded a child, in one visit
 pub record TellsOf (child : ℕ) (m n : Site) : Type 0 where
   pub does : Does 1 (BaseOnly (Fork child)) m n
   pub mark : Mark
   pub visit : n.trace.now ≡ m.trace.now ++ Visit mark ∷ []
 
--- a caller was forked: one visit tells of it, and this is its pass
+-- the caller forked another one, in one visit, and this is its pass
 pub record SplitsOff (number : ℕ) (child : Pass) (m n : Site) : Type 0 where
   pub same : Same m n
   pub has : HasInHands [] n

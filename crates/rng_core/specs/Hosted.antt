@@ -1,5 +1,5 @@
--- A caller as the host of its own vgetrandom calls: what it does over the lanes at each step of the host.
-use Rattle.std.specs.Prelude.{◌≡◌, ℕ, ◌<◌, ◌≤◌, Bool, true, false, IsTrue, List, [], ◌∷◌, length}
+-- A caller as the host of its own vgetrandom calls: its work over the lanes at each step of the host.
+use Rattle.std.specs.Prelude.{◌≡◌, ℕ, ◌<◌, ◌≤◌, ⊤, Bool, true, false, IsTrue, List, [], ◌∷◌, length}
 use Rattle.std.proofs.Props.{props}
 use Rattle.std.specs.Coded.{Coded-set}
 use Rattle.atomic_table.specs.Seated.{TableId, table_id_coded}
@@ -7,7 +7,8 @@ use Rattle.key_names.specs.declared.names.Step.{Step}
 use Rattle.key_names.specs.Calls.{Setting as CallSetting}
 use Rattle.key_names.specs.Deeds.{Deed}
 use Rattle.key_names.specs.Forms.{SysForm}
-use Rattle.key_names.specs.Vgetrandom.{SystemAnswer}
+use Rattle.key_names.specs.Flags.{is_bad}
+use Rattle.key_names.specs.Vgetrandom.{SystemAnswer, read, failed}
 use Rattle.key_names.specs.VreadSteps.{published_by, answer_behind}
 use Rattle.lane_table.specs.declared.view.Stage.{Stage}
 use Rattle.lane_table.specs.declared.view.Stage.TheVariants.{Away, Queued, Holding}
@@ -26,7 +27,7 @@ is_away Away = true
 is_away (Queued ticket) = false
 is_away (Holding ticket) = false
 
--- a pass of this table and this caller, with empty hands, that stands at no lane
+-- a pass of this table and this caller that neither holds a lane nor waits for one
 pub record IsFree (t : Lanes) (caller : ℕ) (p : Pass) : Type 0 where
   pub pass : IsPassOf t p
   pub own : p.caller ≡ caller
@@ -38,7 +39,7 @@ TableId-set = Coded-set table_id_coded
 
 pub ruleset free_props = (props, TableId-set)
 
--- where a caller stands in a call: its setting, and what its pass knows with the steps so far
+-- the state of a caller in a call: its setting, the knowledge of its pass, and the steps so far
 pub record Stand : Type 0 where
   pub set : Setting
   pub moment : Moment
@@ -46,7 +47,7 @@ pub record Stand : Type 0 where
 abbrev pub stand : Setting → Pass → List Step → Stand
 stand set pass steps = record { set = set; moment = moment pass steps }
 
--- it looked at the generation, and this is what it published
+-- the caller looked at the generation, and published this
 pub record Published (s : Stand) (g : ℕ) (t : Stand) : Type 0 where
   pub same : t.set ≡ s.set
   pub found : ℕ
@@ -55,12 +56,18 @@ pub record Published (s : Stand) (g : ℕ) (t : Stand) : Type 0 where
   pub known : found ≤ floor t.moment.view
   pub told : told.TraceRecords s.set s.moment t.moment (looked found ∷ [])
 
--- a system call with its answer, as what stands behind its steps
+-- a system call with its answer, from the deeds of its steps
 pub record SystemCall (set : CallSetting) (n flags : ℕ) (answer : SystemAnswer) (deeds : List Deed) : Type 0 where
   pub form : SysForm set n flags deeds
   pub answers : answer ≡ answer_behind flags deeds
 
--- it made this system call
+-- the call read its bytes
+abbrev pub IsRead : SystemAnswer → Type 0
+IsRead (read bytes visit) = ⊤
+IsRead (failed errno) = ⊥
+
+-- the caller made this system call, which succeeds if the flags are good and the core was seen to be ready
 pub record Answered (s : Stand) (n flags : ℕ) (answer : SystemAnswer) (t : Stand) : Type 0 where
   pub same : t.set ≡ s.set
   pub did : Makes (SystemCall (setting_of s.set) n flags answer) s.set s.moment t.moment
+  pub served : is_bad flags ≡ false → 1 ≤ floor s.moment.view → IsRead answer

@@ -16,7 +16,7 @@ use Rattle.rng_core.specs.InsideMakes.{IsWaitingAct, InsideMakes}
 use Rattle.rng_core.specs.Sites.{Same, IsNew, IsOnCpu, IsTimely, HasInHands, at}
 use Rattle.rng_core.specs.VreadMakes.{Called, IsCurrent, VreadMakes}
 
--- acts may be done inside a call at this site, none of which is done yet, with a place for the bytes of each
+-- acts may run inside a call at this site: none has run yet, and `out` has a part for the bytes of each
 pub record CanHost (acts : List Bound) (out : List ℕ) (s : Site) : Type 0 where
   pub new : IsNew s
   pub cpu : IsOnCpu s
@@ -25,7 +25,7 @@ pub record CanHost (acts : List Bound) (out : List ℕ) (s : Site) : Type 0 wher
   pub fits : length out ≡ all_wanted (asks_of acts)
 
 module _ {R : Type 0} where
-  -- no step was made over it yet
+  -- the host has made no step yet
   pub record IsNewHost (h : LaneHost R) : Type 0 where
     pub empty : length h.site.trace.now ≡ 0
     pub before : h.attempt ≡ Before
@@ -33,12 +33,12 @@ module _ {R : Type 0} where
     pub calls : h.calls ≡ 3
     pub fresh : AllByRecursion IsWaitingAct h.acts.now
 
-  -- where the caller stands
+  -- the state of the caller
   abbrev pub standing : LaneHost R → ActStand
   standing h = act_stand (stand h.site.set h.site.pass.now h.site.trace.now) h.attempt (asks_of h.acts.now)
       (outcomes_of h.acts.now h.out.now)
 
-  -- it holds the same references, over the same lanes
+  -- the host has the same references, over the same lanes
   pub record SameLoans (h next : LaneHost R) : Type 0 where
     pub site : Same h.site next.site
     pub acts : next.acts.ghost_name ≡ h.acts.ghost_name
@@ -49,7 +49,7 @@ module _ {R : Type 0} where
       (λ h n flags answer next. ActAnswered (standing h) n flags answer (standing next) × SameLoans h next)
       (λ h point wiped next. ActPassed (standing h) point wiped (standing next) × SameLoans h next)
 
-  -- n bytes were read on the state s, which left t, without acts inside
+  -- a read of n bytes on the state s, which became t, without acts inside
   pub record ReadsState (n flags : ℕ) (s t : VgetrandomState) (answer : Answer) (shown : Shown) (h next : LaneHost R)
       : Type 0 where
     pub loans : SameLoans h next
@@ -57,7 +57,7 @@ module _ {R : Type 0} where
     pub current : IsCurrent t next.site
     pub did : VreadMakes n flags s t answer shown h.site.set (at h.site) (at next.site)
 
-  -- a call for n bytes with acts inside was made on the state s, which left t
+  -- a call for n bytes on the state s, which became t, with acts inside
   pub record ReadsInside (n flags : ℕ) (s t : VgetrandomState) (answer : Answer) (shown : Shown) (h next : LaneHost R)
       : Type 0 where
     pub loans : SameLoans h next

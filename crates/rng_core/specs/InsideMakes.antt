@@ -1,4 +1,4 @@
--- What a read out of a caller's vgetrandom state did with acts inside.
+-- The effect of a read out of a caller's vgetrandom state with acts inside.
 use Rattle.std.specs.Prelude.{◌≡◌, ℕ, ◌≤◌, ◌^◌, false, List, [], ◌∷◌, ◌++◌, map, if◌then◌else◌}
 use Rattle.std.specs.List.{AllByRecursion}
 use Rattle.key_names.specs.declared.entries.VEntry.{VEntry}
@@ -23,13 +23,13 @@ use Rattle.rng_core.specs.Traces.{Moment}
 use Rattle.rng_core.specs.Makes.{setting_of, result_answer, given}
 use Rattle.rng_core.specs.Acts.{Ask, ActOutcome, wants, done_line}
 
--- an act as it is handed to a call
+-- an act before a call
 pub record IsWaitingAct (b : Bound) : Type 0 where
   pub short : wants b.act ≤ 2 ^ 20
   pub idle : b.done ≡ false
   pub empty : b.trace ≡ []
 
--- the line of an act: one that was not done is unused
+-- the line of an act; an act that did not run is unused
 abbrev pub act_line : Setting → Ask → ActOutcome → SeenLine
 act_line set a z = record {
   caller = set.caller;
@@ -48,11 +48,11 @@ bound_acts set [] zs = []
 bound_acts set (a ∷ asks) [] = []
 bound_acts set (a ∷ asks) (z ∷ zs) = bound_act set a z ∷ bound_acts set asks zs
 
--- what the line of an act means
+-- the meaning of an act's line
 abbrev pub outcome_line : Lists → ActOutcome → LineMeaning
 outcome_line lists z = if z.done then done_line (deeds_of lists z.steps) z.answer z.bytes else unused_line
 
--- what a read means, these being the deeds behind its own steps, and this what came of its acts
+-- the meaning of a read with the deeds of its own steps and the outcomes of its acts
 abbrev pub inside_meaning : Lists → List Deed → Answer → Shown → List VEntry → List ActOutcome → CallerState →
     VgetrandomState → CallMeaning
 inside_meaning lists deeds answer shown entries outcomes before t = record {
@@ -63,8 +63,8 @@ inside_meaning lists deeds answer shown entries outcomes before t = record {
   after = with_state before t;
 }
 
--- from l to m the caller read n bytes with these flags out of the state s, and left t: its own steps are those in the
--- trace, and its acts have their own
+-- from l to m the caller read n bytes with these flags out of the state s, which became t: the trace has its own
+-- steps, and its acts have theirs
 pub record InsideMakes (n flags : ℕ) (s t : VgetrandomState) (answer : Answer) (shown : Shown) (set : Setting)
     (l m : Moment) (asks : List Ask) (outcomes : List ActOutcome) : Type 0 where
   pub entries : List VEntry

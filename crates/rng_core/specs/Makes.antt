@@ -1,4 +1,4 @@
--- What a call did, in the words of the book: for all lists of visits in the end, of which the pass knows beginnings.
+-- The effect of a call on the book, for all final lists of visits that continue the lists that the pass knows.
 use Rattle.std.specs.Prelude.{◌≡◌, ℕ, List, [], map, Bool, true, false, Result, Ok, Err}
 use Rattle.key_names.specs.declared.entries.VEntry.{VEntry}
 use Rattle.key_names.specs.Calls.{Setting as CallSetting}
@@ -24,27 +24,27 @@ use Rattle.rng_core.specs.Traces.{Moment, Visited}
 use Rattle.rng_core.specs.Traces as told
 use Rattle.rng_core.specs.declared.setting.Setting.{Setting}
 
--- the part of the setting that a form reads
+-- the part of the setting that a form uses
 abbrev pub setting_of : Setting → CallSetting
 setting_of set = record { cpu = set.cpu; now = set.now; hw = set.hw }
 
--- from m to n the pass did what the trace tells, and of the lists and the deeds behind its steps this holds
+-- from m to n the trace lists the steps of the pass, and P holds of the lists and of the deeds of these steps
 pub record MakesIn (P : (ℕ → List Visit) → List Deed → Type 0) (set : Setting) (m n : Moment) : Type 0 where
   pub made_steps : List MadeStep
   pub told : told.TraceRecords set m n made_steps
   pub stands : (lanes : ℕ) (visits : ℕ → List Visit) (callers : List (List (List VEntry))) →
       Continues lanes n.view visits → P visits (deeds_of (book_lists lanes visits callers) (map step_of made_steps))
 
--- the same, of the deeds alone
+-- the same for the deeds alone
 abbrev pub Makes : (List Deed → Type 0) → Setting → Moment → Moment → Type 0
 Makes P set m n = MakesIn (λ visits. P) set m n
 
--- deeds of a form, of which the last serves these bytes
+-- deeds of a form that serve these bytes
 pub record Serving (F : List Deed → Type 0) (bytes : List ℕ) (deeds : List Deed) : Type 0 where
   pub form : F deeds
   pub bytes_are : bytes ≡ served_bytes deeds
 
--- what an entry serves of a lane as it was met
+-- the bytes that an entry serves from this model of its lane
 abbrev pub serving : LaneEntry → Model → Handed → List ℕ
 serving (Pool e) s got = []
 serving (Base e) s got = base_serving s.base got e
@@ -57,7 +57,7 @@ pub record Served (set : Setting) (m n : Moment) (lane place : ℕ) (e : LaneEnt
   pub visited : Visited set m n lane place model e got
   pub serves : bytes ≡ serving e model got
 
--- deeds that are those of an event, with the answer and the data of its line
+-- the deeds are those of an event, with the answer and the data of its line
 pub record IsOutcomeOf (set : CallSetting) (event : Event) (answer : Answer) (shown : Shown) (deeds : List Deed) : Type
     0 where
   pub form : Form set event deeds
@@ -72,7 +72,7 @@ abbrev pub tick_result : Bool → Answer
 tick_result true = Fired
 tick_result false = Idle
 
--- the bytes that a call gives out: none where it failed
+-- the bytes that a call returns: none if it failed
 abbrev pub given : {T : Type 0} → Result T Errno → List ℕ → List ℕ
 given (Ok x) bytes = bytes
 given (Err e) bytes = []

@@ -10,8 +10,8 @@ use Rattle.rng_core.specs.Traces.{Moment}
 use Rattle.rng_core.specs.VreadMakes.{VreadMakes}
 use Rattle.rng_core.specs.OwnStates.{OwnUse, by_vread, OwnBook, own_lists}
 
--- two reads as the clause of vread tells them, the second from where the first left the state and the pass: whenever the
--- pass knows what it knows after both, the table's lists and the entries of this state make such a book
+-- two reads by the clause of vread, the second from the state and the pass that the first left. Whenever the pass
+-- knows what it knows after both, the table's lists and the entries of this state make such a book
 abbrev pub TwoReadsHaveABook : Type 0
 TwoReadsHaveABook = (n₁ n₂ flags₁ flags₂ : ℕ) (t₁ t₂ : VgetrandomState) (answer₁ answer₂ : Answer)
     (shown₁ shown₂ : Shown) (set₁ set₂ : Setting) (l₁ m₁ l₂ m₂ : Moment)

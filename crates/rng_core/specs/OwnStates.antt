@@ -1,5 +1,5 @@
--- What a caller of the core has of vgetrandom states of its own, as the clauses of its calls tell it, and what the laws of
--- books then say of these states and of the table.
+-- A caller's own vgetrandom states, by the clauses of its calls, and the laws of books for these states and the
+-- table.
 use Rattle.std.specs.Prelude.{◌≡◌, ℕ, ◌+◌, ◌<◌, ◌≤◌, ⊤, Some, List, [], ◌∷◌, ◌++◌, length, map, slice_get}
 use Rattle.std.specs.List.{sum_by, AllByRecursion}
 use Rattle.key_names.specs.declared.entries.VEntry.{VEntry}
@@ -25,7 +25,7 @@ use Rattle.rng_core.specs.Acts.{Ask, ActOutcome}
 use Rattle.rng_core.specs.VreadMakes.{VreadMakes, LocallyServed}
 use Rattle.rng_core.specs.InsideMakes.{InsideMakes}
 
--- a use of a state: a read, by what the clause of vread, vread_inside or vread_local tells of it, or a wipe
+-- a use of a state: a read, with the clause of vread, vread_inside or vread_local, or a wipe
 pub data OwnUse : Type 0 where
   by_vread : (n flags : ℕ) (s t : VgetrandomState) (answer : Answer) (shown : Shown) (set : Setting) (l m : Moment) →
       VreadMakes n flags s t answer shown set l m → OwnUse
@@ -49,21 +49,21 @@ after_use (by_vread_inside n flags s t answer shown set l m asks outcomes k) = t
 after_use (by_vread_local n flags s t out set l m k) = t
 after_use (by_wipe s) = wiped_state
 
--- the entries that it leaves in the state's list
+-- the entries of a use in the state's list
 abbrev pub entries_of : OwnUse → List VEntry
 entries_of (by_vread n flags s t answer shown set l m k) = k.entries
 entries_of (by_vread_inside n flags s t answer shown set l m asks outcomes k) = k.entries
 entries_of (by_vread_local n flags s t out set l m k) = copy_entries s 0 n
 entries_of (by_wipe s) = Wipe ∷ []
 
--- the looks and visits of its own
+-- the looks and visits of a use, without those of its acts
 abbrev pub steps_of : OwnUse → List MadeStep
 steps_of (by_vread n flags s t answer shown set l m k) = k.did.made_steps
 steps_of (by_vread_inside n flags s t answer shown set l m asks outcomes k) = k.made_steps
 steps_of (by_vread_local n flags s t out set l m k) = looked k.found ∷ []
 steps_of (by_wipe s) = []
 
--- some pass of the table knows what the caller knew
+-- some pass of the table knows everything that the caller knew
 pub record IsKnown (s : St) (w : View) : Type 0 where
   pub number : ℕ
   pub view : View
@@ -78,12 +78,12 @@ UseIsKnown s (by_vread_inside n flags b t answer shown set l m asks outcomes k) 
 UseIsKnown s (by_vread_local n flags b t out set l m k) = IsKnown s m.view
 UseIsKnown s (by_wipe b) = ⊤
 
--- each use goes on from where the one before it left the state
+-- each use begins with the state that the one before it left
 abbrev pub Follow : VgetrandomState → List OwnUse → Type 0
 Follow s [] = ⊤
 Follow s (u ∷ us) = (before_use u ≡ s) × Follow (after_use u) us
 
--- the state that some uses leave, and the list of their entries
+-- the state after some uses, and the list of their entries
 abbrev pub after_uses : VgetrandomState → List OwnUse → VgetrandomState
 after_uses s [] = s
 after_uses s (u ∷ us) = after_uses (after_use u) us
@@ -92,27 +92,27 @@ abbrev pub entries_left : List OwnUse → List VEntry
 entries_left [] = []
 entries_left (u ∷ us) = entries_of u ++ entries_left us
 
--- how often the visits of a use, or of all, have place p of CPU c
+-- how often place p of CPU c is among the visits of a use, or of all uses
 abbrev pub visits_at : ℕ → ℕ → OwnUse → ℕ
 visits_at c p u = times p (places_in (c + 2) (steps_of u))
 
 abbrev pub all_visits_at : ℕ → ℕ → List (List OwnUse) → ℕ
 all_visits_at c p states = sum_by (λ uses. sum_by (visits_at c p) uses) states
 
--- at a moment of the table, these are the uses of each state of the caller's own, from its first, wiped state on. Each
--- state stands between two calls, and the passes count the visits of the uses, each once
+-- at a moment of the table, these are the uses of each of the caller's own states, from its first, wiped state on.
+-- Each state is between two calls, and the passes count the visits of the uses, each once
 pub record OwnStates (s : St) (states : List (List OwnUse)) : Type 0 where
   pub follow : AllByRecursion (Follow wiped_state) states
   pub known : AllByRecursion (AllByRecursion (UseIsKnown s)) states
   pub counted : (c p : ℕ) → c + 2 < length s.homes →
       all_visits_at c p states ≤ sum_by (λ v. times p (at (c + 2) v).places) s.views
 
--- the book of the table's lists so far and of the states: each state is that of number 0 of a caller of the book
+-- the book of the table's lists so far and of the states: each state is state 0 of a caller of the book
 abbrev pub own_lists : St → (ℕ → List Visit) → List (List OwnUse) → Lists
 own_lists s logs states = book_lists (length s.homes) logs (map (λ uses. entries_left uses ∷ []) states)
 
--- the book is lawful but for visits that are half finished, so that each read has one taker; no byte of a key was put to
--- use twice; no live state holds a replaced key; and each state holds what its own list replays to
+-- the book is lawful except for visits that are half finished, so each read has one taker; no byte of a key was used
+-- twice; no live state holds a replaced key; and each state is the replay of its own list
 pub record OwnBook (lists : Lists) (states : List (List OwnUse)) : Type 0 where
   pub lawful : HalfFinishedBook lists
   pub disjoint : IsDisjoint lists
@@ -121,7 +121,7 @@ pub record OwnBook (lists : Lists) (states : List (List OwnUse)) : Type 0 where
   pub replayed : (i : ℕ) (uses : List OwnUse) → slice_get states i ≡ Some uses →
       IsReplayed lists i 0 (entries_left uses) (after_uses wiped_state uses)
 
--- whatever states callers of the core have of their own, at each moment between two atomic steps
+-- at each moment between two atomic steps, for all states that callers of the core have of their own
 abbrev pub OwnStatesAreLawful : Type 0
 OwnStatesAreLawful = (first : ℕ) (s : St) (r : WorldRule first s) (states : List (List OwnUse)) →
     OwnStates s states → OwnBook (own_lists s r.logs states) states

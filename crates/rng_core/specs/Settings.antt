@@ -1,4 +1,4 @@
--- What a caller has set.
+-- The setting of a caller.
 use Rattle.std.specs.Prelude.{ℕ, replicate}
 use Rattle.rng_core.specs.declared.setting.Setting.{Setting}
 

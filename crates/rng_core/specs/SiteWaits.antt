@@ -1,4 +1,4 @@
--- How long a call may wait at a site, and how a wait ends.
+-- The steps that a wait at a site may need, and the ways it ends.
 use Rattle.std.specs.Prelude.{◌≡◌, ℕ, ◌+◌, ◌≤◌, [], length, false, Result, Ok, Err}
 use Rattle.key_names.specs.declared.errno.Errno.{Errno}
 use Rattle.key_names.specs.declared.errno.Errno.TheVariants.{Interrupted}
@@ -12,16 +12,16 @@ use Rattle.rng_core.specs.Waits.{waiting}
 use Rattle.rng_core.specs.Sites.{Does, seen_by}
 use Rattle.rng_core.specs.declared.site.Site.{Site}
 
--- how many steps the caller may still need to wait until the core is ready: none where it has seen that it is
+-- how many steps the caller may still need to wait until the core is ready: 0 once it has seen the core ready
 abbrev pub waiting_at : Site → ℕ
 waiting_at s = waiting (view s.pass.now)
 
--- the core was found ready, or nobody runs
+-- the core was found ready, or no caller runs
 abbrev pub Waited : {T : Type 0} → Result T Errno → Site → Site → Type 0
 Waited (Ok x) m n = (1 ≤ seen_by n) × Does 1 (Serving (BaseOnly Resume) []) m n
 Waited (Err e) m n = (e ≡ Interrupted) × Does 1 (Serving (BaseOnly Interrupt) []) m n
 
--- the first step is a look where the flags are good, and what was waited once is not waited again
+-- if the flags are good, the first step is a look; a caller that waited once does not wait again
 pub record BeginsAndWaits (flags : ℕ) (m n : Site) : Type 0 where
   pub begins : is_bad flags ≡ false → BeginsWithLook m.trace.now n.trace.now
   pub room : length n.trace.now + waiting_at n ≤ length m.trace.now + 4 + waiting_at m

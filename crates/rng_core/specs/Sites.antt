@@ -1,4 +1,4 @@
--- What a call finds and leaves at a site.
+-- The preconditions and effects of calls at a site.
 use Rattle.std.specs.Prelude.{◌≡◌, ◌≢◌, ◌⊎◌, ℕ, ◌+◌, ◌<◌, ◌≤◌, ◌^◌, List, [], ◌∷◌, length, Option, Some, None, Bool, false}
 use Rattle.key_names.specs.Deeds.{Deed}
 use Rattle.key_names.specs.declared.entries.PoolEntry.TheVariants.{Extract}
@@ -38,34 +38,34 @@ cpu_lane c = c + 2
 abbrev pub most_bytes : ℕ
 most_bytes = 2 ^ 20
 
--- a visit is made while the pass has at most this stamp
+-- the pass has at most this stamp when it makes a visit
 abbrev pub last_stamp : ℕ
 last_stamp = 2 ^ 62
 
--- the moment at which a caller stands
+-- the moment of a site: its pass's view and its steps
 abbrev pub at : Site → Moment
 at s = moment s.pass.now s.trace.now
 
--- what a lane's list makes of the lane, as far as the caller knows it
+-- the model of a lane by the list that the caller knows
 abbrev pub lane_of : Site → ℕ → Model
 lane_of s lane = model s.pass.now lane
 
--- the lane of the CPU that the caller runs on, and what it is known to be
+-- the lane of the CPU that the caller runs on, and its model
 abbrev pub own_lane : Site → ℕ
 own_lane s = s.set.cpu + 2
 
 abbrev pub own_cpu : Site → CpuModel
 own_cpu s = (lane_of s (own_lane s)).cpu
 
--- how far the caller has seen the generation
+-- the greatest generation that the caller has seen
 abbrev pub seen_by : Site → ℕ
 seen_by s = floor (view s.pass.now)
 
--- these lanes are in the caller's hands, the one taken last in front
+-- the caller holds these lanes, the last one first
 abbrev pub HasInHands : List HeldLane → Site → Type 0
 HasInHands hands s = HoldsLanes s.lanes.now s.set.caller hands s.pass.now
 
--- the most steps that a trace has
+-- the most steps that a trace can have
 abbrev pub most_steps : ℕ
 most_steps = 20
 
@@ -75,12 +75,12 @@ own_places s = length (known_of (view s.pass.now) (own_lane s))
 
 -- Before a call
 
--- empty hands, and no step yet
+-- no lane held, and no step yet
 pub record IsNew (s : Site) : Type 0 where
   pub has : HasInHands [] s
   pub empty : length s.trace.now ≡ 0
 
--- empty hands, with room for so many steps
+-- no lane held, and room for this many steps
 pub record IsIdle (steps : ℕ) (s : Site) : Type 0 where
   pub has : HasInHands [] s
   pub room : length s.trace.now + steps ≤ 20
@@ -93,11 +93,11 @@ IsOnCpu s = s.set.cpu < s.lanes.now.cpus
 abbrev pub IsTimely : Site → Type 0
 IsTimely s = s.set.now < 2 ^ 40
 
--- room for so many steps
+-- room for this many steps
 abbrev pub HasRoom : ℕ → Site → Type 0
 HasRoom steps s = length s.trace.now + steps ≤ 20
 
--- only this lane is held, whose value is as it was taken; it owes this answer, and raised the generation so often
+-- only this lane is held, with its value as taken; it owes this answer, and raised the generation this often
 pub record HoldsWith (owes : Option ℕ) (raised lane : ℕ) (h : Held) (s : Site) : Type 0 where
   pub has : HasInHands (hand h.turn owes raised ∷ []) s
   pub lane_is : h.turn.lane ≡ lane
@@ -118,7 +118,7 @@ pub record IsFresh (look : ℕ) (s : Site) : Type 0 where
   pub known : 1 ≤ look
   pub fresh : look ≡ (own_cpu s).cpu.generation
 
--- it is of an earlier one, and the base handed over another key for it
+-- the CPU's key is of an earlier generation, and the base handed over another key for it
 pub record IsRefill (look : ℕ) (base : KeyHandoff) (s : Site) : Type 0 where
   pub known : 1 ≤ look
   pub not_back : (own_cpu s).cpu.generation ≤ look
@@ -126,14 +126,14 @@ pub record IsRefill (look : ℕ) (base : KeyHandoff) (s : Site) : Type 0 where
   pub handed : got_of (Some base.place) (known_of (view s.pass.now) base_lane) ≡ handing base.key base.generation
   pub reached : look ≤ base.generation
 
--- the batch of this width is filled where that has to be, by a key of the generation that a look found
+-- the batch of this width is filled if it has to be, with a key of the generation that a look found
 pub record IsFill (look width : ℕ) (filled : Bool) (s : Site) : Type 0 where
   pub known : 1 ≤ look
   pub not_back : (own_cpu s).cpu.generation ≤ look
   pub fills : filled ≡ must_fill look width ((own_cpu s).fills width)
   pub fresh : (filled ≡ false) ⊎ (look ≡ (own_cpu s).cpu.generation)
 
--- only this lane is held, and may be given back with the entry
+-- only this lane is held, and it may be given back with the entry
 pub record CanVisit (lane : ℕ) (h : Held) (e : LaneEntry) (s : Site) : Type 0 where
   pub has : HasInHands (hand h.turn (behind_of e) (raise_of e) ∷ []) s
   pub lane_is : h.turn.lane ≡ lane
@@ -143,11 +143,11 @@ pub record CanVisit (lane : ℕ) (h : Held) (e : LaneEntry) (s : Site) : Type 0 
   pub room : HasRoom 1 s
   pub early : s.pass.now.stamp ≤ last_stamp
 
--- the value as held is what the entry makes of the lane
+-- the held value is the lane's value after the entry
 abbrev pub IsMade : ℕ → Held → LaneEntry → Site → Type 0
 IsMade lane h e s = ValueRepresents lane h.state (made_of (lane_of s lane) e (handed lane e (view s.pass.now)))
 
--- Behind a call
+-- After a call
 
 -- the same caller at the same table, with the same setting, pass and trace
 pub record Same (m n : Site) : Type 0 where
@@ -161,7 +161,7 @@ pub record Walked (made_steps : List MadeStep) (m n : Site) : Type 0 where
   pub same : Same m n
   pub told : TraceRecords m.set (at m) (at n) made_steps
 
--- a lane was taken, over those that were held
+-- a lane was taken, with other lanes held or none
 pub record Took (lane : ℕ) (h : Held) (m n : Site) : Type 0 where
   pub walked : Walked [] m n
   pub trace : n.trace.now ≡ m.trace.now
@@ -176,7 +176,7 @@ pub record Took (lane : ℕ) (h : Held) (m n : Site) : Type 0 where
   pub low : lane ≡ base_lane → IsLow n
   pub agrees : lane ≡ base_lane → Agrees (lane_of n base_lane).base
 
--- a lane was taken with empty hands
+-- a lane was taken while no other was held
 pub record Entered (lane : ℕ) (h : Held) (m n : Site) : Type 0 where
   pub walked : Walked [] m n
   pub trace : n.trace.now ≡ m.trace.now
@@ -184,7 +184,7 @@ pub record Entered (lane : ℕ) (h : Held) (m n : Site) : Type 0 where
   pub low : lane ≡ base_lane → IsLow n
   pub agrees : lane ≡ base_lane → Agrees (lane_of n base_lane).base
 
--- only the pass moved, and the hands are empty
+-- only the pass changed, and no lane is held
 pub record KeepsTrace (m n : Site) : Type 0 where
   pub same : Same m n
   pub trace : n.trace.now ≡ m.trace.now
@@ -196,7 +196,7 @@ pub record GaveBack (m n : Site) : Type 0 where
   pub trace : n.trace.now ≡ m.trace.now
   pub has : HasInHands [] n
 
--- one look was made, with the same in the hands as before
+-- one look was made, and the same lanes are held as before
 pub record Looked (found : ℕ) (m n : Site) : Type 0 where
   pub walked : Walked (looked found ∷ []) m n
   pub room : length n.trace.now ≡ length m.trace.now + 1
@@ -210,7 +210,7 @@ pub record Looked (found : ℕ) (m n : Site) : Type 0 where
   pub cpus : (c : ℕ) → c < m.lanes.now.cpus → (lane_of m (cpu_lane c)).cpu.cpu.generation ≤ found
   pub hands : (hands : List HeldLane) → HasInHands hands m → HasInHands hands n
 
--- with empty hands
+-- one look was made, and no lane is held
 pub record LookedIdly (found : ℕ) (m n : Site) : Type 0 where
   pub looked : Looked found m n
   pub has : HasInHands [] n
@@ -225,7 +225,7 @@ pub record EnteredCpu (cpu : Held) (found : ℕ) (m n : Site) : Type 0 where
   pub small : found < 2 ^ 63
   pub not_back : (own_cpu n).cpu.generation ≤ found
 
--- a visit was made, whatever else is in the hands
+-- a visit was made, with any other lanes held
 pub record Visits (h : Held) (e : LaneEntry) (m n : Site) : Type 0 where
   pub same : Same m n
   pub room : length n.trace.now ≡ length m.trace.now + 1
@@ -238,7 +238,7 @@ pub record Visits (h : Held) (e : LaneEntry) (m n : Site) : Type 0 where
   pub visited : (lane : ℕ) → h.turn.lane ≡ lane → Visited m.set (at m) (at n) lane h.turn.place (lane_of m lane) e
       (handed lane e (view m.pass.now))
 
--- a visit was made, and the hands are empty
+-- a visit was made, and no lane is held
 pub record VisitedIdly (lane : ℕ) (h : Held) (e : LaneEntry) (m n : Site) : Type 0 where
   pub same : Same m n
   pub has : HasInHands [] n
@@ -253,7 +253,7 @@ pub record VisitedServing (lane : ℕ) (h : Held) (e : LaneEntry) (bytes : List 
   pub room : length n.trace.now ≡ length m.trace.now + 1
   pub served : Served m.set (at m) (at n) lane h.turn.place e bytes
 
--- a root was extracted for the base that is held
+-- a root was extracted for the held base
 pub record Extracted (base : Held) (root : Root) (m n : Site) : Type 0 where
   pub same : Same m n
   pub holds : HoldsWith (Some root.place) 0 base_lane base n
@@ -264,7 +264,7 @@ pub record Extracted (base : Held) (root : Root) (m n : Site) : Type 0 where
   pub visited : (s : Model) × Visited m.set (at m) (at n) pool_lane root.place s
       (Pool (Extract m.set.hw base.turn.place)) nothing
 
--- and the generation was raised to that of the base's next reseed
+-- a root was extracted, and the generation was raised to that of the base's next reseed
 pub record ExtractedRaising (base : Held) (root : Root) (m n : Site) : Type 0 where
   pub same : Same m n
   pub holds : HoldsWith (Some root.place) 1 base_lane base n
@@ -274,7 +274,7 @@ pub record ExtractedRaising (base : Held) (root : Root) (m n : Site) : Type 0 wh
   pub visited : (s : Model) × Visited m.set (at m) (at n) pool_lane root.place s
       (Pool (Extract m.set.hw base.turn.place)) nothing
 
--- the base handed over a key for the CPU that is held
+-- the base handed over a key for the held CPU
 pub record Refilled (cpu : Held) (base : KeyHandoff) (m n : Site) : Type 0 where
   pub same : Same m n
   pub holds : HoldsWith (Some base.place) 0 (own_lane n) cpu n
@@ -289,17 +289,17 @@ pub record Refilled (cpu : Held) (base : KeyHandoff) (m n : Site) : Type 0 where
 abbrev pub IsOneStep : Site → Site → Type 0
 IsOneStep m n = length n.trace.now ≡ length m.trace.now + 1
 
--- a call was made in at most so many steps, of which, with the lists, P holds, and the hands are empty
+-- a call was made in at most this many steps, P holds of the lists and its deeds, and no lane is held
 pub record DoesIn (steps : ℕ) (P : (ℕ → List Visit) → List Deed → Type 0) (m n : Site) : Type 0 where
   pub same : Same m n
   pub has : HasInHands [] n
   pub room : length n.trace.now ≤ length m.trace.now + steps
   pub did : MakesIn P m.set (at m) (at n)
 
--- the same, of the deeds alone
+-- the same for the deeds alone
 abbrev pub Does : ℕ → (List Deed → Type 0) → Site → Site → Type 0
 Does steps P m n = DoesIn steps (λ visits. P) m n
 
--- the call was that of an event, with this answer and these data
+-- the call completed an event, with this answer and these data
 abbrev pub Completes : ℕ → Event → Answer → Shown → Site → Site → Type 0
 Completes steps event answer shown m n = Does steps (IsOutcomeOf (setting_of m.set) event answer shown) m n

@@ -1,4 +1,4 @@
--- What a call did, as its trace tells it, and the deeds that stand behind its steps in the end.
+-- The steps of a call in its trace, and the deeds that they have in the final lists.
 use Rattle.std.specs.Prelude.{◌≡◌, ℕ, ◌<◌, List, [], ◌∷◌, ◌++◌, length, map, take}
 use Rattle.std.specs.List.{AllByRecursion}
 use mathlib.Core.Option.{some}
@@ -19,7 +19,7 @@ use Rattle.lane_table.specs.Calls.{view}
 use Rattle.lane_table.specs.Advances.{MadeStep, visited, step_of, Advances}
 use Rattle.rng_core.specs.declared.setting.Setting.{Setting}
 
--- what a pass knows, and the steps so far
+-- the knowledge of a pass, and the steps so far
 pub record Moment : Type 0 where
   pub view : View
   pub steps : List Step
@@ -30,13 +30,13 @@ knowing v steps = record { view = v; steps = steps }
 abbrev pub moment : Pass → List Step → Moment
 moment pass steps = knowing (view pass) steps
 
--- from m to n the pass did exactly this, and the trace tells it, in numbers that a transcript can have
+-- from m to n the pass made exactly these steps, and the trace lists them, in numbers that a transcript can have
 pub record TraceRecords (set : Setting) (m n : Moment) (made_steps : List MadeStep) : Type 0 where
   pub trace : n.steps ≡ m.steps ++ map step_of made_steps
   pub went : Advances set.caller set.event (length m.steps) m.view n.view made_steps
   pub fits : AllByRecursion StepFits (map step_of made_steps)
 
--- what stands at a mark: the entry, with what was handed to it, and the lane's model before it
+-- the visit at a mark: the entry, the key that it received, and the lane's model before it
 pub record Met (v : View) (mark : Mark) (s : Model) (e : LaneEntry) (got : Handed) : Type 0 where
   pub near : index_of mark.lane < length v.lanes
   pub visit : Visit
@@ -54,7 +54,7 @@ pub record Visited (set : Setting) (m n : Moment) (lane place : ℕ) (s : Model)
   pub told : TraceRecords set m n (visited mark e ∷ [])
   pub met : Met n.view mark s e got
 
--- the steps that were added begin with a look
+-- the added steps begin with a look
 pub record BeginsWithLook (before after : List Step) : Type 0 where
   pub look : ℕ
   pub rest : List Step

@@ -1,4 +1,4 @@
--- What a read out of a caller's vgetrandom state did.
+-- The effect of a read out of a caller's vgetrandom state.
 use Rattle.std.specs.Prelude.{◌≡◌, ◌⊎◌, ℕ, ◌+◌, ◌≤◌, true, false, Result, Ok, Err, List, [], ◌∷◌, ◌++◌, length}
 use Rattle.key_names.specs.declared.entries.VEntry.{VEntry}
 use Rattle.key_names.specs.declared.errno.Errno.{Errno}
@@ -24,12 +24,12 @@ use Rattle.rng_core.specs.Makes.{Makes, setting_of}
 use Rattle.rng_core.specs.declared.site.Site.{Site}
 use Rattle.rng_core.specs.Sites.{Same, HasInHands, at, seen_by}
 
--- what is returned does not tell how a call ended
+-- the result of a call, without the way it ended
 abbrev pub done_of : Result VEnd Errno → Result (Unit {0}) Errno
 done_of (Ok end) = Ok tt
 done_of (Err errno) = Err errno
 
--- from v to w the pass looked at the generation once, found this, and made no step of it
+-- from v to w the pass made one look, which found this generation and is no step of the trace
 pub record OnlyLooked (found : ℕ) (v w : View) : Type 0 where
   pub same : SameView v w
   pub lanes : w.lanes ≡ v.lanes
@@ -39,7 +39,7 @@ pub record OnlyLooked (found : ℕ) (v w : View) : Type 0 where
   pub above : floor v ≤ found
   pub known : found ≤ floor w
 
--- the batch served, behind one look
+-- the batch served, after one look
 pub record LocallyServed (n flags : ℕ) (s t : VgetrandomState) (out : List ℕ) (set : Setting)
     (l m : Moment) : Type 0 where
   pub found : ℕ
@@ -49,18 +49,18 @@ pub record LocallyServed (n flags : ℕ) (s t : VgetrandomState) (out : List ℕ
   pub bytes : out ≡ copy_bytes s 0 n
   pub state : t ≡ state_after_copy s 0 n
 
--- one look, by what it found, refused the batch to the read
+-- one look found that the batch cannot serve the read
 pub record Refused (n : ℕ) (s : VgetrandomState) (v w : View) : Type 0 where
   pub found : ℕ
   pub glanced : OnlyLooked found v w
   pub refuses : serves_locally (published_by found) s n ≡ false
 
--- before its first step a read that the batch does not serve looked once where it tries the batch, and else not at all
+-- before the first step of a read that the batch does not serve: one look if it tries the batch, and no look if not
 pub record Unserved (n flags : ℕ) (s : VgetrandomState) (v w : View) : Type 0 where
   pub untried : tries_local n flags [] ≡ false → w ≡ v
   pub tried : tries_local n flags [] ≡ true → Refused n s v w
 
--- the system is needed: nothing was done
+-- the system has to serve the read: the state and the trace are unchanged
 pub record LeftToSystem (n flags : ℕ) (s t : VgetrandomState) (l m : Moment) : Type 0 where
   pub state : t ≡ s
   pub steps : m.steps ≡ l.steps
@@ -70,7 +70,7 @@ abbrev pub LocalRead : Local → ℕ → ℕ → VgetrandomState → VgetrandomS
 LocalRead Served n flags s t out set l m = LocallyServed n flags s t out set l m
 LocalRead NeedsSystem n flags s t out set l m = LeftToSystem n flags s t l m
 
--- a call of vgetrandom without acts inside, whose host was the caller itself
+-- a call of vgetrandom without acts inside, with the caller itself as the host
 pub record Called (n flags : ℕ) (s t : VgetrandomState) (answer : Answer) (shown : Shown) (set : Setting)
     (l m : Moment) : Type 0 where
   pub steps : List HostStep
@@ -82,7 +82,7 @@ pub record Called (n flags : ℕ) (s t : VgetrandomState) (answer : Answer) (sho
   pub wipes : WipesStand [] (points_of steps)
   pub did : Makes (Shows (setting_of set) steps) set l m
 
--- what a read without acts inside means
+-- the meaning of a read without acts inside
 abbrev pub vread_meaning : List Deed → Answer → Shown → List VEntry → CallerState → VgetrandomState → CallMeaning
 vread_meaning deeds answer shown entries before t = record {
   own = record { deeds = deeds; answer = answer; shown = shown };
@@ -92,14 +92,14 @@ vread_meaning deeds answer shown entries before t = record {
   after = with_state before t;
 }
 
--- these deeds are those of a read on the state s that left the state t, wherever its caller stood
+-- these are the deeds of a read on the state s, which became t, for any caller with this setting and current state
 abbrev pub VreadLine : CallSetting → ℕ → ℕ → VgetrandomState → VgetrandomState → Answer → Shown → List VEntry →
     List Deed →
     Type 0
 VreadLine set n flags s t answer shown entries deeds = (before : CallerState) → before.setting ≡ set →
     current_state before ≡ s → VreadMeans n flags [] (vread_meaning deeds answer shown entries before t)
 
--- from l to m the caller read n bytes with these flags: out of the batch, or by what came behind this view
+-- from l to m the caller read n bytes with these flags, out of the batch or by the steps after the view `looked`
 pub record VreadMakes (n flags : ℕ) (s t : VgetrandomState) (answer : Answer) (shown : Shown) (set : Setting)
     (l m : Moment) : Type 0 where
   pub looked : View
@@ -111,11 +111,11 @@ pub record VreadMakes (n flags : ℕ) (s t : VgetrandomState) (answer : Answer) 
 
 -- Over a site
 
--- the state's generation is one that the caller has seen published
+-- the caller has seen the state's generation published
 abbrev pub IsCurrent : VgetrandomState → Site → Type 0
 IsCurrent st s = st.generation ≤ published_by (seen_by s)
 
--- the batch was tried for n bytes on the state s, and left t
+-- the batch was tried for n bytes on the state s, which became t
 pub record ReadsLocally (result : Local) (n flags : ℕ) (s t : VgetrandomState) (out : List ℕ) (l m : Site)
     : Type 0 where
   pub same : Same l m

@@ -1,4 +1,4 @@
--- How long a wait is, and how it ends.
+-- The length of a wait, and the ways it ends.
 use Rattle.std.specs.Prelude.{◌≡◌, ℕ, ◌-◌, ◌*◌, [], ◌≤◌, Result, Ok, Err}
 use Rattle.key_names.specs.declared.errno.Errno.{Errno}
 use Rattle.key_names.specs.declared.errno.Errno.TheVariants.{Interrupted}
@@ -10,11 +10,11 @@ use Rattle.rng_core.specs.declared.setting.Setting.{Setting}
 use Rattle.rng_core.specs.Traces.{Moment}
 use Rattle.rng_core.specs.Makes.{Makes, Serving}
 
--- the core was found ready, or nobody runs
+-- the core was found ready, or no caller runs
 abbrev pub Waits : {T : Type 0} → Result T Errno → Setting → Moment → Moment → ℕ → Type 0
 Waits (Ok x) set m n seen = (1 ≤ seen) × Makes (Serving (BaseOnly Resume) []) set m n
 Waits (Err e) set m n seen = (e ≡ Interrupted) × Makes (Serving (BaseOnly Interrupt) []) set m n
 
--- how many steps a caller may still need to wait until the core is ready: none where it has seen that it is
+-- how many steps a caller may still need to wait until the core is ready: 0 once it has seen the core ready
 abbrev pub waiting : View → ℕ
 waiting v = 2 - 2 * floor v

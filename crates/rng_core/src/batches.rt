@@ -12,7 +12,7 @@ use cpu_gen::Cpu;
 use int_batch::Batch;
 use lane_table::CpuLane;
 
-// Serves the next integer of a batch that is not used up.
+// Serves the next integer of a batch that has one left.
 fn serve_next<const W: usize>(batch: &mut Batch<W>, out: &mut [u8])
     requires left { batch.old.position < 96 / W }
     requires width { length out.old ≡ W }
@@ -22,7 +22,7 @@ fn serve_next<const W: usize>(batch: &mut Batch<W>, out: &mut [u8])
     out.copy_from_slice(&batch.serve());
 }
 
-// Serves the next integer of a batch, which the CPU's key fills first where that has to be.
+// Serves the next integer of a batch; if the batch has to be filled, the CPU's key fills it first.
 fn serve_from<const W: usize>(cpu: &mut Cpu, batch: &mut Batch<W>, look: u64, out: &mut [u8])
     requires width { IsWidth W }
     requires out { length out.old ≡ W }

@@ -1,4 +1,4 @@
-//! What callers do with one another: how many run, and who began from whom.
+//! The callers: how many run, and the fork of a new one.
 
 pub(crate) mod forks;
 pub(crate) mod running;

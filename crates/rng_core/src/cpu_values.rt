@@ -1,4 +1,4 @@
-//! What a call makes of a CPU's value, as the entry that it puts.
+//! The effects of calls on a CPU's value, each as its entry defines it.
 ghost use Rattle.std.specs.Prelude.{◌≡◌, ◌≢◌, ℕ, ◌<◌, ◌≤◌, ◌+◌, ◌^◌, Bool, true, None, Some, length};
 ghost use Rattle.key_names.specs.declared.entries.CpuEntry.TheVariants.{Read, Int, Irq, Dump as DumpEntry, Prepare, Online};
 ghost use Rattle.key_names.specs.Batches.{must_fill};
@@ -33,7 +33,7 @@ pub(crate) fn wants(state: &LaneState, width: usize, look: u64) -> bool
     with_cpu!(state, lane => batches::wants(lane, width, look))
 }
 
-/// An integer out of the batch of its width, which the CPU's key fills first where that has to be.
+/// Serves an integer out of the batch of its width; if the batch has to be filled, the CPU's key fills it first.
 pub(crate) fn serve(state: &mut LaneState, look: u64, out: &mut [u8])
     requires stands { IsCpuValue state.old }
     requires width { IsWidth (length out.old) }
@@ -47,7 +47,7 @@ pub(crate) fn serve(state: &mut LaneState, look: u64, out: &mut [u8])
     with_cpu!(state, lane => batches::serve(lane, look, out))
 }
 
-/// An integer out of the batch of its width, which the key that the base hands over fills first.
+/// Serves an integer out of the batch of its width, after the key from the base fills the batch.
 pub(crate) fn serve_refilled(
     state: &mut LaneState,
     key: [u8; 32],
@@ -72,7 +72,7 @@ pub(crate) fn serve_refilled(
     })
 }
 
-/// An interrupt's sample. The answer is whether a dump is due.
+/// Takes an interrupt's sample, and returns whether a dump is due.
 pub(crate) fn sample(state: &mut LaneState, v1: u64, v2: u64, now: u64) -> bool
     requires { IsCpuValue state.old }
     ensures made { (lane : ℕ) (s : Model) (got : Handed) → 2 ≤ lane → ValueRepresents lane state.old s
@@ -83,7 +83,7 @@ pub(crate) fn sample(state: &mut LaneState, v1: u64, v2: u64, now: u64) -> bool
     with_cpu!(state, lane => lane.fast.mix(v1, v2, now))
 }
 
-/// What the fast pool holds for the input pool.
+/// Takes the fast pool's dump for the input pool.
 pub(crate) fn dump(state: &mut LaneState, now: u64) -> Dump
     requires { IsCpuValue state.old }
     ensures made { (lane : ℕ) (s : Model) (got : Handed) → 2 ≤ lane → ValueRepresents lane state.old s
@@ -96,7 +96,7 @@ pub(crate) fn dump(state: &mut LaneState, now: u64) -> Dump
     with_cpu!(state, lane => lane.fast.dump(now))
 }
 
-/// The CPU comes online.
+/// Brings the CPU online.
 pub(crate) fn online(state: &mut LaneState)
     requires { IsCpuValue state.old }
     ensures { (lane : ℕ) (s : Model) (got : Handed) → 2 ≤ lane → ValueRepresents lane state.old s
@@ -105,7 +105,7 @@ pub(crate) fn online(state: &mut LaneState)
     with_cpu!(state, lane => lane.fast.online())
 }
 
-/// The CPU is about to come online: its key counts as old, and its batches as used up.
+/// Prepares the CPU to come online: its key counts as old, and its batches as used up.
 pub(crate) fn prepare(state: &mut LaneState)
     requires { IsCpuValue state.old }
     ensures { (lane : ℕ) (s : Model) (got : Handed) → 2 ≤ lane → ValueRepresents lane state.old s

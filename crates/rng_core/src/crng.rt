@@ -1,8 +1,8 @@
 //! The generator of the core (the "fast key erasure RNG" of random.c).
 //!
-//! A read draws its key from the base while the core is not ready, and from the CPU that its caller runs on afterwards;
-//! the CPU takes a key from the base where its own is of another generation. Each key is erased in the visit that uses
-//! it. A reseed gives the base a root of the pool, and raises the generation.
+//! Before the core is ready, a read draws its key from the base, and after that from the CPU that its caller runs
+//! on. The CPU takes a key from the base if its own is of another generation. Each key is erased in the visit that
+//! uses it. A reseed gives the base a root of the pool, and raises the generation.
 
 pub(crate) mod cpus;
 pub(crate) mod integers;

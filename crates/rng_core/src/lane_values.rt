@@ -1,4 +1,4 @@
-//! What a call makes of a lane's value, as the entry that it puts.
+//! The effects of calls on a lane's value, each as its entry defines it.
 ghost use Rattle.std.specs.Prelude.{◌≡◌, ◌≢◌, ◌↔◌, ℕ, ◌<◌, ◌≤◌, ◌+◌, ◌^◌, ◌++◌, None, Some, List, length, IsTrue};
 ghost use Rattle.std.specs.Int.{w64, to_le_bytes};
 ghost use Rattle.key_names.specs.declared.entries.PoolEntry.{PoolEntry};
@@ -19,7 +19,7 @@ use input_pool::Crossing;
 use lane_table::{LaneState, PoolLane};
 use sample_credit::input_sample;
 
-// The bits with which the pool is full (`POOL_READY_BITS`).
+// The bits of a full pool (`POOL_READY_BITS`).
 const READY_BITS: u32 = 256;
 
 /// Mixes bytes into the pool.
@@ -45,7 +45,7 @@ pub(crate) fn mix_and_credit(state: &mut LaneState, text: &[u8], bits: u32) -> C
     })
 }
 
-/// A root of the pool.
+/// Extracts a root from the pool.
 pub(crate) fn extract(state: &mut LaneState, hw: &[u8; 32]) -> [u8; 32]
     requires { (s : Model) × ValueRepresents 0 state.old s }
     ensures made { (s : Model) (place : ℕ) → ValueRepresents 0 state.old s
@@ -55,7 +55,7 @@ pub(crate) fn extract(state: &mut LaneState, hw: &[u8; 32]) -> [u8; 32]
     with_pool!(state, lane => lane.pool.extract(hw))
 }
 
-/// How many bits the pool was credited.
+/// The bits credited to the pool.
 pub(crate) fn bits(state: &LaneState) -> u32
     requires { (s : Model) × ValueRepresents 0 state.now s }
     ensures { (s : Model) → ValueRepresents 0 state.now s → result ≡ s.pool.bits }
@@ -63,7 +63,7 @@ pub(crate) fn bits(state: &LaneState) -> u32
     with_pool!(state, lane => lane.pool.bits())
 }
 
-/// How far the core is.
+/// The phase of the core.
 pub(crate) fn phase(state: &LaneState) -> Phase
     requires { (s : Model) × ValueRepresents 1 state.now s }
     ensures { (s : Model) → ValueRepresents 1 state.now s → phase_of result ≡ s.base.phase }
@@ -95,7 +95,7 @@ pub(crate) fn is_due(state: &LaneState, now: u64) -> bool
     with_base!(state, lane => lane.base.due(now))
 }
 
-/// One more caller runs.
+/// Counts one more running caller.
 pub(crate) fn up(state: &mut LaneState)
     requires { (s : Model) × ValueRepresents 1 state.old s }
     ensures { (s : Model) → ValueRepresents 1 state.old s
@@ -104,7 +104,7 @@ pub(crate) fn up(state: &mut LaneState)
     with_base!(state, lane => lane.base.up())
 }
 
-/// One caller less runs.
+/// Counts one running caller less.
 pub(crate) fn down(state: &mut LaneState)
     requires { (s : Model) × ValueRepresents 1 state.old s }
     ensures { (s : Model) → ValueRepresents 1 state.old s
@@ -142,7 +142,7 @@ pub(crate) fn fire(state: &mut LaneState, root: [u8; 32], now: u64)
     with_base!(state, lane => lane.base.fire(root, now))
 }
 
-/// The key of a CPU that is refilled.
+/// Takes the key for a refill of a CPU.
 pub(crate) fn hand_over(state: &mut LaneState) -> [u8; 32]
     requires { (s : Model) × ValueRepresents 1 state.old s }
     ensures made { (s : Model) (got : Handed) (cpu place : ℕ) → ValueRepresents 1 state.old s
@@ -164,7 +164,7 @@ pub(crate) fn mix_device(state: &mut LaneState, word: u64, text: &[u8])
     })
 }
 
-// An input event in the pool and its timer.
+// Applies an input event to the pool and its timer.
 fn mix_sample(lane: &mut PoolLane, word: u64, kind: u16, code: u16, value: u8, now: u64) -> Crossing
     requires { now < 2 ^ 40 }
     ensures made { (s : PoolState) → PoolLaneStands lane.old s
@@ -183,7 +183,7 @@ fn mix_sample(lane: &mut PoolLane, word: u64, kind: u16, code: u16, value: u8, n
     lane.pool.credit(bits)
 }
 
-/// Mixes an input event, and credits what its moment is worth.
+/// Mixes an input event, and credits the bits that its timing is worth.
 pub(crate) fn mix_input(
     state: &mut LaneState,
     word: u64,

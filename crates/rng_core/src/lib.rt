@@ -1,16 +1,17 @@
-//! The calls of the core: reads, samples, reseeds and what else a caller asks of the lanes.
+//! The calls of the core: reads, samples, reseeds and the other operations on the lanes.
 //!
-//! A call is made at a [`Site`]: the table of lanes, the caller's pass, the trace of its steps, and what the caller has
-//! set. The folders follow the sections of random.c.
+//! A call runs at a [`Site`]: the table of lanes, the caller's pass, the trace of its steps, and the caller's
+//! setting. The folders follow the sections of random.c.
 //!
-//! For every interleaving of the callers it is promised that a call's trace tells exactly the looks and visits that it
-//! made, but for the look by which `vread_local`, alone or in `vread`, finds that the batch cannot serve; that these are
-//! a form of its event, that its answer and its bytes are those of the form, and that its hands are empty again. No lane
-//! is held while the bytes of a read behind the first 32 are made; a fill of a batch of integers makes its 96 bytes while
-//! the CPU is held. A call may wait: for a lane, and a blocking read for readiness; that a wait ends is not promised.
+//! For every interleaving of the callers the crate promises the following. A call's trace lists exactly the looks
+//! and visits that it made; the look by which `vread_local`, alone or in `vread`, finds that the batch cannot serve
+//! is the only one left out. These steps are a form of the call's event, with its answer and its bytes, and the call
+//! ends with no lane held. A read holds no lane while it makes the bytes after the first 32; a fill of a batch of
+//! integers makes its 96 bytes while the CPU is held. A call may wait: for a lane, and a blocking read for
+//! readiness. Not promised: that a wait ends.
 //!
-//! It stands on `lane_table` for what a pass may know of the lanes, on the parts for what an entry makes of a value,
-//! and on `vdso_state` for a read out of a caller's own state.
+//! `lane_table` defines the knowledge of a pass, the parts how an entry changes a value, and `vdso_state` a read out
+//! of a caller's own state.
 #![tactic(auto)]
 
 mod batches;

@@ -1,6 +1,6 @@
-//! A lane's value as that of its kind, where the contract says which lane it is.
+//! A lane's value as one of its kind, if the contract says which lane it is.
 
-/// Does this with the value of the pool's lane.
+/// Runs an expression with the value of the pool's lane.
 macro_rules! with_pool {
     ($state:expr, $lane:ident => $does:expr) => {
         match $state {
@@ -10,7 +10,7 @@ macro_rules! with_pool {
     };
 }
 
-/// Does this with the value of the base's lane.
+/// Runs an expression with the value of the base's lane.
 macro_rules! with_base {
     ($state:expr, $lane:ident => $does:expr) => {
         match $state {
@@ -20,7 +20,7 @@ macro_rules! with_base {
     };
 }
 
-/// Does this with the value of a CPU's lane.
+/// Runs an expression with the value of a CPU's lane.
 macro_rules! with_cpu {
     ($state:expr, $lane:ident => $does:expr) => {
         match $state {

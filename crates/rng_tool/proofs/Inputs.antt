@@ -1,4 +1,4 @@
--- Up to which length an input is answered, and that all above it are refused alike.
+-- An answered input has at most a certain length, and all longer inputs have the same refusal.
 use Rattle.std.proofs.Common.{ℕ, ◌≡◌, ◌≤◌, ◌<◌, true, ltb, List, Some, length, sym, ap, ◌∙◌, arith, refl}
 use Rattle.std.proofs.lemmas.Bool.{lt-ltb}
 use Rattle.key_names.specs.declared.faults.FaultKind.TheVariants.{TooLong}

@@ -1,4 +1,4 @@
--- Of a transcript there is one verdict, and the line of a load tells it.
+-- A transcript has one verdict, and the line of a load has it.
 use Rattle.std.proofs.Common.{ℕ, ◌≡◌, List, length, ap, subst, ◌∙◌}
 use Rattle.std.specs.List.{sum_by}
 use Rattle.key_names.specs.SeenLine.{SeenLine, bytes_shown}

@@ -1,4 +1,4 @@
--- What is written of a script, or of an input that is none, as what its text calls for.
+-- The outputs for a script, or for an input that is none, are those for its text.
 use Rattle.std.proofs.Common.{ℕ, List, sym, subst}
 use Rattle.key_names.specs.Texts.ScriptGrammar.{Script, IsScript}
 use Rattle.tool_ends.specs.Pairs.{IsNoScript, RefusalOf}

@@ -1,4 +1,4 @@
--- What the run of a script's callers is in the words of the program's contract.
+-- The run of a script's callers, in the terms of the program's contract.
 use Rattle.std.proofs.Common.{◌≡◌, ℕ, suc, refl, List, [], ◌∷◌, length, arith}
 use Rattle.std.specs.List.{AllByRecursion}
 use Rattle.key_names.specs.declared.events.Event.{Event}

@@ -1,4 +1,4 @@
--- How many bytes lines show, from their data.
+-- How many bytes lines show, by their data.
 use Rattle.std.proofs.Common.{◌≡◌, ℕ, List, [], ◌∷◌, length, drop, refl, ap, sym, ◌∙◌, All, arith}
 use Rattle.std.specs.List.{sum_by, AllByRecursion}
 use Rattle.std.proofs.lemmas.List.{length-append, length-drop, length-take}

@@ -1,4 +1,4 @@
--- A command that had no memory before it read anything.
+-- A command whose memory ran out before it read any input.
 use Rattle.std.proofs.Common.{ℕ, ◌≤◌, List, [], Option, None, arith}
 use Rattle.std.proofs.KnownBytes.{Consumes-nil}
 use Rattle.tool_ends.specs.Reads.{WasGivenUp}

@@ -1,5 +1,5 @@
--- Points and attempts by their numbers, and four words.
-use Rattle.std.proofs.Common.{◌≡◌, ◌≤◌, ◌<◌, List, [], ◌∷◌, length, get_or, sym, arith}
+-- Points and attempts by their numbers.
+use Rattle.std.proofs.Common.{◌≤◌, arith}
 use Rattle.key_names.specs.declared.point.Point.{Point}
 use Rattle.key_names.specs.declared.point.Point.TheVariants.{Start, Written, Serve, End}
 use Rattle.key_names.specs.Points.{number_of}
@@ -16,12 +16,3 @@ point_range End = (omega arith, omega arith)
 pub turn_range : (t : Turn) → (1 ≤ turn_number t) × (turn_number t ≤ 2)
 turn_range First = (omega arith, omega arith)
 turn_range Second = (omega arith, omega arith)
-
-pub four_items : {X : Type 0} (xs : List X) (a b c d : X) → 4 ≤ length xs → length xs < 5 → a ≡ get_or xs 0 a →
-    b ≡ get_or xs 1 b → c ≡ get_or xs 2 c → d ≡ get_or xs 3 d → xs ≡ a ∷ b ∷ c ∷ d ∷ []
-four_items [] a b c d low high p q r s = absurd (omega arith)
-four_items (x ∷ []) a b c d low high p q r s = absurd (omega arith)
-four_items (x ∷ y ∷ []) a b c d low high p q r s = absurd (omega arith)
-four_items (x ∷ y ∷ z ∷ []) a b c d low high p q r s = absurd (omega arith)
-four_items (x ∷ y ∷ z ∷ w ∷ []) a b c d low high p q r s = (λ i. sym p i ∷ sym q i ∷ sym r i ∷ sym s i ∷ [])
-four_items (x ∷ y ∷ z ∷ w ∷ v ∷ xs) a b c d low high p q r s = absurd (omega arith)

@@ -30,7 +30,7 @@ Known = Option (List ℕ)
 abbrev pub text_so_far : List SeenLine → List ℕ
 text_so_far lines = codes "rngtranscript 1\n" ++ text_of lines
 
--- where no call failed the text was put, and a prefix of it in any case
+-- if no call failed, the text was put; in any case a prefix of it was
 pub record Wrote (written : Result (Unit {0}) Failed) (held held_now : Known) (faults faults_now : ℕ) (text : List ℕ)
     : Type 0 where
   pub whole : OnOk written (Appends held held_now text)
@@ -45,14 +45,14 @@ prefix_longer : (a b : Known) (text more : List ℕ) → AppendsPrefix a b text 
 prefix_longer a b text more p =
     (p.0, omega (arith, p.1, length-append text more), subst (Appends a b) (sym (take-append-le p.0 text more p.1)) p.2)
 
--- behind a text a prefix of more was put
+-- after a text a prefix of more was put
 prefix_behind : (a b c : Known) (text more : List ℕ) → Appends a b text → AppendsPrefix b c more
     → AppendsPrefix a c (text ++ more)
 prefix_behind a b c text more first rest =
     breaks_off a b c (text ++ more) more more [] (record { front = text; whole = refl; appends = first })
     (sym (append-nil more)) rest
 
--- it went on, as each call that puts more tells
+-- the writing went on with each call that puts more
 pub wrote_more : (w v : Result (Unit {0}) Failed) (a b c : Known) (f g h : ℕ) (text more : List ℕ) → is_ok w ≡ true
     → Wrote w a b f g text → OnOk v (Appends b c more) → AppendsPrefix b c more → OnErr v (Rose g h) → OnOk v (h ≡ g)
     → Wrote v a c f h (text ++ more)
@@ -70,7 +70,7 @@ wrote_more (Ok u) (Err e) a b c f g h text more ok k whole prefix cause same = r
   not_counted = tt;
 }
 
--- or it had failed, and nothing was put
+-- or it had failed, and no more was put
 pub wrote_no_more : (w : Result (Unit {0}) Failed) (a b : Known) (f g : ℕ) (text more : List ℕ) → is_ok w ≡ false
     → Wrote w a b f g text → Wrote w a b f g (text ++ more)
 wrote_no_more (Ok u) a b f g text more failed k = cc

@@ -12,7 +12,7 @@ use Rattle.rng_tool.specs.declared.command.Command.{Command}
 use Rattle.rng_tool.specs.declared.judge.Judge.{Judge}
 use Rattle.rng_tool.specs.declared.command.Command.TheVariants.{Run, Judge as Judges, Load, Draw, Vfork, Feed}
 
--- the words ask for the command
+-- the words are a form of the command
 abbrev pub Asks : {A : Type 0} → List (String A) → Command → Type 0
 Asks words Run = IsRun words
 Asks words (Judges judge) = IsJudge words judge
@@ -30,6 +30,6 @@ pub record IsNoForm {A : Type 0} (words : List (String A)) : Type 0 where
   pub no_vfork : (point : Point) (attempt : Turn) (n : ℕ) → IsVfork words point attempt n → ⊥
   pub no_feed : (start feeders samples : ℕ) → IsFeed words start feeders samples → ⊥
 
--- the words are of a command that reads the input
+-- the words are a form of a command that reads the input
 abbrev pub TakesInput : {A : Type 0} → List (String A) → Type 0
 TakesInput words = IsRun words ⊎ (judge : Judge) × IsJudge words judge

@@ -1,4 +1,4 @@
--- What draws promise.
+-- The outcome of draws.
 use Rattle.std.specs.Prelude.{ℕ, ◌≡◌, ◌<◌, ◌≤◌, ◌^◌, ◌++◌, List, [], ◌∷◌, Option, Some, None, String, string_bytes, codes, decimal, map}
 use Rattle.std.specs.List.{flat_map}
 use Rattle.draw_below.specs.TableDraws.{AreTableDraws}
@@ -12,7 +12,7 @@ pub record AskDraw (texts : List (List ℕ)) (bound count : ℕ) : Type 0 where
   pub bound_fits : bound < 2 ^ 32
   pub count_fits : (1 ≤ count) × (count ≤ 1000)
 
--- draws that may be made
+-- draws within the limits
 pub record IsSmallDraw (draw : Draw) : Type 0 where
   pub count : (1 ≤ draw.count) × (draw.count ≤ 1000)
 
@@ -28,12 +28,12 @@ draw_line None = codes "spent" ++ 10 ∷ []
 abbrev pub draw_text : List (Option ℕ) → List ℕ
 draw_text draws = flat_map draw_line draws
 
--- the output has a line for each of so many draws below the bound, out of the words of the one book of a new table
+-- the output has a line for each of `count` draws below the bound, out of the words of the one book of a new table
 pub record DrawOf (bound count : ℕ) (output : List ℕ) : Type 0 where
   pub draws : List (Option ℕ)
   pub drawn : AreTableDraws bound count draws
   pub told : output ≡ draw_text draws
 
--- how draws end, and what the sink then holds
+-- the status of draws, and the content of the sink
 abbrev pub DrawEnds : ℕ → ℕ → Status → Option (List ℕ) → Option (List ℕ) → Type 0
 DrawEnds bound count = EndsWith (DrawOf bound count)

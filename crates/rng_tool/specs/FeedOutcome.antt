@@ -1,4 +1,4 @@
--- What feeders promise.
+-- The outcome of feeders.
 use Rattle.std.specs.Prelude.{ℕ, ◌≡◌, ◌<◌, ◌≤◌, ◌^◌, ◌++◌, List, [], ◌∷◌, Option, String, string_bytes, codes, decimal, map}
 use Rattle.irq_feed.specs.declared.table_feed.FeedSums.{FeedSums}
 use Rattle.irq_feed.specs.TableFeed.{IsFed}
@@ -13,7 +13,7 @@ pub record AskFeed (texts : List (List ℕ)) (start feeders samples : ℕ) : Typ
   pub feeders_fit : (1 ≤ feeders) × (feeders ≤ 16)
   pub samples_fit : (1 ≤ samples) × (samples ≤ 10000)
 
--- feeders that may be run
+-- feeders within the limits
 pub record IsSmallFeed (feed : Feed) : Type 0 where
   pub feeders : (1 ≤ feed.feeders) × (feed.feeders ≤ 16)
   pub samples : (1 ≤ feed.samples) × (feed.samples ≤ 10000)
@@ -27,12 +27,12 @@ feed_line feeders sums =
     codes "feeders " ++ decimal feeders ++ codes " samples " ++ decimal sums.samples ++ codes " dumps "
     ++ decimal sums.dumps ++ codes " bits " ++ decimal sums.bits ++ codes "\n"
 
--- the output is the line of what came of so many feeders' samples, so many of each, on a new table
+-- the output is the line with the sums of this many feeders, with this many samples each, on a new table
 pub record FeedOf (start feeders samples : ℕ) (output : List ℕ) : Type 0 where
   pub sums : FeedSums
   pub fed : IsFed start feeders samples sums
   pub told : output ≡ feed_line feeders sums
 
--- how feeders end, and what the sink then holds
+-- the status of feeders, and the content of the sink
 abbrev pub FeedEnds : ℕ → ℕ → ℕ → Status → Option (List ℕ) → Option (List ℕ) → Type 0
 FeedEnds start feeders samples = EndsWith (FeedOf start feeders samples)

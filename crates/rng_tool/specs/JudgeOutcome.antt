@@ -1,4 +1,4 @@
--- What `check` and `replay` promise: a script, and a transcript behind it.
+-- The outcome of `check` and `replay`, for a script and a transcript after it.
 use Rattle.std.specs.Prelude.{ℕ, ◌≡◌, ◌⊎◌, ◌≤◌, List, [], ◌∷◌, ◌++◌, Option, String, string_bytes, codes, length, map}
 use Rattle.key_names.specs.IsTranscript.{Clause, FirstFails, clause_number}
 use Rattle.key_names.specs.Texts.ScriptFaults.{front}
@@ -14,17 +14,17 @@ use Rattle.tool_ends.specs.declared.status.Status.TheVariants.{Done, No, Usage, 
 use Rattle.rng_tool.specs.declared.judge.Judge.{Judge}
 use Rattle.rng_tool.specs.declared.judge.Judge.TheVariants.{Check, Replay}
 
--- ---- what is said of a transcript that is lawful, or that the steps make
+-- ---- for a transcript that is lawful, or that the steps make
 
 abbrev pub yes_line : List ℕ
 yes_line = codes "yes" ++ 10 ∷ []
 
--- the line of a check that finds nothing
+-- the line of a check that finds no fault
 pub record SaysYes (script : Script) (t : List (List SeenLine)) (output : List ℕ) : Type 0 where
   pub sound : IsSound script t
   pub line : output ≡ yes_line
 
--- the text of the lawful transcript with these steps, which is the only one
+-- the text of the lawful transcript with these steps; there is only one
 pub record GivesBack (script : Script) (t : List (List SeenLine)) (output : List ℕ) : Type 0 where
   pub made : List (List SeenLine)
   pub is : IsTheTranscript script t made
@@ -39,16 +39,17 @@ abbrev pub Fails : Judge → Script → List (List SeenLine) → Clause → Type
 Fails Check = FirstFails
 Fails Replay = StepsFail
 
--- ---- of an input
+-- ---- for an input
 
--- a script, with a transcript behind it of which this is said
+-- a script with a transcript after it, and the output for them
 pub record JudgeAnswer (judge : Judge) (input output : List ℕ) : Type 0 where
   pub script : Script
   pub lines : List (List SeenLine)
   pub pair : IsPair input script lines
   pub says : Says judge script lines output
 
--- the text behind the script is no transcript's, which is clause 1, or it is one of which the clause of this number fails
+-- the text after the script is no transcript's, which fails clause 1, or that of a transcript that fails the clause of
+-- this number
 abbrev pub IsClause : Judge → Script → List ℕ → ℕ → Type 0
 IsClause judge script text number =
     (number ≡ 1) × IsNoTranscript text
@@ -63,7 +64,7 @@ pub record JudgeVerdict (judge : Judge) (input output : List ℕ) : Type 0 where
   pub clause : IsClause judge script (behind input) number
   pub line : output ≡ no_line number
 
--- what is said of a transcript, and the status that says so
+-- the output for a transcript, and its status
 abbrev pub SaidOf : Judge → Script → List (List SeenLine) → Status → List ℕ → Type 0
 SaidOf judge script t Done output = Says judge script t output
 SaidOf judge script t No output = (clause : Clause) × Fails judge script t clause × (output ≡ no_line (clause_number clause))
@@ -73,7 +74,7 @@ SaidOf judge script t ReadFault output = ⊥
 SaidOf judge script t WriteFault output = ⊥
 SaidOf judge script t NoMemory output = ⊥
 
--- the output that an input calls for, and the status that says so
+-- the output for an input, and its status
 abbrev pub JudgeCalls : Judge → List ℕ → Status → List ℕ → Type 0
 JudgeCalls judge input Done output = JudgeAnswer judge input output
 JudgeCalls judge input No output = JudgeVerdict judge input output
@@ -83,7 +84,7 @@ JudgeCalls judge input ReadFault output = ⊥
 JudgeCalls judge input WriteFault output = ⊥
 JudgeCalls judge input NoMemory output = ⊥
 
--- how the command ends, what the source then has left and what the sink holds
+-- the status of the command, the rest of the source, and the content of the sink
 abbrev pub JudgeEnds : Judge → Status → Option (List ℕ) → Option (List ℕ) → Option (List ℕ) → Option (List ℕ) → Type 0
 JudgeEnds judge = ReadsEnds most_input (JudgeCalls judge)
 

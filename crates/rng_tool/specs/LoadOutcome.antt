@@ -1,4 +1,4 @@
--- What a load promises.
+-- The outcome of a load.
 use Rattle.std.specs.Prelude.{ℕ, ◌≡◌, ◌<◌, ◌≤◌, ◌^◌, List, [], ◌∷◌, Option, ◌++◌, String, string_bytes, codes, decimal, length, map, sum_by}
 use Rattle.key_names.specs.declared.lines.Data.{Data}
 use Rattle.key_names.specs.declared.lines.Data.TheVariants.{Bytes}
@@ -21,7 +21,7 @@ pub record AskLoad (texts : List (List ℕ)) (start callers events : ℕ) : Type
   pub callers_fit : (1 ≤ callers) × (callers ≤ 64)
   pub events_fit : (1 ≤ events) × (events ≤ 1000)
 
--- a load that may be run
+-- a load within the limits
 pub record IsSmall (load : Load) : Type 0 where
   pub callers : (1 ≤ load.callers) × (load.callers ≤ 64)
   pub events : (1 ≤ load.events) × (load.events ≤ 1000)
@@ -30,7 +30,7 @@ pub record IsSmall (load : Load) : Type 0 where
 abbrev pub IsLoad : {A : Type 0} → List (String A) → ℕ → ℕ → ℕ → Type 0
 IsLoad words start callers events = AskLoad (map string_bytes words) start callers events
 
--- what a check says of a transcript
+-- the words of a check's verdict
 abbrev pub check_words : Verdict → List ℕ
 check_words Yes = codes " check yes\n"
 check_words (No clause) = codes " check no " ++ decimal (clause_number (clause_of clause)) ++ codes "\n"
@@ -40,19 +40,19 @@ load_line callers events bytes verdict =
     codes "callers " ++ decimal callers ++ codes " events " ++ decimal events ++ codes " bytes " ++ decimal bytes
     ++ check_words verdict
 
--- how many bytes the data of a line are
+-- the number of bytes in a line's data
 abbrev pub data_len : Data → ℕ
 data_len (Bytes len start) = len
 data_len _ = 0
 
--- the output counts the events of the load's script, and the bytes that the lines of a lawful transcript for it show,
--- and says that this transcript is lawful
+-- the output has the number of events of the load's script, the number of bytes that the lines of a lawful transcript
+-- for it show, and that this transcript is lawful
 pub record LoadOf (start callers events : ℕ) (output : List ℕ) : Type 0 where
   pub lines : List (List SeenLine)
   pub run : IsSound (load_script start callers events) lines
   pub told : output ≡ load_line callers (sum_by length (load_script start callers events).callers)
       (length (bytes_shown (all_lines lines))) Yes
 
--- how a load ends, and what the sink then holds
+-- the status of a load, and the content of the sink
 abbrev pub LoadEnds : ℕ → ℕ → ℕ → Status → Option (List ℕ) → Option (List ℕ) → Type 0
 LoadEnds start callers events = EndsWith (LoadOf start callers events)

@@ -1,4 +1,4 @@
--- What a run of the program promises for each way to end.
+-- The outcome of a run of the program, for each way to end.
 use Rattle.std.specs.Prelude.{ℕ, ◌≡◌, List, [], ◌∷◌, Option, Some, String, string_bytes, codes, map}
 use Rattle.key_names.specs.SeenLine.{SeenLine}
 use Rattle.key_names.specs.Texts.ScriptFaults.{first_fault}
@@ -29,7 +29,7 @@ pub record CallsForRun (input output : List ℕ) : Type 0 where
   pub is_script : IsScript script input
   pub run : RunOf script output
 
--- the output that an input of a run calls for, and the status that says so
+-- the output for the input of a run, and its status
 abbrev pub CallsFor : List ℕ → Status → List ℕ → Type 0
 CallsFor input Done output = CallsForRun input output
 CallsFor input Refused output = IsRefusal input output
@@ -39,7 +39,7 @@ CallsFor input ReadFault output = ⊥
 CallsFor input WriteFault output = ⊥
 CallsFor input NoMemory output = ⊥
 
--- how the command `run` ends, what the source then has left and what the sink holds
+-- the status of the command `run`, the rest of the source, and the content of the sink
 abbrev pub RunEnds : Status → Option (List ℕ) → Option (List ℕ) → Option (List ℕ) → Option (List ℕ) → Type 0
 RunEnds = ReadsEnds most_script CallsFor
 

@@ -1,4 +1,4 @@
--- What a fork inside a vgetrandom call promises.
+-- The outcome of a fork inside a vgetrandom call.
 use Rattle.std.specs.Prelude.{ℕ, ◌≡◌, ◌≤◌, ◌^◌, ◌++◌, List, [], ◌∷◌, Option, String, string_bytes, codes, decimal, map}
 use Rattle.hex.specs.Hex.{encode_lower}
 use Rattle.key_names.specs.declared.point.Point.{Point}
@@ -15,7 +15,7 @@ pub record AskVfork (texts : List (List ℕ)) (point : Point) (attempt : Turn) (
   pub spelt : texts ≡ codes "vfork" ∷ decimal (number_of point) ∷ decimal (turn_number attempt) ∷ decimal n ∷ []
   pub fits : (1 ≤ n) × (n ≤ 2 ^ 20)
 
--- a fork that may be made
+-- a fork within the limits
 pub record IsSmallVfork (vfork : Vfork) : Type 0 where
   pub fits : (1 ≤ vfork.len) × (vfork.len ≤ 2 ^ 20)
 
@@ -30,13 +30,13 @@ end_line name bytes = name ++ (encode_lower bytes ++ 10 ∷ [])
 abbrev pub vfork_text : List ℕ → List ℕ → List ℕ
 vfork_text parent child = end_line (codes "parent ") parent ++ end_line (codes "child ") child
 
--- the output tells the bytes that parent and child give out, by the one book of a new table
+-- the output has the bytes that parent and child give out, by the one book of a new table
 pub record VforkOf (point : Point) (attempt : Turn) (n : ℕ) (output : List ℕ) : Type 0 where
   pub parent : List ℕ
   pub child : List ℕ
   pub forked : AreForkedBytes attempt point n parent child
   pub told : output ≡ vfork_text parent child
 
--- how a fork ends, and what the sink then holds
+-- the status of a fork, and the content of the sink
 abbrev pub VforkEnds : Point → Turn → ℕ → Status → Option (List ℕ) → Option (List ℕ) → Type 0
 VforkEnds point attempt n = EndsWith (VforkOf point attempt n)

@@ -1,4 +1,4 @@
-//! The run of a script's only caller, whose lines are written as they are made.
+//! The run of a script's only caller, which writes each line as it is made.
 ghost use Rattle.std.specs.Prelude.{◌≡◌, [], ℕ, List, OnOk, OnErr};
 ghost use Rattle.io_edges.specs.Faults.{Rose};
 ghost use Rattle.io_edges.specs.Pieces.{AppendsPrefix};
@@ -12,12 +12,12 @@ use io_edges::{Failed, Gate, Sink};
 use std::sync::Wait;
 use transcript_text::LineWriter;
 
-/// Takes a script's only caller to its end, and writes each line as it is made. Where the sink fails nothing more is
-/// written, and the caller still makes all of its lines.
+/// Runs a script's only caller to its end, and writes each line as it is made. If the sink fails, no more is written,
+/// and the caller still makes all of its lines.
 ///
 /// # Errors
 ///
-/// `Failed` where the sink failed, which it has counted as a fault. What it got in this call is then a prefix of the
+/// `Failed` if the sink failed, which it has counted as a fault. What it got in this call is then a prefix of the
 /// transcript's text.
 pub(crate) fn write_alone<R: Wait, K: Sink, G: Gate>(
     rt: &R,

@@ -1,4 +1,4 @@
-//! What the words of a command line ask for.
+//! The commands that the words of a command line name.
 ghost use Rattle.std.specs.Prelude.{◌≡◌, ◌↔◌, ℕ, Some, IsTrue, IfSome};
 ghost use Rattle.key_names.specs.declared.point.Point.{Point};
 ghost use Rattle.vdso_state.specs.declared.place.Turn.{Turn};
@@ -16,11 +16,11 @@ use crate::judge::{Judge, judge_of};
 use crate::load::{Load, load_of};
 use crate::vfork::{Vfork, vfork_of};
 
-/// The forms of the command line, as the line that answers any other words has them.
+/// The forms of the command line, as they are printed for any other words.
 pub(crate) const USAGE: &str =
     "usage: rng run | rng check | rng load START CALLERS EVENTS | rng vfork POINT ATTEMPT N | rng draw C K | rng feed START FEEDERS SAMPLES | rng replay";
 
-/// A command, with the numbers that its words give.
+/// A command, with the numbers in its words.
 #[derive(Clone, Copy, Debug, PartialEq, Eq)]
 pub(crate) enum Command {
     /// `run`
@@ -48,7 +48,7 @@ fn is_run(words: &[String]) -> bool
 }
 
 impl Command {
-    /// The command that the words ask for, if they are of one of the forms.
+    /// The command of the words, if they are of one of the forms.
     pub(crate) fn of(words: &[String]) -> Option<Command>
         ensures found { IfSome result (Asks words.now) }
         ensures run { IsRun words.now → result ≡ Some Command.Run }

@@ -1,8 +1,8 @@
 //! Draws: their words, their run, and a line for each.
 ghost use Rattle.std.specs.Prelude.{◌≡◌, ◌≤◌, ◌+◌, ◌++◌, ◌∷◌, [], ℕ, Some, IfOk, IfSome, length};
-ghost use Rattle.io_edges.specs.Faults.{Rose};
 ghost use Rattle.draw_below.specs.TableDraws.{ends_of};
 ghost use Rattle.rng_tool.specs.DrawOutcome.{AskDraw, DrawEnds, DrawOf, IsDraw, IsSmallDraw, draw_line, draw_text};
+ghost use Rattle.tool_ends.specs.Ends.{CountsWriteFault};
 
 use arrayvec::ArrayString;
 use draw_below::{Drawn, MOST_DRAWS, draw_on_new_table};
@@ -19,14 +19,14 @@ const MOST_BYTES: usize = 11_006;
 /// The lines of draws.
 type DrawText = ArrayString<MOST_BYTES>;
 
-/// What is drawn: so many numbers below a bound, or words where the bound is 0.
+/// This many numbers below a bound, or words if the bound is 0.
 #[derive(Clone, Copy, Debug, PartialEq, Eq)]
 pub(crate) struct Draw {
     pub(crate) bound: u32,
     pub(crate) count: u32,
 }
 
-/// The draws that three words ask for.
+/// The draws of three words.
 fn draw_by(command: &str, bound: &str, count: &str) -> Option<Draw>
     ensures found { IfSome result (λ draw.
         AskDraw (command.now ∷ bound.now ∷ count.now ∷ []) draw.bound draw.count) }
@@ -41,7 +41,7 @@ fn draw_by(command: &str, bound: &str, count: &str) -> Option<Draw>
     Some(Draw { bound, count })
 }
 
-/// The draws that the words ask for, if they ask for some.
+/// The draws of the words, if they name some.
 pub(crate) fn draw_of(words: &[String]) -> Option<Draw>
     ensures found { IfSome result (λ draw. IsDraw words.now draw.bound draw.count) }
     ensures only { (bound count : ℕ) → IsDraw words.now bound count
@@ -94,9 +94,8 @@ fn lines_of<R: Wait>(rt: &R, alloc: Global, draw: Draw) -> Result<DrawText, NoMe
 pub(crate) fn run_draw<R: Wait, K: Sink>(rt: &R, alloc: Global, draw: Draw, sink: &mut K) -> Status
     requires { IsSmallDraw draw }
     ensures ends { DrawEnds draw.bound draw.count result (K.held sink.old) (K.held sink.new) }
-    ensures cut { result ≡ Status.WriteFault → Rose (K.faults sink.old) (K.faults sink.new) }
+    ensures counted { CountsWriteFault result (K.faults sink.old) (K.faults sink.new) }
     ensures silent { result ≡ Status.NoMemory → sink.new ≡ sink.old }
-    ensures not_counted { (result ≡ Status.WriteFault → ⊥) → K.faults sink.new ≡ K.faults sink.old }
 {
     let Ok(text) = lines_of(rt, alloc, draw) else {
         return Status::NoMemory;

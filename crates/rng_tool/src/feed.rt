@@ -1,8 +1,8 @@
 //! Feeders: their words, their run, and the line that sums it up.
 ghost use Rattle.std.specs.Prelude.{◌≡◌, ◌∷◌, [], ℕ, Some, IfOk, IfSome};
-ghost use Rattle.io_edges.specs.Faults.{Rose};
 ghost use Rattle.irq_feed.specs.declared.table_feed.FeedSums.{FeedSums};
-ghost use Rattle.rng_tool.specs.FeedOutcome.{AskFeed, FeedEnds, FeedOf, IsFeed, IsSmallFeed, feed_line};
+ghost use Rattle.rng_tool.specs.FeedOutcome.{FeedEnds, FeedOf, IsFeed, IsSmallFeed, feed_line};
+ghost use Rattle.tool_ends.specs.Ends.{CountsWriteFault};
 
 use arrayvec::ArrayString;
 use io_edges::{Gate, NoMemory, Sink};
@@ -10,7 +10,7 @@ use irq_feed::{FeedSums, feed_on_new_table};
 use std::alloc::Global;
 use std::sync::Wait;
 use std::thread::Threads;
-use tool_ends::numbers::number_in;
+use tool_ends::numbers::Form;
 use tool_ends::short_lines::{ShortLine, add_number};
 use tool_ends::{Status, put_line};
 
@@ -20,7 +20,7 @@ const MOST_FEEDERS: u32 = 16;
 /// The most samples of each of them.
 const MOST_SAMPLES: u32 = 10_000;
 
-/// What is fed: samples from a start on, so many of each of so many feeders.
+/// Samples from `start` on: this many from each of this many feeders.
 #[derive(Clone, Copy, Debug, PartialEq, Eq)]
 pub(crate) struct Feed {
     pub(crate) start: u32,
@@ -28,42 +28,24 @@ pub(crate) struct Feed {
     pub(crate) samples: u32,
 }
 
-/// The feeders that four words ask for.
-fn feed_by(command: &str, start: &str, feeders: &str, samples: &str) -> Option<Feed>
-    ensures found { IfSome result (λ feed.
-        AskFeed (command.now ∷ start.now ∷ feeders.now ∷ samples.now ∷ []) feed.start feed.feeders feed.samples) }
-    ensures only { (from many each : ℕ)
-        → AskFeed (command.now ∷ start.now ∷ feeders.now ∷ samples.now ∷ []) from many each
-        → result ≡ Some (record { start = from; feeders = many; samples = each }) }
-{
-    if command != "feed" {
-        return None;
-    }
-    let start = number_in(0, u32::MAX, start)?;
-    let feeders = number_in(1, MOST_FEEDERS, feeders)?;
-    let samples = number_in(1, MOST_SAMPLES, samples)?;
-    Some(Feed {
-        start,
-        feeders,
-        samples,
-    })
-}
-
-/// The feeders that the words ask for, if they ask for some.
+/// The feeders of the words, if they name some.
 pub(crate) fn feed_of(words: &[String]) -> Option<Feed>
     ensures found { IfSome result (λ feed. IsFeed words.now feed.start feed.feeders feed.samples) }
     ensures only { (start feeders samples : ℕ) → IsFeed words.now start feeders samples
         → result ≡ Some (record { start = start; feeders = feeders; samples = samples }) }
 {
-    match words {
-        [command, start, feeders, samples] => feed_by(
-            command.as_str(),
-            start.as_str(),
-            feeders.as_str(),
-            samples.as_str(),
-        ),
-        _ => None,
-    }
+    let form = Form {
+        name: "feed",
+        first: (0, u32::MAX),
+        second: (1, MOST_FEEDERS),
+        third: (1, MOST_SAMPLES),
+    };
+    let (start, feeders, samples) = form.numbers(words)?;
+    Some(Feed {
+        start,
+        feeders,
+        samples,
+    })
 }
 
 // The line of these sums.
@@ -79,7 +61,7 @@ fn feed_line(feeders: u32, sums: &FeedSums) -> ShortLine
     line
 }
 
-// The line of feeders that ran. No memory is taken behind their run.
+// The line of feeders that ran. It takes no memory after their run.
 fn summary<R: Threads + Wait + Sync, G: Gate>(
     rt: &R,
     alloc: Global,
@@ -103,9 +85,8 @@ pub(crate) fn run_feed<R: Threads + Wait + Sync, K: Sink, G: Gate>(
 ) -> Status
     requires { IsSmallFeed feed }
     ensures ends { FeedEnds feed.start feed.feeders feed.samples result (K.held sink.old) (K.held sink.new) }
-    ensures cut { result ≡ Status.WriteFault → Rose (K.faults sink.old) (K.faults sink.new) }
+    ensures counted { CountsWriteFault result (K.faults sink.old) (K.faults sink.new) }
     ensures silent { result ≡ Status.NoMemory → sink.new ≡ sink.old }
-    ensures not_counted { (result ≡ Status.WriteFault → ⊥) → K.faults sink.new ≡ K.faults sink.old }
 {
     let Ok(line) = summary(rt, alloc, feed, gate) else {
         return Status::NoMemory;

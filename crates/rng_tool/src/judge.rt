@@ -1,11 +1,11 @@
-//! The commands `check` and `replay`: a script with a transcript behind it in, what is said of it out.
+//! The commands `check` and `replay`: they take a script and a transcript after it, and give the answer.
 ghost use Rattle.std.specs.Prelude.{◌≡◌, ◌⊎◌, ◌≤◌, ◌^◌, List, ℕ, length, IfSome, Some};
-ghost use Rattle.io_edges.specs.Faults.{Rose};
 ghost use Rattle.key_names.specs.Texts.ScriptGrammar.{WellFormed};
 ghost use Rattle.key_names.specs.Texts.TranscriptGrammar.{transcript_text};
 ghost use Rattle.rng_tool.specs.JudgeOutcome.{IsJudge, JudgeCalls, JudgeEnds, SaidOf, word_of, yes_line};
 ghost use Rattle.rng_tool.specs.Outcome.{RunOf};
 ghost use Rattle.tool_ends.specs.Behind.{HoldsText, IsApart, compared_with};
+ghost use Rattle.tool_ends.specs.Ends.{CountsReadFault, CountsWriteFault};
 ghost use Rattle.tool_ends.specs.Reads.{WritesEnds};
 
 use crate::rerun::Rerun;
@@ -23,7 +23,7 @@ use tool_ends::{Status, put_line, put_refusal};
 use transcript_check::check::{Verdict, check};
 use transcript_text::{Transcript, write_all};
 
-/// What is asked of a script and a transcript: whether it is lawful, or its answers and data anew.
+/// A command about a script and a transcript: whether the transcript is lawful, or its answers and data made again.
 #[derive(Clone, Copy, Debug, PartialEq, Eq)]
 pub(crate) enum Judge {
     /// `check`
@@ -32,7 +32,7 @@ pub(crate) enum Judge {
     Replay,
 }
 
-// What one word asks.
+// The command of one word.
 fn judge_by(word: &str) -> Option<Judge>
     ensures found { IfSome result (λ judge. word.now ≡ word_of judge) }
     ensures only { (judge : Judge) → word.now ≡ word_of judge → result ≡ Some judge }
@@ -46,7 +46,7 @@ fn judge_by(word: &str) -> Option<Judge>
     None
 }
 
-/// What the words ask of a script and a transcript, if they ask for one of the two.
+/// The command of the words, if it is one of the two.
 pub(crate) fn judge_of(words: &[String]) -> Option<Judge>
     ensures found { IfSome result (λ judge. IsJudge words.now judge) }
     ensures only { (judge : Judge) → IsJudge words.now judge → result ≡ Some judge }
@@ -69,9 +69,8 @@ fn yes_line() -> ShortLine
 fn say_checked<K: Sink>(alloc: Global, script: &Script, t: &Transcript, sink: &mut K) -> Status
     requires { WellFormed script.now }
     ensures ends { WritesEnds (SaidOf Judge.Check script.now t.now) result (K.held sink.old) (K.held sink.new) }
-    ensures cut { result ≡ Status.WriteFault → Rose (K.faults sink.old) (K.faults sink.new) }
+    ensures counted { CountsWriteFault result (K.faults sink.old) (K.faults sink.new) }
     ensures silent { result ≡ Status.NoMemory → sink.new ≡ sink.old }
-    ensures not_counted { (result ≡ Status.WriteFault → ⊥) → K.faults sink.new ≡ K.faults sink.old }
 {
     match check(alloc, script, t) {
         Ok(Verdict::Yes) => put_line(Status::Done, &yes_line(), sink),
@@ -80,13 +79,12 @@ fn say_checked<K: Sink>(alloc: Global, script: &Script, t: &Transcript, sink: &m
     }
 }
 
-// The transcript with its answers and data made anew.
+// The transcript with its answers and data made again.
 fn say_replayed<K: Sink>(alloc: Global, script: &Script, t: &Transcript, sink: &mut K) -> Status
     requires { WellFormed script.now }
     ensures ends { WritesEnds (SaidOf Judge.Replay script.now t.now) result (K.held sink.old) (K.held sink.new) }
-    ensures cut { result ≡ Status.WriteFault → Rose (K.faults sink.old) (K.faults sink.new) }
+    ensures counted { CountsWriteFault result (K.faults sink.old) (K.faults sink.new) }
     ensures silent { result ≡ Status.NoMemory → sink.new ≡ sink.old }
-    ensures not_counted { (result ≡ Status.WriteFault → ⊥) → K.faults sink.new ≡ K.faults sink.old }
 {
     match replay(alloc, script, t) {
         Ok(Replayed::Made(made)) => match write_all(sink, &made) {
@@ -98,7 +96,7 @@ fn say_replayed<K: Sink>(alloc: Global, script: &Script, t: &Transcript, sink: &
     }
 }
 
-// What is asked of a transcript.
+// The answer about a transcript.
 fn say<K: Sink>(
     alloc: Global,
     judge: Judge,
@@ -108,9 +106,8 @@ fn say<K: Sink>(
 ) -> Status
     requires { WellFormed script.now }
     ensures ends { WritesEnds (SaidOf judge script.now t.now) result (K.held sink.old) (K.held sink.new) }
-    ensures cut { result ≡ Status.WriteFault → Rose (K.faults sink.old) (K.faults sink.new) }
+    ensures counted { CountsWriteFault result (K.faults sink.old) (K.faults sink.new) }
     ensures silent { result ≡ Status.NoMemory → sink.new ≡ sink.old }
-    ensures not_counted { (result ≡ Status.WriteFault → ⊥) → K.faults sink.new ≡ K.faults sink.old }
 {
     match judge {
         Judge::Check => say_checked(alloc, script, t, sink),
@@ -118,7 +115,7 @@ fn say<K: Sink>(
     }
 }
 
-// Says what is asked of a script and of the text behind it, which was compared with that of a run.
+// The answer about a script and the text after it, which was compared with that of a run.
 fn say_of_text<K: Sink>(
     alloc: Global,
     judge: Judge,
@@ -132,11 +129,10 @@ fn say_of_text<K: Sink>(
     ensures ends { (input : List ℕ) → IsApart input script.now behind
         → WritesEnds (JudgeCalls judge input) result (K.held sink.old) (K.held sink.new) }
     ensures was_read { result ≡ Status.ReadFault → ⊥ }
-    ensures cut { result ≡ Status.WriteFault → Rose (K.faults sink.old) (K.faults sink.new) }
+    ensures counted { CountsWriteFault result (K.faults sink.old) (K.faults sink.new) }
     ensures silent { result ≡ Status.NoMemory → sink.new ≡ sink.old }
-    ensures not_counted { (result ≡ Status.WriteFault → ⊥) → K.faults sink.new ≡ K.faults sink.old }
 {
-    // What a run writes is lawful.
+    // The output of a run is lawful.
     if behind.is_whole() {
         return put_line(Status::Done, &yes_line(), sink);
     }
@@ -146,7 +142,7 @@ fn say_of_text<K: Sink>(
     }
 }
 
-/// Says what is asked of the script and the transcript that the source gives, or refuses the script.
+/// Writes the answer about the script and the transcript that the source gives, or refuses the script.
 pub(crate) fn judge_input<R: Threads + Wait + Sync, S: Source, K: Sink>(
     rt: &R,
     alloc: Global,
@@ -157,10 +153,8 @@ pub(crate) fn judge_input<R: Threads + Wait + Sync, S: Source, K: Sink>(
     ensures ends { JudgeEnds judge result (S.left source.old) (S.left source.new) (K.held sink.old)
         (K.held sink.new) }
     ensures silent { (result ≡ Status.ReadFault) ⊎ (result ≡ Status.NoMemory) → sink.new ≡ sink.old }
-    ensures read_fault { result ≡ Status.ReadFault → Rose (S.faults source.old) (S.faults source.new) }
-    ensures no_read_fault { (result ≡ Status.ReadFault → ⊥) → S.faults source.new ≡ S.faults source.old }
-    ensures cut { result ≡ Status.WriteFault → Rose (K.faults sink.old) (K.faults sink.new) }
-    ensures not_counted { (result ≡ Status.WriteFault → ⊥) → K.faults sink.new ≡ K.faults sink.old }
+    ensures read_counted { CountsReadFault result (S.faults source.old) (S.faults source.new) }
+    ensures counted { CountsWriteFault result (K.faults sink.old) (K.faults sink.new) }
 {
     match read_apart(alloc, source, &Rerun { rt, judge }) {
         Ok((script, behind)) => say_of_text(alloc, judge, &script, behind, sink),

@@ -1,11 +1,11 @@
 //! A load: its words, its run, and the line that sums it up.
 ghost use Rattle.std.specs.Prelude.{◌≡◌, ◌<◌, ◌≤◌, ◌*◌, ◌^◌, ◌∷◌, [], ℕ, Some, IfOk, IfSome, decimal, length, sum_by};
-ghost use Rattle.io_edges.specs.Faults.{Rose};
 ghost use Rattle.key_names.specs.Texts.ScriptGrammar.{WellFormed};
 ghost use Rattle.key_names.specs.SeenLine.{bytes_shown};
 ghost use Rattle.key_names.specs.Texts.TranscriptGrammar.{all_lines};
 ghost use Rattle.transcript_check.specs.Judged.{IsJudged};
-ghost use Rattle.rng_tool.specs.LoadOutcome.{AskLoad, IsLoad, IsSmall, LoadEnds, LoadOf, data_len, load_line};
+ghost use Rattle.rng_tool.specs.LoadOutcome.{IsLoad, IsSmall, LoadEnds, LoadOf, data_len, load_line};
+ghost use Rattle.tool_ends.specs.Ends.{CountsWriteFault};
 
 use crate::callers::transcript_of;
 use arrayvec::ArrayString;
@@ -15,7 +15,7 @@ use key_names::Data;
 use std::alloc::Global;
 use std::sync::Wait;
 use std::thread::Threads;
-use tool_ends::numbers::number_in;
+use tool_ends::numbers::Form;
 use tool_ends::short_lines::{ShortLine, add_number};
 use tool_ends::{Status, put_line};
 use transcript_check::check::{Verdict, check};
@@ -27,7 +27,7 @@ const MOST_CALLERS: u32 = 64;
 /// The most calls that each caller of a load makes.
 const MOST_EVENTS: u32 = 1000;
 
-/// What a load is asked for: where its script starts, how many callers it has, and how many calls each makes.
+/// The numbers of a load: the start of its script, how many callers it has, and how many calls each makes.
 #[derive(Clone, Copy, Debug, PartialEq, Eq)]
 pub(crate) struct Load {
     pub(crate) start: u32,
@@ -35,42 +35,24 @@ pub(crate) struct Load {
     pub(crate) events: u32,
 }
 
-/// The load that four words ask for.
-fn load_by(command: &str, start: &str, callers: &str, events: &str) -> Option<Load>
-    ensures found { IfSome result (λ load.
-        AskLoad (command.now ∷ start.now ∷ callers.now ∷ events.now ∷ []) load.start load.callers load.events) }
-    ensures only { (from many count : ℕ)
-        → AskLoad (command.now ∷ start.now ∷ callers.now ∷ events.now ∷ []) from many count
-        → result ≡ Some (record { start = from; callers = many; events = count }) }
-{
-    if command != "load" {
-        return None;
-    }
-    let start = number_in(0, u32::MAX, start)?;
-    let callers = number_in(1, MOST_CALLERS, callers)?;
-    let events = number_in(1, MOST_EVENTS, events)?;
-    Some(Load {
-        start,
-        callers,
-        events,
-    })
-}
-
-/// The load that the words ask for, if they ask for one.
+/// The load of the words, if they name one.
 pub(crate) fn load_of(words: &[String]) -> Option<Load>
     ensures found { IfSome result (λ load. IsLoad words.now load.start load.callers load.events) }
     ensures only { (start callers events : ℕ) → IsLoad words.now start callers events
         → result ≡ Some (record { start = start; callers = callers; events = events }) }
 {
-    match words {
-        [command, start, callers, events] => load_by(
-            command.as_str(),
-            start.as_str(),
-            callers.as_str(),
-            events.as_str(),
-        ),
-        _ => None,
-    }
+    let form = Form {
+        name: "load",
+        first: (0, u32::MAX),
+        second: (1, MOST_CALLERS),
+        third: (1, MOST_EVENTS),
+    };
+    let (start, callers, events) = form.numbers(words)?;
+    Some(Load {
+        start,
+        callers,
+        events,
+    })
 }
 
 fn load_line(callers: u32, events: u64, bytes: u64, verdict: Verdict) -> ShortLine
@@ -102,7 +84,7 @@ fn event_count(script: &Script) -> u64
     sum
 }
 
-// How many bytes the data of a line are.
+// The number of bytes in a line's data.
 fn data_len(shown: Data) -> u32
     ensures { result ≡ data_len shown }
 {
@@ -137,7 +119,7 @@ fn shown_len(transcript: &Transcript) -> u64
     sum
 }
 
-// The line that sums up any transcript of a script, and says whether it is lawful.
+// The line that sums up any transcript of a script, with the verdict on it.
 fn checked_line(
     alloc: Global,
     callers: u32,
@@ -180,9 +162,8 @@ pub(crate) fn run_load<R: Threads + Wait + Sync, K: Sink, G: Gate>(
 ) -> Status
     requires { IsSmall load }
     ensures ends { LoadEnds load.start load.callers load.events result (K.held sink.old) (K.held sink.new) }
-    ensures cut { result ≡ Status.WriteFault → Rose (K.faults sink.old) (K.faults sink.new) }
+    ensures counted { CountsWriteFault result (K.faults sink.old) (K.faults sink.new) }
     ensures silent { result ≡ Status.NoMemory → sink.new ≡ sink.old }
-    ensures not_counted { (result ≡ Status.WriteFault → ⊥) → K.faults sink.new ≡ K.faults sink.old }
 {
     let Ok(line) = summary(rt, alloc, load, gate) else {
         return Status::NoMemory;

@@ -1,11 +1,11 @@
 //! `rng`: the Linux random number core, replayed from a script of recorded events.
 //!
-//! [`run`] carries the main theorem: for every input, and every interleaving of callers, it says command by command
-//! what status and output mean. `main` adds the standard streams, the line on standard error and the exit code, which
+//! [`run`] carries the main theorem: for every input, every interleaving of callers and every command, it states the
+//! meaning of status and output. `main` adds the standard streams, the line on standard error and the exit code, which
 //! are tested.
 //!
-//! It stands on the contracts of the crates below it. Its own work is to parse words, to end each command, and to write
-//! the short lines of all that is not a transcript.
+//! The program uses the contracts of the crates below it. Its own work is to parse words, to end each command, and to
+//! write the short lines of all outputs but transcripts.
 #![tactic(auto)]
 
 ghost use Rattle.std.specs.Prelude.{◌≡◌, ◌⊎◌, ℕ, List, Option};
@@ -18,6 +18,7 @@ mod alone;
 mod callers;
 mod command;
 mod draw;
+mod failing;
 mod feed;
 mod judge;
 mod load;
@@ -31,23 +32,35 @@ mod vfork;
 
 use crate::judge::Judge;
 use crate::run::run;
-use crate::told::tell;
+use crate::told::{Why, reason_of, tell};
 use io_edges::{OpenGate, Source, StdSink, StdSource};
-use key_names::ScriptFault;
 use std::alloc::Global;
 use std::io::{BufWriter, Write};
 use std::process::ExitCode;
 use std::sync::Wait;
 use std::thread::Threads;
-use tool_ends::refusal::fault_in;
 use tool_ends::tee::{TeeSink, TeeSource};
 use tool_ends::{Status, words};
 
 /// How many bytes of output are gathered to one write.
 const GATHERED: usize = 64 * 1024;
 
-/// Runs the command of the words over this source, and gathers its output for the writer. It answers how that ended, and
-/// beside it the fault of an input that was refused (tested).
+/// The most bytes of a script: 16 MiB. Of a run all of it is kept, to show the line of a fault.
+const MOST_OF_RUN: usize = 16 * 1024 * 1024;
+
+/// The most bytes of a script and its transcript that are kept, to find the line at which a clause fails: 4 MiB.
+const MOST_OF_PAIR: usize = 4 * 1024 * 1024;
+
+// How many bytes of the input are kept for these words (tested).
+fn most_kept(words: &[String]) -> usize {
+    match words {
+        [word] if word.as_str() == "run" => MOST_OF_RUN,
+        _ => MOST_OF_PAIR,
+    }
+}
+
+/// Runs the command of the words over this source, and gathers its output for the writer. Returns the status, and the
+/// reason in a short answer (tested).
 #[tactic(auto, using(crate::proofs::Unread::unread_judge, crate::proofs::Unread::unread_run))]
 fn run_gathered<R: Threads + Wait + Sync, S: Source, O: Write + Drop>(
     rt: &R,
@@ -55,7 +68,7 @@ fn run_gathered<R: Threads + Wait + Sync, S: Source, O: Write + Drop>(
     words: &[String],
     source: &mut S,
     output: O,
-) -> (Status, Option<ScriptFault>)
+) -> (Status, Why)
     ensures usage { result.0 ≡ Status.Usage → IsNoForm words.now }
     ensures no_form { IsNoForm words.now → (result.0 ≡ Status.Usage) ⊎ (result.0 ≡ Status.NoMemory) }
     ensures unread { (TakesInput words.now → ⊥) → source.new ≡ source.old }
@@ -67,19 +80,24 @@ fn run_gathered<R: Threads + Wait + Sync, S: Source, O: Write + Drop>(
     ensures verdict { result.0 ≡ Status.No → (judge : Judge) × IsJudge words.now judge }
 {
     let Ok(output) = BufWriter::with_capacity(alloc, GATHERED, output) else {
-        return (Status::NoMemory, None);
+        return (Status::NoMemory, Why::Unsaid);
     };
     let mut sink = TeeSink::of(StdSink::of(output));
     let status = run(rt, alloc, words, source, &mut sink, &OpenGate);
-    (status, fault_in(sink.front()))
+    (status, reason_of(sink.front()))
 }
 
 fn main(rt: HostRuntime) -> ExitCode {
-    let mut source = TeeSource::of(rt.alloc(), StdSource::of(rt.stdin()));
-    let (status, fault) = match words(&rt) {
-        Ok(words) => run_gathered(&rt, rt.alloc(), &words, &mut source, rt.stdout()),
-        Err(status) => (status, None),
+    let given = words(&rt);
+    let most = match &given {
+        Ok(words) => most_kept(words),
+        Err(_) => 0,
     };
-    tell(&rt, status, fault, &source);
+    let mut source = TeeSource::of(rt.alloc(), StdSource::of(rt.stdin()), most);
+    let (status, why) = match given {
+        Ok(words) => run_gathered(&rt, rt.alloc(), &words, &mut source, rt.stdout()),
+        Err(status) => (status, Why::Unsaid),
+    };
+    tell(&rt, rt.alloc(), status, why, &source);
     ExitCode::from(status.code())
 }

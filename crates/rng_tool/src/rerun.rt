@@ -1,4 +1,4 @@
-//! Another run of a script that is checked.
+//! A second run of a script that is checked.
 ghost use Rattle.std.specs.Prelude.{◌≡◌};
 ghost use Rattle.key_names.specs.Texts.TranscriptGrammar.{transcript_text};
 ghost use Rattle.rng_tool.specs.Outcome.{RunOf};
@@ -14,8 +14,9 @@ use std::thread::Threads;
 use tool_ends::maker::Maker;
 use transcript_text::Transcript;
 
-/// Makes a run of the script where it is to be checked and has one caller, whose text is the same in each run. What a run
-/// writes is the text of a lawful transcript, and so need not be read. Where there is no memory for the run none is made.
+/// Makes a run of the script if the command is `check` and the script has one caller, since the text of each such run
+/// is the same. A run's output is the text of a lawful transcript, and so need not be read. If there is no memory for
+/// the run, none is made.
 #[derive(Drop)]
 pub(crate) struct Rerun<'a, R: Threads + Wait + Sync> {
     pub(crate) rt: &'a R,

@@ -1,4 +1,4 @@
-//! The top call: the words of a command line in, its answer out.
+//! The top call: it takes the words of a command line, and gives the answer.
 ghost use Rattle.std.specs.Prelude.{◌≡◌, ◌≤◌, ◌↔◌, ◌⊎◌, [], ℕ, IfSome, length};
 ghost use Rattle.io_edges.specs.Faults.{Rose};
 ghost use Rattle.key_names.specs.declared.point.Point.{Point};
@@ -27,48 +27,48 @@ use std::sync::Wait;
 use std::thread::Threads;
 use tool_ends::{Status, end_output};
 
-/// Runs the command that the words are.
+/// Runs the command of the words.
 ///
-/// Commands without numbers read all of the input, the others nothing. A script has at most 16 MiB, and with a transcript
-/// behind it 96 MiB; a longer input is answered by `refused 0 1`, and only one byte more of it is taken. A number is spelt
-/// as in a script; START is below 2^32.
+/// Commands without numbers read all of the input, the others read none. A script has at most 16 MiB, and with a
+/// transcript after it 96 MiB. A longer input is answered by `refused 0 1`, and only one byte more of it is taken. A
+/// number is spelt as in a script; START is below 2^32.
 ///
-/// - `run`: the input is a script, whose callers run in threads. The output is its transcript, which is lawful for the
-///   script however the callers' calls fell together; or the line `refused LINE KIND`, the first fault of what is no
-///   script.
-/// - `check`: the input is a script, which its first line `end` ends, and then a transcript. The output is `yes` where
-///   the transcript is lawful for the script, and `no K` where clause K is the first that fails. Faults of the script
-///   are told as in a run; no thread is started.
+/// - `run`: the input is a script, and its callers run in threads. The output is its transcript, which is lawful for
+///   the script however the callers' calls interleave; or the line `refused LINE KIND`, with the first fault of an
+///   input that is no script.
+/// - `check`: the input is a script, which ends at its first line `end`, and then a transcript. The output is `yes` if
+///   the transcript is lawful for the script, and `no K` if clause K is the first that fails. A fault of the script is
+///   answered as in a run. No thread is started.
 /// - `replay`: the input is the same. The output is the one lawful transcript with these lines, words and steps,
-///   whatever answers and data were read; or `no K`, where the text is no transcript's (clause 1), or lines, marks,
-///   forms or looks fail.
+///   whatever answers and data were read; or `no K`, if the text is no transcript's (clause 1), or lines, marks, forms
+///   or looks fail.
 /// - `load START CALLERS EVENTS`: the script of a load is run and its transcript checked, with 1 to 64 callers of 1 to
-///   1,000 calls each. The output is the line `callers CALLERS events V bytes B check yes`: how many events the script
-///   has, and how many bytes its lines show.
-/// - `draw C K`: 1 to 1,000 numbers below C are drawn, and written one a line. C is below 2^32, and 0 stands for 2^32.
-///   The line `spent` is the last where 128 words were all rejected.
+///   1,000 calls each. The output is the line `callers CALLERS events V bytes B check yes`: V is the number of events
+///   of the script, and B the number of bytes that its lines show.
+/// - `draw C K`: 1 to 1,000 numbers below C are drawn, and written one a line. C is below 2^32, and 0 means 2^32. The
+///   line `spent` is the last if 128 words were all rejected.
 /// - `vfork POINT ATTEMPT N`: a vgetrandom call for N bytes, up to 2^20, is forked at one of four points of one of two
 ///   attempts. The output is `parent HEX` and `child HEX`, the bytes that each gives out.
 /// - `feed START FEEDERS SAMPLES`: a CPU gets the interrupt samples of 1 to 16 threads, 1 to 10,000 of each, at moment
 ///   0. Sample i of thread f has the words START + i and f. The output is the line
-///   `feeders FEEDERS samples N dumps D bits B`, the same however the threads fell together: samples mixed, dumps made,
-///   and the pool's bits behind them.
+///   `feeders FEEDERS samples N dumps D bits B`, the same however the threads interleave: the samples mixed, the dumps
+///   made, and the pool's bits after them.
 ///
 /// The last three begin with a new table of one CPU; before draws and forks a sample of 32 bytes makes it ready.
 ///
-/// The gate is called before each event of each caller, and not before a script is accepted; of `feed`, before each
-/// sample of each feeder; of `check`, not at all.
+/// The gate is called before each event of each caller, and not before a script is accepted; for `feed`, before each
+/// sample of each feeder; for `check`, not at all.
 ///
-/// - `Usage`: the words are no command, and nothing is read or written.
-/// - `ReadFault`: the source failed. Nothing is written. No more was taken than of an input that is too long.
-/// - `Refused`: the input has a fault, and the line that tells the first was written.
-/// - `WriteFault`: the sink failed at a put, or at the flush behind the last. What it got in this call is a prefix of
+/// - `Usage`: the words are no command. The command reads and writes nothing.
+/// - `ReadFault`: the source failed. Nothing is written. At most as much was taken as of an input that is too long.
+/// - `Refused`: the input has a fault, and the line with the first one was written.
+/// - `WriteFault`: the sink failed at a put, or at the flush after the last. What it got in this call is a prefix of
 ///   the output.
-/// - `NoMemory`: there was no memory. Nothing is written. No more was taken than of an input that is too long.
-/// - `No`: a clause fails, and the line that names it was written.
+/// - `NoMemory`: memory ran out. Nothing is written. At most as much was taken as of an input that is too long.
+/// - `No`: a clause fails, and the line with its number was written.
 /// - `Done`: the input was read to its end, if the command takes one, and the whole output was written.
 ///
-/// Where the output was written whole, the sink keeps nothing of it back.
+/// If the output was written whole, the sink keeps nothing of it back.
 pub fn run<R: Threads + Wait + Sync, S: Source, K: Sink, G: Gate>(
     rt: &R,
     alloc: Global,

@@ -1,8 +1,8 @@
-//! The command `run`: a script in, a transcript out.
+//! The command `run`: it takes a script, and gives its transcript.
 ghost use Rattle.std.specs.Prelude.{◌≡◌, ◌⊎◌};
-ghost use Rattle.io_edges.specs.Faults.{Rose};
 ghost use Rattle.key_names.specs.Texts.ScriptGrammar.{WellFormed};
 ghost use Rattle.rng_tool.specs.Outcome.{RunEnds, RunOf};
+ghost use Rattle.tool_ends.specs.Ends.{CountsReadFault, CountsWriteFault};
 ghost use Rattle.tool_ends.specs.Reads.{OnlyDone, WritesEnds};
 
 use crate::alone::write_alone;
@@ -17,7 +17,7 @@ use std::thread::Threads;
 use tool_ends::{Status, put_refusal, read_script};
 use transcript_text::write_all;
 
-// The run of an accepted script whose callers may be many: all lines are there before the first is written.
+// The run of an accepted script that may have many callers: all lines exist before the first is written.
 fn run_together<R: Threads + Wait + Sync, K: Sink, G: Gate>(
     rt: &R,
     alloc: Global,
@@ -27,9 +27,8 @@ fn run_together<R: Threads + Wait + Sync, K: Sink, G: Gate>(
 ) -> Status
     requires { WellFormed script.now }
     ensures ends { WritesEnds (OnlyDone (RunOf script.now)) result (K.held sink.old) (K.held sink.new) }
-    ensures cut { result ≡ Status.WriteFault → Rose (K.faults sink.old) (K.faults sink.new) }
+    ensures counted { CountsWriteFault result (K.faults sink.old) (K.faults sink.new) }
     ensures silent { result ≡ Status.NoMemory → sink.new ≡ sink.old }
-    ensures not_counted { (result ≡ Status.WriteFault → ⊥) → K.faults sink.new ≡ K.faults sink.old }
 {
     let Ok(transcript) = transcript_of(rt, alloc, script, gate) else {
         return Status::NoMemory;
@@ -50,9 +49,8 @@ fn run_script<R: Threads + Wait + Sync, K: Sink, G: Gate>(
 ) -> Status
     requires { WellFormed script.now }
     ensures ends { WritesEnds (OnlyDone (RunOf script.now)) result (K.held sink.old) (K.held sink.new) }
-    ensures cut { result ≡ Status.WriteFault → Rose (K.faults sink.old) (K.faults sink.new) }
+    ensures counted { CountsWriteFault result (K.faults sink.old) (K.faults sink.new) }
     ensures silent { result ≡ Status.NoMemory → sink.new ≡ sink.old }
-    ensures not_counted { (result ≡ Status.WriteFault → ⊥) → K.faults sink.new ≡ K.faults sink.old }
 {
     let run = match LoneRun::start(alloc, script) {
         Ok(Some(run)) => run,
@@ -75,15 +73,13 @@ pub(crate) fn run_input<R: Threads + Wait + Sync, S: Source, K: Sink, G: Gate>(
 ) -> Status
     ensures ends { RunEnds result (S.left source.old) (S.left source.new) (K.held sink.old) (K.held sink.new) }
     ensures silent { (result ≡ Status.ReadFault) ⊎ (result ≡ Status.NoMemory) → sink.new ≡ sink.old }
-    ensures read_fault { result ≡ Status.ReadFault → Rose (S.faults source.old) (S.faults source.new) }
-    ensures no_read_fault { (result ≡ Status.ReadFault → ⊥) → S.faults source.new ≡ S.faults source.old }
-    ensures cut { result ≡ Status.WriteFault → Rose (K.faults sink.old) (K.faults sink.new) }
-    ensures not_counted { (result ≡ Status.WriteFault → ⊥) → K.faults sink.new ≡ K.faults sink.old }
+    ensures read_counted { CountsReadFault result (S.faults source.old) (S.faults source.new) }
+    ensures counted { CountsWriteFault result (K.faults sink.old) (K.faults sink.new) }
 {
     match read_script(alloc, source) {
         Ok(script) => {
             let status = run_script(rt, alloc, &script, sink, gate);
-            // The program ends behind this, and the system takes its memory at once. To give the events back one by one
+            // The program ends after this, and the system takes its memory at once. To give the events back one by one
             // takes 3 % of a run of small ones.
             mem::forget(script);
             status

@@ -1,5 +1,5 @@
-//! Whole runs over sources and sinks in memory that fail at each of their calls, and what a run does at its gate. The
-//! answers themselves are seen of the built program, by `.ci/program_checks` and `.ci/check_checks`.
+//! Whole runs over sources and sinks in memory that fail at each of their calls, and the calls of the gate.
+//! `.ci/program_checks` and `.ci/check_checks` check the answers themselves, of the built program.
 
 use crate::run::run;
 use io_edges::{Gate, MemSink, MemSource, OpenGate};
@@ -82,8 +82,8 @@ const READS_SCRIPT: &[u8] = b"rngscript 1\n\
 // More than any output here.
 const ROOM: usize = 1000;
 
-// How many bytes the source gives and the sink takes a call at most, the number of the call of each that fails, 0 for
-// none, and whether the sink can be flushed.
+// How many bytes the source gives and the sink takes a call at most, the number of the call of each that fails (0 for
+// none), and whether the sink can be flushed.
 #[derive(Clone, Copy)]
 struct Edges {
     step: usize,
@@ -102,7 +102,7 @@ const WHOLE: Edges = Edges {
 // A byte a call.
 const SMALL: Edges = Edges { step: 1, ..WHOLE };
 
-// How a run with these words ends over edges in memory, and what its sink then holds.
+// The status of a run with these words over edges in memory, and the content of its sink.
 fn run_over<R: Abort + Threads + Wait + Sync, G: Gate>(
     rt: &R,
     alloc: Global,
@@ -127,7 +127,7 @@ fn run_over<R: Abort + Threads + Wait + Sync, G: Gate>(
     Ok((status, sink))
 }
 
-// Words, an input, and what answers them.
+// Words and an input, with the status and the output for them.
 type Row = (
     &'static [&'static str],
     &'static [u8],
@@ -170,7 +170,7 @@ const ROWS: [Row; 10] = [
     ),
 ];
 
-// A byte a call, and one more call that finds the end. A command without input makes none.
+// One byte a call, and one more call that finds the end. A command without input makes none.
 #[test]
 fn a_source_that_fails_at_each_call(rt: HostRuntime) -> Result<(), Fail> {
     for (row, (words, input, status, output)) in ROWS.iter().enumerate() {
@@ -197,7 +197,7 @@ fn a_source_that_fails_at_each_call(rt: HostRuntime) -> Result<(), Fail> {
     Ok(())
 }
 
-// A byte a call. Behind the last put comes the flush.
+// One byte a call. The flush comes after the last put.
 #[test]
 fn a_sink_that_fails_at_each_call(rt: HostRuntime) -> Result<(), Fail> {
     for (row, (words, input, status, output)) in ROWS.iter().enumerate() {
@@ -231,7 +231,7 @@ fn a_sink_that_fails_at_each_call(rt: HostRuntime) -> Result<(), Fail> {
     Ok(())
 }
 
-// Where the pieces of a text end that a sink takes, each line in a put of its own and at most `step` bytes a call.
+// The ends of the pieces in which a sink takes a text: each line in its own put, and at most `step` bytes a call.
 fn piece_ends(alloc: Global, text: &[u8], step: usize) -> Result<Vec<usize>, AllocError> {
     let mut ends = Vec::new(alloc);
     let mut begin = 0;
@@ -335,7 +335,7 @@ fn the_gate_is_called_before_each_event(rt: HostRuntime) -> Result<(), Fail> {
     Ok(())
 }
 
-// Holds each of two callers before its read until the other is there too.
+// Holds each of two callers before its read until the other comes too.
 #[derive(Drop)]
 struct Meeting {
     parent: AtomicU64,

@@ -1,13 +1,37 @@
-//! What standard error is told of a run that did not end well.
+//! The message on standard error for a run that did not end well. No function here has a clause: all of it is only
+//! tested.
 
 use crate::command::USAGE;
+use crate::failing::{clause_name, failing_line};
 use io_edges::Source;
 use key_names::{FaultKind, ScriptFault};
+use std::alloc::Global;
 use tool_ends::Status;
+use tool_ends::refusal::{clause_in, fault_in};
 use tool_ends::tee::TeeSource;
 
-/// The longest line that is shown.
-const MOST_SHOWN: usize = 80;
+/// The most bytes of a line that are shown.
+pub(crate) const MOST_SHOWN: usize = 80;
+
+/// The reason in a short answer: the fault of a script, or the clause that a transcript fails.
+#[derive(Clone, Copy)]
+pub(crate) enum Why {
+    Fault(ScriptFault),
+    Clause(u8),
+    /// It is no such answer.
+    Unsaid,
+}
+
+/// The reason in this front of an answer (tested).
+pub(crate) fn reason_of(answer: &[u8]) -> Why {
+    if let Some(fault) = fault_in(answer) {
+        return Why::Fault(fault);
+    }
+    match clause_in(answer) {
+        Some(clause) => Why::Clause(clause),
+        None => Why::Unsaid,
+    }
+}
 
 // The kind in words.
 fn name_of(kind: FaultKind) -> &'static str {
@@ -27,8 +51,8 @@ fn name_of(kind: FaultKind) -> &'static str {
     }
 }
 
-// The line, where it has 1 to 80 bytes and is printable.
-fn shown_line(line: &[u8]) -> Option<&str> {
+// The line, if it has 1 to 80 bytes and is printable (tested).
+pub(crate) fn shown_line(line: &[u8]) -> Option<&str> {
     if line.is_empty() || line.len() > MOST_SHOWN {
         return None;
     }
@@ -47,20 +71,53 @@ fn tell_fault<R: Eprint, S: Source + Drop>(rt: &R, fault: ScriptFault, input: &T
     };
 }
 
-/// Writes one line to standard error where a command ended otherwise than by its answer: the usage, or what could not be
-/// read, written or had, or why the input was refused.
+// Writes the line of the transcript at which the clause fails.
+fn tell_clause<R: Eprint, S: Source + Drop>(
+    rt: &R,
+    alloc: Global,
+    clause: u8,
+    input: &TeeSource<S>,
+) {
+    let name = clause_name(clause);
+    let Some(text) = input.whole() else {
+        let _told = eprintln!(rt;
+            "rng: clause {clause}, {name}: no line is named, since the input was not kept whole"
+        );
+        return;
+    };
+    let _told = match failing_line(alloc, clause, text) {
+        Ok(Some(line)) => eprintln!(rt; "rng: {line}"),
+        Ok(None) => eprintln!(rt; "rng: clause {clause}, {name}"),
+        Err(_) => eprintln!(rt;
+            "rng: clause {clause}, {name}: there is no memory to find its line"
+        ),
+    };
+}
+
+// Writes the reason why an input was refused, or the line at which a transcript fails.
+fn tell_why<R: Eprint, S: Source + Drop>(rt: &R, alloc: Global, why: Why, input: &TeeSource<S>) {
+    match why {
+        Why::Fault(fault) => tell_fault(rt, fault, input),
+        Why::Clause(clause) => tell_clause(rt, alloc, clause, input),
+        Why::Unsaid => {}
+    }
+}
+
+/// Writes one line to standard error if a command did not end well (tested): the usage; or the stream or the memory
+/// that failed; or the reason why the input was refused; or the line at which a transcript fails.
 pub(crate) fn tell<R: Eprint, S: Source + Drop>(
     rt: &R,
+    alloc: Global,
     status: Status,
-    fault: Option<ScriptFault>,
+    why: Why,
     input: &TeeSource<S>,
 ) {
     let _told = match status {
-        Status::Done | Status::No => return,
+        Status::Done => return,
+        Status::No | Status::Refused => return tell_why(rt, alloc, why, input),
         Status::Usage => eprintln!(rt; "{USAGE}"),
         Status::ReadFault => eprintln!(rt; "rng: standard input could not be read"),
         Status::WriteFault => eprintln!(rt; "rng: standard output could not be written"),
         Status::NoMemory => eprintln!(rt; "rng: there is not enough memory"),
-        Status::Refused => return fault.map_or((), |fault| tell_fault(rt, fault, input)),
     };
 }

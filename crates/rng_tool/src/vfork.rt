@@ -1,18 +1,18 @@
 //! A fork inside a vgetrandom call: its words, its run, and a line for each end.
 ghost use Rattle.std.specs.Prelude.{◌≡◌, ◌≤◌, ◌+◌, ◌*◌, ◌^◌, ◌++◌, ◌∷◌, [], ℕ, Some, IfOk, IfSome, length};
 ghost use Rattle.hex.specs.Hex.{encode_lower};
-ghost use Rattle.io_edges.specs.Faults.{Rose};
 ghost use Rattle.key_names.specs.declared.point.Point.{Point};
 ghost use Rattle.vdso_state.specs.declared.place.Turn.{Turn};
 ghost use Rattle.vdso_state.specs.Turns.{turn_number};
-ghost use Rattle.rng_tool.specs.VforkOutcome.{AskVfork, IsSmallVfork, IsVfork, VforkEnds, VforkOf, end_line, vfork_text};
+ghost use Rattle.rng_tool.specs.VforkOutcome.{IsSmallVfork, IsVfork, VforkEnds, VforkOf, end_line, vfork_text};
+ghost use Rattle.tool_ends.specs.Ends.{CountsWriteFault};
 
 use fork_runs::{Point, Turn, fork_on_new_table};
 use hex::encode_to_slice;
 use io_edges::{NoMemory, Sink};
 use std::alloc::Global;
 use std::sync::Wait;
-use tool_ends::numbers::number_in;
+use tool_ends::numbers::Form;
 use tool_ends::{Status, put_answer};
 
 /// The most bytes that each end gives.
@@ -22,7 +22,7 @@ const PARENT: &[u8] = b"parent ";
 
 const CHILD: &[u8] = b"child ";
 
-/// What is forked: a call for so many bytes, at a point of an attempt.
+/// A call for this many bytes, forked at a point of an attempt.
 #[derive(Clone, Copy, Debug, PartialEq, Eq)]
 pub(crate) struct Vfork {
     pub(crate) point: Point,
@@ -41,44 +41,26 @@ fn attempt_of(number: u32) -> Turn
     }
 }
 
-/// The fork that four words ask for.
+/// The fork of the words, if they name one.
 #[tactic(auto, using(crate::proofs::VforkWords::point_range, crate::proofs::VforkWords::turn_range, key_names::proofs::Points::numbered, key_names::proofs::Points::point_again))]
-fn vfork_by(command: &str, point: &str, attempt: &str, len: &str) -> Option<Vfork>
-    ensures found { IfSome result (λ vfork.
-        AskVfork (command.now ∷ point.now ∷ attempt.now ∷ len.now ∷ []) vfork.point vfork.attempt vfork.len) }
-    ensures only { (at : Point) (turn : Turn) (n : ℕ)
-        → AskVfork (command.now ∷ point.now ∷ attempt.now ∷ len.now ∷ []) at turn n
-        → result ≡ Some (record { point = at; attempt = turn; len = n }) }
-{
-    if command != "vfork" {
-        return None;
-    }
-    let number = number_in(1, 4, point)?;
-    let point = Point::of_number(u64::from(number))?;
-    let attempt = number_in(1, 2, attempt)?;
-    let len = number_in(1, MOST_BYTES, len)?;
-    Some(Vfork {
-        point,
-        attempt: attempt_of(attempt),
-        len,
-    })
-}
-
-/// The fork that the words ask for, if they ask for one.
 pub(crate) fn vfork_of(words: &[String]) -> Option<Vfork>
     ensures found { IfSome result (λ vfork. IsVfork words.now vfork.point vfork.attempt vfork.len) }
     ensures only { (point : Point) (attempt : Turn) (n : ℕ) → IsVfork words.now point attempt n
         → result ≡ Some (record { point = point; attempt = attempt; len = n }) }
 {
-    match words {
-        [command, point, attempt, len] => vfork_by(
-            command.as_str(),
-            point.as_str(),
-            attempt.as_str(),
-            len.as_str(),
-        ),
-        _ => None,
-    }
+    let form = Form {
+        name: "vfork",
+        first: (1, 4),
+        second: (1, 2),
+        third: (1, MOST_BYTES),
+    };
+    let (number, attempt, len) = form.numbers(words)?;
+    let point = Point::of_number(u64::from(number))?;
+    Some(Vfork {
+        point,
+        attempt: attempt_of(attempt),
+        len,
+    })
 }
 
 // Writes the line of an end: its name, and its bytes in hex.
@@ -96,7 +78,7 @@ fn write_end(out: &mut [u8], name: &[u8], bytes: &[u8])
     };
 }
 
-// The lines of a fork that was made. The memory for them is had before.
+// The lines of a fork that was made. Their memory is taken first.
 fn lines_of<R: Wait>(rt: &R, alloc: Global, vfork: Vfork) -> Result<Vec<u8>, NoMemory>
     requires { IsSmallVfork vfork }
     ensures { IfOk result (λ text. VforkOf vfork.point vfork.attempt vfork.len text.items) }
@@ -120,9 +102,8 @@ pub(crate) fn run_vfork<R: Wait, K: Sink>(
 ) -> Status
     requires { IsSmallVfork vfork }
     ensures ends { VforkEnds vfork.point vfork.attempt vfork.len result (K.held sink.old) (K.held sink.new) }
-    ensures cut { result ≡ Status.WriteFault → Rose (K.faults sink.old) (K.faults sink.new) }
+    ensures counted { CountsWriteFault result (K.faults sink.old) (K.faults sink.new) }
     ensures silent { result ≡ Status.NoMemory → sink.new ≡ sink.old }
-    ensures not_counted { (result ≡ Status.WriteFault → ⊥) → K.faults sink.new ≡ K.faults sink.old }
 {
     let Ok(text) = lines_of(rt, alloc, vfork) else {
         return Status::NoMemory;

@@ -1,4 +1,4 @@
--- What is kept of the input events so far.
+-- The state that is kept of the input events so far.
 use Rattle.std.specs.Prelude.{ℕ, ◌<◌, ◌^◌, ℤ, nat_abs}
 use Rattle.key_names.specs.InputTimer.{InputTimer}
 
@@ -7,7 +7,7 @@ pub record LastInput : Type 0 where
   pub value : ℕ
   pub timer : InputTimer
 
--- the last moment is below 2^40, and so are the differences of such moments, and theirs below 2^41
+-- the last moment and the last difference of moments are below 2^40, and the last difference of those below 2^41
 pub record IsNear (time : ℕ) (delta delta2 : ℤ) : Type 0 where
   pub time_near : time < 2 ^ 40
   pub delta_near : nat_abs delta < 2 ^ 40

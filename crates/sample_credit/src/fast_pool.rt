@@ -1,4 +1,4 @@
-//! A CPU's fast pool, which interrupts are mixed into until there are enough of them for the input pool.
+//! A CPU's fast pool. Interrupts are mixed into it until there are enough of them for the input pool.
 
 ghost use Rattle.std.specs.Prelude.{◌≡◌};
 ghost use Rattle.key_names.specs.FastPool.{dump_bits, dump_bytes, fast_start, fast_step, makes_due, sip_round, word_mixed};
@@ -8,10 +8,10 @@ use byteorder::{ByteOrder, LittleEndian};
 use std::marker::Model;
 use std::mem;
 
-/// Bit 31 of a count: a dump is due, and was not made yet (`MIX_INFLIGHT`).
+/// Bit 31 of a count: a dump is due, and has not been made yet (`MIX_INFLIGHT`).
 const MIX_INFLIGHT: u32 = 1 << 31;
 
-/// The interrupts after which a dump is due.
+/// A dump is due after this number of interrupts.
 const BURST: u32 = 1024;
 
 /// A second in milliseconds (`HZ`). A dump is due once more than this has passed since the last one.
@@ -77,17 +77,17 @@ impl Words {
     }
 }
 
-/// What a dump gives for the input pool.
+/// The bytes and the credit that a dump gives to the input pool.
 #[derive(Clone, Copy, Debug, PartialEq, Eq)]
 pub struct Dump {
-    /// What is mixed in.
+    /// The bytes to mix into the input pool.
     pub bytes: [u8; 16],
-    /// What is credited for it, 1 to 128.
+    /// The bits to credit for them, 1 to 128.
     pub bits: u32,
 }
 
-/// The kernel's `struct fast_pool`: four words that a CPU's interrupts are mixed into, how many there were since the
-/// last dump, and the moment of that dump in milliseconds.
+/// The kernel's `struct fast_pool`: four words that a CPU's interrupts are mixed into, the number of interrupts since
+/// the last dump, and the moment of that dump in milliseconds.
 ///
 /// Contracts see it as the fast pool of `key_names`, and each call as an entry of the CPU's list.
 #[derive(Drop)]
@@ -123,9 +123,9 @@ impl FastPool {
         }
     }
 
-    /// Mixes the two words of an interrupt at the moment `now` in milliseconds (`fast_mix`), counts it, and says
-    /// whether it makes a dump due: as the 1,024th, or more than a second after the last dump
-    /// (`add_interrupt_randomness`). While a dump is due already, no other becomes due. The count is taken modulo 2^32.
+    /// Mixes the two words of an interrupt at the moment `now` in milliseconds (`fast_mix`), counts it, and returns
+    /// whether it makes a dump due: it is the 1,024th, or comes more than a second after the last dump
+    /// (`add_interrupt_randomness`). While a dump is due, no other becomes due. The count is taken modulo 2^32.
     #[inline]
     pub fn mix(&mut self, v1: u64, v2: u64, now: u64) -> bool
         ensures due { result ≡ makes_due self.old now }
@@ -141,9 +141,9 @@ impl FastPool {
         due
     }
 
-    /// What the pool holds for the input pool: its first two words, low byte first, and a bit for each 64 interrupts,
-    /// but at least 1 and at most 128 (`mix_interrupt_randomness`). The count goes back to 0, and `now` is the moment
-    /// of the last dump; the words stay.
+    /// Takes the input pool's share: the first two words, low byte first, and a bit for each 64 interrupts, but at
+    /// least 1 and at most 128 (`mix_interrupt_randomness`). The count goes back to 0, and `now` becomes the moment of
+    /// the last dump. The words stay.
     pub fn dump(&mut self, now: u64) -> Dump
         ensures bytes { result.bytes ≡ dump_bytes self.old }
         ensures bits { result.bits ≡ dump_bits self.old }
@@ -159,8 +159,8 @@ impl FastPool {
         }
     }
 
-    /// The CPU comes online: the count goes back to 0 (`random_online_cpu`). The words and the moment of the last dump
-    /// stay.
+    /// The CPU comes online: the count goes back to 0 (`random_online_cpu`). The words and the
+    /// moment of the last dump stay.
     pub fn online(&mut self)
         ensures { self.new ≡ fast_step self.old Online }
     {

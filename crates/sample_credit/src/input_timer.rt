@@ -1,4 +1,4 @@
-//! How many bits an input event is worth, by the moments of the events before it.
+//! How many bits an input event is credited with, by its moment and those of the events before it.
 
 ghost use Rattle.std.specs.Prelude.{◌≡◌, ◌≢◌, ◌↔◌, ◌/◌, ◌%◌, ◌^◌, ◌<◌, ◌++◌, IsTrue, min, nat_abs};
 ghost use Rattle.std.specs.Int.{w32, w64, to_le_bytes};
@@ -9,8 +9,9 @@ use std::marker::Model;
 /// The most bits that an event is credited with.
 const MAX_BITS: u32 = 11;
 
-/// The value of the last input event (`last_value`), and the kernel's `struct timer_rand_state` of the events that were
-/// timed: the last moment in milliseconds, the last difference of two moments, and the last difference of two of those.
+/// The value of the last input event (`last_value`), and the kernel's `struct timer_rand_state` of the
+/// timed events: the last moment in milliseconds, the last difference of two moments, and the last
+/// difference of two such differences.
 ///
 /// Contracts see the value and the timer of `key_names`.
 #[derive(Drop)]
@@ -35,7 +36,7 @@ impl Model for InputTimer {
 }
 
 impl InputTimer {
-    /// Value, moment and differences are 0.
+    /// The start of the system: value, moment and differences are 0.
     pub fn start() -> InputTimer
         ensures { result ≡ record { value = 0; timer = timer_start } }
     {
@@ -47,8 +48,8 @@ impl InputTimer {
         }
     }
 
-    /// Whether the value of an event is not that of the event before, and then keeps it. An event that repeats the
-    /// value is no sample (`add_input_randomness`).
+    /// Returns whether the value differs from that of the event before, and keeps it. An event that repeats the value
+    /// is no sample (`add_input_randomness`).
     pub fn fresh(&mut self, value: u8) -> bool
         ensures fresh { IsTrue result ↔ (value ≢ self.old.value) }
         ensures kept { self.new ≡ record self.old { value = value } }
@@ -58,10 +59,10 @@ impl InputTimer {
         fresh
     }
 
-    /// The bits, 0 to 11, that an event at the moment `now` is worth: how many binary digits half the least of the
-    /// first, second and third difference of moments has, cut to 32 bits as the kernel's `fls` does
-    /// (`add_timer_randomness`). The moment and the differences are kept. `now` is in milliseconds and below 2^40; it
-    /// may stand before the last moment.
+    /// Returns the bits, 0 to 11, that an event at the moment `now` is credited with, and keeps the moment and the
+    /// differences (`add_timer_randomness`). They are the number of binary digits of half the least of the first,
+    /// second and third difference of moments, cut to 32 bits as by the kernel's `fls`. `now` is in milliseconds and
+    /// below 2^40. It may be earlier than the last moment.
     pub fn bits(&mut self, now: u64) -> u32
         requires { now < 2 ^ 40 }
         ensures bits { result ≡ timer_bits self.old.timer now }
@@ -77,7 +78,7 @@ impl InputTimer {
     }
 }
 
-// The bits that these differences of moments are worth.
+// The bits that an event with these differences of moments is credited with.
 fn bits_of(delta: i64, delta2: i64, delta3: i64) -> u32
     ensures { let least = min (nat_abs delta) (min (nat_abs delta2) (nat_abs delta3)) in
         result ≡ min (binary_digits (least / 2 % 2 ^ 32)) MAX_BITS }
@@ -95,7 +96,7 @@ fn fls(x: u32) -> u32
     u32::BITS - x.leading_zeros()
 }
 
-/// The number that is mixed for an input event of this kind, code and value, below 2^20 (`add_input_randomness`).
+/// The number that an input event of this kind, code and value mixes in, below 2^20 (`add_input_randomness`).
 pub fn input_number(kind: u16, code: u16, value: u8) -> u32
     ensures { result ≡ input_number kind code value }
 {
@@ -103,8 +104,8 @@ pub fn input_number(kind: u16, code: u16, value: u8) -> u32
     (u32::from(kind) << 4) ^ code ^ (code >> 4) ^ u32::from(value)
 }
 
-/// The 12 bytes that are mixed for an input event: a word, in the kernel the cycle counter, and the event's number,
-/// each low byte first.
+/// The 12 bytes that an input event mixes in: a word, in the kernel the cycle counter, and the event's
+/// number, each low byte first.
 pub fn input_sample(word: u64, kind: u16, code: u16, value: u8) -> [u8; 12]
     ensures { result ≡ to_le_bytes w64 word ++ to_le_bytes w32 (input_number kind code value) }
 {

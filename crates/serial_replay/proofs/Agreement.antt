@@ -1,4 +1,4 @@
--- Answers and data stand exactly where they are those that were made.
+-- The clauses on answers and data hold exactly if the lines agree with the made ones.
 use Rattle.std.proofs.Common.{◌≡◌, ℕ, zero, suc, ◌+◌, ◌<◌, Option, Some, List, [], ◌∷◌, length, sym, subst, ap, ◌∙◌, arith}
 use Rattle.std.specs.Prelude.{◌↔◌, ⊤, slice_get}
 use Rattle.std.specs.List.{AllByRecursion}
@@ -20,12 +20,13 @@ use Rattle.serial_replay.specs.Remade.{said_of_caller}
 pub some_one : {X : Type 0} (o : Option X) (a b : X) → o ≡ Some a → o ≡ Some b → a ≡ b
 some_one o a b p q = cc
 
--- something is so of the lines of each caller
+-- a fact of the lines of each caller
 abbrev pub AllAre : (ℕ → SeenLine → Type 0) → ℕ → List (List SeenLine) → Type 0
 AllAre Is c [] = ⊤
 AllAre Is c (lines ∷ t) = AllByRecursion (Is c) lines × AllAre Is (suc c) t
 
--- what a line means is so exactly where its note is so of it; the lines may have something in common that helps to see it
+-- a line has its meaning's answer or data exactly if it agrees with its note; the proof may use that Is holds of each
+-- line
 module _ {Noted : Type 0} (IsNoted : ℕ → ℕ → Said → Noted → Type 0) (Same : SeenLine → Noted → Type 0)
     (Means : SeenLine → LineMeaning → Type 0) (Is : ℕ → SeenLine → Type 0)
     (means_same : (c : ℕ) (notes : List Noted) (line : SeenLine) (m : LineMeaning) → Is c line →
@@ -117,7 +118,7 @@ module _ {Noted : Type 0} (IsNoted : ℕ → ℕ → Said → Noted → Type 0) 
           first here rest (suc d) low =
               subst (λ n. AllByRecursion (Agrees Same (notes n)) (list_at t d)) (omega arith) (rest d (omega arith))
 
-    -- of all lines of a transcript
+    -- for all lines of a transcript
     pub all_both : (script : Script) (t : List (List SeenLine)) (mss : List (List CallMeaning)) (notes : List (List Noted)) →
         HasLines script t → AllAre Is 0 t →
         EachCaller (λ c calls ms. EachLine (SaysIt (said_of_caller IsNoted notes c)) calls ms) 0 (script_calls script t) mss →
@@ -129,7 +130,7 @@ module _ {Noted : Type 0} (IsNoted : ℕ → ℕ → Said → Noted → Type 0) 
               (h d low))),
         )
 
--- ---- where all that is said is noted
+-- ---- if the notes are whole
 
 abbrev pub Any : ℕ → SeenLine → Type 0
 Any c line = ⊤

@@ -1,4 +1,4 @@
--- What is made of bare lines is made of the lines themselves.
+-- The results for bare lines are those for the lines themselves.
 use Rattle.std.proofs.Common.{◌≡◌, ℕ, suc, List, [], ◌∷◌, map, sym, subst, ap, ◌∙◌}
 use Rattle.std.specs.Prelude.{Result, Ok, Err, IfOk}
 use Rattle.key_names.specs.Texts.TranscriptGrammar.{StepFits, LineFits}
@@ -62,7 +62,7 @@ callers_say saids c (calls ∷ callers) [] all = absurd all
 callers_say saids c (calls ∷ callers) (ms ∷ mss) all =
     (calls_say (saids c) calls ms all.0, callers_say saids (suc c) callers mss all.1)
 
--- the same looks stand of lines with the same steps
+-- lines with the same steps have the same lawful looks
 pub same_looks : (script : Script) (t u : List (List SeenLine)) → SameSteps t u → (one other : Book) → one ≡ other →
     SeenStands script t (lists_of one) ≡ SeenStands script u (lists_of other)
 same_looks script t u same one other books =

@@ -1,4 +1,4 @@
--- What holds of each caller, by the callers' numbers and one caller after the other.
+-- Facts of each caller, by the callers' numbers and in sequence.
 use Rattle.std.proofs.Common.{ℕ, zero, suc, ◌+◌, ◌<◌, List, [], ◌∷◌, length, refl, subst, arith}
 use Rattle.std.specs.List.{AllByRecursion}
 use Rattle.key_names.specs.declared.events.Event.{Event}
@@ -30,7 +30,7 @@ caller_means lists settings c (calls ∷ callers) (ms ∷ mss) all (suc d) low =
     subst (λ n. MeansSome lists (settings n) (list_at callers d)) (omega arith)
     (caller_means lists settings (suc c) callers mss all.1 d (omega arith))
 
--- what all callers mean and say
+-- the meanings, answers and data of all callers
 pub record SaidByAll (lists : Lists) (settings : ℕ → Setting) (saids : ℕ → ℕ → Said → Type 0) (c : ℕ)
     (callers : List (List Call)) : Type 0 where
   pub mss : List (List CallMeaning)

@@ -1,4 +1,4 @@
--- A clause that is judged is told by the clause of the definitions that it is.
+-- A clause of the code is determined by the clause of the definitions that it is.
 use Rattle.std.proofs.Common.{◌≡◌, refl, sym, ap, ◌∙◌}
 use Rattle.key_names.specs.IsTranscript as laws
 use Rattle.line_orders.specs.Clauses.{clause_of}

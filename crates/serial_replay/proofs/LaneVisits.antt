@@ -1,4 +1,4 @@
--- A book out of lists and sorted marks: its visits are the marks, each at its place.
+-- A book from lists and sorted marks: its visits are the marks, each at its place.
 use Rattle.std.proofs.Common.{◌≡◌, ℕ, zero, suc, ◌+◌, Bool, true, false, Some, List, [], ◌∷◌, ◌++◌, length, map, refl, sym, subst, ap, ◌∙◌, arith, append_assoc, length-append}
 use Rattle.std.specs.Prelude.{if◌then◌else◌, IsPermutation}
 use Rattle.std.specs.List.{AllByRecursion, sum_by}
@@ -16,7 +16,7 @@ use Rattle.key_names.proofs.Lists.Each.{each_both, each_weaker}
 use Rattle.key_names.proofs.Transcripts.LaneCounts.{lane_itself, same_lane}
 use Rattle.serial_replay.proofs.MarksCounted.{marks_counted}
 
--- the marks of a lane, with their makers
+-- the marks of a lane, with the callers that made them
 abbrev pub of_lane : LaneId → List MarkBy → List MarkBy
 of_lane lane [] = []
 of_lane lane (by ∷ marks) = if is_same_lane by.mark.lane lane then by ∷ of_lane lane marks else of_lane lane marks
@@ -42,7 +42,7 @@ are_there lane (by ∷ marks) = go (is_same_lane by.mark.lane lane) refl (are_th
     go true is rest = (same_lane by.mark.lane lane is, rest)
     go false is rest = rest
 
--- what holds of each lane's marks holds of all
+-- a fact of each lane's marks is one of all marks
 by_lanes : (P : MarkBy → Type 0) (marks : List MarkBy) → ((lane : LaneId) → AllByRecursion P (of_lane lane marks)) →
     AllByRecursion P marks
 by_lanes P [] each = tt
@@ -95,7 +95,7 @@ placed {E = E} front (e ∷ es) (by ∷ bys) i long order same =
     )
 
 module _ (marks : List MarkBy) where
-  -- the CPUs' visits, c being the number of the first
+  -- the CPUs' visits; c is the number of the first CPU
   abbrev pub cpu_visits : ℕ → List (List CpuEntry) → List (List (Visit CpuEntry))
   cpu_visits c [] = []
   cpu_visits c (es ∷ ess) = visits es (of_lane (CpuLane c) marks) ∷ cpu_visits (suc c) ess
@@ -129,7 +129,7 @@ module _ (marks : List MarkBy) where
     callers = states;
   }
 
-  -- each lane of the lists has an entry for each of its marks, which are in order
+  -- each lane of the lists has an entry for each of its marks, and the marks are in order
   pub record Laid (lists : Lists) : Type 0 where
     pub pool : length (lane_marks PoolLane marks) ≡ length lists.pool
     pub base : length (lane_marks BaseLane marks) ≡ length lists.base

@@ -1,4 +1,4 @@
--- Looks stand by what is kept of the lanes exactly where they stand in the lists.
+-- Looks are lawful by the data kept of the lanes exactly if they are lawful in the lists.
 use Rattle.std.proofs.Common.{◌≡◌, ℕ, zero, suc, ◌<◌, ◌-◌, Option, Some, None, List, [], ◌∷◌, length, map, max, take, refl, sym, subst, ap, ◌∙◌, arith}
 use Rattle.std.specs.Prelude.{◌↔◌, slice_get, unwrap_or, option_map}
 use Rattle.std.specs.List.{fold, AllByRecursion}
@@ -27,7 +27,7 @@ use Rattle.list_replay.specs.Places.{AllKept}
 use Rattle.list_replay.specs.Kept.{Keeps, KeepsBase, KeepsCpu, KeepsCpuLane}
 use Rattle.serial_replay.specs.Seen.{lane_of, left_at, seen_more, seen_behind, MayLook, reseeds_in}
 
--- what is kept of a place, if there is a visit
+-- the data kept of a place, if it has a visit
 pub record KeptAt {K E : Type 0} (S : ℕ → K → E → Type 0) (kept : List K) (i : ℕ) (e : E) : Type 0 where
   pub k : K
   pub here : slice_get kept i ≡ Some k
@@ -56,7 +56,7 @@ at_place : {K E : Type 0} (S : ℕ → K → E → Type 0) (kept : List K) (list
     AtPlace S kept i (slice_get list i)
 at_place S kept list i all = kept_there S kept list i all.count (all.each i)
 
--- the lists of a number that has none are empty on both sides
+-- a lane without a list is empty on both sides
 lane_there : {K E : Type 0} (kept : List (List K)) (lists : List (List E)) (c : ℕ) (o : Option (List E)) →
     slice_get lists c ≡ o → length kept ≡ length lists → (S : ℕ → List K → List E → Type 0) →
     AtPlace S kept c o → S c [] [] → S c (list_at kept c) (list_at lists c)
@@ -88,7 +88,7 @@ module _ (kept : KeptLists) (lists : Lists) (keeps : Keeps kept lists) where
       (KeepsCpuLane lists) (at_place (KeepsCpuLane lists) (cpu_lanes kept) lists.cpus c keeps.cpus)
       (record { count = refl; each = λ i k e is. cc })
 
-  -- what is seen behind a visit
+  -- the generation seen after a visit
   base_left : (seen : Option ℕ) (place : ℕ) (o : Option BaseEntry) →
       AtPlace (λ i k e. KeepsBase (base_used_at lists.pool lists.base i) k (base_visit lists i e)) kept.base.items place o →
       unwrap_or (seen_more seen (left_at kept BaseLane place)) 0
@@ -130,7 +130,7 @@ module _ (kept : KeptLists) (lists : Lists) (keeps : Keeps kept lists) where
   step_left seen (Look g) = refl
   step_left seen (Marked mark) = lane_left seen mark.lane mark.place
 
-  -- visits stand
+  -- a visit is no wrong look
   visit_stands : {E : Type 0} (reseeds seen : ℕ) (deed : E → Deed) → ((e : E) → LookStands reseeds seen (deed e)) →
       (o : Option E) → LookStands reseeds seen (deed_or deed o)
   visit_stands reseeds seen deed each None = tt

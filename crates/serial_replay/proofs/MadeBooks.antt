@@ -1,5 +1,5 @@
--- The book that a transcript's steps make, out of the lists that are as told; and that there is none where there are no
--- such lists.
+-- The book that a transcript's steps make, from the lists that match the inferred entries; without such lists no book
+-- is made.
 use Rattle.std.proofs.Common.{◌≡◌, ℕ, Bool, List, [], map, refl, sym, subst, ap, ◌∙◌}
 use Rattle.std.specs.Prelude.{◌↔◌, IsTrue}
 use Rattle.std.specs.List.{AllByRecursion}
@@ -37,7 +37,7 @@ use Rattle.serial_replay.proofs.LaneVisits.{Laid, book_of, lists_back, as_many_c
 use Rattle.serial_replay.proofs.StatesAside.{aside, deeds_same, fills_aside, lawful_aside, means_aside}
 
 module _ (script : Script) (t : List (List SeenLine)) (parts : Parts) (stand : PartsStand script t parts) where
-  -- where no book is made the forms fail first
+  -- the forms fail first if no book is made
   pub stops : (MadeBook script t → ⊥) → FailsEarly script t Forms
   stops none = record {
     early = tt;
@@ -58,7 +58,7 @@ module _ (script : Script) (t : List (List SeenLine)) (parts : Parts) (stand : P
     book_is : (made : MadeBook script t) → IsBookOf script t made.book
     book_is made = record { cpus = made.forms.cpus; visits = made.forms.visits }
 
-    -- a book that is made has lists that are as told and lawful
+    -- the lists of a book that is made match the inferred entries and are lawful
     pub made_fills : (made : MadeBook script t) → Fills told (lists_of made.book)
     made_fills made = (gathered.fills made.book (book_is made)).0
         (all_told script t made.book made.meanings made.lines made.forms.callers made.forms.lanes
@@ -84,7 +84,7 @@ module _ (script : Script) (t : List (List SeenLine)) (parts : Parts) (stand : P
         visits = visits_are marks lists states laid (all_marks t) stand.all_marks;
       }
 
-      -- each line's visits are as its steps tell
+      -- each line's visits have the inferred entries
       pub lines_fill : AllCallsFill lists calls
       lines_fill =
           let back : lists_of (book_of marks lists lists.callers) ≡ lists = lists_back marks lists lists.callers laid in
@@ -139,7 +139,7 @@ module _ (script : Script) (t : List (List SeenLine)) (parts : Parts) (stand : P
         abbrev Of : ℕ → (List Step → List Deed) → Type 0
         Of n deeds = AllByRecursion (λ order. LooksStand n [] (deeds order)) (caller_orders calls)
 
-        -- the book, with what is said of its meanings and its looks
+        -- the book, with its meanings and the result for its looks
         pub record OfLists : Type 0 where
           pub made : MadeBook script t
           pub meanings : made.meanings ≡ said.mss

@@ -11,7 +11,7 @@ use Rattle.key_names.specs.IsTranscript.{MarkBy, is_same_lane, lane_marks}
 use Rattle.key_names.proofs.History.SortedVisits.{one_if}
 use Rattle.key_names.proofs.Lists.ListFacts.{list_beyond}
 
--- how many marks are of CPUs from c on, n CPUs
+-- the number of marks of n CPUs from c on
 abbrev on_cpus : ℕ → ℕ → List MarkBy → ℕ
 on_cpus c zero marks = 0
 on_cpus c (suc n) marks = length (lane_marks (CpuLane c) marks) + on_cpus (suc c) n marks
@@ -69,7 +69,7 @@ one_among c (suc n) e from low = go (e == c) refl (λ above. one_among (suc c) n
         let here : one_if (e == c) ≡ 0 = ap one_if is in
         let rest : one_of (suc c) n e ≡ 1 = later above in omega arith
 
--- a CPU that is visited is there
+-- a visited CPU exists
 abbrev IsThere : ℕ → LaneId → Type 0
 IsThere n PoolLane = 0 ≤ n
 IsThere n BaseLane = 0 ≤ n
@@ -116,7 +116,7 @@ all_counted n (by ∷ marks) all = go by.mark.lane refl all.0 (all_counted n mar
         let one : one_of 0 n c ≡ 1 = one_among 0 n c (omega arith) (omega arith) in
         let z : on_cpus 0 n (by ∷ marks) ≡ one_of 0 n c + on_cpus 0 n marks = cpu_more 0 n c by marks is in omega arith
 
--- the marks of a lane that has none beyond the last
+-- all marks are of existing CPUs, if the others have none
 below_all : (n : ℕ) (marks : List MarkBy) → ((c : ℕ) → n ≤ c → length (lane_marks (CpuLane c) marks) ≡ 0) →
     AllByRecursion (λ by. IsThere n by.mark.lane) marks
 below_all n [] none = tt

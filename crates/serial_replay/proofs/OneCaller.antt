@@ -57,7 +57,7 @@ module _ (callers : List (Vec Called)) (settings : List (Vec Setting)) (c : ℕ)
         stand.found.each c found (found_at settings c found (omega arith) found_is)
         ∙ ap (settings_from (start_setting (seen_calls callers) c)) (sym here)
 
--- one caller more is said
+-- one more caller with its notes
 module _ {Noted : Type 0} (IsNoted : ℕ → ℕ → Said → Noted → Type 0) (lists : Lists) (callers : List (List Call))
     (said : List (Vec Noted)) (n : ℕ) (more : Vec Noted) (long : length said ≡ n) where
   abbrev IsSaidBy : ℕ → List Noted → Type 0

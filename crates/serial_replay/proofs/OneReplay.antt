@@ -1,4 +1,4 @@
--- A replay is the only one: the clause that stops it is one, and stops no steps of a lawful transcript.
+-- A replay is unique: at most one clause can stop it, and no clause stops the replay of a lawful transcript's steps.
 use Rattle.std.proofs.Common.{◌≡◌, ◌⊎◌, List, inl, inr, refl, sym, subst, ap, ◌∙◌}
 use Rattle.key_names.specs.Texts.ScriptGrammar.{Script}
 use Rattle.key_names.specs.SeenLine.{SeenLine}
@@ -17,7 +17,7 @@ use Rattle.serial_replay.proofs.Clauses.{same_clause}
 use Rattle.serial_replay.proofs.Replays.{lawful_book}
 
 module _ (script : Script) (t : List (List SeenLine)) where
-  -- a book is made, or a clause before it fails
+  -- a book is made, or an earlier clause fails
   before_book : (c : Clause) → StepsFail script t c → FirstFails script t c ⊎ MadeBook script t
   before_book lines_clause f = inl f
   before_book marks_clause f = inl f
@@ -26,7 +26,7 @@ module _ (script : Script) (t : List (List SeenLine)) where
   before_book data_clause f = absurd f
   before_book looks_clause f = inr f.0
 
-  -- where a book is made only looks can fail
+  -- if a book is made, only looks can fail
   at_looks : (c : Clause) → MadeBook script t → StepsFail script t c → c ≡ looks_clause
   at_looks lines_clause made f = absurd (f made.lines)
   at_looks marks_clause made f = absurd (f.1 made.marks)

@@ -1,4 +1,4 @@
--- What is made of lines whose parts stand.
+-- The results for lines whose parts are lawful.
 use Rattle.std.proofs.Common.{◌≡◌, ℕ, ◌<◌, ◌≤◌, None, List, length, map, sym, subst, ap, ◌∙◌, arith}
 use Rattle.std.specs.Prelude.{◌↔◌, IsTrue}
 use Rattle.std.specs.List.{AllByRecursion}
@@ -67,12 +67,12 @@ module _ (script : Script) (t : List (List SeenLine)) (parts : Parts) (stand : P
   in_range = subst (λ (calls : List (List Call)). AllByRecursion (AllByRecursion CallInRange) calls) (sym stand.calls)
       (all_in_range script.version script.cpus script.callers t well.ranges)
 
-  -- a line visits a CPU that is not there
+  -- a line visits a CPU that does not exist
   pub none_gathered : ((book : Book) → IsBookOf script t book → ⊥) → FailsEarly script t Forms
   none_gathered none = stops script t parts stand
       (λ m. none m.book (record { cpus = m.forms.cpus; visits = m.forms.visits }))
 
-  -- no lists are as told and lawful
+  -- no lawful lists match the inferred entries
   pub none_replayed : (told : Tables) → IsGathered script t told →
       ((lists : Lists) → Fills told lists → Lawful told lists → ⊥) → FailsEarly script t Forms
   none_replayed told gathered none = stops script t parts stand
@@ -83,7 +83,7 @@ module _ (script : Script) (t : List (List SeenLine)) (basis : Basis) (stand : B
   abbrev calls : List (List Call)
   calls = script_calls script t
 
-  -- of the lists of a book that is made the same is kept
+  -- the kept data are also those of the lists of a book that is made
   pub keeps_made : (m : MadeBook script t) → Keeps basis.lists (lists_of m.book)
   keeps_made m = stand.keeps (lists_of m.book)
       (made_fills script t basis.parts stand.parts stand.told stand.gathered m)

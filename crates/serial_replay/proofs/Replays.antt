@@ -1,4 +1,4 @@
--- A transcript that is written from what was made, and that it is the only one.
+-- A transcript is written from the results, and it is the only one.
 use Rattle.std.proofs.Common.{◌≡◌, ℕ, zero, suc, ◌<◌, Option, Some, None, List, [], ◌∷◌, length, map, refl, sym, subst, ap, ◌∙◌, arith}
 use Rattle.std.specs.Prelude.{slice_get, IsTrue}
 use Rattle.std.specs.List.{AllByRecursion}
@@ -38,7 +38,7 @@ same_steps (said ∷ saids) [] = refl
 same_steps [] (lines ∷ t) = ap (λ (u : List (List SeenLine)). map bare lines ∷ u) (same_steps [] t)
 same_steps (said ∷ saids) (lines ∷ t) = λ i. bare_lines said lines i ∷ same_steps saids t i
 
--- they agree with what is said
+-- they agree with the answers and data that were made
 
 module _ (Same : SeenLine → Said → Type 0) (fits : (line : SeenLine) (s : Said) → Same (said_of line (Some s)) s) where
   of_same : (said : List Said) (line : SeenLine) (o : Option Said) → slice_get said line.event ≡ o →
@@ -60,7 +60,7 @@ module _ (Same : SeenLine → Said → Type 0) (fits : (line : SeenLine) (s : Sa
   all_agree (said ∷ saids) (lines ∷ t) long all (suc c) low =
       all_agree saids t (omega arith) (λ d lower. all (suc d) (omega arith)) c (omega arith)
 
--- lines of the same steps that agree with the same are the same
+-- lines with the same steps are equal if they agree with the same answers and data
 
 same_line : (said : List Said) (u v : SeenLine) → bare u ≡ bare v → Agrees SameAnswer said u → Agrees SameAnswer said v →
     Agrees SameShown said u → Agrees SameShown said v → u ≡ v
@@ -105,7 +105,7 @@ same_callers saids (u ∷ us) (v ∷ vs) e a b x y =
     (λ c low. b (suc c) (omega arith)) (λ c low. x (suc c) (omega arith)) (λ c low. y (suc c) (omega arith)) in
     λ i. one i ∷ more i
 
--- the book that a lawful transcript has
+-- the book of a lawful transcript
 abbrev pub lawful_book : (script : Script) (t : List (List SeenLine)) → IsTranscript script t → MadeBook script t
 lawful_book script t is = record {
   book = is.0;
@@ -116,11 +116,11 @@ lawful_book script t is = record {
 }
 
 module _ (script : Script) (t : List (List SeenLine)) (m : Made Said) (of : AllMade itself script (map (map bare) t) m) where
-  -- what is made of lines with the same steps
+  -- the results for lines with the same steps
   made_for : (v : List (List SeenLine)) → SameSteps t v → AllMade itself script v m
   made_for v same = all_made script v itself m (subst (λ (u : List (List SeenLine)). AllMade itself script u m) same of)
 
-  -- of a lawful transcript all agrees
+  -- all lines of a lawful transcript agree
   module _ (v : List (List SeenLine)) (same : SameSteps t v) (is : IsTranscript script v) where
     a : AllMade itself script v m
     a = made_for v same
@@ -128,11 +128,11 @@ module _ (script : Script) (t : List (List SeenLine)) (m : Made Said) (of : AllM
     one : is.1 ≡ a.made.meanings
     one = (book_is_unique script v (lawful_book script v is) a.made).1
 
-    answers_agree : AllAgree SameAnswer (made_by m) v
+    pub answers_agree : AllAgree SameAnswer (made_by m) v
     answers_agree = (answers_both script v a.made.meanings (made_by m) a.made.lines a.says).0
         (subst (AnswersStand script v) one is.2.answers)
 
-    data_agree : AllAgree SameShown (made_by m) v
+    pub data_agree : AllAgree SameShown (made_by m) v
     data_agree = (data_both script v a.made.meanings (made_by m) a.made.lines a.says).0
         (subst (DataStand script v) one is.2.shown)
 
@@ -162,7 +162,7 @@ module _ (script : Script) (t : List (List SeenLine)) (m : Made Said) (of : AllM
             shown;
       }
 
--- what fails before any answer stops the steps
+-- a clause that fails before the answers stops the steps
 pub early_stops : (script : Script) (t : List (List SeenLine)) (clause : Clause) → FailsEarly script t clause →
     StepsFail script t (clause_of clause)
 early_stops script t Lines f = f.fails
@@ -170,7 +170,7 @@ early_stops script t Marks f = f.fails
 early_stops script t Forms f = f.fails
 early_stops script t clause f = absurd f.early
 
--- where looks do not stand
+-- some look is not lawful
 pub looks_stop : (script : Script) (t : List (List SeenLine)) (m : Made Said) → AllMade itself script t m →
     (IsTrue m.looks_stand → ⊥) → StepsFail script t looks_clause
 looks_stop script t m a fall = (a.made, (λ stand. fall (a.looks.1 stand)))

@@ -1,4 +1,4 @@
--- A number is shown by the line of bits alone, and bytes by other lines.
+-- Only a line of bits has a number, and only other lines have bytes.
 use Rattle.std.proofs.Common.{◌≡◌, ℕ, suc, Bool, true, false, List, [], ◌∷◌, ◌++◌, refl, sym, subst, ap, ◌∙◌}
 use Rattle.std.specs.Prelude.{◌≢◌, MatchBool, if◌then◌else◌}
 use Rattle.std.specs.List.{AllByRecursion}
@@ -69,7 +69,7 @@ words_from c n w (Inside point act ∷ es) (l ∷ ls) fit all =
     by false word waits apart = (word, apart)
 words_from c n w (e ∷ es) (l ∷ ls) fit all = (fit.0.word_is, words_from c (suc n) w es ls fit.1 all)
 
--- what events show
+-- the data of events
 
 bytes_kind : (word : Word) → word ≢ BitsWord → (bs : List ℕ) → IsFor word (bytes_or_none bs)
 bytes_kind word other [] = tt
@@ -96,7 +96,7 @@ event_kind Int32 deeds = bytes_kind (event_word Int32) (λ e. cc) (served_bytes 
 event_kind Int64 deeds = bytes_kind (event_word Int64) (λ e. cc) (served_bytes deeds)
 event_kind _ deeds = tt
 
--- what calls show
+-- the data of calls
 
 abbrev Kind : SeenLine → LineMeaning → Type 0
 Kind line m = IsFor line.word m.shown
@@ -133,7 +133,7 @@ acts_kind set reached (bound ∷ acts) (m ∷ ms) words means =
     go true done = act_kind set bound.act bound.line m words.0 done
     go false none = kind_of bound.line InsideWord no_data m.shown words.0 (ap (λ (x : LineMeaning). x.shown) none) tt
 
--- acts that have no meanings are none
+-- without meanings there are no acts
 none_kind : (at : ℕ → Said → Type 0) (acts : List BoundAct) (ms : List LineMeaning) → ms ≡ [] → EachAct (SaysIt at) acts ms →
     EachAct Kind acts ms
 none_kind at [] [] none says = tt

@@ -1,4 +1,4 @@
--- What stands behind steps does not hang on the entries of vgetrandom states.
+-- The looks and visits of steps do not depend on the entries of vgetrandom states.
 use Rattle.std.proofs.Common.{◌≡◌, ℕ, true, false, Option, Some, None, List, map, take, refl, sym, subst, ap, ◌∙◌}
 use Rattle.std.specs.Prelude.{if◌then◌else◌, slice_get}
 use Rattle.std.specs.List.{fold}

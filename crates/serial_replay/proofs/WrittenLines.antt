@@ -1,4 +1,4 @@
--- Lines that are written one after the other.
+-- Lines that are written in sequence.
 use Rattle.std.proofs.Common.{◌≡◌, ℕ, zero, suc, ◌+◌, ◌<◌, ◌≤◌, Some, List, [], ◌∷◌, ◌++◌, length, get_or, drop, refl, sym, subst, ap, ◌∙◌, arith, append_assoc}
 use Rattle.std.specs.Prelude.{slice_get, slice_index_or}
 use Rattle.std.specs.List.{AllByRecursion}
@@ -13,7 +13,7 @@ use Rattle.serial_replay.specs.Agreement.{Agrees}
 use Rattle.serial_replay.specs.Remade.{said_lists}
 use Rattle.serial_replay.specs.Written.{said_of, lines_said, said_into, MayShow}
 
--- one line more of a caller
+-- one more line of a caller
 module _ (said : List Said) (lines : List SeenLine) (n : ℕ) (line : SeenLine) (is : slice_get lines n ≡ Some line) where
   rest_is : drop n lines ≡ line ∷ drop (n + 1) lines
   rest_is = found_dropped lines n line is
@@ -59,7 +59,7 @@ said_long saids [] = refl
 said_long [] (lines ∷ t) = ap suc (said_long [] t)
 said_long (said ∷ saids) (lines ∷ t) = ap suc (said_long saids t)
 
--- what is at a caller's number
+-- the lines at a caller's number
 pub lines_at : (t : List (List SeenLine)) (c : ℕ) → slice_index_or t c [] ≡ list_at t c
 lines_at [] c = refl
 lines_at (lines ∷ t) zero = refl

@@ -1,5 +1,5 @@
--- The lists of the lanes that are made of a transcript's steps.
-use Rattle.std.specs.Prelude.{List}
+-- The lists of the lanes, made from a transcript's steps.
+use Rattle.std.specs.Prelude.{⊤, List}
 use Rattle.key_names.specs.Book.{Lists}
 use Rattle.key_names.specs.Texts.ScriptGrammar.{Script}
 use Rattle.key_names.specs.SeenLine.{SeenLine}
@@ -14,9 +14,12 @@ use Rattle.told_entries.specs.Gathered.{IsGathered}
 use Rattle.serial_replay.specs.declared.lists.Basis.{Basis}
 use Rattle.serial_replay.specs.declared.lists.Found.{Found}
 use Rattle.serial_replay.specs.declared.lists.Found.TheVariants.{Stands, No}
+use Rattle.serial_replay.specs.declared.remake.Remade.{Remade}
+use Rattle.serial_replay.specs.declared.remake.Remade.TheVariants.{Made as MadeAll, No as NotMade}
 use Rattle.serial_replay.specs.Remade.{FailsEarly}
 
--- lines and marks stand, some lists are as the lines tell and lawful, and what is kept is kept of all that are
+-- the clauses on lines and marks hold; some lawful lists match the lines; and the kept data are those of all lists that
+-- do
 pub record BasisStands (script : Script) (t : List (List SeenLine)) (basis : Basis) : Type 0 where
   pub parts : PartsStand script t basis.parts
   pub settings : AreSettings (seen_calls basis.parts.calls.items) basis.settings.items
@@ -30,3 +33,8 @@ pub record BasisStands (script : Script) (t : List (List SeenLine)) (basis : Bas
 abbrev pub IsFound : Script → List (List SeenLine) → Found → Type 0
 IsFound script t (Stands basis) = BasisStands script t basis
 IsFound script t (No clause) = FailsEarly script t clause
+
+-- what was made was made of lists that these steps have
+abbrev pub StandsOn : {Noted : Type 0} → Script → List (List SeenLine) → Remade Noted → Type 0
+StandsOn script t (MadeAll m) = BasisStands script t m.basis
+StandsOn script t (NotMade clause) = ⊤

@@ -1,4 +1,4 @@
--- What is made of a transcript's steps.
+-- Answers and data, made from a transcript's steps.
 use Rattle.std.specs.Prelude.{ℕ, ◌≡◌, ◌<◌, ◌↔◌, ⊤, IsTrue, List, length, map}
 use Rattle.std.specs.List.{AllByRecursion}
 use Rattle.std.specs.Global.{Vec}
@@ -27,11 +27,11 @@ IsEarly Marks = ⊤
 IsEarly Forms = ⊤
 IsEarly _ = ⊥
 
--- the numbers in all steps are those of a transcript
+-- the numbers in all steps are in a transcript's range
 abbrev pub StepsFit : List (List SeenLine) → Type 0
 StepsFit t = AllByRecursion (AllByRecursion (λ line. AllByRecursion StepFits line.steps)) t
 
--- the callers have these calls, and find these settings
+-- the callers have these calls and these settings
 pub record CallersStand (script : Script) (t : List (List SeenLine)) (callers : List (List Call))
     (settings : List (Vec Setting)) : Type 0 where
   pub lines : HasLines script t
@@ -39,12 +39,12 @@ pub record CallersStand (script : Script) (t : List (List SeenLine)) (callers : 
   pub calls : callers ≡ script_calls script t
   pub found : AreSettings callers settings
 
--- what one caller's calls mean
+-- one caller's calls have lawful meanings
 pub record MeansSome (lists : Lists) (set : Setting) (calls : List Call) : Type 0 where
   pub ms : List CallMeaning
   pub means : CallerMeans lists set calls ms
 
--- what each caller's calls mean, and what is said of its lines
+-- each caller's calls have lawful meanings
 abbrev pub AllMeanSome : Lists → List (List Call) → Type 0
 AllMeanSome lists callers =
     (c : ℕ) → c < length callers → MeansSome lists (start_setting callers c) (list_at callers c)
@@ -52,12 +52,12 @@ AllMeanSome lists callers =
 abbrev pub said_lists : {Noted : Type 0} → List (Vec Noted) → List (List Noted)
 said_lists callers = map (λ notes. notes.items) callers
 
--- what was noted of each caller's lines
+-- the notes of each caller's lines
 abbrev pub made_by : {Noted : Type 0} → Made Noted → List (List Noted)
 made_by m = said_lists m.callers.items
 
 module _ {Noted : Type 0} (IsNoted : ℕ → ℕ → Said → Noted → Type 0) where
-  -- what is said of a caller's events, by the notes of all callers
+  -- the answer and data of a caller's event, by the notes of all callers
   abbrev pub said_of_caller : List (List Noted) → ℕ → ℕ → Said → Type 0
   said_of_caller notes c = NotedAt (IsNoted c) (list_at notes c)
 
@@ -66,7 +66,8 @@ module _ {Noted : Type 0} (IsNoted : ℕ → ℕ → Said → Noted → Type 0) 
     pub each : (c : ℕ) → c < length callers →
         IsSaid lists (start_setting callers c) (list_at callers c) (said_of_caller (said_lists notes) c)
 
-  -- the steps make a book, each line's answer and data are noted at its event's number, and whether the looks stand
+  -- the steps make a book, each line's answer and data are noted at its event's number, and looks_stand is whether the
+  -- looks are lawful
   pub record AllMade (script : Script) (t : List (List SeenLine)) (m : Made Noted) : Type 0 where
     pub made : MadeBook script t
     pub long : length (made_by m) ≡ length t
@@ -74,7 +75,7 @@ module _ {Noted : Type 0} (IsNoted : ℕ → ℕ → Said → Noted → Type 0) 
         made.meanings
     pub looks : IsTrue m.looks_stand ↔ SeenStands script t (lists_of made.book)
 
--- the clause is the first that fails, and one before the answers
+-- the clause is the first that fails, and comes before the answers
 pub record FailsEarly (script : Script) (t : List (List SeenLine)) (clause : Clause) : Type 0 where
   pub early : IsEarly clause
   pub fails : FirstFails script t (clause_of clause)

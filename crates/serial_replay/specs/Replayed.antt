@@ -1,4 +1,4 @@
--- What a replay answers.
+-- The answer of a replay.
 use Rattle.std.specs.Prelude.{◌≡◌, List}
 use Rattle.key_names.specs.Book.{lists_of}
 use Rattle.key_names.specs.Texts.ScriptGrammar.{Script}
@@ -11,7 +11,7 @@ use Rattle.line_orders.specs.Clauses.{clause_of}
 use Rattle.serial_replay.specs.declared.replay.Replayed.{Replayed}
 use Rattle.serial_replay.specs.declared.replay.Replayed.TheVariants.{Made, No}
 
--- of the clauses on lines, marks, forms and looks, the first that fails
+-- the first that fails of the clauses on lines, marks, forms and looks
 abbrev pub StepsFail : Script → List (List SeenLine) → Clause → Type 0
 StepsFail script t looks_clause = (made : MadeBook script t) × (¬ SeenStands script t (lists_of made.book))
 StepsFail script t answers_clause = ⊥

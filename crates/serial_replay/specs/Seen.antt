@@ -1,4 +1,4 @@
--- What a caller has seen, read from what is kept of the lanes.
+-- The generation that a caller has seen, from the data kept of the lanes.
 use Rattle.std.specs.Prelude.{ℕ, ◌≤◌, ⊤, ◌-◌, max, Option, Some, None, List, [], length, slice_get, unwrap_or, option_map}
 use Rattle.std.specs.Global.{Vec}
 use Rattle.key_names.specs.declared.names.LaneId.{LaneId}
@@ -9,23 +9,23 @@ use Rattle.list_replay.specs.declared.kept.KeptBase.{KeptBase}
 use Rattle.list_replay.specs.declared.kept.KeptCpu.{KeptCpu}
 use Rattle.list_replay.specs.declared.kept.Lists.{Lists as KeptLists}
 
--- what is kept of a CPU's visits
+-- the data kept of a CPU's visits
 abbrev pub lane_of : Option (Vec KeptCpu) → List KeptCpu
 lane_of None = []
 lane_of (Some lane) = lane.items
 
--- the generation that the visit at a place left; a visit of the pool tells of none
+-- the generation after the visit at a place; none for a visit of the pool
 abbrev pub left_at : KeptLists → LaneId → ℕ → Option ℕ
 left_at kept PoolLane place = None
 left_at kept BaseLane place = option_map (λ k. k.generation) (slice_get kept.base.items place)
 left_at kept (CpuLane c) place = option_map (λ k. k.generation) (slice_get (lane_of (slice_get kept.cpus.items c)) place)
 
--- the generation that a step finds
+-- the generation of a step
 abbrev pub found_by : KeptLists → Step → Option ℕ
 found_by kept (Look g) = Some g
 found_by kept (Marked mark) = left_at kept mark.lane mark.place
 
--- the greater of what is carried and what is found, if there is either
+-- the greater of the carried generation and the found one, if there is either
 abbrev pub seen_more : Option ℕ → Option ℕ → Option ℕ
 seen_more carried None = carried
 seen_more carried (Some found) = Some (max (unwrap_or carried 0) found)
@@ -33,11 +33,11 @@ seen_more carried (Some found) = Some (max (unwrap_or carried 0) found)
 abbrev pub seen_behind : KeptLists → Option ℕ → Step → Option ℕ
 seen_behind kept carried step = seen_more carried (found_by kept step)
 
--- a look finds no less than was seen, and no more than there are reseeds
+-- a look finds at least what was seen, and at most the number of reseeds
 abbrev pub MayLook : ℕ → Option ℕ → Step → Type 0
 MayLook reseeds carried (Look g) = (unwrap_or carried 0 ≤ g) × (g ≤ reseeds)
 MayLook reseeds carried (Marked mark) = ⊤
 
--- how often the base was reseeded, by its last visit
+-- the number of reseeds of the base, from its last visit
 abbrev pub reseeds_in : List KeptBase → ℕ
 reseeds_in base = unwrap_or (option_map (λ k. k.generation) (slice_get base (length base - 1))) 0

@@ -1,4 +1,4 @@
--- The lines of a transcript with the answers and the data that are said.
+-- The lines of a transcript with the answers and data that were made.
 use Rattle.std.specs.Prelude.{ℕ, ◌≡◌, ◌≢◌, ⊤, Option, Some, None, List, [], ◌∷◌, map, slice_get}
 use Rattle.key_names.specs.declared.events.Word.{Word}
 use Rattle.key_names.specs.declared.events.Word.TheVariants.{Bits}
@@ -9,7 +9,7 @@ use Rattle.caller_answers.specs.declared.said.Shows.TheVariants.{Nothing, Count,
 use Rattle.caller_answers.specs.Said.{shown_by}
 use Rattle.vread_course.specs.Recipe.{bytes_made}
 
--- the bytes that are said
+-- the bytes of the data
 abbrev pub bytes_said : Shows → List ℕ
 bytes_said Nothing = []
 bytes_said (Count n) = []
@@ -27,7 +27,7 @@ said_into saids [] = []
 said_into [] (lines ∷ t) = lines ∷ said_into [] t
 said_into (said ∷ saids) (lines ∷ t) = lines_said said lines ∷ said_into saids t
 
--- a number is shown by the line of bits alone, and bytes by the others
+-- only a line of bits has a number, and only other lines have bytes
 abbrev pub IsFor : Word → Shown → Type 0
 IsFor word no_data = ⊤
 IsFor word (bytes shown) = word ≢ Bits

@@ -1,14 +1,16 @@
-//! Answers and bytes made anew from a transcript's words and steps.
+//! Answers and bytes, made again from a transcript's words and steps.
 //!
-//! [`remake::remake`] makes of the steps of a transcript the book behind them, every answer, and of all data the recipe,
-//! and keeps of these what who asks has noted; or it tells the first of the clauses on lines, marks and forms that fails.
-//! [`replay::replay`] writes what was made as a transcript. Neither reads an answer or data of the transcript that it is
-//! given. It is promised that a replay is lawful, has the steps that were given, and is the only transcript that has both,
-//! and that there is none exactly where a clause fails. [`lists::find_lists`] makes the lists of the lanes alone, which all
-//! answers and data are made from.
+//! [`remake::remake`] makes, from the steps of a transcript, its book, every answer, and recipes for all data. It keeps
+//! a note of each answer and its data, of the kind that its user chooses, and hands on the lists of the lanes. If it
+//! cannot, it returns the first of the clauses on lines, marks and forms that fails. [`replay::replay`] writes the
+//! result as a transcript. Neither reads an answer or data of the given transcript.
 //!
-//! It stands on `line_orders` for lines, marks and orders, on `told_entries` and `list_replay` for the lists, and on
-//! `caller_answers` for what each line says.
+//! The contract: a replay is lawful, has the given steps, and is the only transcript with both. `replay` returns no
+//! transcript exactly if one of the clauses on lines, marks, forms and looks fails. [`lists::find_lists`] makes only
+//! the lists of the lanes, from which all answers and data are made.
+//!
+//! The crate uses `line_orders` for lines, marks and orders, `told_entries` and `list_replay` for the lists, and
+//! `caller_answers` for the answer and data of each line.
 #![tactic(auto)]
 
 pub mod lists;

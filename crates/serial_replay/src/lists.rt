@@ -1,4 +1,4 @@
-//! The lists of the lanes, made anew from the lines and steps of a transcript.
+//! The lists of the lanes, made again from the lines and steps of a transcript.
 ghost use Rattle.std.specs.Prelude.{IfOk};
 ghost use Rattle.key_names.specs.Texts.ScriptGrammar.{WellFormed};
 ghost use Rattle.line_orders.specs.Seen.{seen_callers};
@@ -14,7 +14,7 @@ use list_replay::{Lists, replay_lists};
 use std::alloc::{AllocError, Global};
 use told_entries::gather::gather;
 
-/// What all that is made of a transcript stands on: its parts, the setting that each of its calls finds, and what is kept
+/// The basis for all answers and data of a transcript: its parts, the setting of each of its calls, and the data kept
 /// of the lists of its lanes.
 #[derive(Drop)]
 pub struct Basis<'a> {
@@ -31,12 +31,12 @@ pub enum Found<'a> {
     No(Clause),
 }
 
-/// Judges the lines and marks of a transcript, and makes the lists of its lanes of what the steps tell. Where there are
-/// lists, the steps of a line can still be no form.
+/// Judges the lines and marks of a transcript, and makes the lists of its lanes from the entries inferred from its
+/// steps. If it returns lists, the steps of a line can still be no form.
 ///
 /// # Errors
 ///
-/// `AllocError` where there is no memory for it.
+/// `AllocError` if there is no memory for it.
 pub fn find_lists<'a>(
     alloc: Global,
     script: &'a Script,

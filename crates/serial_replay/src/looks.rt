@@ -1,5 +1,5 @@
-//! Whether each look stands: what it finds lies between the greatest generation that its caller knew and the base's
-//! last.
+//! Whether each look is lawful: it finds at least the greatest generation that its caller has seen, and at most the
+//! base's last.
 ghost use Rattle.std.specs.Prelude.{◌≡◌, slice_get, option_map};
 ghost use Rattle.serial_replay.specs.Seen.{left_at, seen_more, seen_behind, MayLook, reseeds_in};
 
@@ -7,8 +7,8 @@ use key_names::{LaneId, Mark, Step};
 use line_orders::along::Carry;
 use list_replay::{KeptBase, KeptCpu, Lists};
 
-/// What a caller has seen goes along its order: the greatest of its looks, and of the generations that its visits of
-/// the base and of the CPUs left.
+/// The generation that a caller has seen is carried along its order. It is the greatest of the caller's looks, and of
+/// the base's and the CPUs' generations after its visits.
 #[derive(Drop)]
 pub(crate) struct Looks<'a> {
     lists: &'a Lists,
@@ -35,7 +35,7 @@ impl<'a> Looks<'a> {
         }
     }
 
-    // The generation that a visit left; a visit of the pool tells of none.
+    // The generation after a visit; none for a visit of the pool.
     fn left_by(&self, mark: Mark) -> Option<u64>
         ensures { result ≡ left_at self.now.lists.now mark.lane mark.place }
     {

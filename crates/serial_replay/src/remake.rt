@@ -1,4 +1,4 @@
-//! Every answer and all data of a transcript, made anew from its words and steps.
+//! Every answer and all data of a transcript, made again from its words and steps.
 ghost use Rattle.std.specs.Prelude.{◌≡◌, ◌≤◌, List, length, IfOk, IfSome, IsSome, map};
 ghost use Rattle.std.specs.List.{AllByRecursion};
 ghost use Rattle.key_names.specs.Book.{Lists as BookLists, LawfulLanes, list_at};
@@ -11,9 +11,10 @@ ghost use Rattle.line_orders.specs.Seen.{seen_callers};
 ghost use Rattle.list_replay.specs.Kept.{Keeps};
 ghost use Rattle.told_entries.specs.Filled.{AllCallsFill};
 ghost use Rattle.caller_answers.specs.Said.{CallInRange, IsSaid};
+ghost use Rattle.serial_replay.specs.Found.{StandsOn};
 ghost use Rattle.serial_replay.specs.Remade.{IsRemade, CallersStand, StepsFit, AllMeanSome, AllSaid};
 
-use crate::lists::{Found, find_lists};
+use crate::lists::{Basis, Found, find_lists};
 use crate::looks::Looks;
 use caller_answers::calls::caller_said;
 use caller_answers::said::Note;
@@ -28,24 +29,25 @@ use list_replay::Lists;
 use std::alloc::{AllocError, Global};
 use transcript_text::Transcript;
 
-/// What was noted of each caller's lines, by the numbers of their events, and whether the looks of the transcript
-/// stand.
+/// The notes of each caller's lines, by the numbers of their events, whether the looks of the transcript are lawful,
+/// and what all of it was made from.
 #[derive(Drop)]
-pub struct Made<T: Drop> {
+pub struct Made<'a, T: Drop> {
     pub callers: Vec<Vec<T>>,
     pub looks_stand: bool,
+    pub basis: Basis<'a>,
 }
 
-/// What a transcript's steps make: notes of each caller's lines, or the first of the clauses on lines, marks and forms
-/// that fails. Looks alone stop nothing here.
+/// The result for a transcript's steps: notes of each caller's lines, or the first of the clauses on lines, marks and
+/// forms that fails. A wrong look does not stop the notes.
 #[derive(Drop)]
-pub enum Remade<T: Drop> {
-    Made(Made<T>),
+pub enum Remade<'a, T: Drop> {
+    Made(Made<'a, T>),
     /// The first of the clauses 2, 3 and 4 that fails.
     No(Clause),
 }
 
-// Notes of what each caller's lines say, if the steps of all are forms.
+// Notes of each caller's lines, if the steps of all are forms.
 fn all_said<N: Note>(
     alloc: Global,
     calls: &[Vec<Called<'_>>],
@@ -81,15 +83,16 @@ fn all_said<N: Note>(
     Ok(Some(callers))
 }
 
-fn of_lines<N: Note>(
+fn of_lines<'a, N: Note>(
     alloc: Global,
-    script: &Script,
-    lines: &[Vec<BareLine<'_>>],
+    script: &'a Script,
+    lines: &[Vec<BareLine<'a>>],
     how: &N,
-) -> Result<Remade<N::Noted>, AllocError>
+) -> Result<Remade<'a, N::Noted>, AllocError>
     requires well { WellFormed script.now }
     requires fit { StepsFit (seen_callers lines.now) }
-    ensures { IfOk result (λ remade. IsRemade (N.IsNoted how.now) script.now (seen_callers lines.now) remade) }
+    ensures made { IfOk result (λ remade. IsRemade (N.IsNoted how.now) script.now (seen_callers lines.now) remade) }
+    ensures basis { IfOk result (λ remade. StandsOn script.now (seen_callers lines.now) remade) }
 {
     let basis = match find_lists(alloc, script, lines)? {
         Found::No(clause) => return Ok(Remade::No(clause)),
@@ -104,25 +107,27 @@ fn of_lines<N: Note>(
     Ok(Remade::Made(Made {
         callers,
         looks_stand,
+        basis,
     }))
 }
 
-/// Makes every answer and all data of a transcript anew, from its words and steps alone, and notes of them what is
-/// asked.
+/// Makes every answer and all data of a transcript again, from its words and steps alone, and keeps the chosen notes of
+/// them. It hands on the lists that they were made from.
 ///
 /// # Errors
 ///
-/// `AllocError` where there is no memory for it.
-pub fn remake<N: Note>(
+/// `AllocError` if there is no memory for it.
+pub fn remake<'a, N: Note>(
     alloc: Global,
-    script: &Script,
-    t: &Transcript,
+    script: &'a Script,
+    t: &'a Transcript,
     how: &N,
-) -> Result<Remade<N::Noted>, AllocError>
+) -> Result<Remade<'a, N::Noted>, AllocError>
     ensures made { IfOk result (λ remade. IsRemade (N.IsNoted how.now) script.now t.now remade) }
     ensures of_steps { IfOk result (λ remade. IsRemade (N.IsNoted how.now) script.now (map (map bare) t.now) remade) }
+    ensures basis { IfOk result (λ remade. StandsOn script.now (map (map bare) t.now) remade) }
 {
-    // They say what is true of every script and of every transcript.
+    // Their contracts state facts of every script and of every transcript.
     let _version = script.version();
     let _callers = t.callers();
     let lines = bare_callers(alloc, t)?;

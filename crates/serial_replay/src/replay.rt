@@ -21,15 +21,15 @@ use line_orders::clause::Clause;
 use std::alloc::{AllocError, Global};
 use transcript_text::{CallerLines, LineView, Shown, Transcript};
 
-/// A transcript that was made anew, or the first clause that fails.
+/// A transcript that was made again, or the first clause that fails.
 #[derive(Drop)]
 pub enum Replayed {
     Made(Transcript),
-    /// Which clause fails first, of those that no answer or data has a part in: lines, marks, forms, looks.
+    /// The first of the clauses on lines, marks, forms and looks that fails. Answers and data play no part in these.
     No(Clause),
 }
 
-// One more line.
+// Adds a line.
 fn push_line(lines: &mut CallerLines, line: LineView<'_>) -> Result<(), AllocError>
     requires fits { LineFits (seen line) }
     requires short { length (bytes_of line.shown) < 2 ^ 32 }
@@ -40,7 +40,7 @@ fn push_line(lines: &mut CallerLines, line: LineView<'_>) -> Result<(), AllocErr
     Ok(())
 }
 
-// The bytes that a line shows, in the place of those in the buffer.
+// Replaces the content of the buffer by the bytes of a line.
 fn put_bytes(buffer: &mut Vec<u8>, said: &Said) -> Result<(), AllocError>
     ensures bytes { OnOk result (buffer.new.items ≡ bytes_said said.now.shows) }
     ensures short { OnOk result (length buffer.new.items < 2 ^ 32) }
@@ -52,7 +52,7 @@ fn put_bytes(buffer: &mut Vec<u8>, said: &Said) -> Result<(), AllocError>
     }
 }
 
-// What a line shows, its bytes being these.
+// The data of a line, with these bytes.
 fn shown_as<'a>(said: &Said, bytes: &'a [u8]) -> Shown<'a>
     requires bytes { bytes.now ≡ bytes_said said.now.shows }
     requires short { length bytes.now < 2 ^ 32 }
@@ -67,7 +67,7 @@ fn shown_as<'a>(said: &Said, bytes: &'a [u8]) -> Shown<'a>
     }
 }
 
-// The line with the answer and the data that were made.
+// The line with the answer and data that were made.
 fn told_line<'a>(line: LineView<'a>, said: &Said, bytes: &'a [u8]) -> LineView<'a>
     requires fits { LineFits (seen line) }
     requires kind { MayShow (seen line) said.now }
@@ -88,7 +88,7 @@ fn told_line<'a>(line: LineView<'a>, said: &Said, bytes: &'a [u8]) -> LineView<'
     }
 }
 
-// One more line, with the answer and the data that were made. The buffer is for the bytes that it shows.
+// Adds a line with the answer and data that were made. The buffer is for its bytes.
 fn push_said(
     lines: &mut CallerLines,
     line: LineView<'_>,
@@ -103,7 +103,7 @@ fn push_said(
     push_line(lines, told_line(line, said, buffer))
 }
 
-// One more line, with what is said at its number.
+// Adds a line with the answer and data that were made for its number.
 fn push_made(
     lines: &mut CallerLines,
     line: LineView<'_>,
@@ -164,15 +164,17 @@ fn replay_steps(alloc: Global, script: &Script, steps: &Transcript) -> Result<Re
     if !made.looks_stand {
         return Ok(Replayed::No(Clause::Looks));
     }
+    // The lists are given back before the lines are written.
+    drop(made.basis);
     Ok(Replayed::Made(all_lines(alloc, steps, &made.callers)?))
 }
 
-/// The transcript that has these words and steps, its answers and data made anew. Answers and data of the argument are
-/// not read.
+/// The transcript with these words and steps, and with its answers and data made again, or the first clause that fails.
+/// Answers and data of the argument are not read.
 ///
 /// # Errors
 ///
-/// `AllocError` where there is no memory for it.
+/// `AllocError` if there is no memory for it.
 pub fn replay(alloc: Global, script: &Script, steps: &Transcript) -> Result<Replayed, AllocError>
     ensures replay { IfOk result (λ replayed. IsReplay script.now steps.now replayed) }
     ensures made { (t : List (List SeenLine)) → SameSteps steps.now t → IsTranscript script.now t

@@ -1,4 +1,4 @@
--- An attempt leaves the entries that the steps behind it tell.
+-- An attempt leaves the entries that its steps show.
 use Rattle.std.proofs.Common.{◌≡◌, ℕ, Bool, true, false, Option, Some, List, ◌∷◌, ◌++◌, refl, sym, subst, ap, ◌∙◌, append_assoc, append-nil}
 use Rattle.std.specs.Prelude.{◌==◌, MatchBool, if◌then◌else◌}
 use Rattle.key_names.specs.declared.names.Step.{Step}
@@ -22,7 +22,7 @@ use Rattle.state_entries.specs.Left.{Left, Behind, met, copied, keyed, with_key,
 use Rattle.state_entries.proofs.Outlines.{generation_test, same_entries, same_block, copy_outline, met_outline, met_entries}
 use Rattle.state_entries.proofs.KeySteps.{FirstStep, first_step, key_told}
 
--- an attempt gives what is left behind it, of a state that was left these entries before
+-- the entries of an attempt, and its outline, after a state that had the entries `before`
 pub record Gives (before : List VEntry) (rest : List Step) (a : Attempt) (b : Behind) : Type 0 where
   pub entries : b.left.entries ≡ before ++ a.entries
   pub outline : IsOutline b.left.outline a.state
@@ -127,7 +127,7 @@ module _ (lists : Lists) (set : Setting) (more : List HostStep) where
       goes : FromStart n c (published_by g) s1 st.rest st.attempt_after
       goes = let P : ℕ → Type 0 = λ x. FromStart n c x s1 st.rest st.attempt_after in subst P y.3.0 st.goes_on
 
-      -- behind its look
+      -- after its look
       looks : (acts : List BoundAct) (l : Left) → attempted acts n c l steps
           ≡ from_start acts n c g (met (is_wiped acts Start) l) f.rest
       looks acts l = ap (attempted acts n c l) (f.steps_are ∙ ap (λ x. x ∷ f.rest) f.tells)

@@ -1,4 +1,4 @@
--- A caller's calls leave the lists of whatever they mean.
+-- A caller's calls leave the lists of each of their meanings.
 use Rattle.std.proofs.Common.{◌≡◌, ℕ, zero, suc, ◌<◌, ◌≤◌, Bool, true, false, List, [], ◌∷◌, ◌++◌, map, refl, sym, subst, ap, ◌∙◌, arith, length, replicate}
 use Rattle.std.specs.Prelude.{◌==◌, if◌then◌else◌, slice_get, slice_set, unwrap_or, nat_lt}
 use Rattle.std.proofs.lemmas.Bool.Decides.{nat_tests}
@@ -22,20 +22,20 @@ use Rattle.state_entries.specs.Callers.{Outlines, first_outlines, current_outlin
 use Rattle.state_entries.specs.Laws.{CallsLeave}
 use Rattle.state_entries.proofs.VreadsLeave.{vread_leaves}
 
-abbrev outline_at : Outlines → ℕ → Outline
+abbrev pub outline_at : Outlines → ℕ → Outline
 outline_at o k = unwrap_or (slice_get o.each k) wiped_outline
 
 -- each state has its outline
-record Stands (o : Outlines) (c : CallerState) : Type 0 where
-  count : length o.each ≡ 16
-  states : length c.states ≡ 16
-  current : o.current ≡ c.current
-  each : (k : ℕ) → k < 16 → IsBetweenCalls (outline_at o k) (state_at c k)
+pub record Stands (o : Outlines) (c : CallerState) : Type 0 where
+  pub count : length o.each ≡ 16
+  pub states : length c.states ≡ 16
+  pub current : o.current ≡ c.current
+  pub each : (k : ℕ) → k < 16 → IsBetweenCalls (outline_at o k) (state_at c k)
 
--- the outlines go along with a call, and its entries are those that it means
-record Goes (o : Outlines) (call : Call) (m : CallMeaning) : Type 0 where
-  stands : Stands (outlines_after o call) m.after
-  entries : entries_left o call ≡ m.entries
+-- after a call the outlines still match the states, and its entries are those of its meaning
+pub record Goes (o : Outlines) (call : Call) (m : CallMeaning) : Type 0 where
+  pub stands : Stands (outlines_after o call) m.after
+  pub entries : entries_left o call ≡ m.entries
 
 stands_as : {l l' : Outline} {x x' : VgetrandomState} → l ≡ l' → x ≡ x' → IsBetweenCalls l' x' → IsBetweenCalls l x
 stands_as {l = l} {l' = l'} {x = x} {x' = x'} p q is =
@@ -45,7 +45,7 @@ stands_as {l = l} {l' = l'} {x = x} {x' = x'} p q is =
 wiped_stands : IsBetweenCalls wiped_outline wiped_state
 wiped_stands = record { outline = record { generation = refl; served = refl }; idle = refl }
 
--- where nothing happens to the states
+-- a call that leaves the states as they are
 same_stands : (o p : Outlines) (c d : CallerState) → Stands o c → p.each ≡ o.each → d.states ≡ c.states →
     p.current ≡ d.current → Stands p d
 same_stands o p c d st outlines states current = record {
@@ -57,7 +57,7 @@ same_stands o p c d st outlines states current = record {
       (ap (λ x. unwrap_or (slice_get x k) wiped_state) states) (st.each k below);
 }
 
--- where the current state becomes another one
+-- the current state becomes another one
 set_stands : (o : Outlines) (c d : CallerState) (new : Outline) (x : VgetrandomState) → Stands o c →
     d.states ≡ slice_set c.states c.current x → d.current ≡ c.current → IsBetweenCalls new x →
     Stands (with_outline o new) d
@@ -91,7 +91,7 @@ set_stands o c d new x st states current is = record {
         stands_as (ap (λ o. unwrap_or o wiped_outline) (set_other o.each o.current k new ne)) (old_state k ne)
         (st.each k below)
 
--- the current state has its outline, also where there is none of its number
+-- the current state has its outline, even if its number is too large
 current_stands : (o : Outlines) (c : CallerState) → Stands o c → IsBetweenCalls (current_outline o) (current_state c)
 current_stands o c st = go (nat_lt o.current 16) refl
   where
@@ -127,10 +127,10 @@ alone_goes o event m st means = (
   sym means.entries,
 )
 
-abbrev HasDeeds : Lists → SeenLine → LineMeaning → Type 0
+abbrev pub HasDeeds : Lists → SeenLine → LineMeaning → Type 0
 HasDeeds lists line m = deeds_of lists line.steps ≡ m.deeds
 
-call_goes : (lists : Lists) (o : Outlines) (call : Call) (m : CallMeaning) → Stands o m.before → Means call m →
+pub call_goes : (lists : Lists) (o : Outlines) (call : Call) (m : CallMeaning) → Stands o m.before → Means call m →
     EachOfCall (HasDeeds lists) call m → Goes o call m
 call_goes lists o (alone event line) m st means deeds =
     let goes = alone_goes o event m st means in record { stands = goes.0; entries = goes.1 }
@@ -155,7 +155,7 @@ call_goes lists o (ending line) m st means deeds = record {
 
 -- ---- one call after another
 
-stands_at : (o : Outlines) (c d : CallerState) → c ≡ d → Stands o c → Stands o d
+pub stands_at : (o : Outlines) (c d : CallerState) → c ≡ d → Stands o c → Stands o d
 stands_at o c d e st = let P : CallerState → Type 0 = λ x. Stands o x in subst P e st
 
 calls_go : (lists : Lists) (o : Outlines) (c : CallerState) (calls : List Call) (ms : List CallMeaning) → Stands o c →
@@ -175,7 +175,7 @@ calls_go lists o c (call ∷ calls) (m ∷ ms) st means deeds k =
 
 -- ---- the lists
 
-at_start : (setting : Setting) → Stands first_outlines (caller_start setting)
+pub at_start : (setting : Setting) → Stands first_outlines (caller_start setting)
 at_start setting = record {
   count = refl;
   states = refl;

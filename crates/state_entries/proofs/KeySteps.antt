@@ -1,4 +1,4 @@
--- The steps of a system call that read a key: the key is told by its visit of a CPU.
+-- The steps of a system call that read a key: the visit of a CPU names the key.
 use Rattle.std.proofs.Common.{◌≡◌, ℕ, ◌≤◌, ◌⊎◌, inl, inr, Bool, true, false, Option, Some, None, List, [], ◌∷◌, ◌++◌, refl, subst, ap, ◌∙◌, arith}
 use Rattle.std.specs.Prelude.{◌&&◌, MatchBool, slice_get}
 use Rattle.key_names.specs.declared.names.LaneId.{LaneId}
@@ -22,15 +22,14 @@ use Rattle.state_entries.specs.declared.leaving.KeyRead.{KeyRead}
 use Rattle.state_entries.specs.Left.{key_read, second_key, key_in_front, or_key}
 
 module _ (lists : Lists) where
-  -- ---- the step behind which this stands
+  -- ---- the step that reads the key
 
-  -- what a step tells of a key's read
+  -- the key that a step reads, if it reads one
   abbrev Tells : Deed → Step → Type 0
   Tells (looked g) step = step ≡ Look g
   Tells (at_pool v) step = key_read step ≡ None
   Tells (at_base v) step = key_read step ≡ None
-  Tells (at_cpu v) step =
-      (stamp : ℕ) × (key_read step ≡ Some (record { cpu = v.cpu; place = v.place; stamp = stamp }))
+  Tells (at_cpu v) step = key_read step ≡ Some (record { cpu = v.cpu; place = v.place })
   Tells nothing_there step = Unit {0}
 
   pool_tells : (step : Step) (place : ℕ) (o : Option PoolEntry) → key_read step ≡ None →
@@ -43,18 +42,18 @@ module _ (lists : Lists) where
   base_tells step place None none = tt
   base_tells step place (Some e) none = none
 
-  cpu_tells : (step : Step) (c place stamp : ℕ) (o : Option CpuEntry) →
-      key_read step ≡ Some (record { cpu = c; place = place; stamp = stamp }) →
+  cpu_tells : (step : Step) (c place : ℕ) (o : Option CpuEntry) →
+      key_read step ≡ Some (record { cpu = c; place = place }) →
       Tells (deed_or (λ e. at_cpu (cpu_visit lists c place e)) o) step
-  cpu_tells step c place stamp None is = tt
-  cpu_tells step c place stamp (Some e) is = (stamp, is)
+  cpu_tells step c place None is = tt
+  cpu_tells step c place (Some e) is = is
 
   lane_tells : (step : Step) (lane : LaneId) (place stamp : ℕ) →
       step ≡ Marked (record { lane = lane; place = place; stamp = stamp }) → Tells (deed_at lists lane place) step
   lane_tells step PoolLane place stamp is = pool_tells step place (slice_get lists.pool place) (ap key_read is)
   lane_tells step BaseLane place stamp is = base_tells step place (slice_get lists.base place) (ap key_read is)
   lane_tells step (CpuLane c) place stamp is =
-      cpu_tells step c place stamp (slice_get (cpu_list lists c) place) (ap key_read is)
+      cpu_tells step c place (slice_get (cpu_list lists c) place) (ap key_read is)
 
   pub record FirstStep (d : Deed) (ds : List Deed) (steps : List Step) : Type 0 where
     pub step : Step
@@ -86,7 +85,7 @@ module _ (lists : Lists) where
 
   -- ---- a key's call
 
-  -- the key, and the steps behind the call
+  -- the key, and the steps after the call
   pub record KeyTold (steps : List Step) (more : List Deed) (answer : SystemAnswer) : Type 0 where
     pub key : KeyRead
     pub rest : List Step
@@ -111,11 +110,11 @@ module _ (lists : Lists) where
         let b = first_step (looked h) (at_cpu v ∷ more) a.rest a.behind in
         let k = first_step (at_cpu v) more b.rest b.behind in
         let r = ready_at (ap (λ x. x ++ more) is) ready in record {
-          key = record { cpu = v.cpu; place = v.place; stamp = k.tells.0 };
+          key = record { cpu = v.cpu; place = v.place };
           rest = k.rest;
           told = ap key_in_front (a.steps_are ∙ ap (λ x. x ∷ a.rest) a.tells ∙ ap (λ x. Look g ∷ x)
               (b.steps_are ∙ ap (λ x. x ∷ b.rest) b.tells ∙ ap (λ x. Look h ∷ x) k.steps_are))
-              ∙ ap (λ o. or_key o k.rest (second_key k.rest)) k.tells.1;
+              ∙ ap (λ o. or_key o k.rest (second_key k.rest)) k.tells;
           behind = k.behind;
           bytes = served_bytes (looked g ∷ looked h ∷ at_cpu v ∷ []);
           answer_is = answer_at (looked g ∷ looked h ∷ at_cpu v ∷ []) is refl;
@@ -130,12 +129,12 @@ module _ (lists : Lists) where
         let d = first_step (at_base u) (at_cpu v ∷ more) b.rest b.behind in
         let k = first_step (at_cpu v) more d.rest d.behind in
         let r = ready_at (ap (λ x. x ++ more) is) ready in record {
-          key = record { cpu = v.cpu; place = v.place; stamp = k.tells.0 };
+          key = record { cpu = v.cpu; place = v.place };
           rest = k.rest;
           told = ap key_in_front (a.steps_are ∙ ap (λ x. x ∷ a.rest) a.tells ∙ ap (λ x. Look g ∷ x)
               (b.steps_are ∙ ap (λ x. x ∷ b.rest) b.tells ∙ ap (λ x. Look h ∷ x) d.steps_are))
               ∙ ap (λ o. or_key o d.rest (second_key d.rest)) d.tells
-              ∙ ap second_key k.steps_are ∙ ap (λ o. or_key o k.rest None) k.tells.1;
+              ∙ ap second_key k.steps_are ∙ ap (λ o. or_key o k.rest None) k.tells;
           behind = k.behind;
           bytes = served_bytes (looked g ∷ looked h ∷ at_base u ∷ at_cpu v ∷ []);
           answer_is = answer_at (looked g ∷ looked h ∷ at_base u ∷ at_cpu v ∷ []) is refl;

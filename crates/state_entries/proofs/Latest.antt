@@ -1,4 +1,4 @@
--- The greatest stamp among a stamp and those of visits, in whichever order these come.
+-- The greatest stamp among a stamp and those of visits, in any order of these.
 use Rattle.std.proofs.Common.{◌≡◌, ℕ, ◌≤◌, max, Bool, true, false, List, [], ◌∷◌, ◌++◌, refl, sym, ap, ◌∙◌, append_assoc, arith, take, drop}
 use Rattle.std.specs.Prelude.{if◌then◌else◌, slice_get}
 use Rattle.std.specs.Option.{option_map_or}
@@ -51,7 +51,7 @@ rekey_whole steps = go (option_map_or is_mark (slice_get steps 2) false)
         ∙ take-append-drop 2 steps
     go false = refl
 
--- one act more, at the point or elsewhere
+-- one act more, at the point or at another
 pub at_point : (stamp : ℕ) (bound : BoundAct) (acts : List BoundAct) (point : Point) → is_same_point bound.point point ≡ true →
     latest_of stamp (steps_at_point (bound ∷ acts) point)
     ≡ latest_of (latest_of stamp bound.line.steps) (steps_at_point acts point)
@@ -62,7 +62,7 @@ pub elsewhere : (stamp : ℕ) (bound : BoundAct) (acts : List BoundAct) (point :
     latest_of stamp (steps_at_point (bound ∷ acts) point) ≡ latest_of stamp (steps_at_point acts point)
 elsewhere stamp bound acts point is = rw is refl
 
--- some steps in seven parts, of which the fourth and the last may come behind the first
+-- some steps in seven parts: the fourth and the last may follow the first
 parts_move : (s : ℕ) (a p q c r t d : List Step) →
     latest_of s (a ++ p ++ q ++ c ++ r ++ t ++ d)
     ≡ latest_of (latest_of (latest_of (latest_of (latest_of s (a ++ c ++ d)) p) q) r) t
@@ -87,7 +87,7 @@ parts_move s a p q c r t d =
     y : ℕ
     y = latest_of (latest_of s a) c
 
--- the acts' visits may be looked at behind the vread's own
+-- the acts' visits may be counted after the vread's own
 pub latest_vread : (stamp : ℕ) (steps : List Step) (acts : List BoundAct) →
     latest_of stamp (vread_steps steps acts)
     ≡ latest_of (latest_of (latest_of (latest_of (latest_of stamp steps) (steps_at_point acts Start))

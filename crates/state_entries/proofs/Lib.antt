@@ -6,4 +6,6 @@ pub mod CallersLeave
 pub mod Latest
 pub mod Over
 pub mod Cuts
+pub mod Told
 pub mod Starts
+pub mod LineEnds

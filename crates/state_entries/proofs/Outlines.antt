@@ -1,4 +1,4 @@
--- An outline goes through a copy, a wipe and a new key as its state does, and tells the same entries.
+-- An outline follows its state through a copy, a wipe and a new key, with the same entries.
 use Rattle.std.proofs.Common.{◌≡◌, ℕ, zero, suc, ◌+◌, ◌-◌, ◌<◌, Bool, true, false, [], ◌++◌, refl, sym, ap, ◌∙◌, append_assoc, append-nil, arith}
 use Rattle.std.specs.Prelude.{◌==◌, ◌/◌, ◌%◌, nat_le, if◌then◌else◌}
 use Rattle.std.proofs.lemmas.Bool.{eqb-true, eq-eqb}
@@ -19,7 +19,7 @@ published_once zero (suc g) e = absurd (omega arith)
 published_once (suc f) zero e = absurd (omega arith)
 published_once (suc f) (suc g) e = omega arith
 
--- two looks found one generation exactly where they are one
+-- the published generations of two looks are equal exactly if those that they found are
 pub same_test : (f g : ℕ) → (published_by f == published_by g) ≡ (f == g)
 same_test f g = go (published_by f == published_by g) (f == g) refl refl
   where
@@ -46,7 +46,7 @@ generation_test o s g is = ap (λ x. x == published_by g) is.generation ∙ same
 
 -- ---- a copy
 
--- a state of which so much was served
+-- a state with this position in its batch
 abbrev at : ℕ → VgetrandomState
 at pos = record { batch = []; key = []; generation = 0; pos = pos; in_use = false }
 
@@ -81,7 +81,7 @@ copy_outline l s c n is = record {
       ∙ ap (λ b. (copy_if b (outlined l.outline) c n).pos) (sym (same_left l.outline s n is));
 }
 
--- a copy of more than is left of the batch
+-- a copy of more bytes than the batch has left
 pub copied_beyond : (n c : ℕ) (l : Left) → has_left (outlined l.outline) n ≡ false → copied n c l
     ≡ refilled c ((n - (96 - l.outline.served)) / 64) ((n - (96 - l.outline.served)) % 64)
     (left_more (serve_entry l.outline.served (96 - l.outline.served)) l)
@@ -94,7 +94,7 @@ copied_beyond n c l beyond =
     ∙ ap (λ es. with_served (new_batch_bytes o n) (record l { entries = es }))
     (sym (append_assoc l.entries front behind))
 
--- the same, of a state whose front was served and which was refilled then
+-- the same, in two steps: the rest of the batch is served, and then the batch is refilled
 pub refilled_is : (n c served left whole last : ℕ) (l m new : Left) → served ≡ l.outline.served → left ≡ 96 - served →
     left < n → m ≡ left_more (serve_entry served left) l → whole ≡ (n - left) / 64 → last ≡ (n - left) % 64 →
     new ≡ refilled c whole last m → new ≡ copied n c l

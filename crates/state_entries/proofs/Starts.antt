@@ -1,4 +1,4 @@
--- The stamp of the last visit that a caller stands behind.
+-- The stamp of the last visit before a caller's start.
 use Rattle.std.proofs.Common.{◌≡◌, ℕ, zero, suc, ◌+◌, ◌<◌, ◌≤◌, Option, Some, None, List, [], ◌∷◌, ◌++◌, inl, inr, refl, sym, ap, ◌∙◌, arith, append_assoc, length, get_or, take}
 use Rattle.std.specs.Prelude.{map, slice_get, unwrap_or}
 use Rattle.std.specs.Global.{Vec}
@@ -19,7 +19,7 @@ use Rattle.line_orders.proofs.Forks.{AtParent, at_parent, steps_before}
 use Rattle.state_entries.specs.Stamps.{latest_of, start_stamp}
 use Rattle.state_entries.proofs.Latest.{latest-append}
 
--- the own steps of a caller among those of all
+-- a caller's own steps among those of all
 pub own_kept : (owns : List (Vec Step)) (callers : List (List Call)) (c : ℕ) (steps : Vec Step) →
     map (λ own. own.items) owns ≡ map calls_steps callers → c < length owns → steps ≡ get_or owns c steps →
     steps.items ≡ calls_steps (list_at callers c)
@@ -35,7 +35,7 @@ pub owns_long : (owns : List (Vec Step)) (callers : List (List Call)) →
 owns_long owns callers e =
     sym (length-map callers calls_steps) ∙ sym (ap length e) ∙ length-map owns (λ (own : Vec Step). own.items)
 
--- what a caller stands behind that is forked here
+-- the stamp at the start of a caller that is forked here
 abbrev pub start_from : (ℕ → ℕ) → List (List Call) → Option Fork → ℕ
 start_from starts callers None = 0
 start_from starts callers (Some fork) =

@@ -1,4 +1,4 @@
--- A vread leaves the entries that the steps of its line tell.
+-- A vread leaves the entries that the steps of its line show.
 use Rattle.std.proofs.Common.{◌≡◌, ℕ, zero, suc, ◌≤◌, Bool, true, false, ◌+◌, List, [], ◌∷◌, ◌++◌, refl, sym, subst, ap, ◌∙◌, append_assoc, append-nil, length, arith}
 use Rattle.std.specs.Prelude.{◌==◌, ◌&&◌, ◌||◌, not, MatchBool, if◌then◌else◌}
 use Rattle.key_names.specs.declared.names.Step.{Step}
@@ -34,12 +34,12 @@ leaves_at l o o' new new' p q h =
     let P : Outcome → Type 0 = λ x. CallLeaves l x new in let Q : Left → Type 0 = λ x. CallLeaves l o' x in
     subst P (sym p) (subst Q (sym q) h)
 
--- nothing is left of a state that is as it was
+-- a call that changes no state leaves no entry
 nothing_more : (l : Left) (o : Outcome) → o.entries ≡ [] → IsBetweenCalls l.outline o.state → CallLeaves l o l
 nothing_more l o none is =
     record { entries = sym (append-nil l.entries) ∙ ap (λ es. l.entries ++ es) (sym none); stands = is }
 
--- what an attempt leaves where nothing is left behind it
+-- the entries of an attempt without entries after it
 attempt_alone : (l : Left) (rest : List Step) (a : Attempt) (b : Behind) (after : Outcome) → Gives l.entries rest a b →
     after.entries ≡ [] → after.state.in_use ≡ false → after.state.generation ≡ a.state.generation →
     after.state.pos ≡ a.state.pos → CallLeaves l (outcome_behind a.entries after) b.left
@@ -236,7 +236,7 @@ module _ (lists : Lists) (set : Setting) (n flags : ℕ) where
           positive zero e = absurd cc
           positive (suc g) e = omega arith
 
-  -- a call for no bytes leaves nothing
+  -- a call for no bytes leaves no entry
   empty_leaves : (s : VgetrandomState) (l : Left) (steps : List HostStep) (outcome : Outcome) →
       FromLook n flags s steps outcome → IsBetweenCalls l.outline s → (n == 0) ≡ true → CallLeaves l outcome l
   empty_leaves s l steps outcome by is none = go (by.published == 0) by.goes_on
@@ -267,7 +267,7 @@ module _ (lists : Lists) (n flags : ℕ) (acts : List BoundAct) (steps : List St
   abbrev s : VgetrandomState
   s = current_state m.before
 
-  -- no copy is made alone
+  -- the call is made: no copy alone serves it
   abbrev Called : Type 0
   Called = (g : ℕ) (rest : List Step) → steps ≡ Look g ∷ rest → (g == 0) ≡ false → copies_alone acts n g l ≡ false
 
@@ -302,7 +302,7 @@ module _ (lists : Lists) (n flags : ℕ) (acts : List BoundAct) (steps : List St
     stands = record { outline = copy_outline l s 0 n is.outline; idle = kept_idle (has_left s n) s 0 n is.idle };
   }
 
-  -- the test for a copy that is made alone
+  -- the test for a copy without a call
   local_is : (g : ℕ) → (length acts == 0) ≡ true → serves_locally (published_by g) s n
       ≡ (not (g == 0) && copies_alone acts n g l)
   local_is g no_acts =

@@ -1,4 +1,4 @@
--- What a caller's calls leave of its sixteen vgetrandom states.
+-- The entries and outlines that a caller's calls leave for its sixteen vgetrandom states.
 use Rattle.std.specs.Prelude.{ℕ, ◌==◌, List, [], ◌∷◌, ◌++◌, map, replicate, slice_get, slice_set, unwrap_or}
 use Rattle.std.specs.Prelude.{if◌then◌else◌}
 use Rattle.std.specs.List.{range_with_len}
@@ -53,7 +53,7 @@ entries_left o (ending line) = []
 abbrev pub left_in : ℕ → Outlines → Call → List VEntry
 left_in k o call = if o.current == k then entries_left o call else []
 
--- and some calls
+-- those of several calls
 abbrev pub list_left : ℕ → Outlines → List Call → List VEntry
 list_left k o [] = []
 list_left k o (call ∷ calls) = left_in k o call ++ list_left k (outlines_after o call) calls

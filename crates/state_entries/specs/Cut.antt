@@ -1,34 +1,44 @@
--- The entries up to a stamp, and that a stamp cuts the lists between calls.
-use Rattle.std.specs.Prelude.{ℕ, suc, ◌≡◌, List, [], ◌∷◌, map, filter, take, nat_le}
+-- The entries that a stamp or a call keeps. Each of the two cuts the lists between calls.
+use Rattle.std.specs.Prelude.{ℕ, suc, ◌≡◌, Bool, List, [], ◌∷◌, map, filter, take, nat_le}
 use Rattle.std.specs.Global.{Vec}
 use Rattle.key_names.specs.declared.entries.VEntry.{VEntry}
 use Rattle.key_names.specs.Calls.{Call}
+use Rattle.state_entries.specs.declared.entry.Cut.{Cut}
+use Rattle.state_entries.specs.declared.entry.Cut.TheVariants.{Stamp, Call as ByCall}
 use Rattle.state_entries.specs.declared.entry.StateEntry.{StateEntry}
 use Rattle.state_entries.specs.Callers.{lists_left}
 use Rattle.state_entries.specs.Entries.{entries_in}
 use Rattle.state_entries.specs.Stamps.{made_by, start_stamp}
 
--- the entries of a list that are of calls which were over by a stamp
-abbrev pub entries_to : ℕ → List StateEntry → List VEntry
-entries_to stamp list = entries_in (filter (λ e. nat_le e.done stamp) list)
+-- an entry is kept if its call was over by the stamp, or if its call has at most this number
+abbrev pub is_kept : Cut → StateEntry → Bool
+is_kept (Stamp stamp) e = nat_le e.end.stamp stamp
+is_kept (ByCall n) e = nat_le e.call n
+
+-- the entries of a list that are kept
+abbrev pub entries_by : Cut → List StateEntry → List VEntry
+entries_by cut list = entries_in (filter (is_kept cut) list)
 
 -- those of a caller's lists
-abbrev pub lists_to : ℕ → List (Vec StateEntry) → List (List VEntry)
-lists_to stamp lists = map (λ list. entries_to stamp list.items) lists
+abbrev pub lists_by : Cut → List (Vec StateEntry) → List (List VEntry)
+lists_by cut lists = map (λ list. entries_by cut list.items) lists
 
--- and of all callers'
-abbrev pub all_lists_to : ℕ → List (Vec (Vec StateEntry)) → List (List (List VEntry))
-all_lists_to stamp callers = map (λ lists. lists_to stamp lists.items) callers
+-- and of all callers', each with its own cut; c is the number of the first
+abbrev pub all_lists_by : (ℕ → Cut) → ℕ → List (Vec (Vec StateEntry)) → List (List (List VEntry))
+all_lists_by cuts c [] = []
+all_lists_by cuts c (lists ∷ callers) = lists_by (cuts c) lists.items ∷ all_lists_by cuts (suc c) callers
 
--- what the calls of each caller left that were over by a stamp; starts gives the stamp of the last visit before its
--- calls, and c is the number of the first caller
-abbrev pub lists_made : ℕ → (ℕ → ℕ) → ℕ → List (List Call) → List (List (List VEntry))
-lists_made stamp starts c [] = []
-lists_made stamp starts c (calls ∷ callers) =
-    lists_left (take (made_by stamp (starts c) calls) calls) ∷ lists_made stamp starts (suc c) callers
+-- how many of a caller's calls a cut keeps; `before` is the stamp of the last visit before them
+abbrev pub calls_by : Cut → ℕ → List Call → ℕ
+calls_by (Stamp stamp) before calls = made_by stamp before calls
+calls_by (ByCall n) before calls = suc n
 
--- at each stamp the entries of the calls that were over by it are those that the first calls of each caller leave: as
--- many as were over by it
-abbrev pub AreCutByStamp : List (List Call) → List (Vec (Vec StateEntry)) → Type 0
-AreCutByStamp callers lists =
-    (stamp : ℕ) → all_lists_to stamp lists ≡ lists_made stamp (start_stamp callers) 0 callers
+-- the lists that those calls of each caller left; `starts` gives the stamp of the last visit before a caller's calls
+abbrev pub lists_made : (ℕ → Cut) → (ℕ → ℕ) → ℕ → List (List Call) → List (List (List VEntry))
+lists_made cuts starts c [] = []
+lists_made cuts starts c (calls ∷ callers) =
+    lists_left (take (calls_by (cuts c) (starts c) calls) calls) ∷ lists_made cuts starts (suc c) callers
+
+-- for any cut of each caller, the kept entries are those that the first of its calls leave
+abbrev pub AreCut : List (List Call) → List (Vec (Vec StateEntry)) → Type 0
+AreCut callers lists = (cuts : ℕ → Cut) → all_lists_by cuts 0 lists ≡ lists_made cuts (start_stamp callers) 0 callers

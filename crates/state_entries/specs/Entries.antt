@@ -1,13 +1,8 @@
--- Entries without their stamps.
+-- Entries without the calls that left them.
 use Rattle.std.specs.Prelude.{List, map}
 use Rattle.std.specs.Global.{Vec}
 use Rattle.key_names.specs.declared.entries.VEntry.{VEntry}
-use Rattle.state_entries.specs.declared.entry.LeftEntry.{LeftEntry}
 use Rattle.state_entries.specs.declared.entry.StateEntry.{StateEntry}
-
--- those that one call left
-abbrev pub call_entries : List LeftEntry → List VEntry
-call_entries left = map (λ e. e.entry) left
 
 abbrev pub entries_in : List StateEntry → List VEntry
 entries_in list = map (λ e. e.entry) list

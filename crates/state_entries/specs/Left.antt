@@ -1,5 +1,5 @@
--- What a vread leaves of a state by the steps of its line: the same cases as the code has. Where the steps are not
--- those of a vread, what they show until then.
+-- The outline and the entries that a vread leaves for a state, by the steps of its line: the same cases as the code
+-- has. If the steps are not those of a vread, the entries are those of the steps up to the first that does not fit.
 use Rattle.std.specs.Prelude.{ℕ, ◌==◌, ◌&&◌, ◌||◌, Bool, true, Option, None, Some, List, [], ◌∷◌, ◌++◌, length}
 use Rattle.std.specs.Prelude.{if◌then◌else◌}
 use Rattle.key_names.specs.declared.entries.VEntry.{VEntry}
@@ -17,12 +17,12 @@ use Rattle.state_entries.specs.declared.leaving.KeyRead.{KeyRead}
 use Rattle.state_entries.specs.declared.outline.Outline.{Outline}
 use Rattle.state_entries.specs.Outline.{wiped_outline, outlined}
 
--- a state's outline, and the entries that it was left
+-- a state's outline, and the entries that were left for it
 pub record Left : Type 0 where
   pub outline : Outline
   pub entries : List VEntry
 
--- nothing was left of a state of this outline
+-- no entry is left yet, and the state has this outline
 abbrev pub nothing_left : Outline → Left
 nothing_left outline = record { outline = outline; entries = [] }
 
@@ -39,29 +39,29 @@ wiped l = record { outline = wiped_outline; entries = l.entries ++ Wipe ∷ [] }
 abbrev pub met : Bool → Left → Left
 met wipes l = if wipes then wiped l else l
 
--- so many bytes of the batch were served
+-- this many bytes of the batch were served
 abbrev pub with_served : ℕ → Left → Left
 with_served served l = record l { outline = record l.outline { served = served } }
 
 abbrev pub refilled : ℕ → ℕ → ℕ → Left → Left
 refilled c m r l = with_served r (left_more (refill_entries c m r) l)
 
--- a copy of n bytes, c being the key's next block
+-- a copy of n bytes; c is the key's next block
 abbrev pub copied : ℕ → ℕ → Left → Left
 copied n c l =
     with_served (state_after_copy (outlined l.outline) c n).pos (left_more (copy_entries (outlined l.outline) c n) l)
 
 -- ---- a new key
 
-abbrev pub key_at : LaneId → ℕ → ℕ → Option KeyRead
-key_at PoolLane place stamp = None
-key_at BaseLane place stamp = None
-key_at (CpuLane c) place stamp = Some (record { cpu = c; place = place; stamp = stamp })
+abbrev pub key_at : LaneId → ℕ → Option KeyRead
+key_at PoolLane place = None
+key_at BaseLane place = None
+key_at (CpuLane c) place = Some (record { cpu = c; place = place })
 
--- the read of a CPU that a step is
+-- the read of a CPU that a step is, if it is one
 abbrev pub key_read : Step → Option KeyRead
 key_read (Look g) = None
-key_read (Marked mark) = key_at mark.lane mark.place mark.stamp
+key_read (Marked mark) = key_at mark.lane mark.place
 
 pub record KeyAndRest : Type 0 where
   pub key : KeyRead
@@ -75,7 +75,7 @@ abbrev pub second_key : List Step → Option KeyAndRest
 second_key [] = None
 second_key (step ∷ rest) = or_key (key_read step) rest None
 
--- the key that a system call in front read, and the steps behind it
+-- the key that a system call at the front read, and the steps after it
 abbrev pub key_in_front : List Step → Option KeyAndRest
 key_in_front (Look a ∷ Look b ∷ step ∷ rest) = or_key (key_read step) rest (second_key rest)
 key_in_front _ = None
@@ -85,7 +85,7 @@ keyed key l = pushed (Rekey key.cpu key.place) (with_served 96 l)
 
 -- ---- an attempt
 
--- what an attempt came to, the steps behind it, and what it left
+-- the end of an attempt, the steps after it, and the entries so far
 pub record Behind : Type 0 where
   pub next_block : ℕ
   pub holds : Bool
@@ -118,13 +118,13 @@ with_key acts n c l (Some k) = from_serve acts n c (keyed k.key l) k.rest
 abbrev pub from_written : List BoundAct → ℕ → ℕ → Left → List Step → Behind
 from_written acts n c l steps = with_key acts n c (met (is_wiped acts Written) l) (key_in_front steps)
 
--- from Start on, behind a look that found this generation
+-- from Start on, after a look that found this generation
 abbrev pub from_start : List BoundAct → ℕ → ℕ → ℕ → Left → List Step → Behind
 from_start acts n c found l steps =
     if l.outline.found == found then from_serve acts n c l steps
     else from_written acts n c (record l { outline = record l.outline { found = found } }) steps
 
--- an attempt to copy n bytes, c being the key's next block
+-- an attempt to copy n bytes; c is the key's next block
 abbrev pub attempted : List BoundAct → ℕ → ℕ → Left → List Step → Behind
 attempted acts n c l (Look found ∷ rest) = from_start acts n c found (met (is_wiped acts Start) l) rest
 attempted acts n c l _ = cut_short c l
@@ -137,11 +137,11 @@ tried_again n b = if b.holds then b.left else (attempted [] n b.next_block b.lef
 abbrev pub tried_twice : List BoundAct → ℕ → Left → List Step → Left
 tried_twice acts n l steps = tried_again n (attempted acts n 0 l steps)
 
--- whether a copy is made with no call around it
+-- whether a copy is made without a call
 abbrev pub copies_alone : List BoundAct → ℕ → ℕ → Left → Bool
 copies_alone acts n found l = length acts == 0 && (l.outline.found == found && has_left (outlined l.outline) n)
 
--- behind the first look
+-- after the first look
 abbrev pub from_look : List BoundAct → ℕ → ℕ → Left → List Step → Left
 from_look acts n found l rest =
     if found == 0 then l else (if copies_alone acts n found l then copied n 0 l else tried_twice acts n l rest)

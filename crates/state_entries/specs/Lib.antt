@@ -4,5 +4,8 @@ pub mod Left
 pub mod Callers
 pub mod Laws
 pub mod Stamps
+pub mod Ends
 pub mod Stamped
 pub mod Cut
+pub mod Told
+pub mod LineEnds

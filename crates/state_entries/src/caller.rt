@@ -1,13 +1,12 @@
-//! The vgetrandom states of a caller while its calls are gone through.
+//! The vgetrandom states of a caller, on the way through its calls.
 ghost use Rattle.std.specs.Prelude.{◌≡◌, ◌++◌, OnOk};
-ghost use Rattle.state_entries.specs.Entries.{call_entries};
-ghost use Rattle.state_entries.specs.Stamped.{over, overs_in};
+ghost use Rattle.state_entries.specs.Stamped.{left_by};
 
-use crate::entry::{LeftEntry, StateEntry};
+use crate::entry::{CallEnd, StateEntry};
 use crate::leaving::Leaving;
 use crate::outline::Outline;
-use crate::stamps::behind_call;
-use key_names::Event;
+use crate::stamps::end_of;
+use key_names::{Event, VEntry};
 use line_orders::called::Called;
 use std::alloc::{AllocError, Global};
 use std::marker::Model;
@@ -15,28 +14,27 @@ use std::marker::Model;
 /// How many vgetrandom states a caller has.
 const STATES: usize = 16;
 
-// The entries that a call left, which was over at a stamp, stand behind a list. The event is the call's.
+// Appends the entries that a call left to a list, with the number of the call and its end.
 fn put_behind(
     list: &mut Vec<StateEntry>,
-    left: &[LeftEntry],
-    done: u64,
-    event: u32,
+    left: &[VEntry],
+    call: usize,
+    end: CallEnd,
 ) -> Result<(), AllocError>
-    ensures { OnOk result (overs_in list.new.items ≡ overs_in list.old.items ++ over done (call_entries left.now)) }
+    ensures { OnOk result (list.new.items ≡ list.old.items ++ left_by call end left.now) }
 {
-    for one in left {
+    for entry in left {
         list.push(StateEntry {
-            entry: one.entry,
-            stamp: one.stamp,
-            done,
-            event,
+            entry: *entry,
+            call,
+            end,
         })?;
     }
     Ok(())
 }
 
-/// The sixteen vgetrandom states of a caller, one of which is the current one: their outlines and their lists so far,
-/// and the stamp of the caller's last visit.
+/// The sixteen vgetrandom states of a caller: their outlines, their lists so far, the number of the current one, and
+/// the stamp of the caller's last visit.
 #[derive(Drop)]
 pub(crate) struct Caller {
     outlines: Vec<Outline>,
@@ -46,13 +44,13 @@ pub(crate) struct Caller {
 }
 
 impl Model for Caller {
-    ghost use Rattle.state_entries.specs.Stamped.{States, lists_over};
+    ghost use Rattle.state_entries.specs.Stamped.{States, kept_lists};
 
     ghost Value = { States };
 
     ghost view = { λ s. record {
       outlines = record { each = s.outlines.items; current = s.current };
-      lists = lists_over s.lists.items;
+      lists = kept_lists s.lists.items;
       stamp = s.stamp;
     } };
 }
@@ -61,15 +59,14 @@ impl Caller {
     ghost use Rattle.std.specs.Prelude.{◌≡◌, ◌++◌, IfOk, OnOk, slice_set};
     ghost use Rattle.line_orders.specs.Called.{seen_call};
     ghost use Rattle.state_entries.specs.Callers.{current_outline, with_outline};
-    ghost use Rattle.state_entries.specs.Entries.{call_entries};
-    ghost use Rattle.state_entries.specs.Stamped.{States, first_states, current_list, over, left_over, lists_over};
+    ghost use Rattle.state_entries.specs.Stamped.{States, first_states, current_list, left_by, left_over, kept_lists};
     ghost use Rattle.state_entries.specs.Stamped.{states_after, states_after_event};
 
-    /// A caller that made no call yet, whose last visit, if its parent made one before the fork, has this stamp.
+    /// A caller that has made no call yet. `stamp` is that of the last visit of its ancestors before its start.
     ///
     /// # Errors
     ///
-    /// `AllocError` where there is no memory for the states.
+    /// `AllocError` if there is no memory for the states.
     pub(crate) fn start(alloc: Global, stamp: u64) -> Result<Caller, AllocError>
         ensures { IfOk result (λ caller. caller ≡ first_states stamp) }
     {
@@ -104,74 +101,79 @@ impl Caller {
         }
     }
 
-    fn put(&mut self, left: &[LeftEntry], done: u64, event: u32) -> Result<(), AllocError>
+    fn put(&mut self, left: &[VEntry], call: usize, end: CallEnd) -> Result<(), AllocError>
         ensures { OnOk result (self.new ≡ record self.old {
           lists = slice_set self.old.lists self.old.outlines.current
-              (current_list self.old ++ over done (call_entries left.now));
+              (current_list self.old ++ left_by call end left.now);
         }) }
     {
         if self.current >= self.lists.len() {
             return Ok(());
         }
-        put_behind(&mut self.lists[self.current], left, done, event)?;
+        put_behind(&mut self.lists[self.current], left, call, end)?;
         Ok(())
     }
 
-    // A call that was over at a stamp left this of the current state.
-    fn keep(&mut self, left: &Leaving, done: u64, event: u32) -> Result<(), AllocError>
-        ensures { OnOk result (self.new ≡ left_over done left.now self.old) }
+    // Keeps the outline and the entries of the call of this number, with this end, for the current state.
+    fn keep(&mut self, left: &Leaving, call: usize, end: CallEnd) -> Result<(), AllocError>
+        ensures { OnOk result (self.new ≡ left_over call end left.now self.old) }
     {
-        self.stamp = done;
+        self.stamp = end.stamp;
         self.set_outline(left.outline());
-        self.put(left.entries(), done, event)
+        self.put(left.entries(), call, end)
     }
 
-    // An event by itself that is over at a stamp.
+    // An event alone, as the call of this number, with this end.
     fn event(
         &mut self,
         alloc: Global,
         event: &Event,
-        number: u32,
-        done: u64,
+        call: usize,
+        end: CallEnd,
     ) -> Result<(), AllocError>
-        ensures { OnOk result (self.new ≡ states_after_event done self.old event.now) }
+        ensures { OnOk result (self.new ≡ states_after_event call end self.old event.now) }
     {
         match event {
             Event::Drop => {
-                let mut left = Leaving::begin(alloc, self.outline(), done);
+                let mut left = Leaving::begin(alloc, self.outline());
                 left.wipe()?;
-                self.keep(&left, done, number)?;
+                self.keep(&left, call, end)?;
             }
             Event::State { number } => self.current = *number as usize,
             _ => {}
         }
-        self.stamp = done;
+        self.stamp = end.stamp;
         Ok(())
     }
 
-    /// Goes through a call.
+    /// Goes through a call, which has this number among those of the caller.
     ///
     /// # Errors
     ///
-    /// `AllocError` where there is no memory for the entries that it leaves.
-    pub(crate) fn call(&mut self, alloc: Global, call: &Called<'_>) -> Result<(), AllocError>
-        ensures { OnOk result (self.new ≡ states_after self.old (seen_call call.now)) }
+    /// `AllocError` if there is no memory for the entries that it leaves.
+    pub(crate) fn call(
+        &mut self,
+        alloc: Global,
+        number: usize,
+        call: &Called<'_>,
+    ) -> Result<(), AllocError>
+        ensures { OnOk result (self.new ≡ states_after number self.old (seen_call call.now)) }
     {
-        let done = behind_call(self.stamp, call);
+        let end = end_of(self.stamp, call);
         match call {
-            Called::Alone { event, line } => self.event(alloc, event, line.event, done),
+            Called::Alone { event, .. } => self.event(alloc, event, number, end),
             Called::Vread {
                 len,
                 flags,
                 line,
                 acts,
             } => {
-                let mut left = Leaving::begin(alloc, self.outline(), self.stamp);
+                let mut left = Leaving::begin(alloc, self.outline());
                 left.vread(*len, *flags, acts, line.steps)?;
-                self.keep(&left, done, line.event)
+                self.keep(&left, number, end)
             }
             Called::Unbound(_) | Called::Ending(_) => {
-                self.stamp = done;
+                self.stamp = end.stamp;
                 Ok(())
             }
         }
@@ -179,7 +181,7 @@ impl Caller {
 
     /// The lists of the states.
     pub(crate) fn lists(self) -> Vec<Vec<StateEntry>>
-        ensures { lists_over result.items ≡ self.lists }
+        ensures { kept_lists result.items ≡ self.lists }
     {
         self.lists
     }

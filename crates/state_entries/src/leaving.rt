@@ -1,12 +1,10 @@
-//! A vgetrandom state while a call on it is gone through: its outline, and the entries that the call left so far.
+//! A vgetrandom state on the way through a call: its outline, and the entries that the call left so far.
 ghost use Rattle.std.specs.Prelude.{◌≡◌, None, Some, [], true, MatchOption, map};
 ghost use Rattle.key_names.specs.VreadSteps.{is_wiped};
 ghost use Rattle.line_orders.specs.Called.{seen_act};
 ghost use Rattle.state_entries.specs.Left.{key_read, second_key, key_in_front};
 
-use crate::entry::LeftEntry;
 use crate::outline::Outline;
-use crate::stamps::{before_wipe, behind_point};
 use key_names::{InsideAct, LaneId, Point, Step, VEntry, flags};
 use line_orders::called::ActLine;
 use std::alloc::{AllocError, Global};
@@ -23,11 +21,10 @@ const BLOCK_BYTES: u32 = 64;
 pub(crate) struct KeyRead {
     pub(crate) cpu: u32,
     pub(crate) place: u64,
-    pub(crate) stamp: u64,
 }
 
-/// What an attempt came to: the key's next block, whether the generation that was published in the end is the state's,
-/// and the steps behind its own.
+/// The end of an attempt: the key's next block, whether the generation that was published at the end is the state's,
+/// and the steps after its own.
 #[derive(Clone, Copy)]
 pub(crate) struct Tried<'a> {
     pub(crate) next_block: u64,
@@ -36,7 +33,7 @@ pub(crate) struct Tried<'a> {
 }
 
 impl<'a> Tried<'a> {
-    // The steps end before the attempt does: nothing follows.
+    // The steps end before the attempt does, and no step is left.
     fn cut_short(block: u64) -> Tried<'a>
         ensures next { result.next_block ≡ block }
         ensures holds { result.holds ≡ true }
@@ -72,13 +69,12 @@ fn key_read(step: Step) -> Option<KeyRead>
             LaneId::Cpu(cpu) => Some(KeyRead {
                 cpu,
                 place: mark.place,
-                stamp: mark.stamp,
             }),
         },
     }
 }
 
-// The key that a system call of 32 bytes in front read, and the steps behind it.
+// The key that a system call of 32 bytes at the front read, and the steps after it.
 fn key_in_front(steps: &[Step]) -> Option<(KeyRead, &[Step])>
     ensures { MatchOption result (key_in_front steps.now ≡ None)
         (λ r. key_in_front steps.now ≡ Some (record { key = r.0; rest = r.1.now })) }
@@ -92,7 +88,7 @@ fn key_in_front(steps: &[Step]) -> Option<(KeyRead, &[Step])>
     }
 }
 
-// The same where the base was visited before.
+// The same, if the base was visited first.
 fn second_key(steps: &[Step]) -> Option<(KeyRead, &[Step])>
     ensures { MatchOption result (second_key steps.now ≡ None)
         (λ r. second_key steps.now ≡ Some (record { key = r.0; rest = r.1.now })) }
@@ -103,21 +99,19 @@ fn second_key(steps: &[Step]) -> Option<(KeyRead, &[Step])>
     }
 }
 
-/// A vgetrandom state in a call: its outline, what the call left, and the stamp of the caller's last visit so far.
+/// A vgetrandom state in a call: its outline, and the entries that the call left so far.
 #[derive(Drop)]
 pub(crate) struct Leaving {
     outline: Outline,
-    entries: Vec<LeftEntry>,
-    stamp: u64,
+    entries: Vec<VEntry>,
 }
 
 impl Model for Leaving {
-    ghost use Rattle.state_entries.specs.Entries.{call_entries};
     ghost use Rattle.state_entries.specs.Left.{Left};
 
     ghost Value = { Left };
 
-    ghost view = { λ s. record { outline = s.outline; entries = call_entries s.entries.items } };
+    ghost view = { λ s. record { outline = s.outline; entries = s.entries.items } };
 }
 
 impl Leaving {
@@ -125,33 +119,31 @@ impl Leaving {
     ghost use Rattle.key_names.specs.BatchCopy.{serve_entry, blocks_entry, block_after_copy};
     ghost use Rattle.key_names.specs.VreadSteps.{is_wiped};
     ghost use Rattle.line_orders.specs.Called.{seen_act};
-    ghost use Rattle.state_entries.specs.Entries.{call_entries};
     ghost use Rattle.state_entries.specs.Outline.{outlined};
     ghost use Rattle.state_entries.specs.Left.{Left, nothing_left, left_more, pushed, wiped, met, refilled};
     ghost use Rattle.state_entries.specs.Left.{copied, keyed, from_serve, from_written, attempted, tried_twice};
     ghost use Rattle.state_entries.specs.Left.{from_look, vread_left};
 
-    /// A call begins on a state of this outline, and its caller's last visit has this stamp.
-    pub(crate) fn begin(alloc: Global, outline: Outline, stamp: u64) -> Leaving
+    /// A call begins on a state of this outline.
+    pub(crate) fn begin(alloc: Global, outline: Outline) -> Leaving
         ensures { result ≡ nothing_left outline }
     {
         Leaving {
             outline,
             entries: Vec::new(alloc),
-            stamp,
         }
     }
 
-    /// What the state is by now.
+    /// The outline of the state now.
     pub(crate) fn outline(&self) -> Outline
         ensures { result ≡ self.now.outline }
     {
         self.outline
     }
 
-    /// What the call left.
-    pub(crate) fn entries(&self) -> &[LeftEntry]
-        ensures { call_entries result.now ≡ self.now.entries }
+    /// The entries that the call left so far.
+    pub(crate) fn entries(&self) -> &[VEntry]
+        ensures { result.now ≡ self.now.entries }
     {
         &self.entries
     }
@@ -159,10 +151,7 @@ impl Leaving {
     fn push(&mut self, entry: VEntry) -> Result<(), AllocError>
         ensures { OnOk result (self.new ≡ pushed entry self.old) }
     {
-        self.entries.push(LeftEntry {
-            entry,
-            stamp: self.stamp,
-        })?;
+        self.entries.push(entry)?;
         Ok(())
     }
 
@@ -170,7 +159,7 @@ impl Leaving {
     ///
     /// # Errors
     ///
-    /// `AllocError` where there is no memory for its entry.
+    /// `AllocError` if there is no memory for its entry.
     pub(crate) fn wipe(&mut self) -> Result<(), AllocError>
         ensures { OnOk result (self.new ≡ wiped self.old) }
     {
@@ -184,10 +173,8 @@ impl Leaving {
         ensures { OnOk result (self.new ≡ met (is_wiped (map seen_act acts.now) point) self.old) }
     {
         if wipes(acts, point) {
-            self.stamp = before_wipe(self.stamp, acts, point);
             self.wipe()?;
         }
-        self.stamp = behind_point(self.stamp, acts, point);
         Ok(())
     }
 
@@ -209,7 +196,7 @@ impl Leaving {
         Ok(())
     }
 
-    // Whole blocks of the key from this one on are served, and a new batch begins of which so many bytes are.
+    // Whole blocks of the key from this one on are served, and a new batch begins with this many bytes served.
     fn refill(&mut self, from: u64, whole: u64, last: u8) -> Result<(), AllocError>
         requires { from + whole < 2 ^ 64 }
         ensures { OnOk result (self.new ≡ refilled from whole last self.old) }
@@ -221,7 +208,7 @@ impl Leaving {
         Ok(())
     }
 
-    // Copies `len` bytes, `block` being the key's next block. Answers the next block behind the copy.
+    // Copies `len` bytes; `block` is the key's next block. Returns the next block after the copy.
     fn copy(&mut self, block: u64, len: u32) -> Result<u64, AllocError>
         requires near { block ≤ 2 ^ 32 }
         ensures next { IfOk result (λ next. next ≡ block_after_copy (outlined self.old.outline) block len) }
@@ -273,7 +260,6 @@ impl Leaving {
     fn take_key(&mut self, key: KeyRead) -> Result<(), AllocError>
         ensures { OnOk result (self.new ≡ keyed key self.old) }
     {
-        self.stamp = key.stamp;
         self.outline.served = BATCH_BYTES;
         self.push(VEntry::Rekey {
             cpu: key.cpu,
@@ -304,7 +290,7 @@ impl Leaving {
         }
     }
 
-    // An attempt to copy `len` bytes, `block` being the key's next block.
+    // An attempt to copy `len` bytes; `block` is the key's next block.
     fn attempt<'a>(
         &mut self,
         acts: &[ActLine<'_>],
@@ -330,7 +316,7 @@ impl Leaving {
         }
     }
 
-    // An attempt, and a second one without acts where the first did not hold.
+    // An attempt, and a second one without acts if the first did not hold.
     fn try_twice(
         &mut self,
         acts: &[ActLine<'_>],
@@ -346,7 +332,7 @@ impl Leaving {
         Ok(())
     }
 
-    // Behind the look of a `vread` that wants bytes and has good flags.
+    // After the look of a `vread` that wants bytes and has good flags.
     fn look(
         &mut self,
         acts: &[ActLine<'_>],
@@ -371,7 +357,7 @@ impl Leaving {
     ///
     /// # Errors
     ///
-    /// `AllocError` where there is no memory for its entries.
+    /// `AllocError` if there is no memory for its entries.
     pub(crate) fn vread(
         &mut self,
         len: u32,

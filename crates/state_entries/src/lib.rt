@@ -1,24 +1,29 @@
-//! Which entries the calls of a transcript leave in the lists of its callers' vgetrandom states.
+//! The entries that the calls of a transcript leave in the lists of its callers' vgetrandom states.
 //!
-//! [`state_lists`] goes through the calls of every caller and gives the list of each of its sixteen states. Its
-//! contract says that these are the lists of whatever the calls mean (`key_names`' `specs/IsTranscript.antt`). No key
-//! and no byte is looked at, since the steps of a `vread` and the [`outline::Outline`] of its state decide which
-//! entries it leaves. The [`laws`] say so of one `vread` and of one caller's calls.
+//! [`state_lists`] goes through the calls of every caller and returns the list of each of its sixteen states. By its
+//! contract these are the lists of each meaning of the calls (`key_names`' `specs/IsTranscript.antt`). It reads no key
+//! and no byte: the steps of a `vread` and the [`outline::Outline`] of its state decide which entries it leaves. The
+//! [`laws`] state this for one `vread` and for one caller's calls.
 //!
-//! Beside each entry stands when the call was over that left it: the stamp of the last visit that its caller had made
-//! then. The contract says that a stamp so cuts the lists between calls: it keeps what each caller's first calls leave,
-//! as many as were over by it. Of the stamp of the visit before an entry, and of its event, no clause speaks.
+//! Each entry is listed with the call that left it: the call's number, and a [`CallEnd`] with its line and the stamp
+//! when it was over. That is the stamp of the last visit by then, of its caller or of the caller's ancestors before its
+//! start. The contract gives these ends for each meaning of the calls. It also states that a stamp or a call cuts the
+//! lists between calls: the kept entries are those that the first calls leave.
 //!
-//! It stands on the calls of `line_orders`. What it answers where steps are not those of a call is not said.
+//! [`line_ends::line_ends`] gives each line of a caller with its call, and with the stamp when the call was over.
+//!
+//! The crate works on the calls of `line_orders`. For steps that are not those of a call the entries are unspecified.
 #![tactic(auto)]
 
 mod caller;
 pub mod entry;
 pub mod laws;
 mod leaving;
+pub mod line_ends;
 pub mod lists;
 pub mod outline;
 mod stamps;
 
-pub use entry::StateEntry;
+pub use entry::{CallEnd, Cut, StateEntry};
+pub use line_ends::LineEnd;
 pub use lists::state_lists;

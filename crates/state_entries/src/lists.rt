@@ -9,11 +9,12 @@ ghost use Rattle.key_names.specs.Texts.ScriptGrammar.{Script};
 ghost use Rattle.line_orders.specs.Begun.{PartsStand};
 ghost use Rattle.line_orders.specs.Called.{seen_call, seen_calls};
 ghost use Rattle.line_orders.specs.Orders.{all_forks};
-ghost use Rattle.state_entries.specs.Cut.{AreCutByStamp};
+ghost use Rattle.state_entries.specs.Cut.{AreCut};
 ghost use Rattle.state_entries.specs.Entries.{all_lists_in};
 ghost use Rattle.state_entries.specs.Laws.{AreStateLists};
-ghost use Rattle.state_entries.specs.Stamped.{lists_over, all_lists_over, caller_over, all_over};
-ghost use Rattle.state_entries.specs.Stamps.{start_stamp};
+ghost use Rattle.state_entries.specs.Stamped.{kept_lists, all_kept, caller_over, all_over};
+ghost use Rattle.state_entries.specs.Stamps.{start_stamp, AreStarts};
+ghost use Rattle.state_entries.specs.Told.{AreToldEnds};
 
 use crate::caller::Caller;
 use crate::entry::StateEntry;
@@ -24,7 +25,7 @@ use line_orders::called::Called;
 use line_orders::order::{Fork, all_own_steps, front_of};
 use std::alloc::{AllocError, Global};
 
-// The first steps of some, or all where they are fewer.
+// The first steps of some, or all of them if they are fewer.
 fn first_steps(steps: &[Step], count: usize) -> &[Step]
     ensures { result.now ≡ take count steps.now }
 {
@@ -42,14 +43,14 @@ fn steps_before<'a>(own: &'a [Vec<Step>], fork: Fork) -> &'a [Step]
     }
 }
 
-// The stamp at which a caller starts, or 0.
-fn start_at(starts: &[u64], caller: usize) -> u64
+/// The stamp at a caller's start, or 0.
+pub(crate) fn start_at(starts: &[u64], caller: usize) -> u64
     ensures { result ≡ unwrap_or (slice_get starts.now caller) 0 }
 {
     starts.get(caller).copied().unwrap_or(0)
 }
 
-// The stamp of the last visit that stands before a caller's own, where those before the callers in front are known.
+// The stamp of the last visit before a caller's start, if those of the callers with lower numbers are given.
 fn start_stamp(starts: &[u64], own: &[Vec<Step>], forks: &[Fork], caller: usize) -> u64
     ensures { (callers : List (List Call)) → map (λ own. own.items) own.now ≡ map calls_steps callers →
         forks.now ≡ all_forks 0 callers → length starts.now ≡ caller →
@@ -79,17 +80,17 @@ fn start_stamps(alloc: Global, own: &[Vec<Step>], forks: &[Fork]) -> Result<Vec<
     Ok(starts)
 }
 
-// The lists of a caller with these calls, the first of which finds this stamp.
+// The lists of a caller with these calls; the stamp is that before the first of them.
 fn caller_lists(
     alloc: Global,
     stamp: u64,
     calls: &[Called<'_>],
 ) -> Result<Vec<Vec<StateEntry>>, AllocError>
-    ensures { IfOk result (λ lists. lists_over lists.items ≡ caller_over stamp (map seen_call calls.now)) }
+    ensures { IfOk result (λ lists. kept_lists lists.items ≡ caller_over stamp (map seen_call calls.now)) }
 {
     let mut caller = Caller::start(alloc, stamp)?;
-    for call in calls {
-        caller.call(alloc, call)?;
+    for (number, call) in calls.iter().enumerate() {
+        caller.call(alloc, number, call)?;
     }
     Ok(caller.lists())
 }
@@ -100,7 +101,7 @@ fn all_lists(
     starts: &[u64],
     callers: &[Vec<Called<'_>>],
 ) -> Result<Vec<Vec<Vec<StateEntry>>>, AllocError>
-    ensures { IfOk result (λ lists. all_lists_over lists.items
+    ensures { IfOk result (λ lists. all_kept lists.items
         ≡ all_over (λ c. unwrap_or (slice_get starts.now c) 0) 0 (seen_calls callers.now)) }
 {
     let mut lists = Vec::with_capacity(alloc, callers.len())?;
@@ -111,22 +112,37 @@ fn all_lists(
     Ok(lists)
 }
 
-/// Of each caller, and of each of its sixteen vgetrandom states, the entries that its calls leave, in their order, with
-/// the stamps at which the calls were over.
+/// For each caller, the stamp of the last visit of its ancestors before its start, or 0 if they made none.
 ///
 /// # Errors
 ///
-/// `AllocError` where there is no memory for them.
+/// `AllocError` if there is no memory for them.
+pub(crate) fn starts_of(alloc: Global, parts: &Parts<'_>) -> Result<Vec<u64>, AllocError>
+    ensures { (script : Script) (t : List (List SeenLine)) → PartsStand script t parts.now →
+        IfOk result (λ starts. AreStarts (script_calls script t) starts.items) }
+{
+    let own = all_own_steps(alloc, &parts.calls)?;
+    let starts = start_stamps(alloc, &own, &parts.forks)?;
+    Ok(starts)
+}
+
+/// For each of the sixteen vgetrandom states of each caller, the entries that its calls leave, in order. Each is listed
+/// with the call that left it: the call's number, the stamp when it was over, and its line.
+///
+/// # Errors
+///
+/// `AllocError` if there is no memory for them.
 pub fn state_lists(
     alloc: Global,
     parts: &Parts<'_>,
 ) -> Result<Vec<Vec<Vec<StateEntry>>>, AllocError>
     ensures lists { IfOk result (λ lists. AreStateLists (seen_calls parts.now.calls.items) (all_lists_in lists.items)) }
     ensures cut { (script : Script) (t : List (List SeenLine)) → PartsStand script t parts.now →
-        IfOk result (λ lists. AreCutByStamp (script_calls script t) lists.items) }
+        IfOk result (λ lists. AreCut (script_calls script t) lists.items) }
+    ensures ends { (script : Script) (t : List (List SeenLine)) → PartsStand script t parts.now →
+        IfOk result (λ lists. AreToldEnds (script_calls script t) (all_kept lists.items)) }
 {
-    let own = all_own_steps(alloc, &parts.calls)?;
-    let starts = start_stamps(alloc, &own, &parts.forks)?;
+    let starts = starts_of(alloc, parts)?;
     let lists = all_lists(alloc, &starts, &parts.calls)?;
     Ok(lists)
 }

@@ -1,11 +1,11 @@
-//! What of a vgetrandom state decides the entries that a call leaves.
+//! The part of a vgetrandom state that decides which entries a call leaves.
 ghost use Rattle.std.specs.Prelude.{◌≡◌};
 ghost use Rattle.state_entries.specs.Outline.{wiped_outline};
 
-/// What of a vgetrandom state decides the entries that a call leaves: nothing of its key and its batch.
+/// The part of a vgetrandom state that decides which entries a call leaves. Its key and its batch have no part in it.
 #[derive(Clone, Copy, Debug, PartialEq, Eq)]
 pub struct Outline {
-    /// The generation that a look found when the state's key was read, or 0 where the state was wiped since.
+    /// The generation that a look found when the state's key was read, or 0 if the state was wiped since.
     pub found: u64,
     /// How many bytes of the batch were served.
     pub served: u8,

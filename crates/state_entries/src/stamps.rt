@@ -1,10 +1,14 @@
-//! The stamps of a caller's visits.
+//! The stamps of a caller's visits, and the ends of its calls.
 ghost use Rattle.std.specs.Prelude.{◌≡◌, map};
 ghost use Rattle.key_names.specs.History.{steps_at_point, vread_steps};
 ghost use Rattle.line_orders.specs.Called.{seen_act, seen_call};
+ghost use Rattle.line_orders.specs.Seen.{seen_bare};
+ghost use Rattle.state_entries.specs.Ends.{end_of, own_line};
 ghost use Rattle.state_entries.specs.Stamps.{latest_of, over_at};
 
-use key_names::{InsideAct, Point, Step};
+use crate::entry::CallEnd;
+use key_names::{Point, Step};
+use line_orders::bare::BareLine;
 use line_orders::called::{ActLine, Called};
 
 /// The greatest stamp among this one and those of the visits of some steps.
@@ -20,8 +24,8 @@ pub(crate) fn latest(stamp: u64, steps: &[Step]) -> u64
     latest
 }
 
-/// The last stamp behind those of a point.
-pub(crate) fn behind_point(stamp: u64, acts: &[ActLine<'_>], point: Point) -> u64
+// The last stamp after the acts of a point.
+fn behind_point(stamp: u64, acts: &[ActLine<'_>], point: Point) -> u64
     ensures { result ≡ latest_of stamp (steps_at_point (map seen_act acts.now) point) }
 {
     let mut last = stamp;
@@ -33,7 +37,7 @@ pub(crate) fn behind_point(stamp: u64, acts: &[ActLine<'_>], point: Point) -> u6
     last
 }
 
-// The last stamp behind a `vread` and the acts inside it.
+// The last stamp after a `vread` and the acts inside it.
 fn behind_vread(stamp: u64, steps: &[Step], acts: &[ActLine<'_>]) -> u64
     ensures { result ≡ latest_of stamp (vread_steps steps.now (map seen_act acts.now)) }
 {
@@ -44,7 +48,7 @@ fn behind_vread(stamp: u64, steps: &[Step], acts: &[ActLine<'_>]) -> u64
     behind_point(served, acts, Point::End)
 }
 
-/// The last stamp behind a call.
+/// The last stamp after a call.
 pub(crate) fn behind_call(stamp: u64, call: &Called<'_>) -> u64
     ensures { result ≡ over_at stamp (seen_call call.now) }
 {
@@ -55,16 +59,24 @@ pub(crate) fn behind_call(stamp: u64, call: &Called<'_>) -> u64
     }
 }
 
-/// The last stamp behind those of a point before its first wipe.
-pub(crate) fn before_wipe(stamp: u64, acts: &[ActLine<'_>], point: Point) -> u64 {
-    let mut stamp = stamp;
-    for bound in acts {
-        if bound.point.is(point) {
-            if matches!(bound.act, InsideAct::Wipe) {
-                return stamp;
-            }
-            stamp = latest(stamp, bound.line.steps);
-        }
+/// The line that shows a call: for a `vread` its own, not those of the acts inside it.
+pub(crate) fn own_line<'a>(call: &Called<'a>) -> BareLine<'a>
+    ensures { seen_bare result ≡ own_line (seen_call call.now) }
+{
+    match call {
+        Called::Alone { line, .. } | Called::Vread { line, .. } | Called::Ending(line) => *line,
+        Called::Unbound(act) => act.line,
     }
-    stamp
+}
+
+/// The end of a call; `stamp` is that of the last visit before it.
+pub(crate) fn end_of(stamp: u64, call: &Called<'_>) -> CallEnd
+    ensures { result ≡ end_of stamp (seen_call call.now) }
+{
+    let line = own_line(call);
+    CallEnd {
+        stamp: behind_call(stamp, call),
+        caller: line.caller,
+        event: line.event,
+    }
 }

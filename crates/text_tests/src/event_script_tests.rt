@@ -1,5 +1,5 @@
-//! What no clause says: that an ordinary text is read, and what a load has. Each fault is seen of the built program, by
-//! `.ci/program_checks`.
+//! Facts without a clause: an ordinary text is read, and the content of a load. `.ci/program_checks` tries each
+//! fault on the built program.
 use event_script::{Script, read, read_front};
 use key_names::{Event, Text};
 use std::test::Fail;
@@ -78,7 +78,7 @@ fn a_load_has_the_events_of_its_text(rt: HostRuntime) -> Result<(), Fail> {
 #[test]
 fn loads_at_their_limits(rt: HostRuntime) -> Result<(), Fail> {
     let text = Text::of(rt.alloc(), [0x8f, 1, 0, 0, 0, 0, 0, 0].to_vec(rt.alloc())?)?;
-    // How many events there are, and the last one, worked out with another program.
+    // The number of events and the last one, computed by another program.
     let rows = [
         (1, 8, 400, 3216, Event::Write { text }),
         (u32::MAX, 64, 1000, 64_128, Event::Int64),

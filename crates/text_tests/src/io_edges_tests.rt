@@ -1,4 +1,4 @@
-//! What no clause says: the adapters over real readers and writers, and each call once to its end.
+//! Facts without a clause: the adapters over real readers and writers, and each call once to its end.
 ghost use Rattle.std.specs.Prelude.{◌≤◌, length};
 
 use io_edges::{
@@ -34,7 +34,7 @@ fn sink_of(
     MemSink::of(alloc, step, [failing].to_vec(alloc)?, TEXT.len())
 }
 
-// Where the text stands after so many whole calls.
+// The place in the text after this number of whole calls.
 fn place(calls: u64, step: usize) -> usize
     ensures { result ≤ length TEXT.now }
 {

@@ -1,4 +1,4 @@
-//! Long texts of little sense: each has its fault, found in one pass and without memory for more than its own bytes.
+//! Long texts of little sense. The fault of each is found in one pass, without memory for more than the text itself.
 ghost use Rattle.std.specs.Prelude.{◌≤◌, ◌^◌, length};
 
 use std::alloc::{AllocError, Global};
@@ -9,7 +9,7 @@ const HEAD: &[u8] = b"rngtranscript 1\n";
 
 const LONG: usize = 16 << 20;
 
-/// A text with one byte so many times in the middle.
+/// A text with a byte repeated `times` times between front and back.
 fn text_of(
     alloc: Global,
     front: &[u8],
@@ -23,7 +23,7 @@ fn text_of(
     Ok(text)
 }
 
-/// The first faulty line, or 0 for a transcript, or the greatest number where memory ran out.
+/// The first faulty line, or 0 for a transcript, or the greatest number if memory ran out.
 fn fault(alloc: Global, text: &[u8]) -> u32 {
     if text.len() > 1 << 31 {
         return u32::MAX;

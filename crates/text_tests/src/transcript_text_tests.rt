@@ -51,7 +51,7 @@ fn sink(alloc: Global, step: usize, failing: u64) -> Result<MemSink, AllocError>
     MemSink::of(alloc, step, [failing].to_vec(alloc)?, 1 << 16)
 }
 
-/// How a transcript is written: as a whole, or line by line.
+/// The two ways to write a transcript: as a whole, or line by line.
 #[derive(Clone, Copy, Debug)]
 enum Writing {
     Whole,
@@ -251,7 +251,7 @@ fn a_line_is_filled_in_behind_a_later_one(rt: HostRuntime) -> Result<(), Fail> {
     Ok(())
 }
 
-/// What is read of a text, written again.
+/// Reads a text and writes it again.
 fn again(
     rt: &impl Abort,
     alloc: Global,
@@ -305,7 +305,7 @@ fn the_number_of_bits_is_read(rt: HostRuntime) -> Result<(), Fail> {
     Ok(())
 }
 
-/// The number of the first faulty line of a text with this head, and 0 where it has none.
+/// The number of the first faulty line of a text with this head, or 0 if it has none.
 fn fault(rt: &impl Abort, alloc: Global, head: &str, rest: &str) -> Result<u32, AllocError> {
     let text = format!(in alloc; "{head}{rest}")?;
     assert!(rt; text.len() < 1 << 20);

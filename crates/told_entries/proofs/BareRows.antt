@@ -1,4 +1,4 @@
--- Tables of which nothing is told yet: lanes without rows, and one more row of a lane.
+-- Tables before any entry is inferred: lanes without rows, and one more row of a lane.
 use Rattle.std.proofs.Common.{◌≡◌, ◌≢◌, ℕ, zero, suc, ◌+◌, ◌<◌, ◌≤◌, Bool, true, false, List, [], ◌∷◌, ◌++◌, length, map, drop, slice_set, get_or, Vec, Global, ◌⊎◌, inl, inr, refl, sym, subst, ap, ◌∙◌, arith}
 use Rattle.std.proofs.Common.{add-one}
 use Rattle.std.proofs.lemmas.List.{length_push}
@@ -36,7 +36,7 @@ module _ {T : Type 0} where
   bare_more (x ∷ vecs) v none bare zero = bare 0
   bare_more (x ∷ vecs) v none bare (suc c) = bare_more vecs v none (λ d. bare (suc d)) c
 
-  -- another vector in the place of one
+  -- another vector instead of one
   pub lane_set : (vecs : List (Vec T Global)) (c : ℕ) (v : Vec T Global) → c < length vecs →
       list_at (items_of (slice_set vecs c v)) c ≡ v.items
   lane_set [] c v low = absurd (omega arith)
@@ -51,7 +51,7 @@ module _ {T : Type 0} where
   lane_kept (x ∷ vecs) (suc c) zero v other = refl
   lane_kept (x ∷ vecs) (suc c) (suc d) v other = lane_kept vecs c d v (λ e. other (ap suc e))
 
--- the marks that are left, one mark further
+-- the remaining marks, one mark later
 pub marks_left : (lane : LaneId) (marks : List MarkOf) (i : ℕ) (of : MarkOf) → slice_get marks i ≡ Some of →
     length (lane_marks lane (map seen_mark (drop i marks)))
     ≡ (if is_same_lane of.mark.lane lane then suc (length (lane_marks lane (map seen_mark (drop (suc i) marks))))
@@ -75,7 +75,7 @@ set_long [] c v = refl
 set_long (x ∷ vecs) zero v = refl
 set_long (x ∷ vecs) (suc c) v = ap suc (set_long vecs c v)
 
--- tables whose CPUs' rows these vectors have
+-- tables with these vectors as the rows of CPUs
 abbrev pub with_lanes : List ToldPool → List BaseTold → List (Vec ToldCpu Global) → Tables
 with_lanes pool base vecs = record { pool = pool; base = base; cpus = items_of vecs }
 
@@ -114,7 +114,7 @@ cpu_row_put pool base vecs c v spot mark low is lane_is put =
     (sym (lane_set vecs c v low)) put)
     (λ d other. lane_kept vecs c d v other) (set_long vecs c v) refl refl
 
--- after one more row there are as many as before, and one mark fewer is left
+-- after one more row, the rows and the remaining marks are together as many as before
 pub rows_and_left : (lane : LaneId) (marks : List MarkOf) (i : ℕ) (d : MarkOf) (old new : Tables) (n : ℕ) →
     i < length marks → IsLonger (get_or marks i d).mark.lane old new →
     rows_in old lane + length (lane_marks lane (map seen_mark (drop i marks))) ≡ n →
@@ -135,7 +135,7 @@ rows_and_left lane marks i d old new n low longer so_far =
 pub longer_at : (l m : LaneId) (old new : Tables) → l ≡ m → IsLonger m old new → IsLonger l old new
 longer_at l m old new is longer = subst (λ x. IsLonger x old new) (sym is) longer
 
--- what is put before something is told
+-- the content of an unfilled row
 abbrev pub bare_row : ToldCpu
 bare_row = record { entry = cpu_is Prepare; dumps = false }
 

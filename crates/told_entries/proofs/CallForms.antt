@@ -1,4 +1,4 @@
--- What stands behind the steps of calls that mean what they may: forms, and what a vread's steps tell.
+-- The steps of calls with a lawful meaning: forms, and the inferred entries of a vread.
 use Rattle.std.proofs.Common.{◌≡◌, ℕ, zero, suc, ◌+◌, ◌<◌, ◌⊎◌, inl, inr, Bool, true, false, List, [], ◌∷◌, length, refl, sym, subst, ap, ◌∙◌, arith}
 use Rattle.std.specs.Prelude.{MatchBool, ⊤}
 use Rattle.std.specs.List.{AllByRecursion}
@@ -42,7 +42,7 @@ module _ (lists : Lists) where
   CallsForm set [] = ⊤
   CallsForm set (call ∷ calls) = CallForm set call × CallsForm (setting_after_call set call) calls
 
-  -- those of all callers
+  -- the same for all callers
   abbrev pub AllCallsForm : List (List Call) → Type 0
   AllCallsForm callers = (c : ℕ) → c < length callers → CallsForm (start_setting callers c) (list_at callers c)
 
@@ -75,7 +75,7 @@ module _ (lists : Lists) (lawful : LawfulLanes lists) where
   no_acts_done set (bound ∷ acts) [] behind none = absurd behind
   no_acts_done set (bound ∷ acts) (m ∷ ms) behind none = absurd (cc none)
 
-  -- the acts of a vread, and the setting that it leaves
+  -- the acts of a vread, and the setting after it
   record VreadLeft (acts : List BoundAct) (m : CallMeaning) : Type 0 where
     done : AllByRecursion (ActDone lists m.before.setting) acts
     setting : m.after.setting ≡ m.before.setting
@@ -108,7 +108,7 @@ module _ (lists : Lists) (lawful : LawfulLanes lists) where
       go true (g, rest, is, k) = behind_look rest (serves_locally (published_by g) (current_state m.before) n) k
       go false k = called n flags acts m behind k
 
-  -- what a call is, and what it leaves set
+  -- the form of a call, and the setting after it
   record CallDone (set : Setting) (call : Call) (m : CallMeaning) : Type 0 where
     form : CallForm lists set call
     leaves : m.after.setting ≡ setting_after_call set call
@@ -163,7 +163,7 @@ module _ (lists : Lists) (lawful : LawfulLanes lists) where
       CallsForm lists set calls
   caller_form set calls ms means = calls_form (caller_start set) set calls ms refl means.deeds means.follows
 
--- what holds of each caller's lists
+-- a fact of each caller's lists
 each_caller_at : {A B : Type 0} (P : ℕ → List A → B → Type 0) (c : ℕ) (xs : List (List A)) (ys : List B) →
     EachCaller P c xs ys → (i n : ℕ) → i < length xs → c + i ≡ n → (y : B) × P n (list_at xs i) y
 each_caller_at P c [] ys each i n lt at = absurd (omega arith)

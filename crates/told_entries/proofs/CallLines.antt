@@ -1,4 +1,4 @@
--- What holds of each line of a transcript, and of each line of its calls.
+-- A fact of each line of a transcript, and of each line of its calls.
 use Rattle.std.proofs.Common.{ℕ, zero, suc, ◌<◌, List, [], ◌∷◌, length, arith}
 use Rattle.std.specs.List.{AllByRecursion}
 use Rattle.key_names.specs.declared.events.Event.{Event}

@@ -1,4 +1,4 @@
--- What the rows of a line say of dumps, and when its samples stand by them.
+-- The dumps in the rows of a line, and when its samples are lawful by them.
 use Rattle.std.proofs.Common.{◌≡◌, ℕ, ◌<◌, ◌⊎◌, inl, inr, Bool, true, false, List, [], ◌∷◌, refl, sym, ap, ◌∙◌, subst, Some}
 use Rattle.std.specs.Prelude.{⊤, slice_get}
 use Rattle.std.specs.List.{AllByRecursion}
@@ -48,7 +48,7 @@ dump_due : (f : FastPool) (b : Bool) (e : CpuEntry) → IsDump e → DueStands f
 dump_due f b (Dump now) dump = tt
 dump_due f b _ dump = absurd dump
 
--- ---- tellings that no interrupt has
+-- ---- kinds of lines other than an interrupt's
 
 abbrev pub IsNoSample : Telling → Type 0
 IsNoSample (samples v1 v2) = ⊥
@@ -81,7 +81,7 @@ module _ (told : Tables) (lists : Lists) where
   abbrev fast : ℕ → ℕ → FastPool
   fast = (facts_of lists).fast
 
-  -- ---- what is to be shown of the tables, place by place
+  -- ---- the goal about the tables, place by place
 
   abbrev pub DueHere : ℕ → ℕ → Type 0
   DueHere c k = (t : ToldCpu) (e : CpuEntry) → slice_get (list_at told.cpus c) k ≡ Some t →
@@ -159,7 +159,7 @@ module _ (told : Tables) (lists : Lists) where
         (due_here _ f.sample r.0 (quiet_due (fast f.sample.cpu f.sample.place) f.sample.entry q.0), tt)
     only_tables f (inr d) rows = absurd (cc (sym f.deeds_are ∙ d.deeds_are))
 
-    -- behind the mix nothing is told to mix a dump's bytes
+    -- after the mix, no further row mixes a dump
     rest_tables : (a : Sign) (rest : List Deed) (p : ℕ) → Crossed rest → RowsFrom a (in_pool p) rest → AllStand rest
     rest_tables a rest p (inl empty) rows = subst AllStand (sym empty) tt
     rest_tables a rest p (inr (inl f)) rows = subst AllStand (sym f.are) (tt, tt)
@@ -205,7 +205,7 @@ module _ (told : Tables) (lists : Lists) where
     -- from tables to samples
 
     module _ (fills : Fills told lists) (lawful : Lawful told lists) where
-      -- whether a sample makes a dump due is what its row says
+      -- the row of a sample records whether it makes a dump due
       due_is : (row : ToldCpu) (v : CpuVisit) → CpuRow told lists row v → v.entry ≡ IrqSample v1 v2 set.now →
           makes_due (fast v.cpu v.place) set.now ≡ row.dumps
       due_is row v r is = subst (DueStands (fast v.cpu v.place) row.dumps) is
@@ -220,7 +220,7 @@ module _ (told : Tables) (lists : Lists) where
             tt,
           ))
 
-      -- a mix is what is told
+      -- a mix is the inferred one
       mixed : (c k : ℕ) (t : Telling) (around : Around) (v : PoolVisit) → pool_told t around ≡ dumped_told c k →
           PoolRow told lists set t around v → v.entry ≡ Mix (dump_bytes (fast c k)) (dump_bits (fast c k))
       mixed c k t around v is r =

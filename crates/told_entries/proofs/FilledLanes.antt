@@ -1,4 +1,5 @@
--- From rows that are what the lines tell: all lines' visits are as told exactly where the lists are as the tables tell.
+-- If the rows are inferred from the lines, all lines' visits have the inferred entries exactly if the lists match the
+-- tables.
 use Rattle.std.proofs.Common.{◌≡◌, ℕ, zero, suc, ◌<◌, List, [], ◌∷◌, length, Some, refl, sym, subst, ap, ◌∙◌, arith, map}
 use Rattle.std.specs.Prelude.{◌↔◌, slice_get}
 use Rattle.std.specs.List.{AllByRecursion}
@@ -31,7 +32,7 @@ use Rattle.told_entries.specs.Spots.{HasRows, rows_in}
 use Rattle.told_entries.proofs.Matches.{PlaceMatches, StepMatches, LineThere, LineMatches, to_calls, from_calls}
 use Rattle.told_entries.proofs.MarkedSteps.{StepHas, LineHas, MarkHas, all_lines, all_of_lines, to_callers, to_all_lines}
 
--- how many entries a lane has
+-- the number of entries of a lane
 abbrev pub entries_in : Lists → LaneId → ℕ
 entries_in lists PoolLane = length lists.pool
 entries_in lists BaseLane = length lists.base
@@ -50,7 +51,7 @@ book_lanes book (CpuLane c) =
     ap length (list_at_map (λ (v : Visit CpuEntry). v.entry) book.cpus c)
     ∙ length-map (list_at book.cpus c) (λ (v : Visit CpuEntry). v.entry)
 
--- ---- something stands at each place of a lane
+-- ---- an entry at each place of a lane
 
 is_there : {E : Type 0} (deed : E → Deed) → ((e : E) → IsThere (deed e)) → (xs : List E) (place : ℕ) →
     place < length xs → IsThere (deed_or deed (slice_get xs place))

@@ -1,4 +1,4 @@
--- What is gathered of a transcript: told of all marks, or nothing where a CPU is visited that is not there.
+-- The tables of a transcript: a row for each mark, or none if a line visits a CPU that does not exist.
 use Rattle.std.proofs.Common.{◌≡◌, ℕ, zero, suc, ◌<◌, ◌≤◌, List, [], ◌∷◌, length, map, Some, None, sym, subst, ap, ◌∙◌, arith}
 use Rattle.std.specs.Prelude.{Any, slice_index_or}
 use Rattle.std.specs.List.{AllByRecursion}
@@ -49,7 +49,7 @@ gathered script t parts settings bare told well found long changes stands =
           all_sampled script t book ms stands.lines stands.marks_stand of means lanes samples;
     }
 
--- ---- a CPU that is not there
+-- ---- a CPU that does not exist
 
 beyond : {E : Type 0} (visits : List (Visit E)) (place : ℕ) (there : ℕ × Who) → visits ≡ [] →
     stamped visits place ≡ Some there → ⊥

@@ -1,4 +1,4 @@
--- What is put into bare tables step by step: a row for each mark, which is what its line tells.
+-- Bare tables filled step by step: a row for each mark, inferred from its line.
 use Rattle.std.proofs.Common.{◌≡◌, ℕ, zero, suc, ◌<◌, ◌≤◌, List, [], ◌∷◌, length, Some, None, refl, sym, subst, ap, ◌∙◌, arith, map}
 use Rattle.std.specs.Prelude.{slice_get}
 use Rattle.std.specs.List.{AllByRecursion}

@@ -1,4 +1,4 @@
--- The lines of interrupts, with and without a dump, and that no other line makes a dump due.
+-- The lines of interrupts, with and without a dump; no other line makes a dump due.
 use Rattle.std.proofs.Common.{◌≡◌, ℕ, ◌⊎◌, inl, inr, true, false, List, [], ◌∷◌, sym, ap, ◌∙◌, subst}
 use Rattle.std.specs.Prelude.{⊤}
 use Rattle.std.specs.List.{AllByRecursion}
@@ -56,7 +56,7 @@ module _ (c : LaneFacts) (set : Setting) (sooner taken : Taken) (first : Sign) w
   )
   part_quiet a b (nothing_there ∷ ds) fill = (tt, part_quiet b nowhere ds fill.1)
 
--- ---- what follows a credit
+-- ---- the steps after a credit
 
 pub record RootAndBase (rest : List Deed) : Type 0 where
   pub pool : PoolVisit
@@ -151,7 +151,7 @@ pub sample_due : (f : FastPool) (e : CpuEntry) (v1 v2 now : ℕ) → e ≡ IrqSa
     MakesDue f e
 sample_due f e v1 v2 now is due = subst (MakesDue f) (sym is) due
 
--- ---- calls whose samples stand, where those of interrupts do
+-- ---- calls whose samples are lawful if those of interrupts are
 
 module _ (lists : Lists) where
   abbrev c : LaneFacts
@@ -186,7 +186,7 @@ module _ (lists : Lists) where
   module _ (Here : Setting → Event → SeenLine → Type 0)
       (irq : (set : Setting) (v1 v2 : ℕ) (line : SeenLine) → Here set (Irq v1 v2) line →
       IrqForm set v1 v2 (deeds line) → Stands line) where
-    -- what is asked of events by themselves
+    -- the condition on single events
     abbrev pub CallHere : Setting → Call → Type 0
     CallHere set (alone event line) = Here set event line
     CallHere set (vread_call n flags line acts) = ⊤

@@ -1,4 +1,4 @@
--- The places of a lane's marks are below their number.
+-- The place of each mark of a lane is below the number of the lane's marks.
 use Rattle.std.proofs.Common.{◌≡◌, ℕ, zero, suc, ◌+◌, ◌<◌, ◌≤◌, Bool, true, false, cond, List, [], ◌∷◌, length, refl, sym, ap, ◌∙◌, ◌⊎◌, inl, inr, arith}
 use Rattle.std.specs.Prelude.{count_by, ◌==◌, nat_lt, if◌then◌else◌}
 use Rattle.std.specs.List.{AllByRecursion}
@@ -12,12 +12,12 @@ use Rattle.key_names.proofs.Transcripts.LaneCounts.{lane_itself}
 use Rattle.key_names.proofs.Transcripts.TakenMarks.{from_range}
 use Rattle.key_names.proofs.Transcripts.TranscriptBooks.{lt_or_le}
 
--- ---- places below their number
+-- ---- places below the number of marks
 
 abbrev hit : Bool → ℕ
 hit b = cond b 1 0
 
--- how many marks have a place, and a place below a number
+-- the number of marks with a place, and of those with a place below a number
 abbrev at : ℕ → List Mark → ℕ
 at q [] = 0
 at q (m ∷ ms) = hit (m.place == q) + at q ms
@@ -69,7 +69,7 @@ none_at q ms stand le =
         sym (at_is_count i ms) ∙ sym (ap (λ j. count_by (λ (mark : Mark). mark.place == j) ms) p)
         ∙ from_range (λ place. count_by (λ mark. mark.place == place) ms ≡ 1) 0 (length ms) stand.once i low
 
--- a place that no mark has is no mark's
+-- if no mark has a place from n on, all places are below n
 low_places : (n : ℕ) (ms : List Mark) → ((q : ℕ) → n ≤ q → at q ms ≡ 0) → AllByRecursion (λ m. m.place < n) ms
 low_places n [] none = tt
 low_places n (m ∷ ms) none = (
@@ -99,7 +99,7 @@ module _ (P : LaneId → Mark → Type 0) where
   rest_of true lane m ms all = all.1
   rest_of false lane m ms all = all
 
-  -- what holds of each lane's marks holds of all
+  -- a fact of each lane's marks is one of all marks
   pub in_lanes : (marks : List MarkBy) → ((lane : LaneId) → AllByRecursion (P lane) (lane_marks lane marks)) →
       AllByRecursion (λ by. P by.mark.lane by.mark) marks
   in_lanes [] all = tt

@@ -1,4 +1,4 @@
--- Something stands behind each step of the lines whose marks a book's visits are.
+-- The book has a visit for each mark of the lines, if its visits are these marks.
 use Rattle.std.proofs.Common.{◌≡◌, ℕ, inl, inr, List, [], ◌∷◌, refl, sym, subst, Some, Option}
 use Rattle.key_names.specs.declared.names.LaneId.{LaneId}
 use Rattle.key_names.specs.declared.names.LaneId.TheVariants.{Pool as PoolLane, Base as BaseLane, Cpu as CpuLane}

@@ -1,4 +1,4 @@
--- In what callers mean, each line's visits have the entries that its steps tell.
+-- If callers have a lawful meaning, each line's visits have the entries inferred from its steps.
 use Rattle.std.proofs.Common.{◌≡◌, inl, inr, List, [], ◌∷◌, sym, subst}
 use Rattle.std.specs.List.{AllByRecursion}
 use Rattle.key_names.specs.Book.{Book, Lists, LawfulLanes, lists_of, list_at}
@@ -32,7 +32,7 @@ module _ (lists : Lists) (lawful : LawfulLanes lists) where
   fits : (line : SeenLine) → AllFit c (deeds line)
   fits line = lists_fit lists lawful.forward line.steps
 
-  -- a line without steps tells nothing
+  -- for a line without steps no entry is inferred
   none_fills : (set : Setting) (t : Telling) (line : SeenLine) → deeds line ≡ [] → LineFills c set t (deeds line)
   none_fills set t line none = let P : List Deed → Type 0 = λ ds. LineFills c set t ds in subst P (sym none) tt
 
@@ -57,7 +57,7 @@ module _ (lists : Lists) (lawful : LawfulLanes lists) where
   calls_fill set (call ∷ calls) stands form =
       (call_fills set call stands.0 form.0, calls_fill (setting_after_call set call) calls stands.1 form.1)
 
--- where all callers mean what they may, and the samples of each line stand, each visit is as told
+-- each visit has the inferred entry, if all callers have a lawful meaning and the samples of each line are lawful
 pub all_told : (script : Script) (t : List (List SeenLine)) (book : Book) (ms : List (List CallMeaning)) →
     HasLines script t → AllMean script t book ms → LawfulLanes (lists_of book) →
     AllByRecursion (AllByRecursion (λ line. SamplesStand (facts_of (lists_of book)).fast

@@ -1,4 +1,4 @@
--- What holds of the lane and place of each mark holds of each visit of the lines, of the calls' lines, and back.
+-- A fact of the lane and place of each mark is one of each visit of the lines and of the calls' lines, and conversely.
 use Rattle.std.proofs.Common.{ℕ, suc, List, [], ◌∷◌}
 use Rattle.std.specs.Bool.{⊤}
 use Rattle.std.specs.List.{AllByRecursion, flat_map}
@@ -63,7 +63,7 @@ module _ (Q : LaneId → ℕ → Type 0) where
   all_of_lines (lines ∷ t) all =
       each_append MarkHas (flat_map line_marks lines) (all_marks t) (of_lines lines all.0) (all_of_lines t all.1)
 
--- what holds of each line holds of each line of the calls, and back
+-- a fact of each line is one of each line of the calls, and conversely
 module _ (P : SeenLine → Type 0) where
   pub to_callers : (c : ℕ) (ess : List (List Event)) (t : List (List SeenLine)) →
       EachCaller (λ c events lines. LinesFit c 0 events lines) c ess t →

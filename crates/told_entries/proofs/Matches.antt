@@ -1,4 +1,5 @@
--- From rows that are what the lines tell: the visits of a line are as told exactly where each place that it visits is.
+-- If the rows are inferred from the lines, a line's visits have the inferred entries exactly if each place that it
+-- visits matches its row.
 use Rattle.std.proofs.Common.{◌≡◌, ℕ, List, [], ◌∷◌, Option, Some, None, refl, sym, subst, ap, ◌∙◌}
 use Rattle.std.specs.Prelude.{slice_get}
 use Rattle.std.specs.List.{AllByRecursion}
@@ -37,7 +38,7 @@ use Rattle.told_entries.specs.Rows.{lane_sign, step_sign, first_shown, IsPoolRow
 use Rattle.told_entries.proofs.MarkedSteps.{StepHas}
 use Rattle.told_entries.specs.Rows.{RowStands, LineRows, ActRows, CallRows, CallsRows, part_telling}
 
--- an entry is as told exactly where it is that of the row
+-- an entry is the inferred one exactly if it is that of the row
 to_row : (c : LaneFacts) (set : Setting) (t : Telling) (p : PoolTold) (row : ToldPool) (v : PoolVisit) →
     IsPoolRow set t p row → FillsPool c set t p v → v.entry ≡ pool_entry c row
 to_row c set t own (pool_is note) v is fills = fills ∙ sym is
@@ -59,7 +60,7 @@ from_row c set t (dumped_told d k) (dumped cpu place) v is fills =
     fills ∙ (λ i. Mix (dump_bytes (c.fast (is.0 i) (is.1 i))) (dump_bits (c.fast (is.0 i) (is.1 i))))
 
 module _ (told : Tables) (lists : Lists) where
-  -- where a place has a row and an entry, they agree
+  -- the row and the entry of a place agree, if it has both
   abbrev pub PlaceMatches : LaneId → ℕ → Type 0
   PlaceMatches PoolLane p = (t : ToldPool) (e : PoolEntry) → slice_get told.pool p ≡ Some t →
       slice_get lists.pool p ≡ Some e → e ≡ pool_entry (facts_of lists) t
@@ -71,7 +72,7 @@ module _ (told : Tables) (lists : Lists) where
   abbrev pub StepMatches : Step → Type 0
   StepMatches step = StepHas PlaceMatches step
 
-  -- what a visit of an entry fills
+  -- the visit has the inferred entry
   abbrev Filled : Setting → Telling → Sign → Around → Deed → Type 0
   Filled set t first around d = Fills (facts_of lists) set t first around d
 
@@ -119,7 +120,7 @@ module _ (told : Tables) (lists : Lists) where
       go None there = tt
       go (Some e) there = matches (cpu_row set t first around) e row there
 
-  -- ---- signs of steps and of what stands behind them
+  -- ---- the visible part of steps, and of their visits
 
   lane_shown : (lane : LaneId) (place : ℕ) → IsThere (deed_at lists lane place) →
       sign_of (deed_at lists lane place) ≡ lane_sign lane place
@@ -198,7 +199,7 @@ module _ (told : Tables) (lists : Lists) where
   abbrev pub LineMatches : SeenLine → Type 0
   LineMatches line = AllByRecursion StepMatches line.steps
 
-  -- what a line tells by
+  -- each visit of a line has the inferred entry
   abbrev LineTells : Setting → (Around → Telling) → List Step → Type 0
   LineTells set tell steps =
       AllFill (Tells set tell (first_sign (deeds_of lists steps))) nowhere nowhere (deeds_of lists steps)

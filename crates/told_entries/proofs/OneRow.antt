@@ -18,7 +18,7 @@ use Rattle.told_entries.specs.Rows.{IsPoolRow, cpu_row}
 use Rattle.told_entries.specs.Spots.{Spot, rows_in, SameRow, is_visit, SpotRow, Changes}
 use Rattle.told_entries.proofs.TableChanges.{one_row, unchanged}
 
--- one list has this at a place, and is as the other elsewhere
+-- a list has this row at a place, and is unchanged elsewhere
 pub record PutAt {A : Type 0} (old new : List A) (place : ℕ) (row : A) : Type 0 where
   pub at : place < length old → slice_get new place ≡ Some row
   pub others : (k : ℕ) → k ≢ place → slice_get new k ≡ slice_get old k
@@ -81,7 +81,7 @@ module _ (spot : Spot) (mark : Mark) (old new : Tables) (is : spot.step ≡ Mark
       others BaseLane place ne = put.others place (ne lane_is)
       others (CpuLane c) place ne = ap (λ (xs : List (List ToldCpu)). slice_get (list_at xs c) place) cpus
 
-  -- the same of a CPU's table, where no other CPU's changes
+  -- the same for a CPU's table, if no other CPU's changes
   pub cpu_put : (cpu : ℕ) → mark.lane ≡ CpuLane cpu →
       PutAt (list_at old.cpus cpu) (list_at new.cpus cpu) mark.place (cpu_row spot.set spot.tells spot.first spot.around) →
       ((c : ℕ) → c ≢ cpu → list_at new.cpus c ≡ list_at old.cpus c) → length new.cpus ≡ length old.cpus →
@@ -115,7 +115,7 @@ module _ (spot : Spot) (mark : Mark) (old new : Tables) (is : spot.step ≡ Mark
       others BaseLane place ne = ap (λ xs. slice_get xs place) base
       others (CpuLane c) place ne = row c place (c == cpu) refl ne
 
--- a mark of a lane that is not there changes nothing
+-- a mark of a lane that does not exist changes nothing
 pub absent_put : (spot : Spot) (mark : Mark) (a : Tables) (cpu : ℕ) → spot.step ≡ Marked mark → mark.lane ≡ CpuLane cpu →
     length a.cpus ≤ cpu → Changes (spot ∷ []) a a
 absent_put spot mark a cpu is lane_is absent = row_put spot mark a a is refl (λ lane. refl)

@@ -1,4 +1,4 @@
--- Stamps rise along the steps of an event by itself, and places of one lane with them.
+-- Stamps rise along the steps of a single event, and with them the places of one lane.
 use Rattle.std.proofs.Common.{◌≡◌, ◌≢◌, ℕ, zero, suc, ◌<◌, inl, inr, Bool, true, false, List, [], ◌∷◌, ◌++◌, length, refl, sym, ap, ◌∙◌, subst, arith, Some, Option}
 use Rattle.std.specs.Prelude.{⊤, if◌then◌else◌, unwrap_or}
 use Rattle.std.specs.List.{AllByRecursion}
@@ -25,7 +25,7 @@ use Rattle.key_names.proofs.Samples.DeedPlaces.{CpuStep, cpu_step}
 use Rattle.key_names.proofs.Samples.Lines.{each_in, Among, MarkOf, mark_of}
 use Rattle.key_names.proofs.Samples.LineVisits.{stamp_at}
 
--- ---- parts of what rises
+-- ---- parts of a rising list
 
 stamps_append : (xs ys : List Step) → stamps_of (xs ++ ys) ≡ stamps_of xs ++ stamps_of ys
 stamps_append [] ys = refl
@@ -54,7 +54,7 @@ back_rises xs ys h = rises_back (stamps_of xs) (stamps_of ys) (subst Rises (stam
 
 -- ---- calls
 
--- stamps rise along the line of an event by itself
+-- stamps rise along the line of a single event
 abbrev pub LineRises : Call → Type 0
 LineRises (alone event line) = Rises (stamps_of line.steps)
 LineRises (vread_call n flags line acts) = ⊤
@@ -118,7 +118,7 @@ module _ (t : List (List SeenLine)) (book : Book) (visits : VisitsAre book (all_
   abbrev lists : Lists
   lists = lists_of book
 
-  -- the mark of this stamp at a place of a CPU
+  -- the mark with this stamp at a place of a CPU
   record MarkAt (c place stamp : ℕ) : Type 0 where
     mark : Mark
     who : Who
@@ -143,7 +143,7 @@ module _ (t : List (List SeenLine)) (book : Book) (visits : VisitsAre book (all_
         stamp_is = ap (λ (x : Mark). x.stamp) m.mark_is;
       }
 
-  -- of two marks of a CPU the one with the lower stamp has the lower place
+  -- of two marks of a CPU, the one with the lower stamp has the lower place
   marks_in_order : (c p q a b : ℕ) → MarkAt c p a → MarkAt c q b → a < b → p < q
   marks_in_order c p q a b m n lt = in_order p q ne above
     where
@@ -187,7 +187,7 @@ module _ (t : List (List SeenLine)) (book : Book) (visits : VisitsAre book (all_
       let R : ℕ → Type 0 = λ c. MarkAt c d.place l.mark.stamp in
       marks_in_order s.cpu s.place d.place k.mark.stamp l.mark.stamp m (subst R on n) lt
 
-  -- a dump behind a sample in a line has a higher place
+  -- a dump after a sample in a line has a higher place
   pub after : (line : SeenLine) → Among line t → Rises (stamps_of line.steps) → (s d : CpuVisit) (ds : List Deed) →
       deeds_of lists line.steps ≡ at_cpu s ∷ at_cpu d ∷ ds → d.cpu ≡ s.cpu → s.place < d.place
   after line among rises s d ds is on = steps_in_order line line.steps refl among rises s d ds is on

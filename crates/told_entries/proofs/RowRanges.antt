@@ -1,4 +1,4 @@
--- What lines tell is in the ranges that tables keep: moments are those of the script, and integers have its widths.
+-- Inferred entries are in the ranges of the tables: moments are those of the script, and integers have its widths.
 use Rattle.std.proofs.Common.{◌≡◌, ℕ, zero, suc, ◌<◌, ◌^◌, Bool, true, false, List, [], ◌∷◌, length, Option, Some, None, inl, inr, refl, sym, subst, arith}
 use Rattle.std.specs.Bool.{⊤}
 use Rattle.std.specs.Prelude.{slice_get, if◌then◌else◌, ◌==◌}
@@ -62,7 +62,7 @@ WidthStands (ints width) = IsWidth width
 WidthStands (prepares e) = EntryIsWide e
 WidthStands _ = ⊤
 
--- what is told is in range
+-- the inferred entries are in range
 record TellsNear (t : Telling) : Type 0 where
   own_near : EntryIsNear (own_entry t)
   width : WidthStands t

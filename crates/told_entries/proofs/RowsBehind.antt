@@ -1,4 +1,4 @@
--- The rows of a line, by what stands behind its steps.
+-- The rows of a line, with the entries of its visits.
 use Rattle.std.proofs.Common.{◌≡◌, ℕ, List, [], ◌∷◌, refl, subst, Some, None, Option}
 use Rattle.std.specs.Prelude.{⊤, slice_get}
 use Rattle.key_names.specs.declared.names.LaneId.{LaneId}
@@ -58,7 +58,7 @@ module _ (told : Tables) (lists : Lists) where
         go None at = tt
         go (Some e) at = record { row_is = row; entry_is = at }
 
-    -- what a step shows is what stands behind it, if something does
+    -- the visible part of a step is that of its visit, if the lists have the visit
     lane_shown : (lane : LaneId) (place : ℕ) → IsThere (deed_at lists lane place) →
         lane_sign lane place ≡ sign_of (deed_at lists lane place)
     lane_shown PoolLane place = go (slice_get lists.pool place)

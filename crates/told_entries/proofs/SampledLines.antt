@@ -1,4 +1,4 @@
--- In a book whose samples are lawful, those of each line stand whose calls mean what they may.
+-- In a book with lawful samples, the samples of each line are lawful if its calls have a lawful meaning.
 use Rattle.std.proofs.Common.{◌≡◌, ℕ, ◌<◌, inl, inr, Bool, true, false, List, [], ◌∷◌, refl, sym, ap, ◌∙◌, subst, Some}
 use Rattle.std.specs.Prelude.{slice_get, take}
 use Rattle.std.specs.List.{AllByRecursion}
@@ -120,7 +120,7 @@ module _ (t : List (List SeenLine)) (book : Book) (apart : Apart t) (visits : Vi
             (mix_at t book fast (fast_is book) apart visits places line f.mix who f.text f.bits here
             (there (at_pool f.mix) (inr (inr (inl refl)))) refl refl f.mixes)
 
-        -- what made a dump due in this line is the sample
+        -- in this line only the sample made a dump due
         at_sample : (v : CpuVisit) → v.place < f.dump.place → MakesDue (fast v.cpu v.place) v.entry →
             IsIn (at_cpu v) (at_cpu f.sample ∷ at_cpu f.dump ∷ at_pool f.mix ∷ f.rest) →
             MakesDue (fast f.sample.cpu f.sample.place) f.sample.entry × (f.sample.place < f.dump.place)
@@ -165,7 +165,7 @@ module _ (t : List (List SeenLine)) (book : Book) (apart : Apart t) (visits : Vi
       CallsForm lists set calls → AllByRecursion (OfCall Stands) calls
   calls_sampled set calls among form = calls_stand lists Here irq_stands set calls (all_here set calls among) form
 
--- in a book of these marks whose lanes and samples are lawful, the samples of each line stand
+-- in a book of these marks with lawful lanes and samples, the samples of each line are lawful
 pub all_sampled : (script : Script) (t : List (List SeenLine)) (book : Book) (ms : List (List CallMeaning)) →
     HasLines script t → MarksStand script t → IsBookOf script t book → AllMean script t book ms →
     LawfulLanes (lists_of book) → LawfulSamples book →

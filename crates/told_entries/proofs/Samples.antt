@@ -1,4 +1,4 @@
--- Where lists are as the rows of lines tell, the book's samples are lawful exactly where the tables' dumps stand.
+-- If lists match the rows of the lines, the samples of the book are lawful exactly if the dumps of the tables are.
 use Rattle.std.proofs.Common.{◌≡◌, ℕ, ◌<◌, inl, inr, List, [], ◌∷◌, length, refl, sym, ap, ◌∙◌, subst, arith, Some, None, Option}
 use Rattle.std.specs.Prelude.{◌↔◌, slice_get}
 use Rattle.std.specs.List.{AllByRecursion}
@@ -71,7 +71,7 @@ module _ (told : Tables) (t : List (List SeenLine)) (book : Book) (visits : Visi
   abbrev Here : SeenLine → Type 0
   Here line = Among line t
 
-  -- the rows of a line, by what stands behind its steps
+  -- the rows of a line, with the entries of its visits
   line_rows : (set : Setting) (tell : Around → Telling) (line : SeenLine) → Here line →
       LineRows told set tell line.steps →
       AllFill (RowBehind told lists set tell (first_sign (deeds line))) nowhere nowhere (deeds line)
@@ -138,7 +138,7 @@ module _ (told : Tables) (t : List (List SeenLine)) (book : Book) (visits : Visi
     calls_tables (setting_after_call set call) calls here.1 stands.1 form.1 rows.1,
   )
 
-  -- what holds behind each step of each line holds at each place
+  -- a fact of each visit of each line is one of each place
   module _ (fills : Fills told lists) (tables : AllByRecursion (AllByRecursion LineTables) t) where
     abbrev At : LaneId → ℕ → Type 0
     At lane place = TablesStand told lists (deed_at lists lane place)

@@ -1,4 +1,4 @@
--- The spots of all lines: each place is told of at most once, and spots whose rows stand are lines whose rows stand.
+-- The spots of all lines: each place has at most one spot, and the rows of spots are those of the lines.
 use Rattle.std.proofs.Common.{◌≡◌, ℕ, zero, suc, ◌<◌, ◌≤◌, Bool, true, false, List, [], ◌∷◌, length, refl, subst, arith, Some}
 use Rattle.std.specs.Prelude.{slice_get, ◌==◌, ◌&&◌, if◌then◌else◌}
 use Rattle.std.specs.List.{AllByRecursion}
@@ -24,7 +24,7 @@ use Rattle.told_entries.specs.Spots.{Spot, spots_from, line_spots, acts_spots, c
 use Rattle.told_entries.proofs.MarkedSteps.{StepHas, LineHas}
 use Rattle.told_entries.proofs.TableChanges.{hit, spots_takes, takes_append, SpotStands}
 
--- ---- how many spots tell of a place: as many as lines have marks there
+-- ---- a place has as many spots as lines have marks there
 
 module _ (lane : LaneId) (place : ℕ) where
   one_takes : (other : LaneId) (p : ℕ) → hit (is_same_lane other lane && p == place) ≡ lane_takes lane place other p
@@ -89,7 +89,7 @@ module _ (lane : LaneId) (place : ℕ) where
     callers_takes callers settings,
   )
 
--- ---- what holds of each visit of the calls' lines holds of each spot's
+-- ---- a fact of each visit of the calls' lines is one of each spot's
 
 module _ (Q : LaneId → ℕ → Type 0) where
   abbrev pub SpotHas : Spot → Type 0
@@ -139,7 +139,7 @@ module _ (Q : LaneId → ℕ → Type 0) where
       each_append SpotHas (calls_spots calls sets) (callers_spots callers settings) (calls_have calls sets all.0)
       (callers_have callers settings all.1)
 
--- ---- spots whose rows stand are lines whose rows stand
+-- ---- from the rows of spots to the rows of lines
 
 module _ (told : Tables) where
   step_rows : (set : CallSetting) (tell : Around → Telling) (first : Sign) (around : Around) (step : Step) →
@@ -160,7 +160,7 @@ module _ (told : Tables) where
       AllByRecursion (SpotStands told) (line_spots set tell steps) → LineRows told set tell steps
   line_rows set tell steps all = steps_rows set tell (first_shown steps) nowhere nowhere steps all
 
-  -- the end tells as little as an act that no vread follows
+  -- for a caller's end the row is the same as for an act that no vread follows
   end_row : (set : CallSetting) (first : Sign) (around : Around) (lane : LaneId) (place : ℕ) →
       RowAt told set silent first around lane place → RowAt told set ends first around lane place
   end_row set first around PoolLane place row = record { row = row.row; is = row.is; tells = row.tells }
@@ -207,7 +207,7 @@ module _ (told : Tables) where
       (calls_spots calls (settings_from (setting_after_call set call) calls)) all in
       (call_rows set call parts.0, calls_rows (setting_after_call set call) calls parts.1)
 
-  -- the settings are those that the calls find, start being what each caller starts with
+  -- the settings are those of the calls; start has the start setting of each caller
   pub callers_rows : (start : ℕ → CallSetting) (callers : List (List Call)) (settings : List (List CallSetting)) →
       length settings ≡ length callers →
       ((c : ℕ) (sets : List CallSetting) → slice_get settings c ≡ Some sets →

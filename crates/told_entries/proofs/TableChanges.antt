@@ -1,4 +1,4 @@
--- Rows put into tables, one behind the other: where each place is told of once, its row is what is told there.
+-- Rows put into tables in sequence: if a place has one spot, its row is the one inferred there.
 use Rattle.std.proofs.Common.{◌≡◌, ℕ, ◌+◌, ◌<◌, ◌≤◌, Bool, true, false, cond, List, [], ◌∷◌, ◌++◌, length, Option, Some, None, refl, sym, subst, ap, ◌∙◌, arith}
 use Rattle.std.specs.Prelude.{MatchOption, ◌==◌, ◌&&◌, if◌then◌else◌}
 use Rattle.std.specs.List.{AllByRecursion}
@@ -49,7 +49,7 @@ unchanged a (CpuLane c) place = refl
 pub changes_none : (a : Tables) → Changes [] a a
 changes_none a = record { cpus = refl; sizes = λ lane. refl; rows = λ lane place. unchanged a lane place }
 
--- what the last to tell of a place made of it
+-- the row at a place after its last spot
 abbrev pub RowBy : Option Spot → Tables → Tables → LaneId → ℕ → Type 0
 RowBy o a b lane place = MatchOption o (SameRow a b lane place) (λ spot. place < rows_in a lane → SpotRow b spot lane place)
 
@@ -76,7 +76,7 @@ row_if : (b : Bool) (spot : Spot) (old new : Tables) (lane : LaneId) (place : �
 row_if true spot old new lane place put same = put refl
 row_if false spot old new lane place put same = same refl
 
--- the row of the spot stands at the place that it visits, and all others are as they were
+-- the row of the spot is at the place that it visits, and all others are unchanged
 pub one_row : (spot : Spot) (old new : Tables) → length new.cpus ≡ length old.cpus →
     ((lane : LaneId) → rows_in new lane ≡ rows_in old lane) →
     ((lane : LaneId) (place : ℕ) → is_visit lane place spot.step ≡ true → place < rows_in old lane →
@@ -95,7 +95,7 @@ abbrev pub hit : Bool → ℕ
 hit b = cond b 1 0
 
 module _ (lane : LaneId) (place : ℕ) where
-  -- how many spots tell of the place
+  -- the number of spots for the place
   abbrev pub spots_takes : List Spot → ℕ
   spots_takes [] = 0
   spots_takes (spot ∷ spots) = hit (is_visit lane place spot.step) + spots_takes spots
@@ -114,7 +114,7 @@ module _ (lane : LaneId) (place : ℕ) where
       go true none rest = absurd (omega arith)
       go false none rest = or_none (last_at lane place spots) ∙ rest (omega arith)
 
-  -- the first of spots of which one tells of the place
+  -- the first of spots with one for the place
   last_first : (spot : Spot) (spots : List Spot) → spots_takes (spot ∷ spots) ≤ 1 →
       is_visit lane place spot.step ≡ true → last_at lane place (spot ∷ spots) ≡ Some spot
   last_first spot spots once is =
@@ -127,7 +127,7 @@ module _ (lane : LaneId) (place : ℕ) where
       last_at lane place (spot ∷ spots) ≡ Some s
   last_behind s spot spots is = ap (λ o. or_else o (if is_visit lane place spot.step then Some spot else None)) is
 
--- the row of a spot's visit is what it tells
+-- the row of a spot's visit is the one inferred there
 abbrev pub SpotStands : Tables → Spot → Type 0
 SpotStands told spot = StepHas (λ lane place. SpotRow told spot lane place) spot.step
 

@@ -1,4 +1,4 @@
--- Tables with a row for each mark, which is what its line tells, are in range.
+-- Tables with a row for each mark, inferred from its line, are in range.
 use Rattle.std.proofs.Common.{◌≡◌, ℕ, suc, ◌<◌, ◌≤◌, ◌^◌, List, [], ◌∷◌, length, Some, refl, subst, arith, Bool, true, false}
 use Rattle.std.specs.Prelude.{slice_get, All, if◌then◌else◌, nat_lt}
 use Rattle.std.specs.List.{AllByRecursion}

@@ -1,4 +1,4 @@
--- What is told up to some place of a list, and then of the rest: the steps of the loops that put rows.
+-- Rows put up to some place of a list, and then for the rest: the steps of the loops that put rows.
 use Rattle.std.proofs.Common.{◌≡◌, ℕ, ◌+◌, ◌<◌, ◌≤◌, List, [], ◌∷◌, ◌++◌, length, drop, get_or, map, min, refl, sym, subst, ◌∙◌, arith, ◌⊎◌, inl, inr}
 use Rattle.std.proofs.Math.Nat.{min-eq_left, min-eq_right}
 use Rattle.std.specs.Global.{Vec}
@@ -25,7 +25,7 @@ abbrev pub spot_at : CallSetting → (Around → Telling) → Sign → Around �
 spot_at set tell first around step =
     record { set = set; tells = tell around; first = first; around = around; step = step }
 
--- one step, and then those behind it
+-- one step, and then those after it
 pub line_more : (set : CallSetting) (tell : Around → Telling) (first a b behind s : Sign) (steps : List Step) (n : ℕ)
     (d : Step) (x y z : Tables) → n < length steps → behind ≡ first_shown (drop (n + 1) steps) →
     s ≡ step_sign (get_or steps n d) →
@@ -42,7 +42,7 @@ line_more set tell first a b behind s steps n d x y z low behind_is sign_is one 
     (changes_both (spot_at set tell first (between a b (first_shown more)) step ∷ [])
     (spots_from set tell first b (step_sign step) more) x y z one' rest')
 
--- at the end nothing is left
+-- the end of the list
 pub line_end : (set : CallSetting) (tell : Around → Telling) (first a b : Sign) (steps : List Step) (n : ℕ) (x : Tables) →
     length steps ≤ n → Changes (spots_from set tell first a b (drop n steps)) x x
 line_end set tell first a b steps n x high =
@@ -125,7 +125,7 @@ callers_end callers settings n x (inr high) =
     (sym (at_drop_all (λ (ss : List (Vec CallSetting)). callers_spots (seen_calls (drop n callers)) (sets_of ss)) settings n high
     ∙ no_callers (seen_calls (drop n callers)))) (changes_none x)
 
--- one of two lists is gone through
+-- one of two lists is read to its end
 pub short_of : (i m n : ℕ) → i ≡ min m n → (m ≤ i) ⊎ (n ≤ i)
 short_of i m n is = go (lt_or_le m n)
   where
@@ -152,7 +152,7 @@ calls_at calls calls' sets sets' x y same same' changes =
     subst (λ (cs : List Called). Changes (calls_spots (map seen_call cs) sets) x y) same
     (subst (λ (ss : List CallSetting). Changes (calls_spots (map seen_call calls') ss) x y) same' changes)
 
--- where the rest begins, by the length of what is done
+-- the start of the rest, from the length of the finished part
 pub calls_from_next : (calls : List Called) (sets : List CallSetting) (m n : ℕ) (x y : Tables) → m ≡ n →
     Changes (calls_spots (map seen_call (drop m calls)) (drop m sets)) x y →
     Changes (calls_spots (map seen_call (drop n calls)) (drop n sets)) x y

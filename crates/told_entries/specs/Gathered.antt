@@ -1,4 +1,4 @@
--- What is told of all marks, and what it has to do with the lines.
+-- The inferred entries of all marks, and their relation to the lines.
 use Rattle.std.specs.Prelude.{ℕ, ◌≡◌, ◌↔◌, List, length}
 use Rattle.std.specs.List.{AllByRecursion}
 use Rattle.key_names.specs.declared.names.LaneId.TheVariants.{Pool as PoolLane, Base as BaseLane, Cpu as CpuLane}
@@ -22,7 +22,7 @@ pub record IsBookOf (script : Script) (t : List (List SeenLine)) (book : Book) :
   pub cpus : length book.cpus ≡ script.cpus
   pub visits : VisitsAre book (all_marks t)
 
--- each call of each caller means what it may, in these lists
+-- each call of each caller has a lawful meaning in these lists
 abbrev pub AllMean : Script → List (List SeenLine) → Book → List (List CallMeaning) → Type 0
 AllMean script t book ms =
     EachCaller (λ c calls ms. CallerMeans (lists_of book) (start_setting (script_calls script t) c) calls ms) 0
@@ -35,13 +35,13 @@ pub record IsGathered (script : Script) (t : List (List SeenLine)) (told : Table
   pub base_count : length told.base ≡ length (lane_marks BaseLane (all_marks t))
   pub cpus_count : length told.cpus ≡ script.cpus
   pub cpu_count : (c : ℕ) → length (list_at told.cpus c) ≡ length (lane_marks (CpuLane c) (all_marks t))
-  -- each line's visits are as its steps tell exactly where each place of the lanes is as told
+  -- all lines' visits have the entries inferred from their steps exactly if the lists match the tables
   pub fills : (book : Book) → IsBookOf script t book →
       AllCallsFill (lists_of book) (script_calls script t) ↔ Fills told (lists_of book)
-  -- the samples are where they belong exactly where what is told of dumps stands
+  -- the samples of the book are lawful exactly if the dumps of the tables are
   pub samples : (book : Book) (ms : List (List CallMeaning)) → IsBookOf script t book → AllMean script t book ms →
       Fills told (lists_of book) → LawfulLanes (lists_of book) → LawfulSamples book ↔ Lawful told (lists_of book)
-  -- samples that are where they belong stand in each line
+  -- lawful samples of the book are lawful in each line
   pub sampled : (book : Book) (ms : List (List CallMeaning)) → IsBookOf script t book → AllMean script t book ms →
       LawfulLanes (lists_of book) → LawfulSamples book →
       AllByRecursion (AllByRecursion (λ line. SamplesStand (facts_of (lists_of book)).fast

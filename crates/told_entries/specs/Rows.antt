@@ -1,4 +1,4 @@
--- The tables have at the place of each mark what its line tells there.
+-- The tables have, at the place of each mark, the entry inferred from its line.
 use Rattle.std.specs.Prelude.{ℕ, ◌≡◌, ◌<◌, ⊤, Bool, true, false, Some, List, [], ◌∷◌, length, slice_get}
 use Rattle.std.specs.List.{AllByRecursion}
 use Rattle.key_names.specs.declared.entries.PoolEntry.TheVariants.{Extract}
@@ -24,7 +24,7 @@ use Rattle.list_replay.specs.declared.told.ToldPool.TheVariants.{Is as pool_is, 
 use Rattle.list_replay.specs.declared.told.ToldCpu.{ToldCpu}
 use Rattle.list_replay.specs.Tables.{Tables}
 
--- ---- what a step shows
+-- ---- the visible part of a step
 
 abbrev pub lane_sign : LaneId → ℕ → Sign
 lane_sign PoolLane place = in_pool place
@@ -41,7 +41,7 @@ first_shown (step ∷ steps) = step_sign step
 
 -- ---- the rows
 
--- a row of the pool has the entry told
+-- a row of the pool has the inferred entry
 abbrev pub IsPoolRow : Setting → Telling → PoolTold → ToldPool → Type 0
 IsPoolRow set t own (pool_is note) = entry_of note ≡ own_entry t
 IsPoolRow set t own (dumped cpu place) = ⊥
@@ -55,7 +55,7 @@ pub record PoolRowAt (told : Tables) (set : Setting) (t : Telling) (around : Aro
   pub is : slice_get told.pool place ≡ Some row
   pub tells : IsPoolRow set t (pool_told t around) row
 
--- a dump follows where an interrupt's line visits a CPU next
+-- a dump follows if an interrupt's line visits a CPU next
 abbrev pub is_on_cpu : Sign → Bool
 is_on_cpu (in_cpu c k) = true
 is_on_cpu _ = false
@@ -67,7 +67,7 @@ dumps_told _ around = false
 abbrev pub cpu_row : Setting → Telling → Sign → Around → ToldCpu
 cpu_row set t first around = record { entry = cpu_told set t first around; dumps = dumps_told t around }
 
--- the row at a place of a lane is what a line tells there whose first step is first
+-- the row at a place of a lane is the one inferred from a line with this first step
 abbrev pub RowAt : Tables → Setting → Telling → Sign → Around → LaneId → ℕ → Type 0
 RowAt told set t first around PoolLane place = PoolRowAt told set t around place
 RowAt told set t first around BaseLane place = slice_get told.base place ≡ Some (base_told set t around)
@@ -76,18 +76,18 @@ RowAt told set t first around (CpuLane c) place =
 
 -- ---- a line
 
--- R holds of each step with those around it, a and b standing before the first
+-- R holds of each step with those around it; a and b come before the first
 abbrev pub AllRows : (Around → Step → Type 0) → Sign → Sign → List Step → Type 0
 AllRows R a b [] = ⊤
 AllRows R a b (step ∷ steps) =
     R (record { second_before = a; before = b; behind = first_shown steps }) step × AllRows R b (step_sign step) steps
 
--- what a vread's line tells: keys of 32 bytes, and in its last step the read of its n bytes
+-- the kind of a vread's line: reads of 32 bytes for keys, and the read of its n bytes in the last step
 abbrev pub part_telling : ℕ → Around → Telling
 part_telling n around = reads (taken_by (User 32) (User n) around.behind)
 
 module _ (told : Tables) where
-  -- a line tells by the steps around each, and each mark's row is what it tells there
+  -- each mark's row is the one inferred from the line's kind and the steps around the mark
   abbrev pub RowStands : Setting → (Around → Telling) → Sign → Around → Step → Type 0
   RowStands set tell first around (Look g) = ⊤
   RowStands set tell first around (Marked mark) = RowAt told set (tell around) first around mark.lane mark.place
@@ -98,7 +98,7 @@ module _ (told : Tables) where
   abbrev pub ActRows : Setting → BoundAct → Type 0
   ActRows set bound = LineRows set (λ around. act_telling bound.act) bound.line.steps
 
-  -- the same of the lines of a call that finds this setting
+  -- the same for the lines of a call with this setting
   abbrev pub CallRows : Setting → Call → Type 0
   CallRows set (alone event line) = LineRows set (λ around. telling set event) line.steps
   CallRows set (vread_call n flags line acts) =
@@ -110,6 +110,6 @@ module _ (told : Tables) where
   CallsRows set [] = ⊤
   CallsRows set (call ∷ calls) = CallRows set call × CallsRows (setting_after_call set call) calls
 
-  -- those of all callers
+  -- the same for all callers
   abbrev pub AllCallsRows : List (List Call) → Type 0
   AllCallsRows callers = (c : ℕ) → c < length callers → CallsRows (start_setting callers c) (list_at callers c)

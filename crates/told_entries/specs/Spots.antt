@@ -1,4 +1,4 @@
--- Where lines tell something of a step, one behind the other as they are told, and tables into which their rows are put.
+-- Spots, which are the steps with inferred entries, in order; and the tables with the rows that are put for them.
 use Rattle.std.specs.Prelude.{ℕ, suc, ◌≡◌, ◌<◌, ◌≤◌, Bool, false, Option, Some, None, List, [], ◌∷◌, ◌++◌}
 use Rattle.std.specs.Prelude.{◌==◌, ◌&&◌, if◌then◌else◌, MatchOption, length, slice_get}
 use Rattle.key_names.specs.declared.names.LaneId.{LaneId}
@@ -18,16 +18,16 @@ use Rattle.told_entries.specs.declared.gather.Teller.TheVariants.{Event as Event
 use Rattle.told_entries.specs.declared.gather.Teller.TheVariants.{Nothing as NoTeller}
 use Rattle.told_entries.specs.Rows.{RowAt, part_telling, first_shown, step_sign}
 
--- what a line tells by
+-- the kind of a line, at a step
 abbrev pub tells_by : Setting → Teller → Around → Telling
 tells_by set (EventTeller event) around = telling set event.now
 tells_by set (ActTeller act) around = act_telling act
 tells_by set (VreadTeller n) around = part_telling n around
 tells_by set NoTeller around = silent
 
--- ---- what is told, step by step
+-- ---- the inferred entries, step by step
 
--- a step, what its line tells by there, and the signs around it
+-- a step, the kind of its line there, and the steps around it
 pub record Spot : Type 0 where
   pub set : Setting
   pub tells : Telling
@@ -56,7 +56,7 @@ call_spots set (vread_call n flags line acts) = acts_spots set acts ++ line_spot
 call_spots set (unbound bound) = line_spots set (λ around. silent) bound.line.steps
 call_spots set (ending line) = line_spots set (λ around. silent) line.steps
 
--- those of a caller's calls, each with the setting that it finds, and those of all callers
+-- the spots of a caller's calls, each with its setting, and those of all callers
 abbrev pub calls_spots : List Call → List Setting → List Spot
 calls_spots [] sets = []
 calls_spots (call ∷ calls) [] = []
@@ -74,7 +74,7 @@ rows_in told PoolLane = length told.pool
 rows_in told BaseLane = length told.base
 rows_in told (CpuLane c) = length (list_at told.cpus c)
 
--- the row at a place is as it was
+-- the row at a place is unchanged
 abbrev pub SameRow : Tables → Tables → LaneId → ℕ → Type 0
 SameRow old new PoolLane place = slice_get new.pool place ≡ slice_get old.pool place
 SameRow old new BaseLane place = slice_get new.base place ≡ slice_get old.base place
@@ -85,7 +85,7 @@ abbrev pub is_visit : LaneId → ℕ → Step → Bool
 is_visit lane place (Look g) = false
 is_visit lane place (Marked mark) = is_same_lane mark.lane lane && mark.place == place
 
--- the last that tells something of a place
+-- the last spot for a place
 abbrev pub or_else : {A : Type 0} → Option A → Option A → Option A
 or_else None other = other
 or_else (Some a) other = Some a
@@ -98,7 +98,7 @@ last_at lane place (spot ∷ spots) =
 abbrev pub SpotRow : Tables → Spot → LaneId → ℕ → Type 0
 SpotRow told spot lane place = RowAt told spot.set spot.tells spot.first spot.around lane place
 
--- each row is what is told last of its place, or as it was
+-- each row is the last one put at its place, or unchanged
 pub record Changes (spots : List Spot) (old new : Tables) : Type 0 where
   pub cpus : length new.cpus ≡ length old.cpus
   pub sizes : (lane : LaneId) → rows_in new lane ≡ rows_in old lane
@@ -113,7 +113,7 @@ pub record IsLonger (lane : LaneId) (old new : Tables) : Type 0 where
   pub rows : (other : LaneId) →
       rows_in new other ≡ (if is_same_lane lane other then suc (rows_in old other) else rows_in old other)
 
--- a CPU that is not there
+-- a CPU that does not exist
 abbrev pub IsAbsent : ℕ → LaneId → Type 0
 IsAbsent cpus PoolLane = ⊥
 IsAbsent cpus BaseLane = ⊥

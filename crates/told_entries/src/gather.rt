@@ -1,5 +1,5 @@
-//! A row for each mark of a transcript: bare tables are made with a row for each, and then each line, call by call, puts
-//! what it tells of its visits at their places.
+//! A row for each mark of a transcript. First come bare tables, with an unfilled row for each mark. Then each line,
+//! call by call, puts the inferred entries of its visits at their places.
 ghost use Rattle.std.specs.Prelude.{◌≡◌, ◌≢◌, ◌<◌, ℕ, ⊤, Some, List, [], ◌∷◌, length, drop, map, slice_get, Any, IfOk, IfSome, MatchBool, MatchOption};
 ghost use Rattle.key_names.specs.declared.entries.Taken.TheVariants.{User};
 ghost use Rattle.key_names.specs.Book.{Book, list_at};
@@ -31,11 +31,11 @@ use line_orders::marks::MarkOf;
 use list_replay::{Told, ToldCpu, ToldPool};
 use std::alloc::{AllocError, Global};
 
-// The bytes that a `vread` takes for a key.
+// The number of bytes that a `vread` takes for a key.
 const KEY_BYTES: u32 = 32;
 
-/// What a line tells by: an event by itself, an act inside a `vread`, or a `vread` of so many bytes. A caller's end and an
-/// act that no `vread` follows tell nothing.
+/// The kind of a line, from which its entries are inferred: a single event, an act inside a `vread`, or a `vread` of
+/// this many bytes. `Nothing` is for a caller's end, and for an act that no `vread` follows.
 #[derive(Clone, Copy)]
 pub(crate) enum Teller<'a> {
     Event(&'a Event),
@@ -57,7 +57,7 @@ fn sign(step: Step) -> Sign
     }
 }
 
-// What the step of this number shows.
+// The visible part of the step with this number.
 fn sign_at(steps: &[Step], number: usize) -> Sign
     ensures { result ≡ first_shown (drop number steps.now) }
 {
@@ -136,7 +136,7 @@ fn pool_row<'a>(set: &Setting, teller: Teller<'a>, around: Around) -> ToldPool<'
     }
 }
 
-// What a read of a `vread` takes: the last one the bytes that are asked for, and those before it keys.
+// The bytes that a read of a `vread` takes: the last read takes the wanted bytes, and each earlier one takes a key.
 fn taken(len: u32, behind: Sign) -> Taken
     ensures { result ≡ forms.taken_by (User 32) (User len) behind }
 {
@@ -177,7 +177,7 @@ fn cpu_entry(set: &Setting, teller: Teller<'_>, first: Sign, around: Around) -> 
     }
 }
 
-// Whether the line dumps a CPU's fast pool behind this visit.
+// Whether the line dumps a CPU's fast pool after this visit.
 fn dumps(set: &Setting, teller: Teller<'_>, around: Around) -> bool
     ensures { result ≡ dumps_told (tells_by set.now teller.entry around) around }
 {
@@ -196,7 +196,7 @@ fn cpu_row(set: &Setting, teller: Teller<'_>, first: Sign, around: Around) -> To
     }
 }
 
-// Puts a row at its place, where the table has one.
+// Puts a row at its place, if the table has that place.
 fn put<T: Copy>(rows: &mut Vec<T>, place: u64, row: T)
     ensures at { place < length rows.old.items → slice_get rows.new.items place ≡ Some row }
     ensures others { (k : ℕ) → k ≢ place → slice_get rows.new.items k ≡ slice_get rows.old.items k }
@@ -284,7 +284,7 @@ fn tell_call<'a>(told: &mut Told<'a>, set: &Setting, call: &Called<'a>)
     }
 }
 
-// Puts the rows of a caller's calls, each with the setting that it finds.
+// Puts the rows of a caller's calls, each with its setting.
 fn tell_calls<'a>(told: &mut Told<'a>, calls: &[Called<'a>], settings: &[Setting])
     ensures { Changes (calls_spots (map seen_call calls.now) settings.now) (tables_of told.old) (tables_of told.new) }
 {
@@ -302,7 +302,7 @@ fn tell_callers<'a>(told: &mut Told<'a>, callers: &[Vec<Called<'a>>], settings: 
     }
 }
 
-// As many lanes, without rows.
+// This many lanes, without rows.
 fn bare_lanes(alloc: Global, cpus: u32) -> Result<Vec<Vec<ToldCpu>>, AllocError>
     ensures long { IfOk result (λ lanes. length lanes.items ≡ cpus) }
     ensures bare { IfOk result (λ lanes. (c : ℕ) → list_at (map (λ lane. lane.items) lanes.items) c ≡ []) }
@@ -314,7 +314,7 @@ fn bare_lanes(alloc: Global, cpus: u32) -> Result<Vec<Vec<ToldCpu>>, AllocError>
     Ok(lanes)
 }
 
-// One more row of a lane, for something to be told; whether the lane is there.
+// Adds an unfilled row to a lane. Returns whether the lane exists.
 fn add_row(told: &mut Told<'_>, lane: LaneId) -> Result<bool, AllocError>
     ensures { IfOk result (λ added. MatchBool added (IsLonger lane (tables_of told.old) (tables_of told.new))
         (IsAbsent (length told.old.cpus.items) lane)) }
@@ -335,7 +335,7 @@ fn add_row(told: &mut Told<'_>, lane: LaneId) -> Result<bool, AllocError>
     Ok(true)
 }
 
-// Tables with a row for each mark, of which nothing is told; nothing where a mark is of a CPU that is not there.
+// Tables with an unfilled row for each mark; `None` if a mark has a CPU that does not exist.
 fn bare_rows<'a>(alloc: Global, cpus: u32, marks: &[MarkOf]) -> Result<Option<Told<'a>>, AllocError>
     ensures some { IfOk result (λ o. IfSome o (λ told. HasRows cpus (map seen_mark marks.now) (tables_of told))) }
     ensures none { IfOk result (λ o. MatchOption o (Any (λ of. IsAbsent cpus of.mark.lane) marks.now) (λ told. ⊤)) }
@@ -353,11 +353,11 @@ fn bare_rows<'a>(alloc: Global, cpus: u32, marks: &[MarkOf]) -> Result<Option<To
     Ok(Some(told))
 }
 
-/// What the steps of all lines tell of each visit; nothing where a line visits a CPU that the script does not have.
+/// The inferred entry of each visit of all lines; `None` if a line visits a CPU that the script does not have.
 ///
 /// # Errors
 ///
-/// `AllocError` where there is no memory for the rows.
+/// `AllocError` if there is no memory for the rows.
 pub fn gather<'a>(
     alloc: Global,
     script: &Script,

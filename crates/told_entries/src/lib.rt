@@ -1,9 +1,9 @@
-//! What the steps of all lines of a transcript tell of the entries behind them.
+//! The entries of a transcript's visits, inferred from the steps of all lines.
 //!
-//! [`gather::gather`] makes a row for each mark: what the line that made the visit tells of its entry, by the steps around
-//! it and by what its caller has set (`line_forms`). The rows are the tables that `list_replay` replays. It is promised that
-//! lists are as these tables tell exactly where each line's visits have the entries that its own steps tell, and that the
-//! tables' dumps stand exactly where the samples of interrupts do.
+//! [`gather::gather`] makes a row for each mark: the entry of the visit, inferred from the steps around it and from its
+//! caller's setting (`line_forms`). `list_replay` replays these tables. The contract states two facts. Lists match the
+//! tables exactly if each line's visits have the entries that are inferred from the line's own steps. The dumps of the
+//! tables are lawful exactly if the samples of interrupts are.
 #![tactic(auto)]
 
 pub mod gather;

@@ -1,4 +1,4 @@
--- What the flush at the end of the output makes of a command's end.
+-- The end of a command after the flush at the end of the output.
 use Rattle.std.proofs.Common.{ℕ, ◌≡◌, List, Option, None, Some, ◌++◌, ap, sym, subst, ◌∙◌, inl, inr}
 use Rattle.std.specs.Prelude.{IfSome}
 use Rattle.std.specs.Io.KnownBytes.{Appends, Consumes, IsAtEnd, Keeps}
@@ -7,7 +7,7 @@ use Rattle.std.proofs.lemmas.List.{append-nil}
 use Rattle.io_edges.specs.Faults.{Rose}
 use Rattle.io_edges.specs.Pieces.{AppendsPrefix}
 use Rattle.io_edges.proofs.Pieces.{AppendsPrefix-of_whole}
-use Rattle.tool_ends.specs.Ends.{AtOutputEnd, EndsWith, IsAnswered}
+use Rattle.tool_ends.specs.Ends.{AtOutputEnd, CountsWriteFault, EndsWith, IsAnswered}
 use Rattle.tool_ends.specs.Reads.{ReadsEnds, SomeAnswer, WasAnswered, WasGivenUp}
 use Rattle.tool_ends.specs.declared.status.Status.{Status}
 use Rattle.tool_ends.specs.declared.status.Status.TheVariants.{Done, No, Usage, ReadFault, WriteFault, Refused, NoMemory}
@@ -25,7 +25,7 @@ prefix_kept a b c xs p k = (p.0, p.1, appends_kept a b c _ p.2 k)
 whole_cut : (a b c : Option (List ℕ)) (xs : List ℕ) → Appends a b xs → Keeps b c → AppendsPrefix a c xs
 whole_cut a b c xs h k = prefix_kept a b c xs (AppendsPrefix-of_whole a b xs h) k
 
--- counts of a sink's faults: before a command, behind it, and behind the end of its output
+-- counts of a sink's faults: before a command, after it, and after the end of its output
 module _ (status result : Status) (a b c : ℕ) (ended : AtOutputEnd status result b c)
     (same : (status ≡ WriteFault → ⊥) → b ≡ a) where
   -- the sink failed in the command, or at the end of its output
@@ -41,6 +41,13 @@ module _ (status result : Status) (a b c : ℕ) (ended : AtOutputEnd status resu
     | inl stays ↦ stays.1 ∙ same (λ is. unfailed (stays.0 ∙ is))
     | inr cut ↦ absurd (unfailed cut.1)
   ]
+
+pub counted_at_end : (status result : Status) (a b c : ℕ) → AtOutputEnd status result b c → CountsWriteFault status a b
+    → CountsWriteFault result a c
+counted_at_end status result a b c ended counted = record {
+  cut = rose_at_end status result a b c ended counted.not_counted counted.cut;
+  not_counted = same_at_end status result a b c ended counted.not_counted;
+}
 
 module _ (Of : List ℕ → Type 0) (a b c : Option (List ℕ)) (k : Keeps b c) where
   stays : (status : Status) → EndsWith Of status a b → EndsWith Of status a c
@@ -61,7 +68,7 @@ module _ (Of : List ℕ → Type 0) (a b c : Option (List ℕ)) (k : Keeps b c) 
   cut ReadFault is e = absurd is
   cut Refused is e = absurd e
 
-  -- a command that reads nothing
+  -- a command that reads no input
   pub ends_after : (status result : Status) (m n : ℕ) → AtOutputEnd status result m n → EndsWith Of status a b
       → EndsWith Of result a c
   ends_after status result m n ended e = elim ended [

@@ -1,4 +1,4 @@
--- More text behind a line `end` leaves the front as it is.
+-- More text after a line `end` leaves the front as it is.
 use Rattle.std.proofs.Common.{◌≡◌, ℕ, ◌+◌, ◌==◌, Bool, true, false, cond, List, [], ◌∷◌, ◌++◌, take, drop, refl, sym}
 use Rattle.std.proofs.Common.{ap, ◌∙◌, append_assoc, arith, length-append}
 use Rattle.std.specs.List.{join_with_byte, onto_first}
@@ -12,7 +12,7 @@ use Rattle.tool_ends.specs.Intakes.{HasEndLine}
 
 -- ---- the parts of a text on both sides of a line feed
 
--- a byte in front of some lines changes no more than them, whatever lines are behind
+-- a byte before some lines changes only these, whatever lines follow
 onto_joined : (t : Bool) (b : ℕ) (lines more : List (List ℕ)) → HasFirst lines
     → cond t ([] ∷ lines ++ more) (onto_first b (lines ++ more)) ≡ cond t ([] ∷ lines) (onto_first b lines) ++ more
 onto_joined t b [] more some = absurd (let e = some.is in cc)
@@ -28,18 +28,18 @@ parts_joined (x ∷ a) b =
 
 -- ---- the front of lines
 
--- lines have a first one if those behind them have
+-- lines have a first one if the lines after them have
 first_joined : (lines more : List (List ℕ)) → HasFirst more → HasFirst (lines ++ more)
 first_joined [] more some = some
 first_joined (line ∷ lines) more some = record { first = line; others = lines ++ more; is = refl }
 
--- the front ends at the first line if that is `end`, and else goes on
+-- the front ends at the first line if that is `end`, and goes on otherwise
 front_by : (line : List ℕ) (lines : List (List ℕ)) → HasFirst lines
     → front_lines (line ∷ lines) ≡ cond (bytes_eq line (codes "end")) (line ∷ [] ∷ []) (line ∷ front_lines lines)
 front_by line [] some = absurd (let e = some.is in cc)
 front_by line (next ∷ more) some = refl
 
--- the front ends at an end line, if not before, whatever lines are behind it
+-- the front ends at an end line, if not before, whatever lines follow
 front_same : (lines a b : List (List ℕ)) → HasFirst a → HasFirst b
     → front_lines (lines ++ codes "end" ∷ a) ≡ front_lines (lines ++ codes "end" ∷ b)
 front_same [] a b some other = front_by (codes "end") a some ∙ sym (front_by (codes "end") b other)
@@ -53,7 +53,7 @@ front_same (line ∷ lines) a b some other =
 
 -- ---- more text
 
--- the text is what is before its end line, the end line, and what is behind
+-- a text is the part before its end line, the end line, and the part after it
 cut_at_end : (text : List ℕ) (h : HasEndLine text)
     → text ≡ take h.0 text ++ 10 ∷ 101 ∷ 110 ∷ 100 ∷ 10 ∷ drop (h.0 + 5) text
 cut_at_end text h =

@@ -1,4 +1,4 @@
--- What was read of an input, and what all of it calls for.
+-- The part of an input that was read has the outputs of the whole input.
 use Rattle.std.proofs.Common.{ℕ, ◌+◌, ◌≡◌, ◌≤◌, ◌<◌, ◌⊎◌, List, [], Option, None, Some, length, take, sym, ap, ◌∙◌, subst, arith, inl, inr}
 use Rattle.std.specs.Prelude.{IfSome}
 use Rattle.std.specs.Io.KnownBytes.{Consumes}
@@ -10,7 +10,7 @@ use Rattle.tool_ends.specs.Reads.{ReadsEnds, SomeAnswer, WasRead, WritesEnds}
 use Rattle.tool_ends.specs.declared.status.Status.{Status}
 use Rattle.tool_ends.specs.declared.status.Status.TheVariants.{Done, No, Usage, ReadFault, WriteFault, Refused, NoMemory}
 
--- what is right of one kind is right of a wider one
+-- an output of one kind is one of a wider kind
 pub wider : (Of Wide : Status → List ℕ → Type 0) → ((s : Status) (o : List ℕ) → Of s o → Wide s o) →
     (status : Status) (a b : Option (List ℕ)) → WritesEnds Of status a b → WritesEnds Wide status a b
 wider Of Wide is Done a b e = (e.0, is Done e.0 e.1, e.2)
@@ -21,7 +21,7 @@ wider Of Wide is NoMemory a b e = e
 wider Of Wide is Usage a b e = e
 wider Of Wide is ReadFault a b e = e
 
--- of a kind of output: an input within the limit is answered, and all above it are refused alike
+-- for outputs of this kind: each answered input is within the limit, and all inputs above it have the same refusals
 pub record IsLimited (limit : ℕ) (Of : List ℕ → Status → List ℕ → Type 0) : Type 0 where
   pub done : (input output : List ℕ) → Of input Done output → length input ≤ limit
   pub no : (input output : List ℕ) → Of input No output → length input ≤ limit
@@ -29,7 +29,7 @@ pub record IsLimited (limit : ℕ) (Of : List ℕ → Status → List ℕ → Ty
       Of input Refused output → Of all Refused output
 
 module _ (limit : ℕ) (Of : List ℕ → Status → List ℕ → Type 0) (limited : IsLimited limit Of) where
-  -- what was read of an input is all of it, or is too long as the whole input is
+  -- the part of an input that was read is all of it, or both are too long
   read_or_too_long : (all input : List ℕ) → input ≡ take (limit + 1) all →
       (input ≡ all) ⊎ ((limit < length input) × (limit < length all))
   read_or_too_long all input is = elim (cases_lt limit (length all)) [
@@ -37,7 +37,7 @@ module _ (limit : ℕ) (Of : List ℕ → Status → List ℕ → Type 0) (limit
     | inr short ↦ inl (is ∙ take_all (limit + 1) all (omega arith))
   ]
 
-  -- what the part of an input that is read calls for, all of it calls for
+  -- an output of the part of an input that is read is one of all of it
   of_long : (status : Status) → IsAnswered status → (input all output : List ℕ) → limit < length input →
       limit < length all → Of input status output → Of all status output
   of_long Done answered input all output long too is =
@@ -65,14 +65,14 @@ module _ (limit : ℕ) (Of : List ℕ → Status → List ℕ → Type 0) (limit
   some_of_all (Some all) input output front is =
       (is.0, is.1, of_all is.0 is.1 (Some all) input output front is.2)
 
-  -- no more was taken than of an input that is too long
+  -- at most as much was taken as of an input that is too long
   taken_at_most : (left left_after : Option (List ℕ)) (input : List ℕ) → Consumes left left_after input →
       IfSome left (λ all. input ≡ take (limit + 1) all) → ConsumesUpTo (limit + 1) left left_after
   taken_at_most None left_after input read front = ([], omega arith, tt)
   taken_at_most (Some all) left_after input read front =
       (input, omega (arith, ap length front, length-take (limit + 1) all), read)
 
-  -- what was read, and what was written of it, end the command
+  -- the command ends with this read and this output
   pub reads_end : (left left_after held held_after : Option (List ℕ)) (input : List ℕ) →
       WasRead limit left left_after input → (status : Status) → WritesEnds (Of input) status held held_after →
       ReadsEnds limit Of status left left_after held held_after

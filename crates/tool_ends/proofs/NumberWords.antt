@@ -1,4 +1,4 @@
--- What the numbers among the words of a command line spell.
+-- The numbers among the words of a command line.
 use Rattle.std.proofs.Common.{◌≡◌, ℕ, ◌+◌, ◌^◌, ◌<◌, ◌≤◌, List, Some, ap, ◌∙◌, arith}
 use Rattle.std.specs.Prelude.{decimal}
 use Rattle.key_names.specs.Texts.ScriptFaults.{number_below}

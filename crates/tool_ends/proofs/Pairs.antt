@@ -1,5 +1,5 @@
--- A script's transcript has a line for each event and for each caller, and no more; and what answers an input that is no
--- script with a transcript behind it.
+-- A script's transcript has exactly one line for each event and each caller; and the refusals of an input that is no
+-- script with a transcript after it.
 use Rattle.std.proofs.Common.{◌≡◌, ◌<◌, ℕ, suc, ◌+◌, ◌≤◌, refl, List, [], ◌∷◌, length, sym, ◌∙◌, arith, inl, inr, true, ltb, Some}
 use Rattle.std.specs.List.{sum_by}
 use Rattle.std.proofs.lemmas.Bool.{lt-ltb}
@@ -20,7 +20,7 @@ use Rattle.key_names.specs.declared.faults.ScriptFault.{ScriptFault}
 use Rattle.tool_ends.specs.declared.status.Status.{Status}
 use Rattle.tool_ends.specs.declared.status.Status.TheVariants.{Refused as IsRefused, No as IsNo}
 
--- there are as many lines as events, and one more for each caller
+-- there is exactly one line for each event, and one more for each caller
 lines_of_all : (c : ℕ) (callers : List (List Event)) (t : List (List SeenLine)) → AllFit c callers t
     → sum_by length t ≡ sum_by length callers + length callers
 lines_of_all c [] [] fit = refl
@@ -38,7 +38,7 @@ pub few_lines : (script : Script) (t : List (List SeenLine)) → WellFormed scri
     → sum_by length t ≤ 65600
 few_lines script t ok fit = omega (arith, ok.events, ok.callers.1, lines_of_all 0 script.callers t fit)
 
--- more lines than any script's transcript has are not those of this script
+-- lines that are more than those of any script's transcript are not those of this script
 pub too_many : (script : Script) (text : List ℕ) → WellFormed script → HasMoreLines 65600 text → LacksLines script text
 too_many script text ok more = record {
   lines = more.callers;
@@ -64,7 +64,7 @@ too_long_alike input all output long too tells = record {
   line = tells.line;
 }
 
--- what keeps the text behind a script from being read keeps the input from it
+-- a reason why the text after a script is not read is one why the input is not
 pub no_pair : (input : List ℕ) (script : Script) → length input ≤ 100663296 → IsScript script (front input) →
     (why : NotRead) → IsNoText (behind input) why → IsNoPair input why
 no_pair input script short is ReadFault not = absurd not
@@ -86,7 +86,7 @@ no_pair input script short is TooManyLines not = (
 )
 no_pair input script short is NoMemory not = tt
 
--- ---- the lines that say so
+-- ---- the lines of the refusals
 
 pub refused_by : (fault : ScriptFault) (line : List ℕ) → line ≡ refusal_line fault → (s : Status) (o : List ℕ) →
     (s ≡ IsRefused) × (o ≡ line) → RefusalOf (Refused fault) s o

@@ -8,6 +8,7 @@ use Rattle.key_names.specs.Texts.ScriptFaults.{first_fault, front}
 use Rattle.key_names.specs.Texts.ScriptGrammar.{Script, IsScript}
 use Rattle.std.specs.Io.KnownBytes.{Consumes, IsAtEnd}
 use Rattle.tool_ends.specs.Behind.{GivesApart, HoldsText, IsApart}
+use Rattle.tool_ends.specs.Fed.{GivesNoText}
 use Rattle.tool_ends.specs.Intakes.{HasEndLine, IsFound}
 use Rattle.tool_ends.specs.declared.behind.Behind.{Behind}
 use Rattle.tool_ends.specs.Pairs.{GivesNone, GivesScript, IsNoPair, IsNoText, behind, most_input, most_script}
@@ -21,7 +22,11 @@ pub on_ok : {T E A B : Type 0} (answer : Result T E) → (A → B) → OnOk answ
 on_ok (Ok x) f a = f a
 on_ok (Err e) f a = tt
 
--- more of what stands behind a script
+pub ok_both : {T E : Type 0} (A B : Type 0) (answer : Result T E) → OnOk answer A → OnOk answer B → OnOk answer (A × B)
+ok_both A B (Ok x) a b = (a, b)
+ok_both A B (Err e) a b = tt
+
+-- more of the text after a script
 pub found_on : (input piece : List ℕ) (script : Script) (text next : Behind) → HasEndLine input
     → IsFound input script text → HoldsText (behind input ++ piece) next → IsFound (input ++ piece) script next
 found_on input piece script text next end f holds =
@@ -38,7 +43,7 @@ pub fault_stays : (input piece : List ℕ) (fault : ScriptFault) → HasEndLine 
     → first_fault (front input) ≡ Some fault → first_fault (front (input ++ piece)) ≡ Some fault
 fault_stays input piece fault end is = ap first_fault (front_stays input piece end) ∙ is
 
--- so many bytes were taken of what a source had left, and Has is right of them
+-- this many bytes were taken from a source, and `Has` holds of them
 pub record TakenSoFar (left left_now : Option (List ℕ)) (Has : List ℕ → Type 0) (count : ℕ) : Type 0 where
   pub input : List ℕ
   pub read : Consumes left left_now input
@@ -56,7 +61,7 @@ piece_taken left now after Has Next count more piece s read len on = record {
   len = omega (arith, s.len, len, length-append s.input piece);
 }
 
--- ---- what was read
+-- ---- the input that was read
 
 module _ (most : ℕ) where
   all_read : (left after : Option (List ℕ)) (input : List ℕ) → Consumes left after input → IsAtEnd after
@@ -82,7 +87,7 @@ module _ (most : ℕ) where
   front_read (Some all) (Some rest) input read len =
       sym (ap (take (most + 1)) read ∙ take_at input rest (most + 1) len)
 
-  -- more was read than there may be
+  -- more was read than is allowed
   pub long_read : (left now : Option (List ℕ)) (input : List ℕ) → Consumes left now input → length input ≡ most + 1
       → WasRead most left now input
   long_read left now input read len = record {
@@ -106,11 +111,20 @@ module _ (most : ℕ) where
     gives_none left after input (Ok x) read few not is = tt
     gives_none left after input (Err why) read few not is = no_input left after input why read few is not
 
-    -- what broke the reading off is told as what it is
+    -- the reason that ended the reading is the reason in the answer
     pub broken_off : {T : Type 0} (left after : Option (List ℕ)) (why : NotRead) (answer : Result T NotRead)
         → IsErrAnd answer (λ e. e ≡ why) → GivesNone most Is left after why → IfErr answer (GivesNone most Is left after)
     broken_off left after why (Ok x) is gives = absurd is
     broken_off left after why (Err e) is gives = subst (GivesNone most Is left after) (sym is) gives
+
+    -- if no text was read, no fact about one is needed
+    pub no_text : (left after : Option (List ℕ)) (why : NotRead) → GivesNoText most left after why
+        → GivesNone most Is left after why
+    no_text left after ReadFault gives = gives
+    no_text left after (Refused fault) gives = absurd gives.2
+    no_text left after NoTranscript gives = absurd gives.2
+    no_text left after TooManyLines gives = absurd gives.2
+    no_text left after NoMemory gives = gives
 
     -- an input that was read was not left unread
     pub no_read_fault : {T : Type 0} (Q : Type 0) (input : List ℕ) (answer : Result T NotRead)
@@ -130,7 +144,7 @@ pub gives_script : {E : Type 0} (left after : Option (List ℕ)) (input : List �
 gives_script left after input (Ok script) read is = (input, read, is)
 gives_script left after input (Err e) read is = tt
 
--- nor is one with a text behind its script that is not read
+-- nor is one with a text after its script that is not read
 pub no_pair_for : {T : Type 0} (input : List ℕ) (script : Script) (why : NotRead) (answer : Result T NotRead)
     → length input ≤ most_input → IsScript script (front input) → IsNoText (behind input) why
     → IsErrAnd answer (λ e. e ≡ why) → IfErr answer (λ e. IsNoPair input e)

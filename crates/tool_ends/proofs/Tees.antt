@@ -1,11 +1,11 @@
--- What is kept of a text that passes.
+-- The front that is kept of a text that passes.
 use Rattle.std.proofs.Common.{◌≡◌, ℕ, ◌+◌, List, ◌++◌, length, take, min, sym, ap, ◌∙◌, append-nil, arith, inl, inr}
 use Rattle.std.specs.Prelude.{Result, Ok, Err, IsOk, OnOk}
 use Rattle.std.proofs.Math.Seq.{take-append-add}
 use Rattle.std.proofs.lemmas.Bool.{cases_lt}
 use Rattle.std.proofs.lemmas.List.{length-take, take-append-le, take-take, take_all}
 
--- the first bytes of a piece, for which there is room
+-- the first bytes of a piece, as many as there is room for
 first_of : (piece : List ℕ) (n room : ℕ) → take (min n room) piece ≡ take room (take n piece)
 first_of piece n room = elim (cases_lt room n) [
   | inl less ↦ (
@@ -18,7 +18,7 @@ first_of piece n room = elim (cases_lt room n) [
       )
 ]
 
--- a front of 32 bytes gets what it lacks of more text
+-- a front of 32 bytes takes the bytes that it lacks from more text
 pub put_more : (front text piece : List ℕ) (n room : ℕ) → front ≡ take 32 text → room + length front ≡ 32
     → front ++ take (min n room) piece ≡ take 32 (text ++ take n piece)
 put_more front text piece n room is left = elim (cases_lt 32 (length text)) [

@@ -1,4 +1,4 @@
--- How a program ends, and what the sink holds behind a command that reads nothing.
+-- The statuses of a program, and the content of the sink after a command that reads no input.
 use Rattle.std.specs.Prelude.{ℕ, ◌≡◌, ◌⊎◌, ⊤, List, Option}
 use Rattle.std.specs.Io.KnownBytes.{Appends, Keeps}
 use Rattle.io_edges.specs.Faults.{Rose}
@@ -16,7 +16,7 @@ code_of WriteFault = 4
 code_of Refused = 5
 code_of NoMemory = 6
 
--- Of says which outputs are right
+-- `Of` gives the right outputs
 abbrev pub EndsWith : (List ℕ → Type 0) → Status → Option (List ℕ) → Option (List ℕ) → Type 0
 EndsWith Of Done held held_after = (output : List ℕ) × Of output × Appends held held_after output
 EndsWith Of WriteFault held held_after = (output : List ℕ) × Of output × AppendsPrefix held held_after output
@@ -26,7 +26,17 @@ EndsWith Of Usage held held_after = ⊥
 EndsWith Of ReadFault held held_after = ⊥
 EndsWith Of Refused held held_after = ⊥
 
--- the statuses of a command whose whole answer was put
+-- the sink counted a fault if it failed under the command, and none otherwise
+pub record CountsWriteFault (result : Status) (faults faults_after : ℕ) : Type 0 where
+  pub cut : result ≡ WriteFault → Rose faults faults_after
+  pub not_counted : (result ≡ WriteFault → ⊥) → faults_after ≡ faults
+
+-- the source counted a fault if it failed under the command, and none otherwise
+pub record CountsReadFault (result : Status) (faults faults_after : ℕ) : Type 0 where
+  pub read_fault : result ≡ ReadFault → Rose faults faults_after
+  pub no_read_fault : (result ≡ ReadFault → ⊥) → faults_after ≡ faults
+
+-- the statuses of a command that put its whole answer
 abbrev pub IsAnswered : Status → Type 0
 IsAnswered Done = ⊤
 IsAnswered No = ⊤
@@ -36,8 +46,7 @@ IsAnswered ReadFault = ⊥
 IsAnswered WriteFault = ⊥
 IsAnswered NoMemory = ⊥
 
--- the status and the sink's count of faults stay; or what an answer left in the sink could not be handed on, and the
--- sink counted that
+-- the status and the sink's count of faults stay; or the sink could not hand on the rest of an answer, and counted that
 abbrev pub AtOutputEnd : Status → Status → ℕ → ℕ → Type 0
 AtOutputEnd status result faults faults_after =
     ((result ≡ status) × (faults_after ≡ faults))

@@ -1,5 +1,5 @@
--- An input that is taken piece by piece, and what was seen in it.
-use Rattle.std.specs.Prelude.{ℕ, ◌≡◌, ◌≤◌, ◌-◌, List, [], ◌∷◌, Option, Some, None, drop, length}
+-- An input that is taken piece by piece, and the script that was found in it.
+use Rattle.std.specs.Prelude.{ℕ, ◌≡◌, ◌≤◌, ◌-◌, List, [], ◌∷◌, Option, Some, None, IfSome, drop, length}
 use Rattle.std.specs.Option.{option_map}
 use Rattle.key_names.specs.Texts.ScriptFaults.{first_fault, front}
 use Rattle.key_names.specs.Texts.ScriptGrammar.{Script, IsScript}
@@ -13,31 +13,31 @@ use Rattle.tool_ends.specs.declared.intake.Intake.TheVariants.{Front, Opened as 
 use Rattle.tool_ends.specs.declared.intake.Opened.{Opened}
 use Rattle.tool_ends.specs.declared.intake.Opened.TheVariants.{Script as Found, Faulty}
 
--- a line `end` stands in these bytes, behind another line
+-- these bytes have a line `end` after another line
 abbrev pub HasEndLine : List ℕ → Type 0
 HasEndLine bytes = (place : ℕ) × OccursAt bytes (10 ∷ 101 ∷ 110 ∷ 100 ∷ 10 ∷ []) place
 
--- the last `count` of these bytes, and the four in front of them, where a line `end` stands that came with the last
+-- the last `count` of these bytes, and the four before them: a line `end` that came with the last is in these
 abbrev pub last_part : ℕ → List ℕ → List ℕ
 last_part count bytes = drop (length bytes - count - 4) bytes
 
--- the input begins with the script, and this is the text behind it
+-- the input begins with the script, and this is the text after it
 pub record IsFound (input : List ℕ) (script : Script) (text : Behind) : Type 0 where
   pub is_script : IsScript script (front input)
   pub within : length (front input) ≤ length input
   pub holds : HoldsText (behind input) text
 
--- what was seen of the script in front
+-- the result for the script at the front
 abbrev pub IsOpened : List ℕ → Opened → Type 0
 IsOpened input (Found script text) = IsFound input script text
 IsOpened input (Faulty fault) = first_fault (front input) ≡ Some fault
 
--- the input that was taken: all of it is kept only while no line `end` is there
+-- the input that was taken; all of it is kept only as long as it has no line `end`
 abbrev pub HasTaken : List ℕ → Intake → Type 0
 HasTaken input (Front bytes) = (input ≡ bytes.items) × (HasEndLine input → ⊥)
 HasTaken input (IsOpen opened) = HasEndLine input × IsOpened input opened
 
--- the script that was found, and the transcript with which the text behind it is compared
+-- the script that was found, and the transcript that the text after it is compared with
 abbrev pub made_of : Opened → Option (Script × List (List SeenLine))
 made_of (Found script text) = option_map (λ made. (script, made)) (compared_with text)
 made_of (Faulty fault) = None
@@ -45,3 +45,10 @@ made_of (Faulty fault) = None
 abbrev pub made_in : Intake → Option (Script × List (List SeenLine))
 made_in (Front bytes) = None
 made_in (IsOpen opened) = made_of opened
+
+-- the input was taken, and the transcript that was made of its script is one that the maker makes
+pub record Fills (MayMake : Type 0) (Made : Script → List (List SeenLine) → Type 0) (input : List ℕ) (intake : Intake)
+    : Type 0 where
+  pub taken : HasTaken input intake
+  pub may : MayMake
+  pub made : IfSome (made_in intake) (λ both. Made both.0 both.1)

@@ -1,6 +1,8 @@
 pub mod Behind
 pub mod Ends
+pub mod Fed
 pub mod Intakes
+pub mod Numbers
 pub mod Pairs
 pub mod Reads
 pub mod Tees

@@ -1,4 +1,4 @@
--- A script with a transcript behind it as one input, and what answers an input that is none.
+-- A script with a transcript after it as one input, and the answers for an input that is none.
 use Rattle.std.specs.Prelude.{ℕ, ◌≡◌, ◌⊎◌, ◌+◌, ◌≤◌, ⊤, List, [], ◌∷◌, Option, Some, codes, drop, length, nat_lt}
 use Rattle.std.specs.Prelude.{if◌then◌else◌}
 use Rattle.std.specs.Fmt.{decimal}
@@ -31,7 +31,7 @@ most_input = 100663296
 abbrev pub most_script_lines : ℕ
 most_script_lines = 65600
 
--- the text behind the script
+-- the text after the script
 abbrev pub behind : List ℕ → List ℕ
 behind input = drop (length (front input)) input
 
@@ -55,14 +55,15 @@ pub record LacksLines (script : Script) (text : List ℕ) : Type 0 where
   pub is_text : IsTranscriptText text lines
   pub fails : HasLines script lines → ⊥
 
--- behind a script stands no transcript, which is clause 1, or one without the lines of the script, which is clause 2
+-- the text after a script is no transcript's, which fails clause 1, or that of a transcript without the script's lines,
+-- which fails clause 2
 pub record FailsAsText (input : List ℕ) (number : ℕ) : Type 0 where
   pub short : length input ≤ most_input
   pub script : Script
   pub is_script : IsScript script (front input)
   pub clause : (number ≡ 1) × IsNoTranscript (behind input) ⊎ (number ≡ 2) × LacksLines script (behind input)
 
--- why a text is not read as a transcript
+-- the reasons why a text is not read as a transcript
 abbrev pub IsNoText : List ℕ → NotRead → Type 0
 IsNoText text ReadFault = ⊥
 IsNoText text (Refused fault) = ⊥
@@ -70,7 +71,7 @@ IsNoText text NoTranscript = IsNoTranscript text
 IsNoText text TooManyLines = HasMoreLines most_script_lines text
 IsNoText text NoMemory = ⊤
 
--- why an input is not read as a script
+-- the reasons why an input is not read as a script
 abbrev pub IsNoScript : List ℕ → NotRead → Type 0
 IsNoScript input ReadFault = ⊥
 IsNoScript input (Refused fault) = first_fault input ≡ Some fault
@@ -78,7 +79,7 @@ IsNoScript input NoTranscript = ⊥
 IsNoScript input TooManyLines = ⊥
 IsNoScript input NoMemory = ⊤
 
--- why an input is not read as a script with a transcript behind it
+-- the reasons why an input is not read as a script with a transcript after it
 abbrev pub IsNoPair : List ℕ → NotRead → Type 0
 IsNoPair input ReadFault = ⊥
 IsNoPair input (Refused fault) = pair_fault input ≡ Some fault
@@ -97,8 +98,8 @@ GivesScript left left_after script =
 abbrev pub GivesPair : Option (List ℕ) → Option (List ℕ) → Script → List (List SeenLine) → Type 0
 GivesPair left left_after script t = (input : List ℕ) × WasRead most_input left left_after input × IsPair input script t
 
--- an input was read that Is says this of; or the source failed or memory ran out, when no more was taken than of an input
--- that is too long
+-- an input was read, and `Is` gives the reason for its refusal; or the source failed or memory ran out, after at most
+-- as many bytes as are taken of an input that is too long
 abbrev pub GivesNone : ℕ → (List ℕ → NotRead → Type 0) → Option (List ℕ) → Option (List ℕ) → NotRead → Type 0
 GivesNone most Is left left_after ReadFault = ConsumesUpTo (most + 1) left left_after
 GivesNone most Is left left_after (Refused fault) =
@@ -117,12 +118,12 @@ GivesNoPair = GivesNone most_input IsNoPair
 
 -- ---- the answers
 
--- of a fault it tells the line and the kind
+-- the line of a fault has its line and its kind
 abbrev pub refusal_line : ScriptFault → List ℕ
 refusal_line fault =
     lined (spaced (codes "refused" ∷ decimal fault.line ∷ decimal (kind_number fault.kind) ∷ []) ∷ [])
 
--- of a clause that fails its number
+-- the line of a failed clause has its number
 abbrev pub no_line : ℕ → List ℕ
 no_line number = lined (spaced (codes "no" ∷ decimal number ∷ []) ∷ [])
 
@@ -132,7 +133,7 @@ pub record TellsFault (input output : List ℕ) : Type 0 where
   pub first : pair_fault input ≡ Some fault
   pub line : output ≡ refusal_line fault
 
--- what says why an input is not read, and the status that says so
+-- the line that gives the reason why an input is not read, and its status
 abbrev pub RefusalOf : NotRead → Status → List ℕ → Type 0
 RefusalOf ReadFault status output = ⊥
 RefusalOf (Refused fault) status output = (status ≡ IsRefused) × (output ≡ refusal_line fault)
@@ -140,7 +141,7 @@ RefusalOf NoTranscript status output = (status ≡ IsNo) × (output ≡ no_line 
 RefusalOf TooManyLines status output = (status ≡ IsNo) × (output ≡ no_line 2)
 RefusalOf NoMemory status output = ⊥
 
--- how an answer ends that says why
+-- the end of a command with such a line
 abbrev pub RefusalEnds : NotRead → Status → Option (List ℕ) → Option (List ℕ) → Type 0
 RefusalEnds ReadFault status held held_after = (status ≡ Unread) × Keeps held held_after
 RefusalEnds (Refused fault) status held held_after = WritesEnds (RefusalOf (Refused fault)) status held held_after

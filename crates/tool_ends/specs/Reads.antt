@@ -1,4 +1,4 @@
--- How a command that reads its input ends, what the source then has left and what the sink holds.
+-- The end of a command that reads its input: its status, the rest of the source, and the content of the sink.
 use Rattle.std.specs.Prelude.{ℕ, ◌≡◌, ◌+◌, ◌≤◌, List, Option, IfSome, length, take}
 use Rattle.std.specs.Io.KnownBytes.{Appends, Consumes, IsAtEnd, Keeps}
 use Rattle.io_edges.specs.Pieces.{AppendsPrefix, ConsumesUpTo}
@@ -6,7 +6,7 @@ use Rattle.tool_ends.specs.Ends.{IsAnswered}
 use Rattle.tool_ends.specs.declared.status.Status.{Status}
 use Rattle.tool_ends.specs.declared.status.Status.TheVariants.{Done, No, Usage, ReadFault, WriteFault, Refused, NoMemory}
 
--- an output of some status that says an answer
+-- an output of some status with an answer
 abbrev pub SomeAnswer : (Status → List ℕ → Type 0) → List ℕ → Type 0
 SomeAnswer Of output = (status : Status) × IsAnswered status × Of status output
 
@@ -20,7 +20,7 @@ OnlyDone Is WriteFault output = ⊥
 OnlyDone Is Refused output = ⊥
 OnlyDone Is NoMemory output = ⊥
 
--- ---- of what was read: Of says which outputs are right with a status
+-- ---- for the input that was read; `Of` gives the right outputs for a status
 
 abbrev pub WasWritten : (List ℕ → Type 0) → Option (List ℕ) → Option (List ℕ) → Type 0
 WasWritten Is held held_after = (output : List ℕ) × Is output × Appends held held_after output
@@ -35,15 +35,15 @@ WritesEnds Of NoMemory held held_after = Keeps held held_after
 WritesEnds Of Usage held held_after = ⊥
 WritesEnds Of ReadFault held held_after = ⊥
 
--- ---- with the reading, of at most so many bytes and one more: Of says which outputs an input calls for
+-- ---- with the reading, of at most `most` bytes and one more; `Of` gives the right outputs for an input
 
--- what was read of what a source had left: all of it, or one byte more than there may be
+-- the input that was read from a source: all that was left, or one byte more than is allowed
 pub record WasRead (most : ℕ) (left left_after : Option (List ℕ)) (input : List ℕ) : Type 0 where
   pub read : Consumes left left_after input
   pub whole : length input ≤ most → IsAtEnd left_after
   pub front : IfSome left (λ all. input ≡ take (most + 1) all)
 
--- the whole input was read, and an output of it was written
+-- the whole input was read, and an output for it was written
 pub record WasAnswered (most : ℕ) (Is : List ℕ → List ℕ → Type 0) (left left_after held held_after : Option (List ℕ))
     : Type 0 where
   pub input : List ℕ
@@ -53,7 +53,7 @@ pub record WasAnswered (most : ℕ) (Is : List ℕ → List ℕ → Type 0) (lef
   pub is : Is input output
   pub written : Appends held held_after output
 
--- the refusal of what was read was written; it is also that of all that was left
+-- the refusal of the input that was read was written; all that was left has the same refusal
 pub record WasRefused (most : ℕ) (Is : List ℕ → List ℕ → Type 0) (left left_after held held_after : Option (List ℕ))
     : Type 0 where
   pub input : List ℕ
@@ -63,7 +63,8 @@ pub record WasRefused (most : ℕ) (Is : List ℕ → List ℕ → Type 0) (left
   pub of_all : IfSome left (λ all. Is all output)
   pub written : Appends held held_after output
 
--- the sink failed, and holds a prefix of an output that what was read calls for; so does all that was left
+-- the sink failed, and holds a prefix of an output for the input that was read; it is also an output for all that was
+-- left
 pub record WasCutShort (most : ℕ) (Is : List ℕ → List ℕ → Type 0) (left left_after held held_after : Option (List ℕ))
     : Type 0 where
   pub input : List ℕ
@@ -73,7 +74,7 @@ pub record WasCutShort (most : ℕ) (Is : List ℕ → List ℕ → Type 0) (lef
   pub of_all : IfSome left (λ all. Is all output)
   pub written : AppendsPrefix held held_after output
 
--- nothing was written, and no more was taken than of an input that is too long
+-- no output was written, and at most as much was taken as of an input that is too long
 pub record WasGivenUp (most : ℕ) (left left_after held held_after : Option (List ℕ)) : Type 0 where
   pub taken : ConsumesUpTo (most + 1) left left_after
   pub kept : Keeps held held_after

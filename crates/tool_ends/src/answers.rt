@@ -1,7 +1,6 @@
-//! Answers, with the status that they say.
+//! Answers, with their statuses.
 ghost use Rattle.std.specs.Prelude.{◌≡◌, ◌⊎◌};
-ghost use Rattle.io_edges.specs.Faults.{Rose};
-ghost use Rattle.tool_ends.specs.Ends.{IsAnswered};
+ghost use Rattle.tool_ends.specs.Ends.{CountsWriteFault, IsAnswered};
 ghost use Rattle.tool_ends.specs.Pairs.{RefusalEnds};
 ghost use Rattle.tool_ends.specs.Reads.{WritesEnds};
 ghost use Rattle.key_names.specs.declared.faults.ScriptFault.{ScriptFault};
@@ -11,14 +10,13 @@ use crate::short_lines::{ShortLine, no_line, refusal_line};
 use crate::status::Status;
 use io_edges::{Failed, Sink, put_all};
 
-/// Writes a text that answers with this status.
+/// Writes a text as the answer with this status.
 pub fn put_answer<K: Sink>(status: Status, text: &[u8], sink: &mut K) -> Status
     requires { IsAnswered status }
     ensures ends { WritesEnds (λ is output. (is ≡ status) × (output ≡ text.now)) result
         (K.held sink.old) (K.held sink.new) }
     ensures answered { (result ≡ status) ⊎ (result ≡ Status.WriteFault) }
-    ensures cut { result ≡ Status.WriteFault → Rose (K.faults sink.old) (K.faults sink.new) }
-    ensures not_counted { (result ≡ Status.WriteFault → ⊥) → K.faults sink.new ≡ K.faults sink.old }
+    ensures counted { CountsWriteFault result (K.faults sink.old) (K.faults sink.new) }
 {
     match put_all(sink, text) {
         Ok(()) => status,
@@ -26,27 +24,25 @@ pub fn put_answer<K: Sink>(status: Status, text: &[u8], sink: &mut K) -> Status
     }
 }
 
-/// Writes a short line that answers with this status.
+/// Writes a short line as the answer with this status.
 pub fn put_line<K: Sink>(status: Status, line: &ShortLine, sink: &mut K) -> Status
     requires { IsAnswered status }
     ensures ends { WritesEnds (λ is output. (is ≡ status) × (output ≡ line.now.bytes)) result
         (K.held sink.old) (K.held sink.new) }
     ensures answered { (result ≡ status) ⊎ (result ≡ Status.WriteFault) }
-    ensures cut { result ≡ Status.WriteFault → Rose (K.faults sink.old) (K.faults sink.new) }
-    ensures not_counted { (result ≡ Status.WriteFault → ⊥) → K.faults sink.new ≡ K.faults sink.old }
+    ensures counted { CountsWriteFault result (K.faults sink.old) (K.faults sink.new) }
 {
     put_answer(status, line.as_str().as_bytes(), sink)
 }
 
-/// Answers an input that was not read as a script with a transcript behind it.
+/// Answers an input that was not read as a script with a transcript after it.
 pub fn put_refusal<K: Sink>(why: &NotRead, sink: &mut K) -> Status
     ensures ends { RefusalEnds why.now result (K.held sink.old) (K.held sink.new) }
     ensures memory { result ≡ Status.NoMemory → why.now ≡ NotRead.NoMemory }
     ensures unread { result ≡ Status.ReadFault → why.now ≡ NotRead.ReadFault }
     ensures refused { result ≡ Status.Refused → (fault : ScriptFault) × (why.now ≡ NotRead.Refused fault) }
-    ensures cut { result ≡ Status.WriteFault → Rose (K.faults sink.old) (K.faults sink.new) }
+    ensures counted { CountsWriteFault result (K.faults sink.old) (K.faults sink.new) }
     ensures silent { (result ≡ Status.ReadFault) ⊎ (result ≡ Status.NoMemory) → sink.new ≡ sink.old }
-    ensures not_counted { (result ≡ Status.WriteFault → ⊥) → K.faults sink.new ≡ K.faults sink.old }
 {
     match why {
         NotRead::ReadFault => Status::ReadFault,

@@ -1,4 +1,4 @@
-//! The text behind a script: compared with a transcript's text as it comes, or read.
+//! The text after a script: compared with a transcript's text as it comes, or read.
 ghost use Rattle.std.specs.Prelude.{◌≡◌, ◌↔◌, ◌+◌, ◌≤◌, ◌^◌, ◌++◌, [], ℕ, List, Some, length, IfErr, IfOk, IfSome, IsTrue, OnOk};
 ghost use Rattle.key_names.specs.Texts.TranscriptGrammar.{IsTranscriptText};
 ghost use Rattle.transcript_text.specs.Feeding.{HasFed, most_lines};
@@ -12,12 +12,12 @@ use transcript_text::{Comparison, Reader, TextError, Transcript};
 /// The most lines of a script's transcript: one for each of 65,536 events, and the last one of each of 64 callers.
 const MOST_LINES: u32 = 65_600;
 
-/// The text behind a script.
+/// The text after a script.
 #[derive(Drop)]
 pub enum Behind {
     /// The text of a transcript so far, or all of it.
     Compared(Comparison),
-    /// In a reader that was fed it.
+    /// In a reader that it was fed to.
     Fed(Reader),
 }
 
@@ -37,7 +37,7 @@ fn transcript_of(reader: Reader) -> Result<Transcript, NotRead>
 }
 
 impl Behind {
-    // No text so far, of what is compared with the text of this transcript where there is one.
+    // No text so far. If `made` is given, the text will be compared with that transcript's.
     pub(crate) fn nothing(alloc: Global, made: Option<Transcript>) -> Result<Behind, AllocError>
         ensures holds { IfOk result (HoldsText []) }
         ensures made { IfOk result (λ text. compared_with text ≡ made) }
@@ -48,7 +48,7 @@ impl Behind {
         }
     }
 
-    // One more piece of the text. From where it is no more that of the transcript it is read.
+    // One more piece of the text. As soon as the text differs from the transcript's, it is read.
     pub(crate) fn take(&mut self, alloc: Global, piece: &[u8]) -> Result<(), AllocError>
         requires short { (text : List ℕ) × HoldsText text self.old × (length text + length piece.now ≤ 2 ^ 31) }
         ensures more { OnOk result ((text : List ℕ) → HoldsText text self.old
@@ -68,7 +68,7 @@ impl Behind {
         Ok(())
     }
 
-    /// Whether it was compared with the text of a transcript, and is all of that.
+    /// Whether it was compared with the text of a transcript, and is all of it.
     pub fn is_whole(&self) -> bool
         ensures { IsTrue result ↔ IsWhole self.now }
     {
@@ -78,12 +78,12 @@ impl Behind {
         }
     }
 
-    /// The transcript whose text it is, of at most 2^31 bytes.
+    /// The transcript with this text, which has at most 2^31 bytes.
     ///
     /// # Errors
     ///
-    /// `NoTranscript` where it is no transcript's text, `TooManyLines` where it is that of one with more lines than a
-    /// script's transcript has, and `NoMemory` where there is no memory for the transcript.
+    /// `NoTranscript` if it is no transcript's text, `TooManyLines` if it is that of one with more lines than a
+    /// script's transcript has, and `NoMemory` if there is no memory for the transcript.
     pub fn transcript(self, alloc: Global) -> Result<Transcript, NotRead>
         requires short { (text : List ℕ) × HoldsText text self × (length text ≤ 2 ^ 31) }
         ensures read { (text : List ℕ) → HoldsText text self → IfOk result (λ t. IsTranscriptText text t) }

@@ -5,11 +5,11 @@ use crate::status::Status;
 use std::env::{self, Env};
 use std::io;
 
-/// The words behind the program's name.
+/// The words after the program's name.
 ///
 /// # Errors
 ///
-/// How the program ends without them: `NoMemory`, or `Usage` where one of them is no text.
+/// The status with which the program ends without them: `NoMemory`, or `Usage` if one of them is no text.
 pub fn words<R: Env + AllocGlobal>(rt: &R) -> Result<Vec<String>, Status>
     ensures { IfErr result (λ status. (status ≡ Status.NoMemory) ⊎ (status ≡ Status.Usage)) }
 {

@@ -1,10 +1,11 @@
-//! An input that is taken piece by piece: a script, and the text of a transcript behind it.
+//! An input that is taken piece by piece: a script, and the text of a transcript after it.
 ghost use Rattle.std.specs.Prelude.{◌≡◌, ◌+◌, ◌≤◌, ◌^◌, ◌++◌, ℕ, List, Some, length, IfErr, IfOk, IfSome, OnOk};
 ghost use Rattle.tool_ends.specs.Behind.{IsApart, compared_with};
-ghost use Rattle.tool_ends.specs.Intakes.{HasEndLine, HasTaken, IsOpened, made_in, made_of};
+ghost use Rattle.tool_ends.specs.Intakes.{Fills, HasEndLine, HasTaken, IsOpened, made_in, made_of};
 ghost use Rattle.tool_ends.specs.Pairs.{IsNoPair, most_input};
 
 use crate::behind::Behind;
+use crate::feeding::Fed;
 use crate::maker::Maker;
 use crate::pair::NotRead;
 use crate::script_end::has_end_line;
@@ -12,19 +13,19 @@ use event_script::{Script, ScriptError, read_front};
 use key_names::ScriptFault;
 use std::alloc::{AllocError, Global};
 
-/// The front of an input, in which a script was looked for.
+/// The result for the script at the front of an input.
 #[derive(Drop)]
 pub(crate) enum Opened {
-    /// The script, and the text behind it.
+    /// The script, and the text after it.
     Script(Script, Behind),
     /// The script's first fault.
     Faulty(ScriptFault),
 }
 
-/// What was taken of an input.
+/// The part of an input that was taken.
 #[derive(Drop)]
 pub(crate) enum Intake {
-    /// All of it, while no end of a script is seen.
+    /// All of it, as long as it has no end of a script.
     Front(Vec<u8>),
     Opened(Opened),
 }
@@ -46,7 +47,7 @@ fn open<M: Maker>(alloc: Global, maker: &M, input: &[u8]) -> Result<Opened, Allo
 }
 
 impl Opened {
-    // What stands behind the end of a script that was seen.
+    // One more piece after the end of the script.
     fn take(&mut self, alloc: Global, piece: &[u8]) -> Result<(), AllocError>
         requires short { (input : List ℕ) × HasEndLine input × IsOpened input self.old
             × (length input + length piece.now ≤ 2 ^ 31) }
@@ -75,7 +76,7 @@ impl Opened {
 }
 
 impl Intake {
-    /// One more piece. Behind the script it is compared with what the maker makes.
+    /// One more piece. After the script it is compared with the maker's transcript.
     pub(crate) fn take<M: Maker>(
         &mut self,
         alloc: Global,
@@ -102,7 +103,7 @@ impl Intake {
         }
     }
 
-    /// The script that was taken, and the text behind it.
+    /// The script that was taken, and the text after it.
     pub(crate) fn finish<M: Maker>(
         self,
         alloc: Global,
@@ -121,5 +122,13 @@ impl Intake {
             Intake::Opened(opened) => opened.finish(),
             Intake::Front(input) => open(alloc, maker, &input)?.finish(),
         }
+    }
+}
+
+impl<M: Maker> Fed<M> for Intake {
+    ghost was_fed = { λ maker input intake. Fills (M.may_make maker) (M.made maker) input intake };
+
+    fn feed_piece(&mut self, alloc: Global, maker: &M, piece: &[u8]) -> Result<(), AllocError> {
+        self.take(alloc, maker, piece)
     }
 }

@@ -1,20 +1,22 @@
-//! How a program of this repository ends: its statuses, what it has read and written at each, and the short lines that
-//! answer an input of which no more is said.
+//! The ends of this repository's programs: their statuses, the input and output of each, and the short lines that are
+//! the whole answer to an input.
 //!
-//! [`read_script`] reads a script, and [`pair::read_pair`] one with a transcript behind it. Or they say why there is none,
-//! and [`put_refusal`] answers so. A [`tee::TeeSource`] and a [`tee::TeeSink`] keep the front of what passes, for a program
-//! that shows the faulty line, and [`refusal::fault_in`] finds the fault in the answer.
-//! [`pair::read_apart`] compares the text behind the script with that of a transcript which a [`maker::Maker`] makes, and
-//! reads it from where it is another. [`put_answer`], [`put_line`] and [`end_output`] write an answer and hand it on.
-//! `specs/Reads` says what a status promises of a source and a sink.
+//! [`read_script`] reads a script, and [`pair::read_pair`] one with a transcript after it. If there is none, they
+//! return the reason, and [`put_refusal`] answers with it. A [`tee::TeeSource`] and a [`tee::TeeSink`] keep the front
+//! of the text that passes, for a program that shows the faulty line; [`refusal::fault_in`] finds the fault in the
+//! answer. [`pair::read_apart`] compares the text after the script with that of a transcript that a [`maker::Maker`]
+//! makes, and reads it as soon as it differs. [`put_answer`], [`put_line`] and [`end_output`] write an answer and hand
+//! it on. `specs/Reads` defines the promise of each status about a source and a sink.
 //!
-//! It stands on `io_edges` for sources and sinks, and on `event_script` and `transcript_text` for what an input is.
+//! The crate uses `io_edges` for sources and sinks, and `event_script` and `transcript_text` for the grammar of an
+//! input.
 #![tactic(auto)]
 
 mod answers;
 pub mod behind;
 mod command_line;
 mod ending;
+mod feeding;
 mod intake;
 pub mod maker;
 pub mod numbers;

@@ -1,4 +1,4 @@
-//! What a text is compared with, before it is read.
+//! The transcript that a text is compared with before it is read.
 ghost use Rattle.std.specs.Prelude.{◌≡◌, ⊤, IfSome, None};
 ghost use Rattle.key_names.specs.Texts.ScriptGrammar.{WellFormed};
 
@@ -6,19 +6,19 @@ use event_script::Script;
 use std::alloc::Global;
 use transcript_text::Transcript;
 
-/// What makes a transcript of a script, with which the text behind the script is compared as it comes.
+/// A maker of a transcript for a script. The text after the script is compared with it as it comes.
 pub trait Maker {
     ghost use Rattle.std.specs.Prelude.{List};
     ghost use Rattle.key_names.specs.SeenLine.{SeenLine};
     ghost use Rattle.key_names.specs.Texts.ScriptGrammar.{Script as ScriptValue};
 
-    /// What it asks of itself to make transcripts.
+    /// Its own precondition for making transcripts.
     ghost may_make: { Self → Type 0 };
 
-    /// What is true of each transcript that it makes of a script.
+    /// The fact about each transcript that it makes for a script.
     ghost made: { Self → ScriptValue → List (List SeenLine) → Type 0 };
 
-    /// A transcript of the script, or `None` where the text is to be read and not compared.
+    /// A transcript of the script, or `None` if the text is to be read without a comparison.
     fn make(&self, alloc: Global, script: &Script) -> Option<Transcript>
         requires well { WellFormed script.now }
         requires may { may_make self.now }

@@ -1,8 +1,8 @@
-//! The fault that a refusal's line tells.
+//! The fault, or the clause, in a short answer.
 ghost use Rattle.std.specs.Prelude.{◌≡◌, IfSome};
-ghost use Rattle.tool_ends.specs.Pairs.{refusal_line};
+ghost use Rattle.tool_ends.specs.Pairs.{no_line, refusal_line};
 
-use crate::short_lines::refusal_line;
+use crate::short_lines::{no_line, refusal_line};
 use event_script::numbers::number_up_to;
 use key_names::{FaultKind, ScriptFault};
 
@@ -21,7 +21,7 @@ const KINDS: [FaultKind; 12] = [
     FaultKind::Unfinished,
 ];
 
-/// The fault whose line this is, if it is a line `refused LINE KIND`. That each such line is found is tested.
+/// The fault of this line, if it is a line `refused LINE KIND`. That each such line is found is tested.
 pub fn fault_in(text: &[u8]) -> Option<ScriptFault>
     ensures { IfSome result (λ fault. text.now ≡ refusal_line fault) }
 {
@@ -31,6 +31,18 @@ pub fn fault_in(text: &[u8]) -> Option<ScriptFault>
         let fault = ScriptFault { line, kind };
         if refusal_line(fault).as_str().as_bytes() == text {
             return Some(fault);
+        }
+    }
+    None
+}
+
+/// The number of the clause of this line, if it is a line `no K`. That each such line is found is tested.
+pub fn clause_in(text: &[u8]) -> Option<u8>
+    ensures { IfSome result (λ clause. text.now ≡ no_line clause) }
+{
+    for clause in 1..8 {
+        if no_line(clause).as_str().as_bytes() == text {
+            return Some(clause);
         }
     }
     None

@@ -1,11 +1,13 @@
-//! A script, read from an input that is nothing else.
+//! A script, read from an input without any other text.
 ghost use Rattle.std.specs.Prelude.{◌≡◌, ℕ, List, IfErr, IfOk, OnOk};
 ghost use Rattle.event_script.specs.Feeding.{HasFed};
 ghost use Rattle.io_edges.specs.Faults.{Rose};
 ghost use Rattle.key_names.specs.Texts.ScriptGrammar.{IsScript};
 ghost use Rattle.tool_ends.specs.Pairs.{GivesNoScript, GivesScript, IsNoScript};
 
-use crate::pair::{NotRead, PIECE};
+use crate::feeding::feed_to_limit;
+use crate::maker::NoMaker;
+use crate::pair::NotRead;
 use event_script::{Reader, Script, ScriptError};
 use io_edges::Source;
 use std::alloc::Global;
@@ -13,7 +15,7 @@ use std::alloc::Global;
 /// The most bytes of a script: 16 MiB.
 const MOST_SCRIPT_BYTES: usize = 16_777_216;
 
-// The script whose text a reader was fed.
+// The script in the text that a reader was fed.
 fn script_of(reader: Reader) -> Result<Script, NotRead>
     requires { (text : List ℕ) × HasFed text reader }
     ensures read { (text : List ℕ) → HasFed text reader → IfOk result (λ script. IsScript script text) }
@@ -29,13 +31,13 @@ fn script_of(reader: Reader) -> Result<Script, NotRead>
     }
 }
 
-/// The script that a source gives. The source is read to its end, or to one byte behind the most that there may be. Of the
-/// text no more is kept than a line that is not whole yet, or the one that is faulty.
+/// The script that a source gives. The source is read to its end, or to one byte more than is allowed. At most one line
+/// of the text is kept, which is incomplete or faulty.
 ///
 /// # Errors
 ///
-/// [`NotRead`] says why the input was not read: `ReadFault`, `Refused` or `NoMemory`. Where the source failed, or memory ran
-/// out, the bytes that were taken are lost.
+/// [`NotRead`] is the reason why the input was not read: `ReadFault`, `Refused` or `NoMemory`. If the source failed or
+/// memory ran out, the bytes that were taken are lost.
 pub fn read_script<S: Source>(alloc: Global, source: &mut S) -> Result<Script, NotRead>
     ensures read { IfOk result (GivesScript (S.left source.old) (S.left source.new)) }
     ensures not_read { IfErr result (GivesNoScript (S.left source.old) (S.left source.new)) }
@@ -44,16 +46,6 @@ pub fn read_script<S: Source>(alloc: Global, source: &mut S) -> Result<Script, N
     ensures not_counted { OnOk result (S.faults source.new ≡ S.faults source.old) }
 {
     let mut reader = Reader::new(alloc);
-    let mut piece = [0; PIECE];
-    let mut taken = 0;
-    while taken <= MOST_SCRIPT_BYTES {
-        let most = PIECE.min(MOST_SCRIPT_BYTES + 1 - taken);
-        let count = source.take(&mut piece[..most])?;
-        if count == 0 {
-            return script_of(reader);
-        }
-        reader.feed(alloc, &piece[..count])?;
-        taken += count;
-    }
+    feed_to_limit(alloc, source, MOST_SCRIPT_BYTES, &NoMaker, &mut reader)?;
     script_of(reader)
 }

@@ -1,13 +1,13 @@
-//! The end of a script that stands in front of something else.
+//! The end of a script that is followed by more text.
 ghost use Rattle.std.specs.Prelude.{◌↔◌, IsTrue};
 ghost use Rattle.tool_ends.specs.Intakes.{HasEndLine, last_part};
 
 use memchr::memmem;
 
-/// A script's last line, behind another line.
+/// A script's last line, after another line.
 const END_LINE: &[u8] = b"\nend\n";
 
-/// Whether a line `end` came with the last `count` bytes: it may begin in those before them.
+/// Whether a line `end` came with the last `count` bytes: it may begin in the bytes before them.
 pub(crate) fn has_end_line(given: &[u8], count: usize) -> bool
     ensures came { IsTrue result ↔ HasEndLine (last_part count given.now) }
     ensures stands { IsTrue result → HasEndLine given.now }

@@ -1,4 +1,4 @@
-//! The short lines that answer an input of which no more is said. They are made without memory.
+//! The short lines that are the whole answer to an input. They are made without memory.
 ghost use Rattle.std.specs.Prelude.{◌≡◌, ◌+◌, ◌≤◌, ◌++◌, decimal, length};
 ghost use Rattle.tool_ends.specs.Pairs.{no_line, refusal_line};
 
@@ -12,7 +12,7 @@ pub const MOST_BYTES: usize = 128;
 /// A line of at most 128 bytes.
 pub type ShortLine = ArrayString<MOST_BYTES>;
 
-/// Adds a text to a line, and a number in decimal behind it. The line must have room for the text and 20 digits.
+/// Adds a text to a line, and a number in decimal after it. The line must have room for the text and 20 digits.
 pub fn add_number(line: &mut ShortLine, before: &str, number: u64)
     requires { length line.old.bytes + length before.now + 20 ≤ 128 }
     ensures text { line.new.bytes ≡ line.old.bytes ++ before.now ++ decimal number }
@@ -23,7 +23,7 @@ pub fn add_number(line: &mut ShortLine, before: &str, number: u64)
     line.push_str(digits.format(number));
 }
 
-/// The line that tells an input's first fault.
+/// The line with an input's first fault.
 pub fn refusal_line(fault: ScriptFault) -> ShortLine
     ensures { result.bytes ≡ refusal_line fault }
 {
@@ -34,7 +34,7 @@ pub fn refusal_line(fault: ScriptFault) -> ShortLine
     line
 }
 
-/// The line that names the first clause that fails.
+/// The line with the number of the first clause that fails.
 pub fn no_line(number: u8) -> ShortLine
     ensures { result.bytes ≡ no_line number }
 {

@@ -1,23 +1,23 @@
-//! How a program ends.
+//! The ways in which a program ends.
 ghost use Rattle.std.specs.Prelude.{◌≡◌};
 ghost use Rattle.tool_ends.specs.Ends.{code_of};
 
-/// How a program ended. The number of each is its exit code.
+/// The way in which a program ended. The number of each is its exit code.
 #[derive(Clone, Copy, Debug, PartialEq, Eq)]
 pub enum Status {
     /// The whole output was written.
     Done,
-    /// A clause fails in a transcript, and the line that names it was written.
+    /// A clause fails in a transcript, and the line with its number was written.
     No,
-    /// The words are no form of the command line. Nothing was read or written.
+    /// The words are no form of the command line. The program read and wrote nothing.
     Usage,
     /// The source failed. Nothing was written.
     ReadFault,
     /// The sink failed. It holds a prefix of the output.
     WriteFault,
-    /// The script was refused, and the line that says so was written.
+    /// The script was refused, and the line with its fault was written.
     Refused,
-    /// There was no memory. Nothing was written.
+    /// Memory ran out. Nothing was written.
     NoMemory,
 }
 

@@ -1,5 +1,5 @@
 //! A source and a sink that keep the front of what passes through them, for the message of a refusal.
-ghost use Rattle.std.specs.Prelude.{◌≡◌, ◌<◌, ◌≤◌, ◌++◌, [], ℕ, List, length, take, IfOk, OnOk, OnErr};
+ghost use Rattle.std.specs.Prelude.{◌≡◌, ◌<◌, ◌≤◌, ◌++◌, [], ℕ, List, length, take, IfOk, IfSome, OnOk, OnErr};
 ghost use Rattle.std.specs.Io.{ReadsAtMost, WritesAtMost};
 ghost use Rattle.std.specs.Io.KnownBytes.{Keeps, Appends, Consumes, IsAtEnd};
 ghost use Rattle.io_edges.specs.Faults.{Rose};
@@ -9,35 +9,35 @@ use arrayvec::ArrayVec;
 use io_edges::{Failed, Sink, Source};
 use std::alloc::Global;
 
-/// The most bytes that a source keeps: 384 KiB.
-const MOST_GIVEN: usize = 384 * 1024;
-
 /// The most bytes that a sink keeps. A line `refused LINE KIND` is shorter.
 const MOST_GOT: usize = 32;
 
-/// A source that keeps a copy of the first 384 KiB that were taken from it, or of less if there is no memory for more.
+/// A source that keeps a copy of the first bytes that were taken from it, or of fewer if there is no memory for more.
 #[derive(Drop)]
 pub struct TeeSource<S: Source + Drop> {
     source: S,
+    // How many bytes are kept at most.
+    most: usize,
     front: Vec<u8>,
     // Whether the front is all that was taken.
     is_whole: bool,
 }
 
 impl<S: Source + Drop> TeeSource<S> {
-    /// A source that takes from this one, and has kept nothing.
-    pub fn of(alloc: Global, source: S) -> TeeSource<S>
+    /// A source that takes from this one. It has kept nothing yet, and will keep `most` bytes at most.
+    pub fn of(alloc: Global, source: S, most: usize) -> TeeSource<S>
         ensures source { tee_source result ≡ source }
         ensures given { HasGiven [] result }
     {
         TeeSource {
             source,
+            most,
             front: Vec::new(alloc),
             is_whole: true,
         }
     }
 
-    // Keeps of a piece that was taken what there is room for, if all before it was kept.
+    // Keeps as much of a piece that was taken as there is room for, if all bytes before it were kept.
     fn keep(&mut self, piece: &[u8])
         ensures source { tee_source self.new ≡ tee_source self.old }
         ensures given { (text : List ℕ) → HasGiven text self.old → HasGiven (text ++ piece.now) self.new }
@@ -45,13 +45,24 @@ impl<S: Source + Drop> TeeSource<S> {
         if !self.is_whole {
             return;
         }
-        let room = MOST_GIVEN.saturating_sub(self.front.len());
+        let room = self.most.saturating_sub(self.front.len());
         let (kept, left) = piece.split_at(piece.len().min(room));
         let Ok(()) = self.front.extend_from_slice(kept) else {
             self.is_whole = false;
             return;
         };
         self.is_whole = left.is_empty();
+    }
+
+    /// All that was taken, if it was kept whole.
+    pub fn whole(&self) -> Option<&[u8]>
+        ensures { (text : List ℕ) → HasGiven text self.now → IfSome result (λ kept. kept.now ≡ text) }
+    {
+        if self.is_whole {
+            Some(&self.front)
+        } else {
+            None
+        }
     }
 
     /// The line of this number, counted from 1, if the copy has all of it (tested).
@@ -78,7 +89,7 @@ impl<S: Source + Drop> Source for TeeSource<S> {
             → HasGiven (text ++ take n buf.new) self.new) }
         ensures none_given { OnErr result ((text : List ℕ) → HasGiven text self.old → HasGiven text self.new) }
 
-        // What each source promises.
+        // The contract of each source.
         ensures bound { ReadsAtMost result buf.new }
         ensures taken { IfOk result (λ n.
             Consumes (S.left (tee_source self.old)) (S.left (tee_source self.new)) (take n buf.new)) }
@@ -133,7 +144,7 @@ impl<K: Sink + Drop> Sink for TeeSink<K> {
             → HasGot (text ++ take n piece.now) self.new) }
         ensures none_got { OnErr result ((text : List ℕ) → HasGot text self.old → HasGot text self.new) }
 
-        // What each sink promises.
+        // The contract of each sink.
         ensures bound { WritesAtMost result piece.now }
         ensures some { IfOk result (λ n. 0 < length piece.now → 0 < n) }
         ensures appended { IfOk result (λ n.
@@ -153,7 +164,7 @@ impl<K: Sink + Drop> Sink for TeeSink<K> {
     fn flush(&mut self) -> Result<(), Failed>
         ensures got { (text : List ℕ) → HasGot text self.old → HasGot text self.new }
 
-        // What each sink promises.
+        // The contract of each sink.
         ensures handed_on { OnOk result (K.kept_back (tee_sink self.new) ≡ []) }
         ensures kept { Keeps (K.held (tee_sink self.old)) (K.held (tee_sink self.new)) }
         ensures not_counted { OnOk result (K.faults (tee_sink self.new) ≡ K.faults (tee_sink self.old)) }

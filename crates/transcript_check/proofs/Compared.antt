@@ -1,4 +1,4 @@
--- Lines that are compared with what is said of them, each at its place.
+-- Lines compared with the answers and data that follow from their steps, each at its place.
 use Rattle.std.proofs.Common.{◌≡◌, ℕ, zero, suc, ◌+◌, ◌≤◌, Some, List, [], ◌∷◌, length, refl, sym, subst, ap, ◌∙◌, arith}
 use Rattle.std.specs.Prelude.{◌↔◌, IsTrue, slice_get}
 use Rattle.std.specs.List.{AllByRecursion}
@@ -62,7 +62,7 @@ callers_placed t c (es ∷ ess) (lines ∷ rest) fit among = (
   callers_placed t (suc c) ess rest fit.1 (λ d. among (suc d) ∙ ap (list_at t) (omega arith)),
 )
 
--- ---- what is noted of all lines
+-- ---- the notes on all lines
 
 abbrev pub AnswerSame : SeenLine → Same → Type 0
 AnswerSame line same = IsTrue same.answer

@@ -16,7 +16,7 @@ one_more {X = X} P xs n x is here rest =
       (λ h. (let whole : AllByRecursion P (x ∷ drop (n + 1) xs) = (here, h) in rest.1 (subst All (sym e) whole))),
     )
 
--- what was judged of this caller's lines is so of those at its number
+-- a judgement of a caller's lines holds of the lines at its number
 pub moved : (Q : List Same → List SeenLine → Type 0) (s s' : List Same) (ls ls' : List SeenLine) → s ≡ s' → ls ≡ ls' →
     Q s ls → Q s' ls'
 moved Q s s' ls ls' e e' q = subst (Q s') e' (subst (λ x. Q x ls) e q)

@@ -1,4 +1,4 @@
--- What a check tells, from what was made of the lines.
+-- The verdict of a check, out of the lists that were made of the lines.
 use Rattle.std.proofs.Common.{◌≡◌, ℕ, ◌≤◌, List, [], ◌∷◌, max, refl, subst, ap, arith}
 use Rattle.std.specs.Prelude.{◌↔◌, IsTrue}
 use Rattle.key_names.specs.BaseList.{base_after}
@@ -32,7 +32,7 @@ use Rattle.transcript_check.specs.Compared.{IsCompared}
 use Rattle.transcript_check.specs.Judged.{IsSound, IsJudged}
 use Rattle.transcript_check.proofs.Compared.{AnswerSame, DataSame, answers_same, data_same}
 
--- looks that stand never fall
+-- if each look of an order is at least the generation seen before it, the looks never fall
 
 lower : (a b : ℕ) (xs : List ℕ) → a ≤ b → NeverFall (b ∷ xs) → NeverFall (a ∷ xs)
 lower a b [] le h = tt

@@ -1,5 +1,5 @@
--- What a check answers, and what is promised of the lines of a run.
-use Rattle.std.specs.Prelude.{List}
+-- The verdict of a check, and the promise about the lines of a run.
+use Rattle.std.specs.Prelude.{⊤, List}
 use Rattle.std.specs.List.{AllByRecursion}
 use Rattle.key_names.specs.Book.{Book, lists_of}
 use Rattle.key_names.specs.Deeds.{deeds_of}
@@ -12,11 +12,14 @@ use Rattle.key_names.specs.SeenLine.{SeenLine}
 use Rattle.key_names.specs.Uses.{IsDisjoint}
 use Rattle.key_names.specs.VreadSteps.{NeverFall, looks_of}
 use Rattle.line_orders.specs.Clauses.{clause_of}
+use Rattle.serial_replay.specs.Found.{BasisStands}
+use Rattle.transcript_check.specs.declared.check.Judged.{Judged}
+use Rattle.transcript_check.specs.declared.check.Judged.TheVariants.{Lawful, Unlawful}
 use Rattle.transcript_check.specs.declared.check.Verdict.{Verdict}
 use Rattle.transcript_check.specs.declared.check.Verdict.TheVariants.{Yes, No}
 
--- a lawful transcript with its book, which puts no byte of a key to use twice; what the lines show are bytes of named keys,
--- none of them twice; and along no caller's order a look falls behind one before it
+-- the transcript is lawful with its book, which uses no byte of a key twice. The lines show bytes of named keys, each
+-- at most once; and along each caller's order no look is below an earlier one
 pub record IsSound (script : Script) (t : List (List SeenLine)) : Type 0 where
   pub book : Book
   pub meanings : List (List CallMeaning)
@@ -29,3 +32,12 @@ pub record IsSound (script : Script) (t : List (List SeenLine)) : Type 0 where
 abbrev pub IsJudged : Script → List (List SeenLine) → Verdict → Type 0
 IsJudged script t Yes = IsSound script t
 IsJudged script t (No clause) = FirstFails script t (clause_of clause)
+
+abbrev pub verdict_of : Judged → Verdict
+verdict_of (Lawful basis) = Yes
+verdict_of (Unlawful clause) = No clause
+
+-- the lists of a lawful transcript are made of these lines
+abbrev pub HasLists : Script → List (List SeenLine) → Judged → Type 0
+HasLists script t (Lawful basis) = BasisStands script t basis
+HasLists script t (Unlawful clause) = ⊤

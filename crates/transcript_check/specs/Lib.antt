@@ -1,2 +1,4 @@
 pub mod Compared
 pub mod Judged
+pub mod Others
+pub mod Rows

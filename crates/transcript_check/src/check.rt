@@ -1,13 +1,15 @@
 //! The check of a transcript.
-ghost use Rattle.std.specs.Prelude.{◌≡◌, IfOk};
+ghost use Rattle.std.specs.Prelude.{◌≡◌, IfOk, map};
 ghost use Rattle.key_names.specs.Texts.ScriptGrammar.{WellFormed};
 ghost use Rattle.key_names.specs.IsTranscript.{IsTranscript, FirstFails};
+ghost use Rattle.key_names.specs.SameSteps.{bare};
 ghost use Rattle.line_orders.specs.Clauses.{clause_of};
-ghost use Rattle.transcript_check.specs.Judged.{IsJudged};
+ghost use Rattle.transcript_check.specs.Judged.{HasLists, IsJudged, verdict_of};
 
 use crate::compare::{Answers, Compare, Data, all_agree};
 use event_script::Script;
 use line_orders::clause::Clause;
+use serial_replay::lists::Basis;
 use serial_replay::remake::{Remade, remake};
 use std::alloc::{AllocError, Global};
 use transcript_text::Transcript;
@@ -20,40 +22,79 @@ pub enum Verdict {
     No(Clause),
 }
 
-// The first clause that fails, if one does.
-fn judge(alloc: Global, script: &Script, t: &Transcript) -> Result<Verdict, AllocError>
-    requires { WellFormed script.now }
-    ensures { IfOk result (λ verdict. IsJudged script.now t.now verdict) }
-{
-    let made = match remake(alloc, script, t, &Compare { t })? {
-        Remade::No(clause) => return Ok(Verdict::No(clause)),
-        Remade::Made(made) => made,
-    };
-    if !all_agree(&Answers, t, &made.callers) {
-        return Ok(Verdict::No(Clause::Answers));
-    }
-    if !all_agree(&Data, t, &made.callers) {
-        return Ok(Verdict::No(Clause::Data));
-    }
-    if made.looks_stand {
-        Ok(Verdict::Yes)
-    } else {
-        Ok(Verdict::No(Clause::Looks))
+/// A lawful transcript's lists, or the reason why it is not lawful.
+#[derive(Drop)]
+pub enum Judged<'a> {
+    Lawful(Basis<'a>),
+    /// This clause is the first that fails.
+    Unlawful(Clause),
+}
+
+impl Judged<'_> {
+    /// Whether the transcript is lawful.
+    pub fn verdict(&self) -> Verdict
+        ensures { result ≡ verdict_of self.now }
+    {
+        match self {
+            Judged::Lawful(_) => Verdict::Yes,
+            Judged::Unlawful(clause) => Verdict::No(*clause),
+        }
     }
 }
 
-/// Whether a transcript is lawful for a script, and if not, which clause is the first that fails.
+// The lists, or the first clause that fails.
+fn judge<'a>(alloc: Global, script: &'a Script, t: &'a Transcript) -> Result<Judged<'a>, AllocError>
+    requires { WellFormed script.now }
+    ensures judged { IfOk result (λ judged. IsJudged script.now t.now (verdict_of judged)) }
+    ensures lists { IfOk result (λ judged. HasLists script.now (map (map bare) t.now) judged) }
+{
+    let made = match remake(alloc, script, t, &Compare { t })? {
+        Remade::No(clause) => return Ok(Judged::Unlawful(clause)),
+        Remade::Made(made) => made,
+    };
+    if !all_agree(&Answers, t, &made.callers) {
+        return Ok(Judged::Unlawful(Clause::Answers));
+    }
+    if !all_agree(&Data, t, &made.callers) {
+        return Ok(Judged::Unlawful(Clause::Data));
+    }
+    if made.looks_stand {
+        Ok(Judged::Lawful(made.basis))
+    } else {
+        Ok(Judged::Unlawful(Clause::Looks))
+    }
+}
+
+/// Whether a transcript is lawful for a script, with the lists of its lanes if it is. The answers and data were
+/// compared with these lists, which are made only of the words and steps.
 ///
 /// # Errors
 ///
-/// `AllocError` where there is no memory to judge it.
+/// `AllocError` if there is no memory to judge it.
+pub fn check_lists<'a>(
+    alloc: Global,
+    script: &'a Script,
+    t: &'a Transcript,
+) -> Result<Judged<'a>, AllocError>
+    ensures judged { IfOk result (λ judged. IsJudged script.now t.now (verdict_of judged)) }
+    ensures lists { IfOk result (λ judged. HasLists script.now (map (map bare) t.now) judged) }
+{
+    // Its contract gives the facts that hold of every script.
+    let _version = script.version();
+    judge(alloc, script, t)
+}
+
+/// Whether a transcript is lawful for a script, and if not, the first clause that fails.
+///
+/// # Errors
+///
+/// `AllocError` if there is no memory to judge it.
 pub fn check(alloc: Global, script: &Script, t: &Transcript) -> Result<Verdict, AllocError>
     ensures judged { IfOk result (λ verdict. IsJudged script.now t.now verdict) }
     ensures yes { IsTranscript script.now t.now → IfOk result (λ verdict. verdict ≡ Verdict.Yes) }
     ensures no { (clause : Clause) → FirstFails script.now t.now (clause_of clause)
         → IfOk result (λ verdict. verdict ≡ Verdict.No clause) }
 {
-    // It says what is true of every script.
-    let _version = script.version();
-    judge(alloc, script, t)
+    let judged = check_lists(alloc, script, t)?;
+    Ok(judged.verdict())
 }

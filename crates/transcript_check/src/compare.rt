@@ -1,4 +1,5 @@
-//! Lines compared with what is made of them, as soon as it is made, and whether all agree, part by part.
+//! Compares lines with the answers and data of their steps as soon as these are made, and notes whether all agree, part
+//! by part.
 ghost use Rattle.std.specs.Prelude.{◌≡◌, ◌↔◌, IsTrue, Some, length, slice_get, MatchOption};
 ghost use Rattle.std.specs.List.{AllByRecursion};
 ghost use Rattle.key_names.specs.Book.{list_at};
@@ -15,14 +16,14 @@ use caller_answers::said::{Note, Said, Shows};
 use transcript_text::{CallerLines, LineView, Shown, Transcript};
 use vread_course::served::Served;
 
-/// Whether the parts of a line are as they are said.
+/// Whether the parts of a line agree with those of its steps.
 #[derive(Clone, Copy, Drop)]
 pub(crate) struct Same {
     pub answer: bool,
     pub shown: bool,
 }
 
-/// Notes whether the lines of a transcript are as they are said.
+/// Notes whether the lines of a transcript agree with their steps.
 #[derive(Drop)]
 pub(crate) struct Compare<'a> {
     pub t: &'a Transcript,
@@ -30,7 +31,7 @@ pub(crate) struct Compare<'a> {
 
 /// A part of a line.
 pub(crate) trait Part {
-    /// The part of the line is as it is said.
+    /// This part of the line agrees, by its note.
     ghost IsSame: { Self → IsLineSame → Type 0 };
 
     fn is_same(&self, same: Same) -> bool
@@ -40,7 +41,7 @@ pub(crate) trait Part {
 /// A line's answer.
 pub(crate) struct Answers;
 
-/// What a line shows.
+/// The data of a line.
 pub(crate) struct Data;
 
 fn shows_nothing(shown: Shown<'_>) -> bool
@@ -82,7 +83,7 @@ fn is_shown(shown: Shown<'_>, shows: &Shows) -> bool
     }
 }
 
-fn compared(line: LineView<'_>, said: &Said) -> Same
+pub(crate) fn compared(line: LineView<'_>, said: &Said) -> Same
     ensures answer { IsTrue result.answer ↔ SameAnswer (seen line.entry) said.now }
     ensures shown { IsTrue result.shown ↔ SameShown (seen line.entry) said.now }
 {
@@ -163,7 +164,7 @@ fn lines_agree<P: Part>(part: &P, lines: &CallerLines, noted: &[Same]) -> bool
     true
 }
 
-/// Whether this part of each line is as it was made.
+/// Whether this part of each line agrees with its steps.
 pub(crate) fn all_agree<P: Part>(part: &P, t: &Transcript, noted: &[Vec<Same>]) -> bool
     requires { length noted.now ≡ length t.now }
     ensures { IsTrue result ↔ AllAgree (λ _. P.IsSame part.now) (said_lists noted.now) t.now }

@@ -1,4 +1,4 @@
--- What is true of each caller's lines, for all of them.
+-- From each caller's lines to all of them.
 use Rattle.std.proofs.Common.{◌≤◌, List, length, map, All, arith}
 use Rattle.std.specs.List.{AllByRecursion}
 use Rattle.std.proofs.lemmas.List.{length-map}

@@ -1,4 +1,4 @@
--- No answer, where no value is spelt so.
+-- The answer is none if the text spells no value.
 use Rattle.std.proofs.Common.{◌≡◌, ℕ, List, Option, Some, None}
 use Rattle.std.specs.Prelude.{MatchOption}
 use Rattle.transcript_text.specs.Reading.{Reads}

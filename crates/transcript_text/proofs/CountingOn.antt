@@ -1,4 +1,4 @@
--- Lines of a text that are read one after the other, and not kept.
+-- Lines of a text that are read in sequence, and not kept.
 use Rattle.std.proofs.Common.{◌≡◌, ℕ, zero, suc, ◌+◌, ◌-◌, ◌<◌, List, [], ◌∷◌, ◌++◌, length, refl, sym, ap, subst, ◌∙◌, arith}
 use Rattle.std.proofs.lemmas.List.{length_push}
 use Rattle.key_names.specs.SeenLine.{SeenLine}
@@ -49,7 +49,7 @@ passes text rest line behind least number caller s cut a =
       many = g.many;
     }
 
--- the text ends with these lines, which are more
+-- the text ends with these lines, and they exceed the limit
 pub more_lines : (text : List ℕ) (least count most : ℕ) → CountedSoFar text least (line_end ++ 10 ∷ []) (count + 1)
     → most < count → HasMoreLines most text
 more_lines text least count most s more =

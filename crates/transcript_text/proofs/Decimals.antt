@@ -1,4 +1,4 @@
--- How many digits a number has, and the number written over a text.
+-- The number of digits of a number, and a number written over a text.
 use Rattle.std.proofs.Common.{ℕ, zero, suc, ◌≡◌, ◌+◌, ◌*◌, ◌/◌, ◌%◌, ◌^◌, ◌≤◌, ◌<◌, List, [], ◌∷◌, ◌++◌, length, take, drop, ap, ◌∙◌, length-append, arith}
 use Rattle.std.specs.Prelude.{decimal}
 use Rattle.std.proofs.Math.Nat.{pow-succ'}
@@ -10,7 +10,7 @@ some_power : (k : ℕ) → 1 ≤ 10 ^ k
 some_power zero = omega arith
 some_power (suc k) = omega (arith, pow-succ' 10 k, some_power k)
 
--- a number between two powers of ten has one digit more than the lower has zeros
+-- a number from 10 ^ k on, and below 10 ^ (k + 1), has k + 1 digits
 pub digits_counted : (k n : ℕ) → 10 ^ k ≤ n → n < 10 * 10 ^ k → n < 2 ^ 64 → length (decimal n) ≡ k + 1
 digits_counted zero n low high fits = length_one n (omega arith)
 digits_counted (suc k) n low high fits =
@@ -21,7 +21,7 @@ digits_counted (suc k) n low high fits =
     let front = digits_counted k (n / 10) (omega arith) (omega arith) (omega arith) in
     ap length (decimal_step n (omega arith) fits) ∙ length-append (decimal (n / 10)) ((48 + n % 10) ∷ []) ∙ omega (arith, front)
 
--- a text with digits written over what stood behind its first bytes
+-- a text with digits written over the bytes after its first ones
 pub written_on : (len : ℕ) (digits old new rest : List ℕ) → take len new ≡ take len old → drop len new ≡ digits ++ rest
     → take (len + length digits) new ≡ take len old ++ digits
 written_on len digits old new rest before behind =

@@ -1,4 +1,4 @@
--- A text that is fed piece by piece.
+-- A text that is read piece by piece.
 use Rattle.std.proofs.Common.{◌≡◌, ℕ, ◌+◌, ◌<◌, ◌≤◌, Bool, true, false, List, [], ◌∷◌, ◌++◌, length, refl, sym, ap, subst, ◌∙◌, append_assoc, append-nil, arith}
 use Rattle.std.specs.Prelude.{vec_len, Result, Ok, Err, IfOk, MatchBool}
 use Rattle.std.proofs.lemmas.List.{length-append, length-map}
@@ -106,7 +106,7 @@ module _ (s next : SoFar) (line : List ℕ) (most : next.most ≡ s.most) (lines
         kept = λ _. read;
       }
 
-  -- it was passed, being one of more lines than are kept
+  -- the line was counted and not kept, since the limit was reached
   passed_line : s.most ≤ s.lines → IsPassed line (vec_len s.done) (vec_len next.done)
       → (text behind : List ℕ) → HasTold s text (line ++ 10 ∷ behind) → HasTold (with_line next) text behind
   passed_line many passed text behind t = record {
@@ -135,7 +135,7 @@ module _ (s next : SoFar) (line : List ℕ) (most : next.most ≡ s.most) (lines
   passed_or_none (Ok false) many none = none
   passed_or_none (Err e) many none = tt
 
--- the text stops there, whatever follows
+-- the text has a fault there, whatever follows
 pub no_line : (s next : SoFar) (text line behind : List ℕ) → HasTold s text (line ++ 10 ∷ behind)
     → lacks 10 line ≡ true → (line ≡ line_end → ⊥) → IsNoLine line (vec_len s.done) → next.lines ≡ s.lines
     → StandsAs (Faulty (next.lines + 2)) next text behind
@@ -146,7 +146,7 @@ no_line s next text line behind t clean not none lines = λ more.
     (fault_line (text ++ more) ((line ++ 10 ∷ behind) ++ more) line (behind ++ more) c.done c.current (s.lines + 1)
     (vec_len s.done) c.read (append_assoc line (10 ∷ behind) more) clean not (sym c.many) none)
 
--- something stands behind the end
+-- more text comes after the end
 goes_past : (s : SoFar) (text rest : List ℕ) → HasTold s text (line_end ++ 10 ∷ rest) → (rest ≡ [] → ⊥)
     → IsFirstFault text (s.lines + 3)
 goes_past s text rest t some =
@@ -169,7 +169,7 @@ stays_past s next text line behind at is = λ more.
       length-append line (10 ∷ behind),
     )))
 
--- ---- a reader, and what is left of a piece
+-- ---- a reader, and the rest of a piece
 
 -- before a piece is read
 pub piece_begins : (text piece : List ℕ) (r : Reader) → HasFed text r → IsBehind (text ++ piece) r piece
@@ -180,7 +180,7 @@ piece_begins text piece r fed = record {
   bound = omega (arith, fed.bound, length-append text piece);
 }
 
--- what is left of a piece is the front of a line
+-- the rest of a piece is the start of a line
 pub rest_kept : (text unread : List ℕ) (r next : Reader) → IsBehind text r unread → lacks 10 unread ≡ true
     → next.so_far ≡ r.so_far → next.rest.items ≡ r.rest.items ++ unread → HasFed text next
 rest_kept text unread r next at clean same rest = record {
@@ -189,7 +189,7 @@ rest_kept text unread r next at clean same rest = record {
   bound = omega (arith, at.bound, ap (λ s. s.lines) same, ap length rest, length-append r.rest.items unread);
 }
 
--- a line ends, of which the reader had the front
+-- a line ends; the reader had the start of it
 pub line_ends : (text behind end line : List ℕ) (r next : Reader) → IsBehind text r (end ++ 10 ∷ behind)
     → lacks 10 end ≡ true → line ≡ r.rest.items ++ end → next.rest.items ≡ []
     → next.so_far.lines ≤ r.so_far.lines + 1
@@ -204,7 +204,7 @@ line_ends text behind end line r next at clean is empty few stands = record {
   bound = omega (arith, at.bound, few, ap length empty, length-append end (10 ∷ behind));
 }
 
--- ---- behind the text
+-- ---- after the text
 
 pub cut_at_head : (text : List ℕ) (r : Reader) → HasFed text r → r.so_far.stage ≡ Head → IsFirstFault text 1
 cut_at_head text r fed is =

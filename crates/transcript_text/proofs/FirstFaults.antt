@@ -1,4 +1,4 @@
--- Which line is the first that no transcript has there.
+-- The first line that no transcript has at its place.
 use Rattle.std.proofs.Common.{◌≡◌, ℕ, ◌+◌, ◌<◌, ◌≤◌, ◌⊎◌, inl, inr, true, List, [], ◌∷◌, ◌++◌, length, map, refl, sym, ap, subst, ◌∙◌, append_assoc, append-nil, arith}
 use Rattle.std.specs.Prelude.{codes}
 use Rattle.std.specs.List.{AllByRecursion}
@@ -19,7 +19,7 @@ use Rattle.transcript_text.proofs.RisingLines.{all_lines_rise, same_callers}
 tail_of : (x : List ℕ) (a b : List (List ℕ)) → x ∷ a ≡ x ∷ b → a ≡ b
 tail_of x a b e = cc
 
--- what may stand behind lines of a transcript
+-- the possible lines after lines of a transcript
 pub next_is : (least : ℕ) (lines others : List SeenLine) (line : List ℕ) (more : List (List ℕ)) → Rising least lines
     → Rising least others
     → (map line_text lines ++ line ∷ []) ++ more ≡ map line_text others ++ line_end ∷ []
@@ -35,7 +35,7 @@ next_is least (l ∷ lines) (o ∷ others) line more f g e =
     next_is l.caller lines others line more f.3 (subst (λ (c : ℕ). Rising c others)
     (sym (ap (λ (x : SeenLine). x.caller) same)) g.3) tail
 
--- nothing stands behind the end
+-- no line comes after the end
 pub after_end : (lines others : List SeenLine) (line : List ℕ) (more : List (List ℕ))
     → (map line_text lines ++ line_end ∷ []) ++ (line ∷ more) ≡ map line_text others ++ line_end ∷ [] → ⊥
 after_end [] [] line more e = cc
@@ -43,7 +43,7 @@ after_end [] (o ∷ others) line more e = let h : line_end ≡ line_text o = cc 
 after_end (l ∷ lines) [] line more e = let h : line_text l ≡ line_end = cc in no_end l h
 after_end (l ∷ lines) (o ∷ others) line more e = after_end lines others line more cc
 
--- without the end it is no transcript
+-- without the end the lines are no transcript
 pub no_whole : (lines others : List SeenLine) → map line_text lines ≡ map line_text others ++ line_end ∷ [] → ⊥
 no_whole [] [] e = cc
 no_whole [] (o ∷ others) e = cc
@@ -101,7 +101,7 @@ pub rises : (callers : List (List SeenLine)) → TranscriptFits callers → Unde
     → Rising 0 (all_lines callers)
 rises callers fits own = all_lines_rise 0 0 callers (omega arith) (omega (arith, fits.few_callers)) own fits.lines
 
--- no whole line stands at the front of the rest that goes on with the lines so far
+-- the rest does not begin with a whole line that can follow the lines so far
 unfoldable pub NoNext : List SeenLine → List ℕ → Type 0
 NoNext lines rest = (line more : List ℕ) → rest ≡ line ++ 10 ∷ more → lacks 10 line ≡ true
     → (line ≡ line_end → ⊥) × ((l : SeenLine) → LineFits l → last_caller 0 lines ≤ l.caller → l.caller < 64
@@ -123,7 +123,7 @@ stops_here lines rest rising not line more cut begins =
           next.1.2 next.1.3
     ]
 
--- a text that stops behind some lines is no transcript's
+-- a text that stops after some lines is no transcript's
 none_behind : (text : List ℕ) (front : List (List ℕ)) (rest : List ℕ) → AllLack front → text ≡ lined front ++ rest
     → Stops front rest
     → ((callers : List (List SeenLine)) → rest ≡ [] → front ≡ transcript_lines callers → ⊥)
@@ -169,7 +169,7 @@ fault_here text rest lines number callers gives rising parts is not = record {
       (tail_of head_line (map line_text lines) (map line_text (all_lines others) ++ line_end ∷ []) e));
 }
 
--- something stands behind the end
+-- more text comes after the end
 pub fault_behind : (text rest : List ℕ) (lines : List SeenLine) (number : ℕ) (callers : List (List SeenLine))
     → Gives callers lines → Rising 0 lines
     → text ≡ lined (transcript_lines callers) ++ rest → (rest ≡ [] → ⊥) → number ≡ length lines + 3
@@ -266,7 +266,7 @@ one_transcript text a b s t =
 
 -- ---- one first fault
 
--- the line behind the shorter of two fronts of a text
+-- the line after the shorter of two prefixes of a text
 next_front : (a b : List (List ℕ)) (r s : List ℕ) → AllLack a → AllLack b → lined a ++ r ≡ lined b ++ s
     → length a < length b
     → (line : List ℕ) × ((more : List (List ℕ)) × ((b ≡ a ++ line ∷ more)

@@ -1,4 +1,4 @@
--- What a text begins with is read in one way, where no digit follows.
+-- The start of a text is read in one way, if no digit follows it.
 use Rattle.std.proofs.Common.{◌≡◌, ℕ, ◌-◌, ◌^◌, ◌<◌, ◌≤◌, ◌⊎◌, inl, inr, List, [], ◌∷◌, ◌++◌, length, refl, sym, ap, subst, ◌∙◌, append_assoc, arith}
 use Rattle.std.specs.Prelude.{decimal}
 use Rattle.std.specs.List.{flat_map, AllByRecursion}
@@ -151,7 +151,7 @@ no_empty_front text none =
 
 -- ---- steps in a row
 
--- a step, and behind it nothing or a comma
+-- a step, and after it the end or a comma
 record BeginsSo (rest : List ℕ) : Type 0 where
   step : Step
   other : List ℕ
@@ -194,7 +194,7 @@ module _ (text rest : List ℕ) (read : List Step) (so_far : StepsRead text read
   no_next_front none all fits e =
       let b = begins_next all fits e in none b.step b.other b.fits (ends_step b.other b.after) b.whole
 
-  -- something else than a comma follows the next step
+  -- another byte than a comma follows the next step
   pub no_comma : (step : Step) (behind : List ℕ) → IsFront step_text StepFits rest step behind → (behind ≡ [] → ⊥)
       → ((r : List ℕ) → behind ≡ 44 ∷ r → ⊥) → (all : List Step) → StepsFit all → text ≡ steps_text all → ⊥
   no_comma step behind f some other all fits e =

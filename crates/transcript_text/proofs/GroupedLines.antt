@@ -1,4 +1,4 @@
--- Lines that come one after the other, gathered by their callers.
+-- Lines in sequence, grouped by their callers.
 use Rattle.std.proofs.Common.{◌≡◌, ℕ, suc, ◌+◌, ◌<◌, List, [], ◌∷◌, ◌++◌, length, refl, sym, ap, subst, ◌∙◌, append_assoc, append-nil, arith}
 use Rattle.std.proofs.lemmas.List.{flat_map_more, map_push}
 use Rattle.key_names.specs.SeenLine.{SeenLine}

@@ -1,4 +1,4 @@
--- What is kept behind the bytes and the steps of some lines leaves these lines, and a line names what was kept for it.
+-- More bytes and steps after those of some lines leave these lines as they are, and a new line refers to its own.
 use Rattle.std.proofs.Common.{◌≡◌, ℕ, zero, suc, ◌+◌, ◌<◌, ◌≤◌, List, [], ◌∷◌, ◌++◌, length, take, drop, set, map, get_or, refl, ap, sym, subst, ◌∙◌, append-nil, All, arith}
 use Rattle.std.specs.List.{AllByRecursion}
 use Rattle.std.proofs.lemmas.List.{length-append, length-drop, take-append-drop, take-append-le, drop-append-le, take_all, drop_at, map_push, map-set}
@@ -18,7 +18,7 @@ use Rattle.transcript_text.specs.declared.line.ReadLine.{ReadLine}
 use Rattle.transcript_text.specs.ReadLines.{seen_read}
 use Rattle.transcript_text.specs.Views.{bytes_of, seen, seen_shown}
 
--- items that stand within a list stay where more is put behind it
+-- items within a list stay when more is appended
 part_more : {X : Type 0} (start len : ℕ) (kept more : List X) → start + len ≤ length kept
     → take len (drop start (kept ++ more)) ≡ take len (drop start kept)
 part_more start len kept more within =
@@ -26,7 +26,7 @@ part_more start len kept more within =
     let b : len ≤ length (drop start kept) = omega (arith, length-drop start kept) in
     ap (take len) (drop-append-le start kept more a) ∙ take-append-le len (drop start kept) more b
 
--- what is put behind a list is found there
+-- the appended items are found after the old list
 part_at : {X : Type 0} (kept more : List X) → take (length more) (drop (length kept) (kept ++ more)) ≡ more
 part_at kept more = ap (take (length more)) (drop_at kept more (length kept) refl) ∙ take_all (length more) more (omega arith)
 
@@ -84,14 +84,14 @@ module _ (bs more : List ℕ) (steps others : List Step) where
     all_within_more lines within.1,
   )
 
-  -- lines stay lines of a caller where more is kept
+  -- lines stay lines of a caller when more is kept
   pub kept_more : (lines : List Line) → IsKept bs steps lines → IsKept (bs ++ more) (steps ++ others) lines
   kept_more lines old = record {
     within = all_within_more lines old.within;
     fits = rw (seen_lines-more lines old.within) old.fits;
   }
 
--- one more line that is seen so
+-- one more line with this content
 seen_one : (bs : List ℕ) (steps : List Step) (lines : List Line) (line : Line) (now : SeenLine) (before : List SeenLine)
     → seen_line bs steps line ≡ now → seen_lines bs steps lines ≡ before
     → seen_lines bs steps (lines ++ line ∷ []) ≡ before ++ now ∷ []
@@ -106,7 +106,7 @@ kept_one bs steps lines line now is within fits old = record {
       (each_more LineFits (seen_lines bs steps lines) now old.fits fits);
 }
 
--- a line of a caller for which its bytes and steps were kept last
+-- a line of a caller whose bytes and steps were kept last
 module _ (bs after_bs : List ℕ) (steps after_steps : List Step) (line : LineView) (named : Line)
     (bytes_are : after_bs ≡ bs ++ bytes_of line.shown) (steps_are : after_steps ≡ steps ++ line.steps.now)
     (named_is : named ≡ kept_line (length steps) (length bs) line) where
@@ -141,11 +141,11 @@ module _ (bs after_bs : List ℕ) (steps after_steps : List Step) (line : LineVi
         (seen line) old.fits fits);
   }
 
--- what begins with the bytes from before is these and what stands behind them
+-- a list that begins with the old bytes is these and the rest after them
 grown : (bs after : List ℕ) → take (length bs) after ≡ bs → bs ++ drop (length bs) after ≡ after
 grown bs after e = ap (λ x. x ++ drop (length bs) after) (sym e) ∙ take-append-drop (length bs) after
 
--- a line that was read: its steps were kept last, and its data are named among bytes that begin with those from before
+-- a line that was read: its steps were kept last, and its data refer to bytes that begin with the old ones
 module _ (bs after : List ℕ) (steps : List Step) (begins : take (length bs) after ≡ bs) where
   pub seen_grown : (others : List Step) (lines : List Line) → IsKept bs steps lines
       → seen_lines after (steps ++ others) lines ≡ seen_lines bs steps lines

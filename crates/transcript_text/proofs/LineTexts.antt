@@ -1,4 +1,4 @@
--- A line's spelling names no other line.
+-- The spelling of a line is that of no other line.
 use Rattle.std.proofs.Common.{◌≡◌, ℕ, ◌-◌, ◌^◌, ◌<◌, ◌≤◌, ◌==◌, true, false, List, [], ◌∷◌, ◌++◌, length, refl, sym, ap, subst, ◌∙◌, append_assoc, append-nil, arith}
 use Rattle.std.specs.Prelude.{codes, decimal}
 use Rattle.std.specs.List.{AllByRecursion, flat_map}
@@ -295,7 +295,7 @@ pub same_caller : (text : List ℕ) (read : ReadLine) → IsRead text read → (
     → text ≡ line_text line → line.caller ≡ read.caller
 same_caller text read is line fits e = ap (λ (l : SeenLine). l.caller) (is.only line fits e).0
 
--- what the line of a text shows is spelt by the last field
+-- the last field spells the data of the text's line
 pub shows_data : (text : List ℕ) (read : ReadLine) → IsRead text read → (line : SeenLine) → LineFits line
     → text ≡ line_text line → ShownFits read.word line.shown × (read.shown.now ≡ shown_text line.shown)
 shows_data text read is line fits e =

@@ -23,7 +23,7 @@ use Rattle.transcript_text.proofs.WholeTexts.{line_is, transcript_text-parts}
 pub none_shown : (n : ℕ) (shown : Shown) → n ≡ 0 → data_left n shown ≡ shown_text shown
 none_shown n shown e = rw e refl
 
--- its head was put, and its data are to come
+-- the head was put, and the data are still to come
 pub head_put : (line : LineView) (n : ℕ) (head : List ℕ) → n ≡ 0
     → head ≡ head_text line.caller line.event line.word line.answer line.steps.now
     → (head ++ data_left n (seen_shown line.shown)) ++ codes "\n" ≡ line_left n (seen line)
@@ -74,7 +74,7 @@ pub has_shown : (n i : ℕ) (lines : List SeenLine) (line : SeenLine) → slice_
     → n ≤ length (bytes_in line.shown) → HasShown n (drop i lines)
 has_shown n i lines line at few = subst (HasShown n) (sym (found_dropped lines i line at)) few
 
--- of a line that was begun, this much was put
+-- the part of a begun line that was put
 abbrev pub Begins : ℕ → List ℕ → Option SeenLine → Type 0
 Begins n piece found = IfSome found (λ line. (piece ++ data_left n line.shown) ++ codes "\n" ≡ line_left n line)
 
@@ -121,7 +121,7 @@ head_done place callers piece is within put =
     ap (λ coming. left_from coming place callers) is ∙ transcript_text-parts callers
     ∙ ap (λ text. text ++ callers_text callers) (sym put) ∙ ap (λ text. piece ++ text) (sym left)
 
--- fewer pieces are to come behind one that has some bytes
+-- fewer pieces come after one that has some bytes
 pub fewer_pieces : (old new : Place) (callers : List (List SeenLine)) (piece : List ℕ)
     → text_left old callers ≡ piece ++ text_left new callers → 0 < length piece → new.caller ≡ old.caller
     → most_pieces new callers < most_pieces old callers

@@ -9,7 +9,7 @@ use Rattle.transcript_text.specs.Putting.{PutSoFar}
 abbrev Known : Type 0
 Known = Option (List ℕ)
 
--- what is put of the front of the rest is put of the whole
+-- a part put of the front of the rest is a part put of the whole
 goes_on : (a b c : Known) (whole x y rest : List ℕ) → PutSoFar a b whole (x ++ y) → PutSoFar b c x rest
     → PutSoFar a c whole (rest ++ y)
 goes_on a b c whole x y rest p q = record {

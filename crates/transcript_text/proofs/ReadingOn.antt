@@ -1,4 +1,4 @@
--- Reading the lines of a text one after the other.
+-- Reading the lines of a text in sequence.
 use Rattle.std.proofs.Common.{◌≡◌, ℕ, ◌+◌, ◌<◌, ◌≤◌, Bool, true, false, List, [], ◌∷◌, ◌++◌, ◌-◌, ◌^◌, length, map, refl, sym, ap, subst, ◌∙◌, append_assoc, append-nil, arith}
 use Rattle.std.specs.Prelude.{codes, Result, Ok, Err, IfOk, MatchBool}
 use Rattle.std.specs.List.{AllByRecursion}
@@ -156,7 +156,7 @@ fault_line text rest line behind done current number least r cut clean end is no
     ) in
     fault_here text rest r.lines (number + 1) g.0 g.1 r.rising r.parts (omega (arith, r.count)) not
 
--- the text up to and with the end
+-- the text up to and including the end
 whole_text : (callers : List (List SeenLine)) (lines : List SeenLine) (text rest behind : List ℕ)
     → all_lines callers ≡ lines → text ≡ lined (front_of lines) ++ rest
     → rest ≡ line_end ++ 10 ∷ behind → text ≡ lined (transcript_lines callers) ++ behind
@@ -202,7 +202,7 @@ pub other_head : (text head rest : List ℕ) → text ≡ head ++ 10 ∷ rest �
 other_head text head rest cut clean not = no_head text (λ line more cut2 is.
     not ((same_cut 10 head line rest more clean (rw is refl) (sym cut ∙ cut2)).0 ∙ is))
 
--- ---- what was read is the one transcript
+-- ---- the text is that of the one transcript
 
 few_lines : (lines : List (List ℕ)) → length lines ≤ length (lined lines)
 few_lines [] = omega arith

@@ -1,4 +1,4 @@
--- The lines of a transcript one after the other: their callers' numbers never fall, and they tell the transcript.
+-- The lines of a transcript in sequence: their callers' numbers never fall, and they determine the transcript.
 use Rattle.std.proofs.Common.{◌≡◌, ℕ, suc, ◌+◌, ◌<◌, ◌≤◌, List, [], ◌∷◌, ◌++◌, length, refl, sym, ap, ◌∙◌, append-nil, arith}
 use Rattle.std.specs.List.{AllByRecursion}
 use Rattle.std.proofs.lemmas.List.{length-append, nil_from_length}

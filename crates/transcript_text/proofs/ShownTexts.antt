@@ -1,4 +1,4 @@
--- Data are read from their spelling, and it is that of no other data.
+-- Data are read from their spelling, and no other data have that spelling.
 use Rattle.std.proofs.Common.{◌≡◌, ℕ, ◌<◌, ◌^◌, Bool, List, [], ◌∷◌, length, Option, Some, None, Result, Ok, Err, refl, sym, ap, subst, ◌∙◌, arith}
 use Rattle.std.specs.Prelude.{codes, decimal, IfOk, IfSome, MatchBool}
 use Rattle.std.specs.Option.{is_some, option_map}
@@ -33,7 +33,7 @@ spelt_bytes word text (bytes []) not fits e none = omega (arith, fits.1)
 spelt_bytes word text (bytes (b ∷ shown)) not fits e none = let p = ap bytes_of e ∙ bytes_again (b ∷ shown) fits.2 in cc
 spelt_bytes word text (count n) not fits e none = not fits.0
 
--- on the line of another word than bits
+-- on the line of a word other than bits
 pub reads_bytes : (word : Word) (text : List ℕ) (shown : List ℕ) → (word ≡ Bits → ⊥) → Some shown ≡ bytes_of text
     → ShownFits word (bytes_or_none shown) × (text ≡ shown_text (bytes_or_none shown))
 reads_bytes word text shown not e =

@@ -11,7 +11,7 @@ use Rattle.key_names.proofs.Script.HexFields.{bytes_takes, bytes_again}
 use Rattle.transcript_text.specs.Gathered.{bytes_from}
 use Rattle.transcript_text.specs.Shows.{AppendsSpelt, NamesSpelt}
 
--- the text is the digits of these bytes, and then the rest; and if it is the digits of some bytes, so is the rest
+-- the text is the digits of these bytes, and then the rest; if it is the digits of some bytes, so is the rest
 pub record SpeltSoFar (text bytes rest : List ℕ) : Type 0 where
   pub whole : text ≡ encode_lower bytes ++ rest
   pub small : IsBytes bytes
@@ -19,7 +19,7 @@ pub record SpeltSoFar (text bytes rest : List ℕ) : Type 0 where
   pub even : length rest ≡ 2 * half
   pub only : (all : List ℕ) → bytes_of text ≡ Some all → (last : List ℕ) × (rest ≡ encode_lower last) × IsBytes last
 
--- a text of digits in two parts, the first of them of whole bytes
+-- a text of digits in two parts, the first of them with whole bytes
 record Split (front behind : List ℕ) : Type 0 where
   first : List ℕ
   last : List ℕ
@@ -130,19 +130,19 @@ module _ (text bytes rest front behind : List ℕ) (k : ℕ) (so_far : SpeltSoFa
       again front s.first (omega (arith, long, some)) s.first_is s.first_small in
       absurd cc)
 
--- the text is spelt whole
+-- the whole text was read
 pub spelt_whole : (text bytes rest : List ℕ) → SpeltSoFar text bytes rest → rest ≡ [] → 0 < length text
     → Some bytes ≡ bytes_of text
 spelt_whole text bytes rest s done some =
     sym (again text bytes some (s.whole ∙ ap (λ r. encode_lower bytes ++ r) done ∙ append-nil (encode_lower bytes)) s.small)
 
--- the same, where the bytes were appended
+-- the same, with the bytes appended
 pub record AppendedSoFar (text old new rest : List ℕ) : Type 0 where
   pub bytes : List ℕ
   pub whole : new ≡ old ++ bytes
   pub so_far : SpeltSoFar text bytes rest
 
--- ---- the data that name what was appended
+-- ---- the data that refer to the appended bytes
 
 pub names_none : (text old new : List ℕ) → AppendsSpelt text old new → length new ≤ length old
     → NamesSpelt text old new NoData
@@ -167,7 +167,7 @@ names_bytes text old new start len a from_here long some = record {
     named start len [] e some = absurd (omega arith)
     named start len (b ∷ bytes) e some = ap (λ (n : ℕ). Bytes n start) e
 
--- there are no more bytes than digits
+-- a text has at least as many digits as bytes
 pub spelt_short : (text old new : List ℕ) → AppendsSpelt text old new → length new ≤ length old + length text
 spelt_short text old new a =
     let is = (bytes_takes text a.bytes a.spelt).0 in

@@ -1,11 +1,11 @@
--- Steps written one after the other.
+-- Steps written in sequence.
 use Rattle.std.proofs.Common.{◌≡◌, ℕ, true, false, ◌==◌, List, [], ◌∷◌, ◌++◌, length, refl, sym, ap, ◌∙◌, append_assoc, append-nil, eqb-true, arith}
 use Rattle.std.specs.Prelude.{codes}
 use Rattle.std.specs.List.{flat_map}
 use Rattle.key_names.specs.declared.names.Step.{Step}
 use Rattle.key_names.specs.Texts.TranscriptGrammar.{step_text, steps_text}
 
--- a step behind another one
+-- a step after another one
 abbrev pub next_text : Step → List ℕ
 next_text step = codes "," ++ step_text step
 
@@ -18,7 +18,7 @@ steps_text-cons step (next ∷ steps) = rw (steps_text-cons next steps)
     ∙ ap (λ (x : List ℕ). step_text step ++ x) (sym (append_assoc (codes ",") (step_text next)
     (flat_map next_text steps))))
 
--- steps, the first behind this byte and each other one behind a comma
+-- steps, the first after this byte and each other one after a comma
 unfoldable pub steps_behind : ℕ → List Step → List ℕ
 steps_behind before [] = []
 steps_behind before (step ∷ steps) = before ∷ (step_text step ++ flat_map next_text steps)

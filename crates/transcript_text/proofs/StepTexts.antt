@@ -1,4 +1,4 @@
--- A step's spelling names no other step.
+-- The spelling of a step is that of no other step.
 use Rattle.std.proofs.Common.{◌≡◌, ℕ, ◌+◌, ◌^◌, ◌<◌, ◌≤◌, ◌⊎◌, inl, inr, true, suc, ◌-◌, length, take, drop, List, [], ◌∷◌, ◌++◌, get_or, refl, sym, ap, subst, ◌∙◌, append_assoc, arith}
 use Rattle.std.specs.Prelude.{codes, decimal}
 use Rattle.std.specs.List.{flat_map, AllByRecursion}
@@ -202,7 +202,7 @@ no_mark_behind text other mark e =
 
 -- ---- steps in a row
 
--- each step with a comma behind it
+-- each step with a comma after it
 abbrev pub commas : List Step → List ℕ
 commas steps = flat_map (λ step. step_text step ++ codes ",") steps
 
@@ -215,7 +215,7 @@ steps_text-push (s ∷ t ∷ steps) step = ap (λ (x : List ℕ). step_text s ++
     (steps_text-push (t ∷ steps) step) ∙ sym (append_assoc (step_text s ++ codes ",") (commas (t ∷ steps))
     (step_text step))
 
--- the steps behind those that were read
+-- the steps after those that were read
 pub record StepsBehind (read all : List Step) (rest : List ℕ) : Type 0 where
   pub behind : List Step
   pub some : 0 < length behind
@@ -255,9 +255,9 @@ begins_so byte [] some e = absurd (omega arith)
 begins_so byte (b ∷ text) some e = let n : suc (length text) - 1 ≡ length text = omega arith in
     rw n (rw (take_all (length text) text (omega arith)) (ap (λ (x : ℕ). x ∷ text) e))
 
--- ---- reading steps one after the other
+-- ---- reading steps in sequence
 
--- the steps that were read, and the text behind them
+-- the steps that were read, and the text after them
 pub record StepsRead (text : List ℕ) (read : List Step) (rest : List ℕ) : Type 0 where
   pub each : AllByRecursion StepFits read
   pub some : text ≡ codes "-" → ⊥

@@ -1,4 +1,4 @@
--- The text of a line from its head and its data, and the text of a transcript from its callers' lines.
+-- The text of a line from its head and data, and the text of a transcript from its callers' lines.
 use Rattle.std.proofs.Common.{◌≡◌, ℕ, List, [], ◌∷◌, ◌++◌, map, refl, ap, ◌∙◌, append_assoc}
 use Rattle.std.specs.Prelude.{codes}
 use Rattle.std.specs.List.{flat_map}

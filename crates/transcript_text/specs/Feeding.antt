@@ -1,4 +1,4 @@
--- How far the text of a transcript was read, and what was read of it.
+-- How far the text of a transcript was read, and which lines were read.
 use Rattle.std.specs.Prelude.{ℕ, ◌≡◌, ◌+◌, ◌<◌, ◌≤◌, ⊤, true, List, [], ◌∷◌, ◌++◌, codes, length, map, vec_len}
 use Rattle.key_names.specs.SeenLine.{SeenLine}
 use Rattle.key_names.specs.Texts.Spelling.{lined}
@@ -12,7 +12,7 @@ use Rattle.transcript_text.specs.declared.so_far.Stage.TheVariants.{Head, Lines,
 
 -- ---- the lines of a text
 
--- lines that fit, of callers from a number on and below 64, whose numbers never fall
+-- lines that fit, of callers from a number on and below 64; the callers' numbers never fall
 abbrev pub Rising : ℕ → List SeenLine → Type 0
 Rising least [] = ⊤
 Rising least (line ∷ lines) = (least ≤ line.caller) × (line.caller < 64) × LineFits line × Rising line.caller lines
@@ -27,11 +27,11 @@ head_line = codes "rngtranscript 1"
 abbrev pub line_end : List ℕ
 line_end = codes "end"
 
--- the first line, and these behind it
+-- the first line, and these after it
 abbrev pub front_of : List SeenLine → List (List ℕ)
 front_of lines = head_line ∷ map line_text lines
 
--- the lines that were read, by their callers, and the text behind them
+-- the lines that were read, by their callers, and the rest of the text after them
 pub record ReadSoFar (text : List ℕ) (done : List (List SeenLine)) (current : List SeenLine) (rest : List ℕ)
     (number : ℕ) : Type 0 where
   pub lines : List SeenLine
@@ -42,14 +42,14 @@ pub record ReadSoFar (text : List ℕ) (done : List (List SeenLine)) (current : 
   pub count : number ≡ length lines + 1
   pub begun : current ≡ [] → lines ≡ []
 
--- lines that were read and are not kept; the last one is of this caller
+-- the lines that were read, kept or not; the last one is of this caller
 pub record CountedSoFar (text : List ℕ) (least : ℕ) (rest : List ℕ) (number : ℕ) : Type 0 where
   pub done : List (List SeenLine)
   pub current : List SeenLine
   pub read : ReadSoFar text done current rest number
   pub many : length done ≡ least
 
--- ---- where a reader stands
+-- ---- the state of a reader
 
 -- no line was read
 pub record IsUnread (s : SoFar) : Type 0 where
@@ -57,16 +57,16 @@ pub record IsUnread (s : SoFar) : Type 0 where
   pub current : s.current.lines ≡ []
   pub lines : s.lines ≡ 0
 
--- so many lines were read, with this behind them; they are kept, unless they are more than are asked for
+-- the lines before this rest were read and counted; they are kept, unless they exceed the limit
 pub record HasTold (s : SoFar) (text rest : List ℕ) : Type 0 where
   pub counted : CountedSoFar text (vec_len s.done) rest (s.lines + 1)
   pub kept : s.lines ≤ s.most → ReadSoFar text (seen_callers s.done.items) s.current.lines rest (s.lines + 1)
 
--- with one line more
+-- with one more line
 abbrev pub with_line : SoFar → SoFar
 with_line s = record s { lines = s.lines + 1 }
 
--- at this stage of the text, this is what stands behind the lines that were read
+-- at this stage the text is the lines that were read, and then this rest
 abbrev pub StandsAs : Stage → SoFar → List ℕ → List ℕ → Type 0
 StandsAs Head s text rest = IsUnread s × (text ≡ rest)
 StandsAs Lines s text rest = HasTold s text rest
@@ -76,7 +76,7 @@ StandsAs (Faulty line) s text rest = (more : List ℕ) → IsFirstFault (text ++
 abbrev pub StandsAt : SoFar → List ℕ → List ℕ → Type 0
 StandsAt s text rest = StandsAs s.stage s text rest
 
--- the reader was fed the text, but for the last part of it
+-- the reader was fed the text up to its unread last part
 pub record IsBehind (text : List ℕ) (reader : Reader) (unread : List ℕ) : Type 0 where
   pub stands : StandsAt reader.so_far text (reader.rest.items ++ unread)
   pub clean : lacks 10 reader.rest.items ≡ true
@@ -86,6 +86,6 @@ pub record IsBehind (text : List ℕ) (reader : Reader) (unread : List ℕ) : Ty
 abbrev pub HasFed : List ℕ → Reader → Type 0
 HasFed text reader = IsBehind text reader []
 
--- the most lines that it reads
+-- the most lines that the reader keeps
 abbrev pub most_lines : Reader → ℕ
 most_lines reader = reader.so_far.most

@@ -11,8 +11,7 @@ use Rattle.transcript_text.specs.declared.view.Shown.{Shown}
 use Rattle.transcript_text.specs.declared.view.Shown.TheVariants.{None as ShowsNone, Bytes as ShowsBytes, Count as ShowsCount}
 use Rattle.transcript_text.specs.declared.view.LineView.{LineView}
 
--- the lines so far, their bytes and their steps in the order in which they were told, and for how many more of each
--- there is room
+-- the lines so far, their bytes and steps in the order in which they were added, and the room for more of each
 pub record Gathered : Type 0 where
   pub lines : List SeenLine
   pub bytes : List ℕ
@@ -21,17 +20,17 @@ pub record Gathered : Type 0 where
   pub byte_room : ℕ
   pub step_room : ℕ
 
--- the bytes that it shows, of which there are some, are among the first n
+-- the line's bytes, at least one, are among the first n
 abbrev pub IsWithin : ℕ → Data → Type 0
 IsWithin n (Bytes len start) = (0 < len) × (start + len ≤ n)
 IsWithin n _ = ⊤
 
--- the bytes and the steps of a line are among the first ones
+-- the bytes and steps of a line are among the first ones
 pub record LineWithin (bytes steps : ℕ) (line : Line) : Type 0 where
   pub shown : IsWithin bytes line.shown
   pub steps' : line.first_step + line.step_count ≤ steps
 
--- the lines name places in the bytes and steps that are kept, and fit a transcript with what stands there
+-- the lines refer to places in the kept bytes and steps, and with their content they fit a transcript
 pub record IsKept (bytes : List ℕ) (steps : List Step) (lines : List Line) : Type 0 where
   pub within : AllByRecursion (LineWithin (length bytes) (length steps)) lines
   pub fits : AllByRecursion LineFits (seen_lines bytes steps lines)
@@ -40,13 +39,13 @@ abbrev pub bytes_from : ℕ → List ℕ → Data
 bytes_from start [] = NoData
 bytes_from start (b ∷ bs) = Bytes (length (b ∷ bs)) start
 
--- the data of a line that shows this, its bytes being kept from start on
+-- the data of a line, with its bytes kept from start on
 abbrev pub data_from : ℕ → Shown → Data
 data_from start ShowsNone = NoData
 data_from start (ShowsBytes shown) = bytes_from start shown.now
 data_from start (ShowsCount n) = Count n
 
--- a line as it is kept: its steps and its bytes stand from these places on
+-- a line as it is kept, with its steps and bytes from these places on
 abbrev pub kept_line : ℕ → ℕ → LineView → Line
 kept_line steps bytes line = record {
   caller = line.caller;

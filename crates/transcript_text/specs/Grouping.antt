@@ -1,4 +1,4 @@
--- Lines that come one after the other, and the callers that they make.
+-- Lines in sequence, and their callers.
 use Rattle.std.specs.Prelude.{ℕ, ◌≡◌, List, ◌++◌, length, map}
 use Rattle.std.specs.List.{AllByRecursion}
 use Rattle.key_names.specs.SeenLine.{SeenLine}
@@ -8,13 +8,13 @@ use Rattle.transcript_text.specs.declared.caller_lines.CallerLines.{CallerLines}
 abbrev pub OfCaller : ℕ → List SeenLine → Type 0
 OfCaller caller lines = AllByRecursion (λ line. line.caller ≡ caller) lines
 
--- the callers that are done and the lines of the next one hold these lines
+-- the finished callers and the current one have exactly these lines
 pub record Groups (done : List (List SeenLine)) (current lines : List SeenLine) : Type 0 where
   pub done_own : UnderOwnNumber 0 done
   pub current_own : OfCaller (length done) current
   pub whole : all_lines done ++ current ≡ lines
 
--- these lines are those of a transcript
+-- these lines are those of the transcript with these callers
 pub record Gives (callers : List (List SeenLine)) (lines : List SeenLine) : Type 0 where
   pub fits : TranscriptFits callers
   pub own : UnderOwnNumber 0 callers

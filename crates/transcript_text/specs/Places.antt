@@ -1,4 +1,4 @@
--- What is left of a text behind a place in it.
+-- The rest of a text after a place in it.
 use Rattle.std.specs.Prelude.{ℕ, zero, suc, ◌≡◌, ◌+◌, ◌≤◌, ⊤, List, [], ◌∷◌, ◌++◌, codes, drop, length}
 use Rattle.std.specs.List.{flat_map}
 use Rattle.hex.specs.Hex.{encode_lower}
@@ -13,27 +13,27 @@ use Rattle.transcript_text.specs.declared.place.Coming.TheVariants.{Head, Lines,
 abbrev pub callers_text : List (List SeenLine) → List ℕ
 callers_text callers = flat_map text_of callers ++ codes "end\n"
 
--- what is left of a line's data, of which so many bytes were shown
+-- the rest of a line's data after the first bytes that were put
 abbrev pub data_left : ℕ → Shown → List ℕ
 data_left zero shown = shown_text shown
 data_left (suc n) shown = encode_lower (drop (suc n) (bytes_in shown))
 
--- what is left of a line that has shown so many bytes: all of it, where it has shown none
+-- the rest of a line after the first bytes that were put: all of it, if none was
 abbrev pub line_left : ℕ → SeenLine → List ℕ
 line_left zero line = whole_line line
 line_left (suc n) line = data_left (suc n) line.shown ++ codes "\n"
 
--- what is left of lines, the first of which has shown so many bytes
+-- the rest of lines, of which the first has put some of its bytes
 abbrev pub lines_left : ℕ → List SeenLine → List ℕ
 lines_left shown [] = []
 lines_left shown (line ∷ lines) = line_left shown line ++ text_of lines
 
--- the first of the lines has as many bytes to show
+-- the first line has at least as many bytes as were put
 abbrev pub HasShown : ℕ → List SeenLine → Type 0
 HasShown shown [] = shown ≡ 0
 HasShown shown (line ∷ lines) = shown ≤ length (bytes_in line.shown)
 
--- what is left of callers, so many lines of the first of whom are done
+-- the rest of callers, of which the first has put some of its lines
 abbrev pub callers_left : ℕ → ℕ → List (List SeenLine) → List ℕ
 callers_left line shown [] = codes "end\n"
 callers_left line shown (lines ∷ callers) = lines_left shown (drop line lines) ++ callers_text callers
@@ -47,11 +47,11 @@ left_from Head place callers = transcript_text callers
 left_from Lines place callers = callers_left place.line place.shown (drop place.caller callers)
 left_from Nothing place callers = []
 
--- what is left of the text of a transcript behind a place in it
+-- the rest of a transcript's text after a place in it
 abbrev pub text_left : Place → List (List SeenLine) → List ℕ
 text_left place callers = left_from place.coming place callers
 
--- the place is one in the text of this transcript
+-- the place is in the text of this transcript
 abbrev pub IsFrom : Coming → Place → List (List SeenLine) → Type 0
 IsFrom Head place callers = (place.caller ≡ 0) × (place.line ≡ 0) × (place.shown ≡ 0)
 IsFrom Lines place callers = (place.caller ≤ length callers)
@@ -61,6 +61,6 @@ IsFrom Nothing place callers = ⊤
 abbrev pub IsIn : Place → List (List SeenLine) → Type 0
 IsIn place callers = IsFrom place.coming place callers
 
--- how many pieces are still to come at most
+-- an upper bound for the number of pieces to come
 abbrev pub most_pieces : Place → List (List SeenLine) → ℕ
 most_pieces place callers = length (text_left place callers) + length (drop place.caller callers)

@@ -14,7 +14,7 @@ pub record NumbersFit (numbers : Numbers) : Type 0 where
   pub caller : numbers.caller < 2 ^ 32
   pub event : numbers.event < 2 ^ 32
 
--- the line is these five fields, of which only the last may have spaces
+-- the line consists of these five fields, and only the last may have spaces
 pub record IsSplit (line numbers word answer steps shown : List ℕ) : Type 0 where
   pub whole : line ≡ spaced (numbers ∷ word ∷ answer ∷ steps ∷ shown ∷ [])
   pub first : lacks 32 numbers ≡ true
@@ -22,7 +22,7 @@ pub record IsSplit (line numbers word answer steps shown : List ℕ) : Type 0 wh
   pub third : lacks 32 answer ≡ true
   pub fourth : lacks 32 steps ≡ true
 
--- the line that was read, where it shows this
+-- the line that was read, with these data
 abbrev pub seen_read : ReadLine → Shown → SeenLine
 seen_read read shown = record {
   caller = read.caller;
@@ -33,12 +33,12 @@ seen_read read shown = record {
   shown = shown;
 }
 
--- with data that its last field spells, the line fits a transcript
+-- with any data that its last field spells, the line fits a transcript
 abbrev pub FitsShowing : ReadLine → Type 0
 FitsShowing read = (shown : Shown) → ShownFits read.word shown → read.shown.now ≡ shown_text shown
     → LineFits (seen_read read shown)
 
--- the text is that of the line with data that its last field spells, and of no other line
+-- the text is that of the line, with data that its last field spells, and of no other line
 pub record IsRead (text : List ℕ) (read : ReadLine) : Type 0 where
   pub fits : FitsShowing read
   pub spelt : (shown : Shown) → read.shown.now ≡ shown_text shown → text ≡ line_text (seen_read read shown)
@@ -46,7 +46,7 @@ pub record IsRead (text : List ℕ) (read : ReadLine) : Type 0 where
       → (line ≡ seen_read read line.shown) × (read.shown.now ≡ shown_text line.shown)
   pub short : length read.shown.now ≤ length text
 
--- the line was put behind those from before, with data that its last field spells
+-- the line was added after the earlier ones, with data that its last field spells
 pub record PushesRead (read : ReadLine) (old new : List SeenLine) : Type 0 where
   pub shown : Shown
   pub fits : ShownFits read.word shown

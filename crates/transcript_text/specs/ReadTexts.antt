@@ -1,4 +1,4 @@
--- What reading a text answers.
+-- The answer of reading a text.
 use Rattle.std.specs.Prelude.{ℕ, ◌≡◌, ◌<◌, ◌≤◌, ⊤, List, [], ◌∷◌, ◌++◌, length, Result, Ok, Err}
 use Rattle.key_names.specs.SeenLine.{SeenLine}
 use Rattle.key_names.specs.Texts.TranscriptGrammar.{all_lines, line_text, LineFits, IsTranscriptText, IsFirstFault}
@@ -8,13 +8,13 @@ use Rattle.transcript_text.specs.declared.line.ReadLine.{ReadLine}
 use Rattle.transcript_text.specs.Grouping.{Groups}
 use Rattle.transcript_text.specs.ReadLines.{IsRead}
 
--- the text is that of a transcript with more lines
+-- the text is that of a transcript with more lines than most
 pub record HasMoreLines (most : ℕ) (text : List ℕ) : Type 0 where
   pub callers : List (List SeenLine)
   pub is_text : IsTranscriptText text callers
   pub many : most < length (all_lines callers)
 
--- the transcript of the text, if it has no more lines, or its first faulty line, unless memory ran out
+-- the transcript of the text, unless it has too many lines; or the first faulty line; or memory ran out
 abbrev pub Answers : ℕ → List ℕ → Result (List (List SeenLine)) TextError → Type 0
 Answers most text (Ok callers) = IsTranscriptText text callers × (length (all_lines callers) ≤ most)
 Answers most text (Err (Fault line)) = IsFirstFault text line
@@ -50,7 +50,7 @@ pub record IsReadFrom (text : List ℕ) (least : ℕ) (read : ReadLine) : Type 0
   pub later : least ≤ read.caller
   pub below : read.caller < 64
 
--- the text is a line of the caller with this number, which is at least the other one
+-- the text is a line of the caller with this number, which is not below the least
 pub record IsPassed (text : List ℕ) (least caller : ℕ) : Type 0 where
   pub line : SeenLine
   pub fits : LineFits line

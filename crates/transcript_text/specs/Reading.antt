@@ -1,20 +1,20 @@
--- What reading a piece of text gives.
+-- The answer of reading a piece of text.
 use Rattle.std.specs.Prelude.{ℕ, ◌≡◌, ◌≢◌, ◌≤◌, ◌==◌, ◌&&◌, Bool, true, not, List, [], ◌∷◌, Option, MatchOption, length}
 use Rattle.std.specs.List.{AllByRecursion}
 use Rattle.key_names.specs.declared.names.Step.{Step}
 use Rattle.key_names.specs.Texts.TranscriptGrammar.{StepFits}
 
--- whether no byte of the text is this one
+-- no byte of the text is this one
 abbrev pub lacks : ℕ → List ℕ → Bool
 lacks byte [] = true
 lacks byte (b ∷ text) = not (b == byte) && lacks byte text
 
--- the answer is a value that fits and that the text spells, and none where there is no such value
+-- the answer is a value that fits and whose spelling is the text, or none if no such value exists
 abbrev pub Reads : {X : Type 0} → (X → List ℕ) → (X → Type 0) → List ℕ → Option X → Type 0
 Reads {X} spelling Fits text answer = MatchOption answer ((x : X) → Fits x → text ≢ spelling x) (λ x. Fits x
     × (text ≡ spelling x))
 
--- at most twenty steps, each within its numbers
+-- at most twenty steps, each with numbers in range
 pub record StepsFit (steps : List Step) : Type 0 where
   pub few : length steps ≤ 20
   pub each : AllByRecursion StepFits steps

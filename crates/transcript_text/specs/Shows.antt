@@ -1,4 +1,4 @@
--- What was read behind the steps of a line.
+-- Reading the data of a line.
 use Rattle.std.specs.Prelude.{ℕ, ◌≡◌, ◌≢◌, List, ◌++◌, length, Option, Some, None}
 use Rattle.key_names.specs.declared.events.Word.{Word}
 use Rattle.key_names.specs.declared.lines.Data.{Data}
@@ -7,18 +7,18 @@ use Rattle.key_names.specs.Texts.ScriptFaults.{bytes_of}
 use Rattle.key_names.specs.Texts.TranscriptGrammar.{shown_text, ShownFits}
 use Rattle.transcript_text.specs.Gathered.{bytes_from}
 
--- the text spells bytes, which stand behind those from before
+-- the text spells bytes, and they are appended to the old ones
 pub record AppendsSpelt (text old new : List ℕ) : Type 0 where
   pub bytes : List ℕ
   pub spelt : bytes_of text ≡ Some bytes
   pub whole : new ≡ old ++ bytes
 
--- the same, and these data name them
+-- the same, and these data refer to them
 pub record NamesSpelt (text old new : List ℕ) (named : Data) : Type 0 where
   pub appends : AppendsSpelt text old new
   pub named_is : named ≡ bytes_from (length old) appends.bytes
 
--- these data name the bytes that the text spells; there are none where it spells none
+-- these data refer to the bytes that the text spells; no data if it spells none
 abbrev pub KeepsSpelt : List ℕ → List ℕ → List ℕ → Option Data → Type 0
 KeepsSpelt text old new (Some named) = NamesSpelt text old new named
 KeepsSpelt text old new None = bytes_of text ≡ None

@@ -1,17 +1,17 @@
--- A line by reference as contracts see it.
+-- A line by reference, in contracts.
 use Rattle.std.specs.Prelude.{ℕ, List, []}
 use Rattle.key_names.specs.SeenLine.{Shown as SeenShown, no_data, count, bytes_or_none, SeenLine}
 use Rattle.transcript_text.specs.declared.view.Shown.{Shown}
 use Rattle.transcript_text.specs.declared.view.Shown.TheVariants.{None as NoData, Bytes, Count}
 use Rattle.transcript_text.specs.declared.view.LineView.{LineView}
 
--- the bytes that it shows
+-- the bytes of the data
 abbrev pub bytes_of : Shown → List ℕ
 bytes_of NoData = []
 bytes_of (Bytes shown) = shown.now
 bytes_of (Count n) = []
 
--- as the data of a line
+-- the data of a line, with their bytes
 abbrev pub seen_shown : Shown → SeenShown
 seen_shown NoData = no_data
 seen_shown (Bytes shown) = bytes_or_none shown.now

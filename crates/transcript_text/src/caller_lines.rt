@@ -1,4 +1,4 @@
-//! The lines of one caller, with their steps and the bytes that they show.
+//! The lines of one caller, with their steps and bytes.
 ghost use Rattle.std.specs.Prelude.{◌≡◌, ◌==◌, ◌+◌, ◌<◌, ◌≤◌, ◌^◌, ◌∷◌, ◌++◌, [], Some, length, All, vec_len, vec_capacity, slice_get, slice_set, IfOk, OnOk, MatchBool};
 ghost use Rattle.std.specs.List.{AllByRecursion};
 ghost use Rattle.key_names.specs.SeenLine.{seen_lines, shown_in};
@@ -15,8 +15,8 @@ use key_names::{Data, Line, Step};
 use std::alloc::{AllocError, Global};
 use std::marker::Model;
 
-/// The lines of one caller so far, and room for more of them. Their steps, and the bytes that they show, are kept in the
-/// order in which they were told. Contracts see the lines with the steps and the bytes themselves.
+/// The lines of one caller so far, and room for more of them. The steps and bytes of the lines are kept in the order in
+/// which they were added. In contracts each line has its steps and bytes itself.
 #[derive(Drop)]
 pub struct CallerLines {
     lines: Vec<Line>,
@@ -43,7 +43,7 @@ impl Model for CallerLines {
     ghost invariant = { λ c. IsKept c.bytes.items c.steps.items c.lines.items };
 }
 
-// Keeps more bytes where there is room, and gives the data of a line that shows them.
+// Appends bytes, which must have room, and returns the data of a line that has them.
 fn keep_bytes(kept: &mut Vec<u8>, shown: &[u8]) -> Data
     requires room { vec_len kept.old + length shown.now ≤ vec_capacity kept.old }
     requires short { length shown.now < 2 ^ 32 }
@@ -63,7 +63,7 @@ fn keep_bytes(kept: &mut Vec<u8>, shown: &[u8]) -> Data
     }
 }
 
-// Keeps what a line shows, and gives the line's data.
+// Appends the bytes that a line has as data, and returns the data of the line.
 #[inline(always)]
 fn keep_shown(kept: &mut Vec<u8>, shown: Shown<'_>) -> Data
     requires room { vec_len kept.old + length (bytes_of shown) ≤ vec_capacity kept.old }
@@ -80,7 +80,7 @@ fn keep_shown(kept: &mut Vec<u8>, shown: Shown<'_>) -> Data
     }
 }
 
-// Keeps more steps where there is room, and says where they begin. They are few, so each is pushed by itself.
+// Appends steps, which must have room, and returns the place of the first. They are few, so each is pushed singly.
 #[inline(always)]
 fn keep_steps(kept: &mut Vec<Step>, steps: &[Step]) -> u64
     requires room { vec_len kept.old + length steps.now ≤ vec_capacity kept.old }
@@ -101,7 +101,7 @@ impl CallerLines {
     ///
     /// # Errors
     ///
-    /// `AllocError` where there is no memory for them.
+    /// `AllocError` if there is no memory for them.
     pub fn with_room(
         alloc: Global,
         lines: usize,
@@ -122,11 +122,11 @@ impl CallerLines {
         })
     }
 
-    /// Makes room for this line. What room there was is kept.
+    /// Makes room for this line. No room is lost.
     ///
     /// # Errors
     ///
-    /// `AllocError` where there is no memory for it.
+    /// `AllocError` if there is no memory for it.
     pub fn reserve(&mut self, line: LineView<'_>) -> Result<(), AllocError>
         ensures lines { self.new.lines ≡ self.old.lines }
         ensures bytes { self.new.bytes ≡ self.old.bytes }
@@ -143,7 +143,7 @@ impl CallerLines {
         self.bytes.reserve(line.shown.bytes().len())
     }
 
-    // Keeps the steps and the bytes of a line, and gives the line that names them.
+    // Appends the steps and bytes of a line, and returns the line that refers to them.
     #[inline(always)]
     fn keep(&mut self, line: LineView<'_>) -> Line
         requires step_room { length line.steps.now ≤ self.old.step_room }
@@ -169,8 +169,8 @@ impl CallerLines {
         }
     }
 
-    /// One more line, of at most 20 steps and fewer than 2^32 bytes. It takes no memory: there must be room for the line,
-    /// its steps and its bytes, which `with_room` or `reserve` makes.
+    /// Adds a line of at most 20 steps and fewer than 2^32 bytes. It allocates nothing: `with_room` or `reserve` must
+    /// have made room for the line, its steps and its bytes.
     #[inline(always)]
     pub fn push(&mut self, line: LineView<'_>)
         requires line_room { 0 < self.old.line_room }
@@ -189,8 +189,8 @@ impl CallerLines {
         self.lines.push_reserved(kept);
     }
 
-    /// One more line, as it was read. The bytes that it shows are decoded where they are kept. Answers whether its last
-    /// field spells data; otherwise there is no line more.
+    /// Adds a line that was read, and decodes its bytes directly into the kept ones. Returns whether the line's last
+    /// field spells data; otherwise no line is added.
     pub(crate) fn push_read(
         &mut self,
         alloc: Global,
@@ -219,8 +219,8 @@ impl CallerLines {
         Ok(true)
     }
 
-    /// Another line in the place of line `number`, from 0. It takes no memory: there must be room for its steps and its
-    /// bytes, as `push` needs it, since those of the line before are kept.
+    /// Replaces line `number`, counted from 0. It allocates nothing: there must be room for the new line's steps and
+    /// bytes, as for `push`, since those of the old line are kept.
     pub fn replace(&mut self, number: usize, line: LineView<'_>)
         requires number { number < length self.old.lines }
         requires step_room { length line.steps.now ≤ self.old.step_room }
@@ -238,21 +238,21 @@ impl CallerLines {
         self.lines[number] = kept;
     }
 
-    /// How many lines there are.
+    /// The number of lines.
     pub fn len(&self) -> usize
         ensures { result ≡ length self.now.lines }
     {
         self.lines.len()
     }
 
-    /// Whether there is no line.
+    /// Whether there are no lines.
     pub fn is_empty(&self) -> bool
         ensures { result ≡ (length self.now.lines == 0) }
     {
         self.lines.is_empty()
     }
 
-    // What a line shows whose data are these.
+    // The data of a line, from the kept bytes.
     fn shown(&self, named: Data) -> Shown<'_>
         requires { IsWithin (length self.now.bytes) named }
         ensures { seen_shown result ≡ shown_in self.now.bytes named }
@@ -285,7 +285,7 @@ impl CallerLines {
         }
     }
 
-    /// The lines. They name places in `steps`, and where they show bytes, in `bytes`.
+    /// The lines. They refer to places in `steps`, and lines with bytes to places in `bytes`.
     pub fn lines(&self) -> &[Line]
         ensures seen { seen_lines self.now.bytes self.now.steps result.now ≡ self.now.lines }
         ensures fit { AllByRecursion LineFits self.now.lines }
@@ -294,14 +294,14 @@ impl CallerLines {
         &self.lines
     }
 
-    /// The steps of the lines, in the order in which they were told, and those of lines that were replaced.
+    /// The steps of the lines, in the order in which they were added, with those of lines that were replaced.
     pub fn steps(&self) -> &[Step]
         ensures { result.now ≡ self.now.steps }
     {
         &self.steps
     }
 
-    /// The bytes that the lines show, in the order in which they were told, and those of lines that were replaced.
+    /// The bytes of the lines, in the order in which they were added, with those of lines that were replaced.
     pub fn bytes(&self) -> &[u8]
         ensures { result.now ≡ self.now.bytes }
     {

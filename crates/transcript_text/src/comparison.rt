@@ -1,4 +1,4 @@
-//! A text that comes piece by piece, compared with that of a transcript.
+//! A text that comes piece by piece, compared with the text of a transcript.
 ghost use Rattle.std.specs.Prelude.{◌≡◌, ◌↔◌, ◌+◌, ◌<◌, ◌≤◌, ◌^◌, ◌++◌, [], List, ℕ, drop, take, length, IsTrue, IfOk};
 ghost use Rattle.key_names.specs.Texts.TranscriptGrammar.{transcript_text};
 ghost use Rattle.transcript_text.specs.Comparing.{IsOther};
@@ -11,13 +11,13 @@ use crate::transcript::Transcript;
 use std::alloc::{AllocError, Global};
 use std::marker::Model;
 
-/// A transcript, and how far a text that comes piece by piece is its text. Of that text no byte is kept.
+/// A transcript, and how far a text that comes piece by piece equals its text. No byte of that text is kept.
 #[derive(Drop)]
 pub struct Comparison {
     made: Transcript,
-    // How many bytes were found to be the same.
+    // The number of bytes that were found equal.
     same: usize,
-    // The piece of the transcript's text in which the next byte stands, its place there, and the place behind the piece.
+    // The piece of the transcript's text that has the next byte, the byte's place in it, and the place after the piece.
     piece: Piece,
     from: usize,
     place: Place,
@@ -35,7 +35,7 @@ impl Model for Comparison {
     ghost invariant = { λ c. IsBefore c.made c.same c.piece c.from c.place };
 }
 
-// The bytes of a text from a place on, so many at most.
+// At most `most` bytes of a text, from a place on.
 fn bytes_from(text: &[u8], from: usize, most: usize) -> &[u8]
     requires { from ≤ length text.now }
     ensures bytes { result.now ≡ take most (drop from text.now) }
@@ -47,7 +47,7 @@ fn bytes_from(text: &[u8], from: usize, most: usize) -> &[u8]
 }
 
 impl Comparison {
-    /// The comparison with the text of this transcript. Nothing was compared yet.
+    /// The comparison with the text of this transcript, before the first byte.
     pub fn with(made: Transcript) -> Comparison
         ensures made { result.made ≡ made }
         ensures text { result.text ≡ [] }
@@ -61,8 +61,8 @@ impl Comparison {
         }
     }
 
-    // Compares the front of the bytes, as far as one piece of the transcript's text goes, and answers how many were found to
-    // be the same: 0 where they are others.
+    // Compares the first bytes, up to the end of one piece of the transcript's text. Returns how many were found equal:
+    // 0 if any of them differs.
     fn compare_front(&mut self, bytes: &[u8]) -> usize
         requires some { 0 < length bytes.now }
         requires short { length self.old.text + length bytes.now ≤ 2 ^ 31 }
@@ -89,8 +89,8 @@ impl Comparison {
         0
     }
 
-    /// Goes on with more bytes of the text, which has at most 2^31 in all. Answers how many of them are as in the
-    /// transcript's text, at least, and all of them where all are.
+    /// Compares more bytes of the text, which has at most 2^31 in all. Returns how many were found equal: all of them,
+    /// unless they differ from the transcript's text.
     pub fn compare(&mut self, bytes: &[u8]) -> usize
         requires short { length self.old.text + length bytes.now ≤ 2 ^ 31 }
         ensures few { result ≤ length bytes.now }
@@ -109,19 +109,19 @@ impl Comparison {
         bytes.len() - rest.len()
     }
 
-    /// Whether all of the transcript's text was found.
+    /// Whether the text so far is the whole text of the transcript.
     pub fn is_whole(&self) -> bool
         ensures { IsTrue result ↔ (self.now.text ≡ transcript_text self.now.made) }
     {
         self.place.is_end() && self.from == self.piece.text().len()
     }
 
-    /// A reader that was fed the text so far, of at most 2^31 bytes, for a transcript of at most so many lines, without its
-    /// first and its last.
+    /// A reader that has read the text so far, of at most 2^31 bytes. It reads a transcript of at most `most` lines,
+    /// not counting the first and the last.
     ///
     /// # Errors
     ///
-    /// `AllocError` where there is no memory for it.
+    /// `AllocError` if there is no memory for it.
     pub fn reader(&self, alloc: Global, most: u32) -> Result<Reader, AllocError>
         requires { length self.now.text ≤ 2 ^ 31 }
         ensures fed { IfOk result (λ reader. HasFed self.now.text reader) }

@@ -1,4 +1,4 @@
-//! What a line shows, read.
+//! Reading the data of a line.
 ghost use Rattle.std.specs.Prelude.{◌≡◌, ◌<◌, ◌^◌, ◌↔◌, length, take, IsTrue, IfOk, IfSome, MatchBool};
 ghost use Rattle.std.specs.Option.{option_map};
 ghost use Rattle.key_names.specs.SeenLine.{shown_in};
@@ -14,7 +14,7 @@ use key_names::hexes::{bytes_of, decode, spells_bytes};
 use key_names::{Data, Word};
 use std::alloc::{AllocError, Global};
 
-/// So many bytes are decoded at a time.
+/// This many bytes are decoded at a time.
 const PIECE_BYTES: usize = 2048;
 
 fn is_bits(word: Word) -> bool
@@ -23,8 +23,8 @@ fn is_bits(word: Word) -> bool
     matches!(word, Word::Bits)
 }
 
-/// Appends the bytes that a text of digits spells, a piece at a time, so that they are nowhere twice. Of a text that
-/// spells none, some may be appended.
+/// Appends the bytes that a text of digits spells, a piece at a time, so that no byte is stored twice. If the text
+/// spells none, some bytes may be appended.
 fn append_bytes(alloc: Global, kept: &mut Vec<u8>, text: &[u8]) -> Result<bool, AllocError>
     ensures spelt { IfOk result (λ spells. MatchBool spells (AppendsSpelt text.now kept.old.items kept.new.items)
         (bytes_spelt text.now ≡ None)) }
@@ -52,7 +52,7 @@ fn append_bytes(alloc: Global, kept: &mut Vec<u8>, text: &[u8]) -> Result<bool, 
     Ok(true)
 }
 
-/// Keeps the bytes that a text of digits spells, and gives the data of a line that shows them.
+/// Appends the bytes that a text of digits spells, and returns the data of a line that has them.
 fn keep_bytes(alloc: Global, kept: &mut Vec<u8>, text: &[u8]) -> Result<Option<Data>, AllocError>
     requires { length text.now < 2 ^ 32 }
     ensures data { IfOk result (KeepsSpelt text.now kept.old.items kept.new.items) }
@@ -72,7 +72,7 @@ fn keep_bytes(alloc: Global, kept: &mut Vec<u8>, text: &[u8]) -> Result<Option<D
     }))
 }
 
-/// The data that a text spells on a line with this word. Their bytes are kept behind those from before.
+/// The data that a text spells on a line with this word. Their bytes are appended to the kept ones.
 pub(crate) fn keep_data(
     alloc: Global,
     kept: &mut Vec<u8>,

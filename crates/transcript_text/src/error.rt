@@ -1,16 +1,16 @@
-//! Why a text is not read.
+//! Why a text could not be read.
 ghost use Rattle.std.specs.Prelude.{◌≡◌};
 ghost use Rattle.transcript_text.specs.declared.error.TextError.TheVariants.{NoMemory};
 
 use std::alloc::AllocError;
 
-/// Why a text is not read as a transcript.
+/// Why a text could not be read as a transcript.
 #[derive(Clone, Copy, Debug, PartialEq, Eq)]
 pub enum TextError {
-    /// Which line, counted from 1, is the first that cannot stand where it stands in any transcript. Where the text
-    /// ends too early, it is the line that is cut off, or that would have to follow.
+    /// The first faulty line, counted from 1: the lines before it begin some transcript, and with it they begin none.
+    /// If the text ends too early, this is the incomplete line, or the missing one.
     Fault { line: u32 },
-    /// It is a transcript's, which has more lines than were asked for.
+    /// The text is a transcript's, with more lines than the limit.
     TooManyLines,
     /// There was no memory for the transcript.
     NoMemory,

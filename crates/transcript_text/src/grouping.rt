@@ -1,4 +1,4 @@
-//! Lines that are read one after the other, gathered by their callers.
+//! Lines in sequence, grouped by their callers.
 ghost use Rattle.std.specs.Prelude.{◌≡◌, ◌<◌, ◌≤◌, [], List, vec_len, OnOk, IfOk};
 ghost use Rattle.key_names.specs.SeenLine.{SeenLine};
 ghost use Rattle.transcript_text.specs.Grouping.{Groups, Gives, seen_callers};
@@ -8,7 +8,7 @@ use crate::transcript::Transcript;
 use std::alloc::{AllocError, Global};
 use std::mem;
 
-/// Goes on to a caller, who has no lines yet where it is another one.
+/// Goes on to a caller. A caller other than the current one has no lines yet.
 pub(crate) fn go_on_to(
     alloc: Global,
     done: &mut Vec<CallerLines>,
@@ -27,7 +27,7 @@ pub(crate) fn go_on_to(
     Ok(())
 }
 
-/// The transcript of the callers that are done and of the current one.
+/// The transcript of the finished callers and the current one.
 pub(crate) fn finish(
     mut done: Vec<CallerLines>,
     current: CallerLines,

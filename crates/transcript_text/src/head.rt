@@ -8,7 +8,7 @@ use crate::names::answer_name;
 use crate::view::LineView;
 use key_names::{Answer, LaneId, Step};
 
-/// A lane, and the colon behind it.
+/// A lane, and the colon after it.
 #[inline(always)]
 #[tactic(auto, unfolding(key_names::specs::Texts::TranscriptGrammar::lane_text))]
 fn append_lane(piece: &mut Piece, lane: LaneId)
@@ -67,7 +67,7 @@ fn append_answer(piece: &mut Piece, answer: Answer)
 }
 
 /// A space and the steps, with commas between them.
-// A step is written at one place, so this stays small enough for the compiler to put it where a line is written.
+// The code for a step occurs once, so this function stays small enough to be inlined.
 #[inline(always)]
 fn append_steps(piece: &mut Piece, steps: &[Step])
     requires room { length piece.old ≤ 1024 }
@@ -88,7 +88,7 @@ fn append_steps(piece: &mut Piece, steps: &[Step])
 }
 
 /// The line up to the space before its data.
-// Without the hint a program that writes to two kinds of sinks makes a call of it, for each line.
+// Without the hint, a program that writes to two kinds of sinks calls it for each line.
 #[inline(always)]
 #[tactic(auto, unfolding(crate::specs::Heads::head_text))]
 pub(crate) fn append_head(piece: &mut Piece, line: LineView<'_>)

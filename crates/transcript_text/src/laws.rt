@@ -1,20 +1,21 @@
-//! What the definitions of a transcript's text promise.
+//! Laws of the definitions of a transcript's text.
 ghost use Rattle.std.specs.Prelude.{◌≡◌, ℕ, List};
 ghost use Rattle.key_names.specs.SeenLine.{SeenLine};
 ghost use Rattle.key_names.specs.Texts.TranscriptGrammar.{transcript_text, TranscriptFits, UnderOwnNumber, IsTranscriptText, IsFirstFault};
 
-/// A text is that of one transcript at most.
+/// A text is the text of at most one transcript.
 pub fn one_transcript()
     ensures { (text : List ℕ) (a b : List (List SeenLine))
         → IsTranscriptText text a → IsTranscriptText text b → a ≡ b }
 {}
 
-/// A text has one first faulty line at most.
+/// A text has at most one first faulty line.
 pub fn one_first_fault()
     ensures { (text : List ℕ) (m n : ℕ) → IsFirstFault text m → IsFirstFault text n → m ≡ n }
 {}
 
-/// What is written of lines under their own callers' numbers is the text of that transcript, and so it is read again.
+/// The text written for lines under their own callers' numbers is the text of that transcript, so it is read as the
+/// same lines.
 pub fn written_text()
     ensures { (callers : List (List SeenLine)) → TranscriptFits callers → UnderOwnNumber 0 callers
         → IsTranscriptText (transcript_text callers) callers }

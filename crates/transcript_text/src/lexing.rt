@@ -5,13 +5,13 @@ ghost use Rattle.transcript_text.specs.Reading.{lacks, Reads};
 use event_script::numbers::number_up_to;
 use memchr::memchr;
 
-/// So many bytes are looked at one by one.
+/// This many bytes are compared one by one.
 const NEAR: usize = 8;
 
 /// Numbers of callers, events and CPUs, and counts of bits, are at most this.
 pub(crate) const MOST_U32: u64 = u32::MAX as u64;
 
-/// Whether a text is this one. Most have another length, which is seen without a call.
+/// Whether a text equals this one. Most texts have another length, and that is checked without a call.
 #[inline(always)]
 pub(crate) fn spells(text: &[u8], name: &[u8]) -> bool
     ensures { IsTrue result ↔ (text.now ≡ name.now) }
@@ -19,14 +19,14 @@ pub(crate) fn spells(text: &[u8], name: &[u8]) -> bool
     text.len() == name.len() && text == name
 }
 
-/// Whether a text is the dash that stands for nothing.
+/// Whether a text is the dash of an empty field.
 pub(crate) fn is_dash(text: &[u8]) -> bool
     ensures { IsTrue result ↔ (text.now ≡ codes "-") }
 {
     matches!(text, [b'-'])
 }
 
-/// What stands before the first of these bytes, and what stands behind it.
+/// The text before the first `byte`, and the text after it.
 pub(crate) fn cut(byte: u8, text: &[u8]) -> Option<(&[u8], &[u8])>
     ensures { MatchOption result (lacks byte text.now ≡ true)
         (λ both. (text.now ≡ both.0.now ++ byte ∷ both.1.now) × (lacks byte both.0.now ≡ true)) }
@@ -37,7 +37,7 @@ pub(crate) fn cut(byte: u8, text: &[u8]) -> Option<(&[u8], &[u8])>
     }
 }
 
-/// The same, for a short front: the first bytes are looked at one by one, which takes less than to begin a search.
+/// The same for a short front: the first bytes are compared one by one, which is faster than starting a search.
 pub(crate) fn cut_near(byte: u8, text: &[u8]) -> Option<(&[u8], &[u8])>
     ensures { MatchOption result (lacks byte text.now ≡ true)
         (λ both. (text.now ≡ both.0.now ++ byte ∷ both.1.now) × (lacks byte both.0.now ≡ true)) }

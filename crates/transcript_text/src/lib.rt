@@ -1,12 +1,12 @@
 //! The text of a transcript, written and read.
 //!
-//! What is read is a transcript exactly where the text is one, and otherwise the first faulty line is told. [`Reader`] is
-//! fed the text piece by piece; [`read`] reads one that is there as a whole. What is written of lines is their text, or a
-//! prefix of it where the sink counted a fault; lines under their own callers' numbers are the same when they are read
-//! again. [`CallerLines`] keeps what a caller tells, line by line, in memory that was taken before.
+//! A reader returns a transcript exactly if the text is the text of one, and otherwise the first faulty line.
+//! [`Reader`] reads the text piece by piece; [`read`] reads a whole text. A writer puts the text of the lines, or a
+//! prefix of it if the sink counted a fault. Lines under their own callers' numbers are read again as they were
+//! written. [`CallerLines`] keeps the lines of a caller in memory that was allocated before.
 //!
-//! It stands on the grammar of `key_names` (`specs/Texts`), on how `event_script` reads words and numbers, and on the
-//! sinks of `io_edges`. Whether a transcript is lawful is not looked at.
+//! The contracts use the grammar of `key_names` (`specs/Texts`). The code uses the readers of words and numbers of
+//! `event_script`, and the sinks of `io_edges`. Whether a transcript is lawful is not checked here.
 #![tactic(auto)]
 
 mod caller_lines;

@@ -1,4 +1,4 @@
-//! One line, read.
+//! Reading one line.
 ghost use Rattle.std.specs.Prelude.{◌≢◌, List, ℕ, MatchOption};
 ghost use Rattle.key_names.specs.SeenLine.{SeenLine};
 ghost use Rattle.key_names.specs.Texts.TranscriptGrammar.{line_text, LineFits};
@@ -28,7 +28,7 @@ struct Fields<'a> {
     shown: &'a [u8],
 }
 
-/// A line as it was read, with the text of what it shows.
+/// A line that was read, with its data still as text.
 #[derive(Clone, Copy)]
 pub(crate) struct ReadLine<'a> {
     pub(crate) caller: u32,

@@ -1,4 +1,4 @@
-//! A piece of text that is put in one go.
+//! A piece of text that is written by one put.
 ghost use Rattle.std.specs.Prelude.{◌≡◌, ◌+◌, ◌*◌, ◌<◌, ◌≤◌, ◌∷◌, ◌++◌, [], length, decimal};
 ghost use Rattle.hex.specs.Hex.{encode_lower};
 
@@ -49,7 +49,7 @@ impl Piece {
         &self.bytes[..self.len]
     }
 
-    /// How many more bytes there is room for.
+    /// How many more bytes fit.
     pub(crate) fn room(&self) -> usize
         ensures { result + length self.now ≡ 4096 }
     {
@@ -61,7 +61,7 @@ impl Piece {
         requires { length self.old < 4096 }
         ensures { self.new ≡ self.old ++ byte ∷ [] }
     {
-        // The old length is kept: behind the store of a byte it would have to be loaded anew.
+        // The old length is kept: after the store of a byte it would have to be loaded again.
         let len = self.len;
         self.bytes[len] = byte;
         self.len = len + 1;
@@ -78,7 +78,7 @@ impl Piece {
     }
 
     /// A number.
-    // `itoa` writes it where it stays, from its end. The hint keeps the length in a register.
+    // `itoa` writes the number in place, from its end. The hint keeps the length in a register.
     #[inline(always)]
     pub(crate) fn append_number(&mut self, number: u64)
         requires { length self.old + 20 ≤ 4096 }
@@ -118,7 +118,7 @@ impl Piece {
     }
 }
 
-/// How many digits a number has in decimal.
+/// The number of decimal digits of a number.
 #[inline(always)]
 fn count_digits(number: u64) -> usize
     ensures count { result ≡ length (decimal number) }

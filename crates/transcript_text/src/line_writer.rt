@@ -1,4 +1,4 @@
-//! Writing a transcript line by line, while its lines are made.
+//! Writing a transcript line by line, as the lines are made.
 ghost use Rattle.std.specs.Prelude.{◌≡◌, ◌≤◌, OnOk, OnErr, codes, length};
 ghost use Rattle.std.specs.Io.KnownBytes.{Appends};
 ghost use Rattle.io_edges.specs.Faults.{Rose};
@@ -14,16 +14,16 @@ use io_edges::{Failed, Sink, put_all};
 
 /// Writes lines one by one, and keeps none of them. No put has bytes of two lines, or more than 4,096 bytes (tested).
 ///
-/// A call fails with `Failed` where the sink failed, which the sink has counted as a fault. What the sink got in this
-/// call is then a prefix of the text that was to be written, and the next call writes its own text from the start.
+/// A call returns `Failed` if the sink failed, and the sink has counted that fault. Then the sink got a prefix of this
+/// call's text, and the next call writes its own text from the start.
 #[derive(Drop)]
 pub struct LineWriter {
-    // Room for the bytes of a put. What is left here from an earlier line is never put again.
+    // Room for the bytes of one put. What remains here of an earlier line is never put again.
     piece: Piece,
 }
 
 impl LineWriter {
-    /// A writer of no line so far.
+    /// A writer before its first line.
     pub fn new() -> LineWriter {
         LineWriter {
             piece: Piece::empty(),
@@ -40,7 +40,7 @@ impl LineWriter {
         put_all(sink, b"rngtranscript 1\n")
     }
 
-    /// Writes a line, and its line feed. A line has at most 20 steps.
+    /// Writes a line with its line feed. A line has at most 20 steps.
     pub fn write<K: Sink>(&mut self, sink: &mut K, line: LineView<'_>) -> Result<(), Failed>
         requires few { length line.steps.now ≤ 20 }
         ensures whole { OnOk result (Appends (K.held sink.old) (K.held sink.new) (whole_line (seen line.entry))) }

@@ -1,4 +1,4 @@
-//! Words and answers, read, and answers as they stand on a line.
+//! Words and answers: reading both, and the text of answers.
 ghost use Rattle.std.specs.Prelude.{◌≡◌, ◌≤◌, ⊤, length};
 ghost use Rattle.key_names.specs.Texts.Spelling.{word_text};
 ghost use Rattle.key_names.specs.Texts.TranscriptGrammar.{answer_text};
@@ -19,7 +19,7 @@ const ANSWERS: [Answer; 8] = [
     Answer::Unused,
 ];
 
-/// The answer as it stands on a line.
+/// The text of an answer.
 #[tactic(auto, unfolding(key_names::specs::Texts::TranscriptGrammar::answer_text))]
 pub(crate) fn answer_name(answer: Answer) -> &'static [u8]
     ensures text { result.now ≡ answer_text answer }
@@ -37,14 +37,14 @@ pub(crate) fn answer_name(answer: Answer) -> &'static [u8]
     }
 }
 
-/// The word that a text is.
+/// The word that a text spells.
 pub(crate) fn word_of(text: &[u8]) -> Option<Word>
     ensures { Reads word_text (λ _. ⊤) text.now result }
 {
     words::word_of(text)
 }
 
-/// The answer that a text is. Most lines have the first one, which is seen without a call.
+/// The answer that a text spells. Most lines have the first one, which is found without a call.
 #[tactic(auto, unfolding(key_names::specs::Texts::TranscriptGrammar::answer_text))]
 pub(crate) fn answer_of(text: &[u8]) -> Option<Answer>
     ensures { Reads answer_text (λ _. ⊤) text.now result }

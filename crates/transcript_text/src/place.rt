@@ -12,7 +12,7 @@ use crate::line_buffer::Piece;
 use crate::transcript::Transcript;
 use crate::view::Shown;
 
-/// What comes behind a place.
+/// The part of the text after a place.
 #[derive(Clone, Copy)]
 pub(crate) enum Coming {
     /// The first line of the text.
@@ -26,14 +26,14 @@ pub(crate) enum Coming {
 #[derive(Clone, Copy)]
 pub(crate) struct Place {
     pub(crate) coming: Coming,
-    // The caller whose lines come next, the number of the next, and how many of its bytes were shown. A line that was
-    // begun has shown some.
+    // The caller of the next lines, the number of the next line, and how many of its bytes were put. A line that was
+    // begun has put at least one byte.
     pub(crate) caller: u32,
     pub(crate) line: usize,
     pub(crate) shown: usize,
 }
 
-// Each call stands within the loop that asks for the pieces, by hints: a call for each line would keep the place in memory.
+// Hints inline each call into the loop over the pieces: a call for each line would keep the place in memory.
 impl Place {
     /// The place before the text.
     pub(crate) fn start() -> Place
@@ -48,7 +48,7 @@ impl Place {
         }
     }
 
-    /// Whether nothing is left behind it.
+    /// Whether this is the end of the text.
     #[tactic(auto, using(crate::proofs::Places::text_ends, crate::proofs::Places::some_left))]
     pub(crate) fn is_end(self) -> bool
         ensures { (callers : List (List SeenLine)) → MatchBool result (text_left self callers ≡ [])
@@ -57,7 +57,7 @@ impl Place {
         matches!(self.coming, Coming::Nothing)
     }
 
-    // Puts a line up to its data, where nothing of it was put.
+    // Puts a line up to its data, unless it was begun.
     #[tactic(auto, using(crate::proofs::Places::head_put, crate::proofs::Places::begun))]
     #[inline(always)]
     fn begin(self, lines: &CallerLines, piece: &mut Piece)
@@ -72,7 +72,7 @@ impl Place {
         }
     }
 
-    // Puts what is left of the bytes of a line, as many as there is room for, and answers whether these are all.
+    // Puts the rest of a line's bytes, as far as there is room. Returns whether that is all of it.
     fn show_bytes(&mut self, bytes: &[u8], piece: &mut Piece) -> bool
         requires room { length piece.old ≤ 2048 }
         requires within { self.old.shown ≤ length bytes.now }
@@ -96,7 +96,7 @@ impl Place {
         count == rest.len() && piece.room() > 0
     }
 
-    // Puts what is left of a line's data, as much as there is room for, and answers whether that is all of it.
+    // Puts the rest of a line's data, as far as there is room. Returns whether that is all of it.
     #[tactic(auto, using(crate::proofs::Places::left_of_bytes, crate::proofs::Places::none_shown), unfolding(key_names::specs::Texts::TranscriptGrammar::shown_text))]
     #[inline(always)]
     pub(crate) fn show(&mut self, shown: Shown<'_>, piece: &mut Piece) -> bool
@@ -142,7 +142,7 @@ impl Place {
         ensures caller { self.new.caller ≡ self.old.caller }
     {
         self.begin(lines, piece);
-        // What it shows is looked up only here, and so not kept while the head is written.
+        // The data are looked up only here, so that they are not kept while the head is written.
         if self.show(lines.line(self.line).shown, piece) {
             piece.push(b'\n');
             self.line += 1;
@@ -175,8 +175,8 @@ impl Place {
         self.next_of_line(lines, piece);
     }
 
-    /// Goes on to the next place, and puts what stands between the two in the piece, in place of what was there. Answers
-    /// whether there was a place to go on to. A piece has no bytes of two lines, and may be empty.
+    /// Goes on to the next place, and replaces the content of the piece by the text between the two places. Returns
+    /// whether there was a next place. A piece has no bytes of two lines, and may be empty.
     #[inline(always)]
     pub(crate) fn go_on(&mut self, t: &Transcript, piece: &mut Piece) -> bool
         requires { IsIn self.old t.now }

@@ -1,4 +1,4 @@
-//! A transcript whose text is read piece by piece.
+//! A transcript that is read piece by piece.
 ghost use Rattle.std.specs.Prelude.{◌≡◌, ◌+◌, ◌<◌, ◌≤◌, ◌^◌, ◌∷◌, ◌++◌, ℕ, [], List, length, true, IfOk, OnOk};
 ghost use Rattle.transcript_text.specs.Feeding.{HasFed, IsBehind, most_lines};
 ghost use Rattle.transcript_text.specs.ReadTexts.{Answers};
@@ -10,21 +10,21 @@ use crate::so_far::{SoFar, Stage};
 use crate::transcript::Transcript;
 use std::alloc::{AllocError, Global};
 
-/// A reader that is fed the text of a transcript, in pieces of any length. Of the text it keeps no more than a line that
-/// is not whole yet.
+/// A reader for the text of a transcript, in pieces of any length. It buffers at most one incomplete line.
 #[derive(Drop)]
 pub struct Reader {
     so_far: SoFar,
-    // The front of a line whose end is to come.
+    // The start of a line without its end.
     rest: Vec<u8>,
 }
 
 impl Reader {
-    /// A reader that was fed nothing, for a transcript of at most so many lines, without its first and its last.
+    /// A reader that has read nothing. It reads a transcript of at most `most` lines, not counting the first and the
+    /// last.
     ///
     /// # Errors
     ///
-    /// `AllocError` where there is no memory for it.
+    /// `AllocError` if there is no memory for it.
     pub fn new(alloc: Global, most: u32) -> Result<Reader, AllocError>
         ensures fed { IfOk result (λ reader. HasFed [] reader) }
         ensures most { IfOk result (λ reader. most_lines reader ≡ most) }
@@ -35,7 +35,7 @@ impl Reader {
         })
     }
 
-    // The end of a line, whose line feed is left out.
+    // Reads the end of a line, without its line feed.
     fn end_line(&mut self, alloc: Global, end: &[u8]) -> Result<(), AllocError>
         requires short { length self.old.rest.items + length end.now < 2 ^ 31 }
         requires few { self.old.so_far.lines < 2 ^ 31 }
@@ -52,12 +52,12 @@ impl Reader {
         Ok(())
     }
 
-    /// One more piece of the text, which has at most 2^31 bytes in all.
+    /// Reads one more piece of the text, which has at most 2^31 bytes in all.
     ///
     /// # Errors
     ///
-    /// `AllocError` where there is no memory for its lines, or for one that is not whole yet. The reader is of no use
-    /// then.
+    /// `AllocError` if there is no memory for its lines, or for an incomplete one. The reader must not be used after
+    /// that.
     pub fn feed(&mut self, alloc: Global, piece: &[u8]) -> Result<(), AllocError>
         requires short { (text : List ℕ) × HasFed text self.old × (length text + length piece.now ≤ 2 ^ 31) }
         ensures fed { OnOk result ((text : List ℕ) → HasFed text self.old → HasFed (text ++ piece.now) self.new) }
@@ -72,12 +72,12 @@ impl Reader {
         Ok(())
     }
 
-    /// The transcript whose text was fed, at most 2^31 bytes.
+    /// The transcript of the text that was fed, at most 2^31 bytes.
     ///
     /// # Errors
     ///
-    /// `Fault` where the text is no transcript's, with its first faulty line. `TooManyLines` where it is that of one with
-    /// more lines than were asked for. `NoMemory` where there is no memory for the transcript.
+    /// `Fault` with the first faulty line if the text is no transcript's. `TooManyLines` if the transcript has more
+    /// lines than the limit. `NoMemory` if there is no memory for the transcript.
     pub fn finish(self) -> Result<Transcript, TextError>
         requires short { (text : List ℕ) × HasFed text self × (length text ≤ 2 ^ 31) }
         ensures { (text : List ℕ) → HasFed text self → Answers (most_lines self) text result }

@@ -13,8 +13,8 @@ use std::alloc::Global;
 ///
 /// # Errors
 ///
-/// `Fault` where the text is no transcript's, with its first faulty line. `NoMemory` where there is no memory for the
-/// transcript. `TooManyLines` never comes.
+/// `Fault` with the first faulty line if the text is no transcript's. `NoMemory` if there is no memory for the
+/// transcript. `TooManyLines` is never returned.
 pub fn read(alloc: Global, text: &[u8]) -> Result<Transcript, TextError>
     requires { length text.now ≤ 2 ^ 31 }
     ensures found { IfOk result (λ transcript. IsTranscriptText text.now transcript) }

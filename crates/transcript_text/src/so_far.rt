@@ -1,4 +1,4 @@
-//! What the whole lines of a text have told of a transcript.
+//! The part of a transcript that was read so far.
 ghost use Rattle.std.specs.Prelude.{◌≡◌, ◌+◌, ◌<◌, ◌≤◌, ◌^◌, ◌∷◌, ◌++◌, ℕ, [], List, length, true, codes, vec_len, IfOk, MatchBool, OnOk};
 ghost use Rattle.transcript_text.specs.Feeding.{HasTold, IsUnread, StandsAs, StandsAt, with_line};
 ghost use Rattle.transcript_text.specs.ReadTexts.{Answers, IsNoLine};
@@ -14,32 +14,32 @@ use crate::transcript::Transcript;
 use key_names::Trace;
 use std::alloc::{AllocError, Global};
 
-/// How far a text is read.
+/// How far a text was read.
 #[derive(Clone, Copy)]
 pub(crate) enum Stage {
-    /// Its first line is to come.
+    /// The first line comes next.
     Head,
     /// Lines of callers may follow, or the last line.
     Lines,
-    /// Its last line was read.
+    /// The last line was read.
     Ended,
-    /// It is no transcript's, whatever follows: this is its first faulty line.
+    /// The text is no transcript's, whatever follows: this is its first faulty line.
     Faulty { line: u32 },
 }
 
-/// The lines of a text so far. Of those past the first `most` none is kept.
+/// The lines of a text so far. Lines after the first `most` are not kept.
 #[derive(Drop)]
 pub(crate) struct SoFar {
     pub(crate) stage: Stage,
     pub(crate) most: u32,
-    // How many lines of callers there were.
+    // The number of lines of callers.
     pub(crate) lines: u32,
     pub(crate) done: Vec<CallerLines>,
     pub(crate) current: CallerLines,
     trace: Trace,
 }
 
-// The stage behind the first line.
+// The stage after the first line.
 fn behind_head(line: &[u8]) -> Stage
     ensures { (s : SoFar) (text behind : List ℕ) → IsUnread s → lacks 10 line.now ≡ true
         → text ≡ line.now ++ 10 ∷ behind → StandsAs result s text behind }
@@ -52,7 +52,7 @@ fn behind_head(line: &[u8]) -> Stage
 }
 
 impl SoFar {
-    /// Nothing, of a transcript of which so many lines are kept at most.
+    /// The state before the first line, for a transcript of which at most `most` lines are kept.
     pub(crate) fn nothing(alloc: Global, most: u32) -> Result<SoFar, AllocError>
         ensures stands { IfOk result (λ s. StandsAt s [] []) }
         ensures lines { IfOk result (λ s. s.lines ≡ 0) }
@@ -68,7 +68,7 @@ impl SoFar {
         })
     }
 
-    // Whether a line is one of a caller, that may stand behind the others. Then it is kept, unless it is one of too many.
+    // Whether a line is a caller's and may follow the others. If so, it is kept, unless the limit is reached.
     fn takes(&mut self, alloc: Global, line: &[u8]) -> Result<bool, AllocError>
         requires short { length line.now < 2 ^ 31 }
         ensures taken { IfOk result (λ is_line. MatchBool is_line
@@ -85,7 +85,7 @@ impl SoFar {
         pass_line(alloc, done, current, trace, line)
     }
 
-    // The stage behind a line where one of a caller may stand.
+    // The stage after a line that may be a caller's.
     fn behind_line(&mut self, alloc: Global, line: &[u8]) -> Result<Stage, AllocError>
         requires short { length line.now < 2 ^ 31 }
         requires few { self.old.lines < 2 ^ 31 }
@@ -106,7 +106,7 @@ impl SoFar {
         Ok(Stage::Lines)
     }
 
-    // The stage behind a line.
+    // The stage after a line.
     fn behind(&mut self, alloc: Global, line: &[u8]) -> Result<Stage, AllocError>
         requires short { length line.now < 2 ^ 31 }
         requires few { self.old.lines < 2 ^ 31 }
@@ -125,7 +125,7 @@ impl SoFar {
         }
     }
 
-    /// One more line, without its line feed.
+    /// Reads one more line, without its line feed.
     pub(crate) fn take(&mut self, alloc: Global, line: &[u8]) -> Result<(), AllocError>
         requires short { length line.now < 2 ^ 31 }
         requires few { self.old.lines < 2 ^ 31 }
@@ -142,7 +142,7 @@ impl SoFar {
     ///
     /// # Errors
     ///
-    /// `TooManyLines` where it has more lines than are kept. `NoMemory` where there is no memory for the transcript.
+    /// `TooManyLines` if it has more lines than are kept. `NoMemory` if there is no memory for the transcript.
     pub(crate) fn into_transcript(self) -> Result<Transcript, TextError>
         requires { (text : List ℕ) × HasTold self text (codes "end" ++ 10 ∷ []) }
         ensures { (text : List ℕ) → HasTold self text (codes "end" ++ 10 ∷ []) → Answers self.most text result }

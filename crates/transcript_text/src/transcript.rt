@@ -5,7 +5,8 @@ ghost use Rattle.key_names.specs.Texts.TranscriptGrammar.{LastHasLines, Transcri
 use crate::caller_lines::CallerLines;
 use std::marker::Model;
 
-/// The lines of at most 64 callers, the last of whom has one. Contracts see the list of each caller's lines.
+/// The lines of at most 64 callers; the last caller has at least one. In contracts it is the list of each caller's
+/// lines.
 #[derive(Drop)]
 pub struct Transcript {
     callers: Vec<CallerLines>,
@@ -24,22 +25,22 @@ impl Model for Transcript {
 }
 
 impl Transcript {
-    /// The transcript of these callers, at most 64, the first of whom is caller 0 and the last of whom has a line. That
-    /// each line has its caller's number is not asked.
+    /// The transcript of at most 64 callers, in order from caller 0. The last caller must have a line. The caller's
+    /// number in each line is not checked.
     pub fn of(callers: Vec<CallerLines>) -> Transcript
         requires few { vec_len callers ≤ 64 }
         requires last { LastHasLines (map (λ c. c.lines) callers.items) }
         ensures lines { result ≡ map (λ c. c.lines) callers.items }
         ensures fits { TranscriptFits result }
     {
-        // `lines` promises of each caller that its lines fit, which this type keeps.
+        // `lines` ensures that the lines of each caller fit, which is an invariant of this type.
         for caller in &callers {
             let _lines = caller.lines();
         }
         Transcript { callers }
     }
 
-    /// How many callers there are.
+    /// The number of callers.
     pub fn callers(&self) -> u32
         ensures number { result ≡ length self.now }
         ensures fits { TranscriptFits self.now }
@@ -47,7 +48,7 @@ impl Transcript {
         self.callers.len() as u32
     }
 
-    /// The lines of a caller, with their steps and the bytes that they show.
+    /// The lines of a caller, with their steps and bytes.
     pub fn caller(&self, caller: u32) -> &CallerLines
         requires { caller < length self.now }
         ensures { result.now.lines ≡ slice_index_or self.now caller [] }

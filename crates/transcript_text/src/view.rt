@@ -1,21 +1,21 @@
-//! Lines by reference: with their steps and what they show, wherever these are kept.
+//! Lines by reference, with their steps and data, wherever these are kept.
 ghost use Rattle.std.specs.Prelude.{◌≡◌};
 ghost use Rattle.transcript_text.specs.Views.{bytes_of};
 
 use key_names::{Answer, Step, Word};
 
-/// What a line shows behind its steps.
+/// The data of a line.
 #[derive(Clone, Copy, Debug, PartialEq, Eq)]
 pub enum Shown<'a> {
     None,
-    /// Bytes. A line shows none by [`Shown::None`] as well as by no bytes.
+    /// Bytes. A line without bytes has [`Shown::None`], or no bytes here.
     Bytes(&'a [u8]),
-    /// How many bits the pool had before the visit that read them.
+    /// The number of credited bits before the visit that read it.
     Count(u32),
 }
 
 impl<'a> Shown<'a> {
-    /// The bytes that are shown.
+    /// The bytes of the data.
     pub fn bytes(self) -> &'a [u8]
         ensures { result.now ≡ bytes_of self.entry }
     {

@@ -10,13 +10,13 @@ use crate::place::Place;
 use crate::transcript::Transcript;
 use io_edges::{Failed, Sink, put_all};
 
-/// Writes the text of a transcript, and takes no memory for it. No put has bytes of two lines, or more than 4,096 bytes
+/// Writes the text of a transcript without allocating. No put has bytes of two lines, or more than 4,096 bytes
 /// (tested).
 ///
 /// # Errors
 ///
-/// `Failed` where the sink failed, which it has counted as a fault. What it got in this call is then a prefix of the
-/// text.
+/// `Failed` if the sink failed, which the sink has counted as a fault. Then the sink got a prefix of the text in this
+/// call.
 pub fn write_all<K: Sink>(sink: &mut K, transcript: &Transcript) -> Result<(), Failed>
     ensures whole { OnOk result (Appends (K.held sink.old) (K.held sink.new) (transcript_text transcript.now)) }
     ensures prefix { AppendsPrefix (K.held sink.old) (K.held sink.new) (transcript_text transcript.now) }

@@ -1,4 +1,4 @@
--- What a fork leaves to parent and child.
+-- The effect of a fork on the parent's and the child's call.
 use Rattle.std.proofs.Common.{◌≡◌, ◌≢◌, ◌⊎◌, ℕ, ◌<◌, ◌≤◌, Bool, true, false, List, [], ◌∷◌, ◌++◌, refl, sym, ap, subst, ◌∙◌, inl, inr, arith}
 use Rattle.std.specs.Prelude.{◌==◌, ◌&&◌, ◌||◌, MatchBool, if◌then◌else◌}
 use Rattle.std.proofs.lemmas.Bool.{ne_eqb}
@@ -19,7 +19,7 @@ use Rattle.vdso_state.specs.Places.{FromPoint, IfOutdated, Climbs}
 use Rattle.vdso_state.proofs.Leading.{at_leads}
 use Rattle.vcall_fork.specs.Forks.{ForksAreTold, takes_key, ChildTakesKey}
 
--- a host of whom nothing is said
+-- a host with no promises
 abbrev anybody : Doings (Unit {0})
 anybody = doings (λ h g next. Unit {0}) (λ h n flags answer next. Unit {0}) (λ h point wiped next. Unit {0})
 
@@ -32,7 +32,7 @@ forks_are_told stage held s n flags place out t before entries leads = record {
       r);
 }
 
--- A new key behind the fork
+-- A new key after the fork
 
 takes_append : (taken : Bool) (xs ys : List HostStep) →
     takes_key taken (xs ++ ys) ≡ takes_key (takes_key taken xs) ys
@@ -44,7 +44,8 @@ takes_append taken (system_call n flags (failed errno) ∷ xs) ys = takes_append
 takes_append taken (at_point point wiped ∷ xs) ys =
     takes_append (if is_same_point point Start then false else taken) xs ys
 
--- the generation of a state is one that can be published no more, or its key was read, and it is the last one
+-- the state's generation is one that will not be published again, or its key was read, and the generation is the
+-- last one
 abbrev IsFresh : Bool → ℕ → VgetrandomState → Type 0
 IsFresh taken low s = (s.generation < low) ⊎ ((taken ≡ true) × (s.generation ≤ low))
 
@@ -62,7 +63,7 @@ fresh_left : (taken wiped : Bool) (low : ℕ) (s : VgetrandomState) → 1 ≤ lo
 fresh_left taken true low s some fresh = inl (omega arith)
 fresh_left taken false low s some fresh = fresh
 
--- what the steps `tried` of an attempt leave to those behind it
+-- the facts that the steps `tried` of an attempt give to those after them
 record Told (taken : Bool) (high : ℕ) (tried rest : List HostStep) (attempt : Attempt) : Type 0 where
   held : attempt.end ≡ holds → takes_key taken tried ≡ true
   again : attempt.end ≡ outdated → (low : ℕ) × (attempt.state.generation < low) × Climbs low high rest
@@ -104,7 +105,7 @@ from_end out c s taken low high tried rest attempt k fresh climbs =
     (ap (takes_key taken) k.steps_are) (ap (λ (a : Attempt). a.end) k.attempt_is)
     (ap (λ (a : Attempt). a.state.generation) k.attempt_is) fresh
 
--- entries before an attempt change nothing
+-- entries before an attempt do not change these facts
 told_behind : (taken : Bool) (high : ℕ) (tried rest : List HostStep) (attempt after : Attempt) (entries : List VEntry) →
     attempt ≡ attempt_behind entries after → Told taken high tried rest after → Told taken high tried rest attempt
 told_behind taken high tried rest attempt after entries is told = record {
@@ -116,7 +117,7 @@ told_behind taken high tried rest attempt after entries is told = record {
       (k.0, omega arith, k.2);
 }
 
--- at a point, Holds being what the rest needs to know of the state
+-- at a point, with `Holds` as the fact that the rest needs about the state
 at_told : (point : Point) (GoesOn : VgetrandomState → List HostStep → Attempt → Type 0) (Holds : VgetrandomState → Type 0)
     (s : VgetrandomState) (taken now : Bool) (low high : ℕ) (tried rest : List HostStep) (attempt : Attempt) →
     (if is_same_point point Start then false else taken) ≡ now → AtPoint point GoesOn s tried attempt →

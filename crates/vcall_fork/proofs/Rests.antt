@@ -1,5 +1,5 @@
--- What is left of a call behind the point of a stop: which reads it takes as keys, which bytes it gives out, and the
--- entries that it leaves.
+-- The rest of a call after the point of a stop: the reads that it takes as keys, the bytes that it gives, and its
+-- entries.
 use Rattle.std.proofs.Common.{◌≡◌, ℕ, ◌≤◌, Bool, true, false, List, [], ◌∷◌, ◌++◌, refl, sym, subst, ap, ◌∙◌, arith, eqb-true}
 use Rattle.std.specs.Prelude.{◌==◌, if◌then◌else◌}
 use Rattle.std.specs.List.{fold}
@@ -23,7 +23,7 @@ use Rattle.vdso_state.specs.declared.place.Turn.TheVariants.{First, Second}
 use Rattle.vdso_state.specs.Places.{FromPoint, IfOutdated, BehindPlace}
 use Rattle.key_names.specs.Vgetrandom.{state_after_call}
 
--- c and p name a place of a CPU: its read is taken by entries no more often than the steps have it
+-- c and p are a place of a CPU: entries take its read at most as often as the steps have it
 module _ (c p : ℕ) where
   point_bounded : (point : Point) (n from published : ℕ) (out : List ℕ) (s : VgetrandomState) (steps : List HostStep)
       (attempt : Attempt) → FromPoint point n from published out s steps attempt → Bounded c p steps attempt
@@ -48,7 +48,7 @@ module _ (c p : ℕ) where
       (λ tried attempt. point_bounded place.point n place.next_block place.published out s tried attempt)
       (λ from v rest after. outdated_bounded place.turn n flags from v rest after) r
 
--- where a system call ends it, that is the last step
+-- if a system call ends it, that is the last step
 module _ (answer : SystemAnswer) where
   outdated_asked : (turn : Turn) (n flags from : ℕ) (s : VgetrandomState) (steps : List HostStep) (outcome : Outcome) →
       outcome.ending ≡ by_system answer → IfOutdated turn n flags from s steps outcome → EndsAsked answer steps
@@ -66,7 +66,7 @@ module _ (answer : SystemAnswer) where
       (FromPoint place.point n place.next_block place.published out s) steps outcome
       (λ from v rest after. outdated_asked place.turn n flags from v rest after)
 
--- a child's rest, on a wiped state: where its batch ends it, its bytes are those that the last of its entries serve
+-- a child's rest, on a wiped state: if its batch ends it, its bytes are those that its last entry serves
 module _ (lists : Lists) (caller k : ℕ) where
   not_held : (g : ℕ) → 1 ≤ g → (if 0 == g then holds else outdated) ≡ holds → ⊥
   not_held g some is = go (0 == g) refl is
@@ -127,7 +127,7 @@ module _ (lists : Lists) (caller k : ℕ) where
       from h)
       (λ u c v rest later g on b. outdated_named place.turn n flags c some u v rest later g on b) good r
 
--- Behind a wipe a list goes on as a new one does
+-- After a wipe a list continues as a new one does
 module _ (caller state other : ℕ) where
   record SameTurn (s t : NamedState) : Type 0 where
     expected : s.expected ≡ t.expected
@@ -156,7 +156,7 @@ module _ (caller state other : ℕ) where
       let rest = same_list (state_step caller state s e) (state_step other state t e) es (same_step s t e k) may.1 in
       ((same_follow s t e k may.0, rest.0), rest.1)
 
-  -- what stands behind a wipe of a list in order is in order
+  -- the entries after a wipe are in order if the whole list is
   behind_wipe : (s : NamedState) (before after : List VEntry) →
       LawfulFrom MayFollow (state_step caller state) s (before ++ Wipe ∷ after) →
       LawfulFrom MayFollow (state_step other state) state_start after

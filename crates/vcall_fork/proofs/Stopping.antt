@@ -1,4 +1,4 @@
--- Calls that go on to a point.
+-- Calls that run to a point.
 use Rattle.std.proofs.Common.{◌≡◌, ℕ, ◌≤◌, Bool, true, false, Option, Some, None, List, [], ◌∷◌, ◌++◌, refl, sym, ap, ◌∙◌, append_assoc}
 use Rattle.std.specs.Prelude.{Result, ◌==◌, if◌then◌else◌}
 use Rattle.key_names.specs.declared.errno.Errno.{Errno}
@@ -34,7 +34,7 @@ turn_is Second Written = refl
 turn_is Second Serve = refl
 turn_is Second End = refl
 
--- the point and the attempt that are wanted
+-- the wanted point and attempt
 same_turn : (a b : Turn) → (turn_number a == turn_number b) ≡ true → a ≡ b
 same_turn First First h = refl
 same_turn First Second h = absurd (cc h)
@@ -61,7 +61,7 @@ module _ (turn : Turn) (point : Point) where
       ap (λ (b : Bool). if b then None else passes_by turn point now (xs ++ ys)) k.0
       ∙ passes_on now mid xs ys k.1
 
-  -- no point is no stop
+  -- steps without a point never stop
   quiet_on : (begun mid : ℕ) (xs ys : List HostStep) → passes_by turn point begun (points_of xs) ≡ Some mid →
       points_of ys ≡ [] → passes_by turn point begun (points_of (xs ++ ys)) ≡ Some mid
   quiet_on begun mid xs ys h quiet =
@@ -72,7 +72,7 @@ module _ (turn : Turn) (point : Point) where
       Some begun
   quiet begun xs none = ap (passes_by turn point begun) none
 
-  -- a point that is not wanted is none
+  -- an unwanted point does not stop
   point_on : (begun : ℕ) (t : Turn) (p : Point) (wiped : Bool) (xs ys : List HostStep) →
       passes_by turn point begun (points_of xs) ≡ Some (turns_before t p) →
       is_wanted turn point (turn_number t) p ≡ false → points_of ys ≡ [] →
@@ -87,7 +87,7 @@ module _ (turn : Turn) (point : Point) where
 
   module _ {H : Type 0} (host : Doings H) (floor : H → ℕ) (From : List HostStep → Outcome → Type 0) (n flags : ℕ)
       (begun look : ℕ) where
-    -- a call came to a place, past no wanted point, and knows what it found published last
+    -- a call came to a place without a wanted point before it, and has the published generation that it found last
     pub record Walked (at : Place) (h next : H) (s : VgetrandomState) (buf : List ℕ) : Type 0 where
       pub leads : Leads host floor From (AtPlace n flags at buf s) h next
       pub passes : passes_by turn point begun (points_of leads.steps) ≡ Some (turns_before at.turn at.point)
@@ -152,7 +152,7 @@ module _ (turn : Turn) (point : Point) where
           ∙ passes_on begun begun (points_of xs) (points_of ys) (quiet begun xs none)
           ∙ ap (λ (k : ℕ). passes_by turn point k (points_of ys)) (sym turns) ∙ misses.passes
 
-      -- the way to the first place, and from there
+      -- the steps to the first place, and those after it
       pub stops : (place : Place) (last : H) (u : VgetrandomState) (buf_then : List ℕ) (stage : Stage) →
           stage ≡ StandsAt place →
           (looks calls : ℕ) →

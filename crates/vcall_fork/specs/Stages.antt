@@ -1,4 +1,4 @@
--- How far a call of vgetrandom is that can be stopped.
+-- The stage of a call of vgetrandom that can be stopped.
 use Rattle.std.specs.Prelude.{ℕ, ◌+◌, ◌*◌, ◌^◌, Bool, true, false}
 use Rattle.vdso_state.specs.Turns.{looks_for, calls_for, copies_by, turn_number}
 use Rattle.vcall_fork.specs.declared.stage.Stage.{Stage}
@@ -14,13 +14,13 @@ is_stopped New = false
 is_stopped (At place) = true
 is_stopped Over = false
 
--- the generation that was read last, or another number where none was
+-- the generation that was read last, or another number if none was
 abbrev pub published_or : ℕ → Stage → ℕ
 published_or other New = other
 published_or other (At place) = place.published
 published_or other Over = other
 
--- how many looks at the generation what is left of the call may need, and how many system calls
+-- how many looks at the generation the rest of the call may need, and how many system calls
 abbrev pub looks_needed : Stage → ℕ
 looks_needed New = 5
 looks_needed (At place) = looks_for place.turn

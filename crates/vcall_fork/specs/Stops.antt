@@ -1,4 +1,4 @@
--- A call that goes on from where it was stopped, to a point or to its end.
+-- A call that goes on from a stop, to a point or to its end.
 use Rattle.std.specs.Prelude.{ℕ, suc, ◌≡◌, ◌==◌, ◌&&◌, Bool, true, Option, Some, None, Result, List, [], ◌∷◌, if◌then◌else◌}
 use Rattle.key_names.specs.declared.errno.Errno.{Errno}
 use Rattle.key_names.specs.declared.point.Point.{Point}
@@ -20,35 +20,35 @@ use Rattle.vcall_fork.specs.declared.stage.Progress.TheVariants.{At, Ended}
 use Rattle.vcall_fork.specs.declared.stage.Stage.{Stage}
 use Rattle.vcall_fork.specs.declared.stage.Stage.TheVariants.{New, At as StandsAt, Over}
 
--- what is left of a call for n bytes on a state, out being what its buffer holds: all of it, or what stands behind the
--- point of the stop
+-- the rest of a call for n bytes on a state, with out in its buffer: all of it, or the part after the point of the
+-- stop
 abbrev pub RestOfCall : Stage → ℕ → ℕ → List ℕ → VgetrandomState → List HostStep → Outcome → Type 0
 RestOfCall New n flags out s steps outcome = IsCall n flags s steps outcome
 RestOfCall (StandsAt place) n flags out s steps outcome = BehindPlace n flags place out s steps outcome
 RestOfCall Over n flags out s steps outcome = ⊥
 
--- the attempt that a point is in, `begun` having begun before it: an attempt begins at the point Start
+-- the attempt of a point, after `begun` attempts: each point Start begins one
 abbrev pub turn_at : ℕ → Point → ℕ
 turn_at begun point = if is_same_point point Start then suc begun else begun
 
 abbrev pub is_wanted : Turn → Point → ℕ → Point → Bool
 is_wanted turn point now here = now == turn_number turn && is_same_point here point
 
--- how many attempts have begun behind some points; nothing where they come to this point of this attempt
+-- how many attempts have begun after some points, or `None` if they include this point of this attempt
 abbrev pub passes_by : Turn → Point → ℕ → List PointReached → Option ℕ
 passes_by turn point begun [] = Some begun
 passes_by turn point begun (reached ∷ points) =
     let now = turn_at begun reached.point in
     if is_wanted turn point now reached.point then None else passes_by turn point now points
 
--- the steps never come to this point of this attempt
+-- the steps never reach this point of this attempt
 pub record Misses (turn : Turn) (point : Point) (begun : ℕ) (steps : List HostStep) : Type 0 where
   pub behind : ℕ
   pub passes : passes_by turn point begun (points_of steps) ≡ Some behind
 
 module _ {H : Type 0} (host : Doings H) (floor : H → ℕ) where
-  -- the call, which found look published last, stands at this point of this attempt, and what happens there is still
-  -- ahead; it knows what it found last, and the host has these looks and system calls left for it
+  -- the call, which last found `look` published, is stopped at this point of this attempt, before the host's step
+  -- there. It keeps the generation that it found last, and the host has these looks and system calls left for it
   pub record Stopped (From : List HostStep → Outcome → Type 0) (n flags : ℕ) (turn : Turn) (point : Point)
       (begun look : ℕ) (stage : Stage) (looks calls : ℕ) (h next : H) (s : VgetrandomState)
       (buf : List ℕ) : Type 0 where
@@ -61,7 +61,7 @@ module _ {H : Type 0} (host : Doings H) (floor : H → ℕ) where
     pub misses : Misses turn point begun leads.steps
     pub found : place.published ≡ last_look look leads.steps
 
-  -- it ended before
+  -- the call ended before this point
   pub record EndedBefore (From : List HostStep → Outcome → Type 0) (turn : Turn) (point : Point) (begun : ℕ)
       (stage : Stage) (result : Result VEnd Errno) (h last : H) (s : VgetrandomState) (buf : List ℕ) : Type 0 where
     pub over : stage ≡ Over
@@ -75,7 +75,7 @@ module _ {H : Type 0} (host : Doings H) (floor : H → ℕ) where
   RanTo From n flags turn point begun look stage (Ended result) looks calls h last s buf =
       EndedBefore From turn point begun stage result h last s buf
 
-  -- from a place on a call came to this point of this attempt
+  -- from a place on, the call came to this point of this attempt
   pub record CameAt (From : List HostStep → Outcome → Type 0) (n flags : ℕ) (turn : Turn) (point : Point)
       (begun look : ℕ) (place : Place) (looks calls : ℕ) (h next : H) (s : VgetrandomState)
       (buf : List ℕ) : Type 0 where
@@ -85,7 +85,7 @@ module _ {H : Type 0} (host : Doings H) (floor : H → ℕ) where
     pub wanted : is_wanted turn point (turn_number place.turn) place.point ≡ true
     pub may : MayGoOn place looks calls (floor next)
 
-  -- it ended before
+  -- the call ended before this point
   pub record CameToEnd (From : List HostStep → Outcome → Type 0) (turn : Turn) (point : Point) (begun : ℕ)
       (result : Result VEnd Errno) (h last : H) (s : VgetrandomState) (buf : List ℕ) : Type 0 where
     pub ends : Ends host floor From h last (record { state = s; result = result; buf = buf })

@@ -16,10 +16,10 @@ use vdso_state::{
     Came, Place, Point, Turn, VEnd, VHost, VState, begin, behind, finish, vgetrandom,
 };
 
-/// A call of vgetrandom, without its state and its buffer: these are the caller's, and a fork has its own.
+/// A call of vgetrandom, without its state and its buffer: these belong to the caller, and a fork has its own.
 #[derive(Clone, Copy, Debug)]
 pub struct VCall {
-    /// How many bytes it reads, at most 2^20.
+    /// The number of bytes that it reads, at most 2^20.
     pub len: u32,
     pub flags: u32,
     pub stage: Stage,
@@ -28,14 +28,14 @@ pub struct VCall {
     ghost ready: { 1 ≤ published_or 1 stage },
 }
 
-// Whether a call that stands at a place is where it was asked to stop.
+// Whether the call has to stop at this place.
 fn is_at(place: Place, attempt: Turn, point: Point) -> bool
     ensures { result ≡ is_wanted attempt point (turn_number place.turn) place.point }
 {
     place.turn == attempt && place.point == point
 }
 
-// From a place on, to a point of an attempt or to the end of the call.
+// Runs from a place to a point of an attempt, or to the end of the call.
 fn until<H: VHost>(
     host: &mut H,
     st: &mut VState,
@@ -63,7 +63,7 @@ fn until<H: VHost>(
 }
 
 impl VCall {
-    /// A call that did nothing yet.
+    /// A new call, before its first step.
     pub fn begin(len: u32, flags: u32) -> VCall
         requires { len ≤ 2 ^ 20 }
         ensures len { result.len ≡ len }
@@ -77,7 +77,7 @@ impl VCall {
         }
     }
 
-    // To the next point, or to the end where none comes.
+    // Runs to the next point, or to the end if no point comes.
     fn go_on<H: VHost>(&self, host: &mut H, st: &mut VState, buf: &mut [u8]) -> Came
         requires open { is_open self.now.stage ≡ true }
         requires length { length buf.old ≡ self.now.len }
@@ -107,13 +107,13 @@ impl VCall {
         Progress::Ended(ended)
     }
 
-    /// Runs the call until it stands at a point of an attempt: what happens there is still ahead. A point that the call
-    /// does not come to is run past, and the call is then over. Where the call stood at a point before, what happens
-    /// there is left to the caller: the host's `at` is not called for it.
+    /// Runs the call to a point of an attempt, and stops there before the host's `at`. If the call does not reach
+    /// that point, it runs to its end. If the call was stopped at a point before, the caller decides what happens
+    /// there: the host's `at` is not called for it.
     ///
-    /// Needs a call that is not over, a buffer of the call's length, and a host that publishes no generation below the
-    /// one that the call read last, and has looks and system calls left for all that may come: 5 and 3 for a new call,
-    /// and no more for one that stands at a point. Where the call then stands at the point, the host has enough of both
+    /// The call must not be over, and the buffer must have the call's length. The host must publish no generation
+    /// below the one that the call read last. It needs enough looks and system calls for the rest of the call: 5 and
+    /// 3 for a new call, and no more for a stopped one. If the call stops at the point, the host has enough of both
     /// left to end it.
     pub fn run_to<H: VHost>(
         &mut self,
@@ -148,8 +148,8 @@ impl VCall {
         }
     }
 
-    /// A fork at the point where the call stands: the child's call, its state, which the fork wiped, and its copy of the
-    /// buffer. The parent's are as they were.
+    /// Forks the call at its point. Returns the child's call and its state, which the fork wiped, and copies the
+    /// buffer for the child. The parent's call, state and buffer do not change.
     pub fn fork_call(&self, buf: &[u8], child_buf: &mut [u8]) -> (VCall, VState)
         requires stopped { is_stopped self.now.stage ≡ true }
         requires length { length buf.now ≡ self.now.len }
@@ -162,14 +162,14 @@ impl VCall {
         (*self, VState::wiped())
     }
 
-    /// Ends the call. Where it stands at a point, what happens there is left to the caller: the host's `at` is not
+    /// Ends the call. If it was stopped at a point, the caller decides what happens there: the host's `at` is not
     /// called for it.
     ///
-    /// Needs what [`run_to`](VCall::run_to) needs.
+    /// It has the preconditions of [`run_to`](VCall::run_to).
     ///
     /// # Errors
     ///
-    /// The error of the last system call. The buffer is then unspecified.
+    /// The error of the last system call. After an error the buffer is unspecified.
     pub fn finish<H: VHost>(
         self,
         host: &mut H,

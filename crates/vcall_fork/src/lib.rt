@@ -1,16 +1,16 @@
-//! Calls of vgetrandom that stop at a point, and a fork while they stand there.
+//! Calls of vgetrandom that stop at a point, and a fork during the stop.
 //!
-//! A process can fork while one of its calls is under way, out of a signal's handler. There are two ends of the call
-//! then. The child's copy of the buffer is its own, and its state is empty, since the kernel maps states so that a fork
-//! wipes them (`VM_WIPEONFORK`). [`VCall`] is such a call: it runs to a point, is forked there, and ends in parent and
-//! child, over any host of `vdso_state`.
+//! A process can fork during one of its calls, in a signal handler. Then the call ends twice. The child has its own
+//! copy of the buffer, and its state is empty, since the kernel maps states so that a fork wipes them
+//! (`VM_WIPEONFORK`). [`VCall`] is such a call: it runs to a point, is forked there, and ends in the parent and in
+//! the child, over any host of `vdso_state`.
 //!
-//! The parent's call is the one that it would have been. The child's is a call that was wiped at the point of the fork
-//! ([`laws::forks_are_told`]). Where its bytes come out of its state, the attempt that gave them read a new key behind
-//! the fork ([`laws::child_takes_key`]). In a lawful book the states of two callers put no byte of a key to use twice
+//! The fork does not change the parent's call. The child's call is one that was wiped at the point of the fork
+//! ([`laws::forks_are_told`]). If its bytes come out of its state, the attempt that gave them read a new key after
+//! the fork ([`laws::child_takes_key`]). In a lawful book the states of two callers never use the same byte of a key
 //! ([`laws::forks_share_nothing`]).
 //!
-//! It stands on `vdso_state`, whose calls come in parts, each from one point to the next.
+//! The parts of a call, each from one point to the next, come from `vdso_state`.
 #![tactic(auto)]
 
 pub mod call;

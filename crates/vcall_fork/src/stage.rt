@@ -1,24 +1,24 @@
-//! How far a call is.
+//! The stages of a call.
 
 use key_names::Errno;
 use vdso_state::{Place, VEnd};
 
-/// How far a call is.
+/// The stage of a call.
 #[derive(Clone, Copy, Debug, PartialEq, Eq)]
 pub enum Stage {
-    /// It did nothing yet.
+    /// It has made no step yet.
     New,
-    /// It stands at a point, and what happens there is still ahead.
+    /// It is stopped at a point, before the host's `at`.
     At(Place),
     /// It is over.
     Over,
 }
 
-/// How a call went on.
+/// The result of running a call to a point.
 #[derive(Clone, Copy, Debug, PartialEq, Eq)]
 pub enum Progress {
-    /// It stands at the point that was asked for.
+    /// It is stopped at the wanted point.
     At,
-    /// It ended before.
+    /// It ended before that point.
     Ended(Result<VEnd, Errno>),
 }

@@ -17,7 +17,7 @@ use Rattle.vdso_state.proofs.Leading.{in_call, says, then_came}
 use Rattle.vdso_state.proofs.Stepping.{ne-eqb, asks_at_once}
 
 module _ {H : Type 0} (host : Doings H) (floor : H → ℕ) (n flags look : ℕ) where
-  -- the system call serves a call that is said to need it
+  -- the system call serves, if the relation From allows it
   said_asked : (From : List HostStep → Outcome → Type 0) (s : VgetrandomState) (h last : H) (finish : Finish) →
       ((steps : List HostStep) (outcome : Outcome) → BySystem n flags s steps outcome → From steps outcome) →
       Ends host floor (BySystem n flags s) h last finish →
@@ -33,7 +33,7 @@ module _ {H : Type 0} (host : Doings H) (floor : H → ℕ) (n flags look : ℕ)
   bad_flags s h last finish bad ends =
       said_asked (IsCall n flags s) s h last finish (λ steps outcome r. match_true _ _ _ bad r) ends
 
-  -- a look, and what follows it
+  -- a look, and the call after it
   pub looked_then : (published : ℕ) (s : VgetrandomState) (h next last : H) (came : Came) (t : VgetrandomState)
       (buf : List ℕ) → is_bad flags ≡ false → host.publishes_as h published next → floor h ≤ published →
       published ≤ floor next →
@@ -65,7 +65,7 @@ module _ {H : Type 0} (host : Doings H) (floor : H → ℕ) (n flags look : ℕ)
         (λ steps outcome r. match_false _ _ _ (ne-eqb published 0 ready) (match_false _ _ _ (ne-eqb n 0 some)
         (match_true _ _ _ busy r))) ends
 
-    -- the first attempt, as far as its first point
+    -- the first attempt, up to its first point
     pub tries : (t : VgetrandomState) (g : ℕ) (buf : List ℕ) → published ≢ 0 → n ≢ 0 → s.in_use ≡ false →
         t ≡ record s { in_use = true } → host.publishes_as h g last → floor h ≤ g → g ≤ floor last →
         CameTo host floor (FromPublished n flags s published) n flags look
@@ -83,7 +83,7 @@ module _ {H : Type 0} (host : Doings H) (floor : H → ℕ) (n flags look : ℕ)
           refl,
         )
 
-  -- no bytes are wanted
+  -- the call asks for no bytes
   pub nothing_done : (published : ℕ) (s : VgetrandomState) (h : H) (buf : List ℕ) → published ≢ 0 → n ≡ 0 →
       CameTo host floor (FromPublished n flags s published) n flags look (Ended (Ok Zero)) h h s buf
   nothing_done published s h buf ready none = (

@@ -1,11 +1,11 @@
--- What a copy takes of a key's stream.
+-- The bytes that a copy takes from a key's stream.
 use Rattle.std.proofs.Common.{◌≡◌, ℕ, ◌+◌, ◌*◌, ◌/◌, ◌%◌, ◌≤◌, List, ◌++◌, take, drop, refl, ap, ◌∙◌, arith}
 use Rattle.key_names.specs.Keystream.{keystream}
 use Rattle.key_names.specs.VgetrandomState.{VgetrandomState}
 use Rattle.key_names.specs.BatchCopy.{state_of_same_batch, state_of_new_batch}
 use Rattle.key_names.proofs.Standards.Keystreams.{keystream-append, take-keystream}
 
--- a state with a new batch and the next key, of which nothing is served yet
+-- a state with a new batch and the next key, before any of the batch is served
 abbrev pub refilled : VgetrandomState → ℕ → VgetrandomState
 refilled s block = record s {
   batch = keystream s.key (64 * block) 96;
@@ -13,7 +13,7 @@ refilled s block = record s {
   pos = 0;
 }
 
--- some of a new batch being served
+-- the state after some bytes of a new batch are served
 pub state_at : (s refilled_state t : VgetrandomState) (block r m : ℕ) → refilled_state ≡ refilled s block → m ≡ r →
     t ≡ state_of_same_batch refilled_state m → t ≡ state_of_new_batch s block r
 state_at s u t block r m new same is = let sum : 0 + r ≡ r = omega arith in rw (is, new, same, sum) refl

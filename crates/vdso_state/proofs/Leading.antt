@@ -1,4 +1,4 @@
--- Parts of a call one behind the other.
+-- Parts of a call, one after the other.
 use Rattle.std.proofs.Common.{◌≡◌, ℕ, ◌≤◌, Bool, List, [], ◌∷◌, ◌++◌, refl, sym, ap, subst, ◌∙◌, append_assoc, arith}
 use Rattle.key_names.specs.declared.entries.VEntry.{VEntry}
 use Rattle.key_names.specs.Vgetrandom.{HostStep, publishes, system_call, at_point, Attempt, AttemptEnd, holds, outdated, not_keyed, Outcome, outcome_behind, attempt_behind, wipe_entry, AtPoint, AfterAttempt}
@@ -38,7 +38,7 @@ last_look_append look (publishes g ∷ xs) ys = last_look_append g xs ys
 last_look_append look (system_call n flags answer ∷ xs) ys = last_look_append look xs ys
 last_look_append look (at_point point wiped ∷ xs) ys = last_look_append look xs ys
 
--- the entries before an attempt change nothing of what follows it
+-- the entries before an attempt do not change what may follow it
 pub after_same : (n flags : ℕ) (Outdated : ℕ → VgetrandomState → List HostStep → Outcome → Type 0) (end : AttemptEnd)
     (attempt : Attempt) (entries : List VEntry) (steps : List HostStep) (outcome : Outcome) →
     AfterAttempt n flags Outdated end attempt steps outcome →
@@ -54,13 +54,13 @@ module _ {H : Type 0} (host : Doings H) (floor : H → ℕ) where
   does_append h mid last (x ∷ xs) ys before after =
       (before.0, before.1, does_append before.0 mid last xs ys before.2 after)
 
-  -- what is related in another way
+  -- no step is made, and To implies From
   abbrev pub says : (From To : List HostStep → Outcome → Type 0) (h : H) →
       ((steps : List HostStep) (outcome : Outcome) → To steps outcome → From steps outcome) →
       Leads host floor From To h h
   says From To h said = record { steps = []; entries = []; does = refl; climbs = omega arith; leads = said }
 
-  -- nothing is done
+  -- no step is made, and the relation stays
   pub stays : (From : List HostStep → Outcome → Type 0) (h : H) → Leads host floor From From h h
   stays From h = says From From h (λ steps outcome r. r)
 
@@ -110,7 +110,7 @@ module _ {H : Type 0} (host : Doings H) (floor : H → ℕ) where
       points_append first.steps second.0.runs.steps ∙ (λ i. quiet i ++ second.1 i),
     )
 
-  -- what leads on in an attempt leads on in its call
+  -- steps that lead on in an attempt lead on in its call
   abbrev pub in_call : (turn : Turn) (n flags : ℕ) (From To : List HostStep → Attempt → Type 0) (h next : H)
       (steps : List HostStep) (entries : List VEntry) → DoesAll host h steps next →
       Climbs (floor h) (floor next) steps →
@@ -138,7 +138,7 @@ module _ {H : Type 0} (host : Doings H) (floor : H → ℕ) where
     };
   }
 
-  -- what happens at a point, and then the rest behind it
+  -- the events at a point, and then the rest after it
   abbrev pub at_leads : (n flags : ℕ) (place : Place) (out : List ℕ) (s t : VgetrandomState) (wiped : Bool) (h next : H) →
       t ≡ state_left wiped s → host.passes_as h place.point wiped next → floor h ≤ floor next →
       Leads host floor (AtPlace n flags place out s) (BehindPlace n flags place out t) h next
@@ -157,7 +157,7 @@ module _ {H : Type 0} (host : Doings H) (floor : H → ℕ) where
         attempt_is = refl;
       })
 
--- a host goes on behind a point as it did before
+-- after a point the host can serve the rest as before
 pub still_may : (place : Place) (looks calls floor looks_then calls_then floor_then : ℕ) →
     MayGoOn place looks calls floor → looks_then ≡ looks → calls_then ≡ calls → floor ≤ floor_then →
     MayGoOn place looks_then calls_then floor_then

@@ -1,4 +1,4 @@
--- The steps of an attempt, from one of its points to the next one or to the end of the call.
+-- The steps of an attempt, from one of its points to the next or to the end of the call.
 use Rattle.std.proofs.Common.{◌≡◌, ◌≢◌, ℕ, ◌≤◌, Bool, false, List, [], ◌∷◌, ◌++◌, refl, sym, subst, ◌∙◌, ap, inl, inr, Ok, Err, arith}
 use Rattle.std.specs.Prelude.{Result, ◌==◌, if◌then◌else◌}
 use Rattle.std.proofs.lemmas.Bool.{eq-eqb}
@@ -34,7 +34,7 @@ ends_err : (answer : SystemAnswer) (errno : Errno) (buf : List ℕ) → IsAnswer
 ends_err (read bytes visit) errno buf is = cc
 ends_err (failed why) errno buf is = cc
 
--- after an error what stands in the key is what the system call left
+-- after an error the key is what the system call left in the buffer
 pub key_not_read : (answer : SystemAnswer) (errno : Errno) (buf : List ℕ) (s : VgetrandomState) →
     IsAnswer answer (Err errno) buf →
     KeyIsRead answer (Err errno) s (record s { key = buf; generation = 0 })
@@ -44,7 +44,7 @@ key_not_read (failed why) errno buf s answers = (answers, (buf, refl))
 no_error : (errno : Errno) → (let done : Result (Unit {0}) Errno = Ok tt in done ≡ Err errno) → ⊥
 no_error errno same = cc
 
--- an attempt that found another generation in the end
+-- an attempt that found another generation at its end
 abbrev outdated_attempt : List ℕ → ℕ → VgetrandomState → Attempt
 outdated_attempt out c s = record { out = out; state = s; next_block = c; entries = []; end = outdated }
 
@@ -63,7 +63,7 @@ ended_outdated out c e s other = record {
 }
 
 module _ {H : Type 0} (host : Doings H) (floor : H → ℕ) where
-  -- the system call, with what it returned
+  -- the system call, with its result
   asked : (n flags : ℕ) (s : VgetrandomState) (h last : H) (answer : SystemAnswer) (result : Result VEnd Errno)
       (buf : List ℕ) →
       EndsAsAnswered answer result buf → host.answers_as h n flags answer last → floor h ≤ floor last →
@@ -100,7 +100,7 @@ module _ {H : Type 0} (host : Doings H) (floor : H → ℕ) where
   module _ (turn : Turn) (n flags look : ℕ) (Tail : List HostStep → Attempt → Type 0) (h mid last : H)
       (tried : List HostStep) (attempt : Attempt) (does : DoesAll host h tried mid)
       (climbs : Climbs (floor h) (floor mid) tried) (tries : Tail tried attempt) (quiet : points_of tried ≡ []) where
-    -- an attempt ends, and what follows it ends the call
+    -- an attempt ends, and the steps after it end the call
     ends_behind : (s : VgetrandomState) (result : Result VEnd Errno) (buf : List ℕ) →
         (ends : Ends host floor (AfterAttempt n flags (IfOutdated turn n flags) attempt.end attempt) mid last
         (record { state = s; result = result; buf = buf })) → points_of ends.runs.steps ≡ [] →
@@ -129,7 +129,7 @@ module _ {H : Type 0} (host : Doings H) (floor : H → ℕ) where
       points_append tried ends.runs.steps ∙ (λ i. quiet i ++ too i),
     )
 
-  -- Behind Start
+  -- After Start
 
   start_current : (turn : Turn) (n flags c published : ℕ) (out : List ℕ) (s : VgetrandomState) (h : H) →
       s.generation ≡ published →
@@ -177,7 +177,7 @@ module _ {H : Type 0} (host : Doings H) (floor : H → ℕ) where
       ] in
       subst (λ (p : Point). Goal p next t) (sym point) given
 
-  -- Behind Written
+  -- After Written
 
   pub key_came : (n flags : ℕ) (place next : Place) (out : List ℕ) (s t : VgetrandomState) (h last : H)
       (answer : SystemAnswer) →
@@ -233,7 +233,7 @@ module _ {H : Type 0} (host : Doings H) (floor : H → ℕ) where
       }) refl u result buf ends
       (asks_at_once n flags (state_after_call t) mid last (record { state = u; result = result; buf = buf }) ends)
 
-  -- Behind Serve
+  -- After Serve
 
   pub serve_came : (n flags : ℕ) (place next : Place) (before out : List ℕ) (s t : VgetrandomState) (h : H) →
       place.point ≡ Serve → out ≡ copy_bytes s place.next_block n → t ≡ state_after_copy s place.next_block n →
@@ -262,7 +262,7 @@ module _ {H : Type 0} (host : Doings H) (floor : H → ℕ) where
       (subst (λ (bs : List ℕ). Goal Serve (record place { point = End; next_block = block_after_copy s c n })
       (state_after_copy s c n) bs) (sym bytes) given)))
 
-  -- Behind End
+  -- After End
 
   -- the bytes are given out
   pub end_holds : (turn : Turn) (n flags look c e : ℕ) (out : List ℕ) (s t : VgetrandomState) (h last : H) →

@@ -1,4 +1,4 @@
--- What a call of vgetrandom did on a host.
+-- What a vgetrandom call did on a host.
 use Rattle.std.specs.Prelude.{ℕ, ◌≡◌, Ok, Err, Result, List}
 use Rattle.key_names.specs.declared.errno.Errno.{Errno}
 use Rattle.vdso_state.specs.declared.outcome.VEnd.{VEnd}
@@ -7,24 +7,25 @@ use Rattle.key_names.specs.VgetrandomState.{VgetrandomState}
 use Rattle.key_names.specs.Vgetrandom.{SystemAnswer, read, failed, HostStep, Ending, no_bytes, by_batch, by_system, Outcome}
 use Rattle.vdso_state.specs.Host.{Doings, DoesAll}
 
--- what a call that the system call ended returned, and what the buffer holds; after an error it is unspecified
+-- the result of a call that the system call ended, and its buffer; after an error the buffer is unspecified
 abbrev pub EndsAsAnswered : SystemAnswer → Result VEnd Errno → List ℕ → Type 0
 EndsAsAnswered (read bytes visit) result buf = (result ≡ Ok System) × (buf ≡ bytes)
 EndsAsAnswered (failed errno) result buf = result ≡ Err errno
 
--- what a call returned, and what the buffer holds
+-- the result of a call with this ending, and its buffer
 abbrev pub EndsAs : Ending → Result VEnd Errno → List ℕ → Type 0
 EndsAs no_bytes result buf = result ≡ Ok Zero
 EndsAs (by_batch bytes) result buf = (result ≡ Ok Batch) × (buf ≡ bytes)
 EndsAs (by_system answer) result buf = EndsAsAnswered answer result buf
 
--- what a call left: the state, what it returned, and the buffer
+-- the state, the result and the buffer at the end of a call
 pub record Finish : Type 0 where
   pub state : VgetrandomState
   pub result : Result VEnd Errno
   pub buf : List ℕ
 
--- the host's steps from h to last are those of a call, or of the rest of one, that Relates holds of
+-- the host makes steps from h to last, and Relates holds for them and for an outcome with this finish. Relates
+-- describes a call, or the rest of one
 pub record Runs {H : Type 0} (host : Doings H) (Relates : List HostStep → Outcome → Type 0) (h last : H)
     (finish : Finish) : Type 0 where
   pub steps : List HostStep

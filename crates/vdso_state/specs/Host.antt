@@ -1,12 +1,13 @@
--- What a host did in a call: a chain of hosts, from the one that the call began with to the one that it left.
+-- The steps of a host in a call: a chain of hosts, from the one before the call to the one after it.
 use Rattle.std.specs.Prelude.{ℕ, ◌≡◌, Bool, Ok, Err, Result, List, [], ◌∷◌}
 use Rattle.key_names.specs.declared.errno.Errno.{Errno}
 use Rattle.key_names.specs.declared.point.Point.{Point}
 use Rattle.key_names.specs.Vgetrandom.{SystemAnswer, read, failed, HostStep, publishes, system_call, at_point}
 use Rattle.key_names.specs.VgetrandomState.{VgetrandomState}
 
--- how a host says what it did: what it published; what it answered a system call of some bytes with some flags; and
--- whether it wiped the state at a point. Each relates the host before, what it was given and did, and the host after
+-- the steps that a host makes: the generation that it publishes; its answer to a system call of some bytes with
+-- some flags; and whether it wipes the state at a point. Each relates the host before, the input and the
+-- result, and the host after
 pub record Doings (H : Type 0) : Type 1 where
   pub publishes_as : H → ℕ → H → Type 0
   pub answers_as : H → ℕ → ℕ → SystemAnswer → H → Type 0
@@ -22,7 +23,7 @@ abbrev pub DoesAll : {H : Type 0} → Doings H → H → List HostStep → H →
 DoesAll host h [] last = h ≡ last
 DoesAll {H} host h (step ∷ steps) last = (next : H) × Does host h step next × DoesAll host next steps last
 
--- what a system call returned, and the buffer then holds, is this answer; after an error the buffer is unspecified
+-- the result of a system call, with the buffer after it, is this answer; after an error the buffer is unspecified
 abbrev pub IsAnswer : SystemAnswer → Result (Unit {0}) Errno → List ℕ → Type 0
 IsAnswer (read bytes visit) result buf = (result ≡ Ok tt) × (buf ≡ bytes)
 IsAnswer (failed errno) result buf = result ≡ Err errno
@@ -32,7 +33,7 @@ abbrev pub doings : {H : Type 0} → (H → ℕ → H → Type 0) → (H → ℕ
 doings publishes_as answers_as passes_as =
     record { publishes_as = publishes_as; answers_as = answers_as; passes_as = passes_as }
 
--- the state after the system call for a new key: what stands in the key after an error is not said
+-- the state after the system call for a new key. After an error the key may be any list of bytes
 abbrev pub KeyIsRead : SystemAnswer → Result (Unit {0}) Errno → VgetrandomState → VgetrandomState → Type 0
 KeyIsRead (read key visit) result before after = (result ≡ Ok tt) × (after ≡ record before { key = key; pos = 96 })
 KeyIsRead (failed errno) result before after =

@@ -1,4 +1,4 @@
--- A copy out of a state with no call of vgetrandom around it.
+-- A copy out of a state without a vgetrandom call.
 use Rattle.std.specs.Prelude.{ℕ, ◌≡◌, MatchBool, List}
 use Rattle.vdso_state.specs.declared.outcome.Local.{Local}
 use Rattle.vdso_state.specs.declared.outcome.Local.TheVariants.{NeedsSystem, Served}
@@ -17,7 +17,7 @@ pub record IsUntouched (before after : VgetrandomState) (result : Local) (out_be
   pub bytes : out ≡ out_before
   pub state : after ≡ before
 
--- a copy is made exactly where it may be, g being the published generation
+-- a copy is made exactly if the state may serve it, with g as the published generation
 abbrev pub CopiesLocally : ℕ → ℕ → VgetrandomState → VgetrandomState → Local → List ℕ → List ℕ → Type 0
 CopiesLocally g n before after result out_before out =
     MatchBool (serves_locally g before n) (IsCopy n before after result out)

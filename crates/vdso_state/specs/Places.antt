@@ -1,4 +1,4 @@
--- Where a call of vgetrandom stands, and what is left of it from there.
+-- The point that a vgetrandom call has reached, and the rest of the call from there.
 use Rattle.std.specs.Prelude.{ℕ, ◌+◌, ◌*◌, ◌^◌, ◌≤◌, ◌≡◌, List, [], ◌∷◌, ◌++◌}
 use Rattle.key_names.specs.declared.entries.VEntry.{VEntry}
 use Rattle.key_names.specs.declared.point.Point.{Point}
@@ -15,29 +15,29 @@ use Rattle.vdso_state.specs.Host.{Doings, DoesAll}
 use Rattle.vdso_state.specs.Call.{Runs, Finish}
 use Rattle.vdso_state.specs.Turns.{looks_for, calls_for, points_for, copies_by, turns_before}
 
--- the rest of an attempt behind a point, c being the next block, published the generation that the attempt began with,
--- and out what was copied
+-- the rest of an attempt after a point. c is the next block, published the generation that the attempt began with, and
+-- out the bytes copied so far
 abbrev pub FromPoint : Point → ℕ → ℕ → ℕ → List ℕ → VgetrandomState → List HostStep → Attempt → Type 0
 FromPoint Start n c published out s steps attempt = FromStart n c published s steps attempt
 FromPoint Written n c published out s steps attempt = FromWritten n c s steps attempt
 FromPoint Serve n c published out s steps attempt = FromServe n c s steps attempt
 FromPoint End n c published out s steps attempt = FromEnd out c s steps attempt
 
--- what follows an attempt whose generation was outdated in the end
+-- the steps after an attempt that was outdated at its end
 abbrev pub IfOutdated : Turn → ℕ → ℕ → ℕ → VgetrandomState → List HostStep → Outcome → Type 0
 IfOutdated First n flags c s steps outcome = SecondAttempt n flags c s steps outcome
 IfOutdated Second n flags c s steps outcome = AfterBoth n flags c s steps outcome
 
--- the rest of a call, Tail being the rest of the attempt that it is in
+-- the rest of a call, with Tail as the rest of its current attempt
 abbrev pub RestOf : Turn → ℕ → ℕ → (List HostStep → Attempt → Type 0) → List HostStep → Outcome → Type 0
 RestOf turn n flags Tail steps outcome = AttemptAndRest n flags (IfOutdated turn n flags) Tail steps outcome
 
--- the rest of a call behind the point where it stands, out being what its buffer holds
+-- the rest of a call after the point at which it is; out is the content of its buffer
 abbrev pub BehindPlace : ℕ → ℕ → Place → List ℕ → VgetrandomState → List HostStep → Outcome → Type 0
 BehindPlace n flags at out s steps outcome =
     RestOf at.turn n flags (FromPoint at.point n at.next_block at.published out s) steps outcome
 
--- the same with what happens at the point
+-- the same, with the events at the point
 abbrev pub AtPlace : ℕ → ℕ → Place → List ℕ → VgetrandomState → List HostStep → Outcome → Type 0
 AtPlace n flags at out s steps outcome =
     RestOf at.turn n flags (AtPoint at.point (FromPoint at.point n at.next_block at.published out) s) steps outcome
@@ -49,7 +49,7 @@ Climbs low high (publishes g ∷ steps) = (low ≤ g) × Climbs g high steps
 Climbs low high (system_call n flags answer ∷ steps) = Climbs low high steps
 Climbs low high (at_point point wiped ∷ steps) = Climbs low high steps
 
--- the generation that steps published last, or look where they published none
+-- the generation that the steps published last, or look if they published none
 abbrev pub last_look : ℕ → List HostStep → ℕ
 last_look look [] = look
 last_look look (publishes g ∷ steps) = last_look g steps
@@ -57,8 +57,8 @@ last_look look (system_call n flags answer ∷ steps) = last_look look steps
 last_look look (at_point point wiped ∷ steps) = last_look look steps
 
 module _ {H : Type 0} (host : Doings H) (floor : H → ℕ) where
-  -- the host's steps from h to next lead from what From relates to what To relates: before steps of the second they are
-  -- steps of the first
+  -- the host's steps from h to next lead from From to To: if To holds for the steps after them,
+  -- From holds for all of them
   pub record Leads (From To : List HostStep → Outcome → Type 0) (h next : H) : Type 0 where
     pub steps : List HostStep
     pub entries : List VEntry
@@ -67,13 +67,14 @@ module _ {H : Type 0} (host : Doings H) (floor : H → ℕ) where
     pub leads : (rest : List HostStep) (outcome : Outcome) → To rest outcome →
         From (steps ++ rest) (outcome_behind entries outcome)
 
-  -- they end it
+  -- From holds for the host's steps from h to last, where the call ends
   pub record Ends (From : List HostStep → Outcome → Type 0) (h last : H) (finish : Finish) : Type 0 where
     pub runs : Runs host From h last finish
     pub climbs : Climbs (floor h) (floor last) runs.steps
 
-  -- from what From relates a call of n bytes, which found look published last, came, past no point, to where it stands
-  -- or to its end, with this state and this buffer; where it stands it knows what it found last
+  -- a call of n bytes, for which From holds, comes to its next point or to its end without passing one,
+  -- with this state and this buffer. look is the generation published last before, and at the point
+  -- `published` is the one published last
   abbrev pub CameTo : (List HostStep → Outcome → Type 0) → ℕ → ℕ → ℕ → Came → H → H → VgetrandomState → List ℕ → Type 0
   CameTo From n flags look (At place) h next s buf =
       (leads : Leads From (AtPlace n flags place buf s) h next) × (points_of leads.steps ≡ [])
@@ -81,7 +82,8 @@ module _ {H : Type 0} (host : Doings H) (floor : H → ℕ) where
   CameTo From n flags look (Ended result) h last s buf =
       (ends : Ends From h last (record { state = s; result = result; buf = buf })) × (points_of ends.runs.steps ≡ [])
 
--- a host with these looks and system calls left and this floor serves what is ahead, and the key has blocks enough
+-- a host with these looks and system calls left and this floor can serve the rest of the call, and
+-- the key has enough blocks
 pub record MayGoOn (at : Place) (looks calls floor : ℕ) : Type 0 where
   pub looks_are : looks_for at.turn ≤ looks
   pub calls_are : calls_for at.turn at.point ≤ calls
@@ -89,7 +91,7 @@ pub record MayGoOn (at : Place) (looks calls floor : ℕ) : Type 0 where
   pub known : at.published ≤ floor
   pub near : at.next_block ≤ copies_by at.turn at.point * (2 ^ 14 + 2)
 
--- so it does where a call came, and these attempts began before
+-- the host can serve the rest after this place, and this number of attempts began before it
 pub record GoesOn (at : Place) (turns looks calls floor : ℕ) : Type 0 where
   pub may : MayGoOn at looks calls floor
   pub turns_are : turns_before at.turn at.point ≡ turns
@@ -98,7 +100,7 @@ abbrev pub MayFinish : Came → ℕ → ℕ → ℕ → ℕ → Type 0
 MayFinish (At place) turns looks calls floor = GoesOn place turns looks calls floor
 MayFinish (Ended result) turns looks calls floor = Unit {0}
 
--- how many points may still come
+-- the number of points that may still come
 abbrev pub points_ahead : Came → ℕ
 points_ahead (At place) = points_for place.turn place.point
 points_ahead (Ended result) = 0

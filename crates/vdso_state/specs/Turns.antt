@@ -1,4 +1,4 @@
--- What a call of vgetrandom may still need at a point of an attempt.
+-- What a vgetrandom call may still need at a point of an attempt.
 use Rattle.std.specs.Prelude.{ℕ}
 use Rattle.key_names.specs.declared.point.Point.{Point}
 use Rattle.key_names.specs.declared.point.Point.TheVariants.{Start, Written, Serve, End}
@@ -10,7 +10,7 @@ abbrev pub looks_for : Turn → ℕ
 looks_for First = 3
 looks_for Second = 1
 
--- system calls: for a key in either attempt, and in the end for the bytes
+-- system calls: one for a key in each attempt, and one at the end for the bytes
 abbrev pub calls_for : Turn → Point → ℕ
 calls_for First Start = 3
 calls_for First Written = 3
@@ -21,7 +21,7 @@ calls_for Second Written = 2
 calls_for Second Serve = 1
 calls_for Second End = 1
 
--- how many points may come from this one on
+-- the number of points that may come, from this one on
 abbrev pub points_for : Turn → Point → ℕ
 points_for First Start = 8
 points_for First Written = 7
@@ -32,7 +32,7 @@ points_for Second Written = 3
 points_for Second Serve = 2
 points_for Second End = 1
 
--- how many copies were made before it
+-- the number of copies made before the point
 abbrev pub copies_by : Turn → Point → ℕ
 copies_by First Start = 0
 copies_by First Written = 0
@@ -48,7 +48,7 @@ abbrev pub turn_number : Turn → ℕ
 turn_number First = 1
 turn_number Second = 2
 
--- how many attempts began before the point
+-- the number of attempts that began before the point
 abbrev pub turns_before : Turn → Point → ℕ
 turns_before First Start = 0
 turns_before First Written = 1

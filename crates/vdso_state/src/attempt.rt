@@ -1,4 +1,4 @@
-//! The steps of a call from one of its points to the next one.
+//! The steps of a call from one of its points to the next.
 
 ghost use Rattle.std.specs.Prelude.{◌≡◌, ◌≢◌, ◌+◌, ◌^◌, ◌<◌, ◌≤◌, length};
 ghost use Rattle.key_names.specs.declared.point.Point.TheVariants.{Written, Serve, End};
@@ -14,7 +14,7 @@ use crate::place::{Came, Place, Turn};
 use crate::state::VState;
 use key_names::{Errno, Point};
 
-/// Leaves the whole buffer to the system call.
+/// Lets the system call fill the whole buffer.
 ///
 /// # Errors
 ///
@@ -36,7 +36,7 @@ pub(crate) fn ask_system<H: VHost>(
     }
 }
 
-/// Leaves the state, and the whole buffer to the system call.
+/// Ends the use of the state, and lets the system call fill the whole buffer.
 ///
 /// # Errors
 ///
@@ -57,7 +57,8 @@ fn give_up<H: VHost>(
     ask_system(host, st, buf, flags)
 }
 
-/// A state of another generation than the published one takes it, and then a new key.
+/// After `Start`: if the state's generation is not the published one, the state takes the
+/// published one, and needs a key.
 fn behind_start(st: &mut VState, place: Place) -> Place
     ensures current { st.old.generation ≡ place.published →
         (st.new ≡ st.old) × (result ≡ record place { point = Serve }) }
@@ -72,7 +73,7 @@ fn behind_start(st: &mut VState, place: Place) -> Place
     }
 }
 
-/// Reads a new key by the system call. Where that fails, the state has no generation.
+/// Reads a new key by the system call. If that fails, the state has no generation.
 fn read_key<H: VHost>(host: &mut H, st: &mut VState) -> Result<(), Errno>
     requires calls { 1 ≤ H.calls_left host.old }
     ensures reads { (answer : SystemAnswer) × KeyIsRead answer result st.old st.new
@@ -93,7 +94,7 @@ fn read_key<H: VHost>(host: &mut H, st: &mut VState) -> Result<(), Errno>
     }
 }
 
-/// Reads a new key for the generation that the state has.
+/// After `Written`: reads a new key for the generation that the state has.
 fn behind_written<H: VHost>(
     host: &mut H,
     st: &mut VState,
@@ -117,7 +118,7 @@ fn behind_written<H: VHost>(
     }
 }
 
-/// Copies bytes over all of `buf`.
+/// After `Serve`: copies bytes over all of `buf`.
 fn behind_serve(st: &mut VState, place: Place, buf: &mut [u8]) -> Place
     requires near { place.next_block ≤ 2 ^ 20 }
     requires short { length buf.old ≤ 2 ^ 20 }
@@ -137,8 +138,8 @@ fn behind_serve(st: &mut VState, place: Place, buf: &mut [u8]) -> Place
     }
 }
 
-/// The bytes may be given out where the generation that is published now is still the state's. Where the state was
-/// wiped or the core reseeded, the second attempt begins, or the system call has to serve.
+/// After `End`: the bytes may be given out if the state still has the generation that is published now. If the state
+/// was wiped or the core reseeded, the second attempt begins, or the system call has to serve.
 fn behind_end<H: VHost>(
     host: &mut H,
     st: &mut VState,
@@ -172,15 +173,15 @@ fn behind_end<H: VHost>(
     }
 }
 
-/// Goes on from where a call stands, behind its point: to the next point, or to the end of the call.
+/// Continues a call after its point: to the next point, or to the end of the call.
 ///
-/// Needs a place that `begin` or this call answered, a buffer of at most 2^20 bytes, and a host that publishes nothing
-/// below `place.published` and has what may still come left: 3 looks in the first attempt and 1 in the second, and at
-/// most 3 system calls.
+/// `place` must come from `begin` or from this function, and the buffer has at most 2^20 bytes. The host publishes
+/// nothing below `place.published`, and still has 3 looks in the first attempt or 1 in the second, and the system calls
+/// that may follow, at most 3.
 ///
 /// # Errors
 ///
-/// The call may have ended by an error of the last system call. The buffer is then unspecified.
+/// The error of the last system call, if it ended the call. The buffer is then unspecified.
 pub fn behind<H: VHost>(
     host: &mut H,
     st: &mut VState,

@@ -1,4 +1,4 @@
-//! The call vgetrandom, for any host.
+//! The vgetrandom call, for any host.
 
 ghost use Rattle.std.specs.Prelude.{◌≡◌, ◌^◌, ◌≤◌, length};
 ghost use Rattle.key_names.specs.Vgetrandom.{IsCall};
@@ -12,9 +12,9 @@ use crate::place::{Came, Place, Turn};
 use crate::state::VState;
 use key_names::{Errno, Point, flags};
 
-/// Begins a call: it stands at its first point, or is over where no attempt is made.
+/// Begins a call: it comes to its first point, or ends if it makes no attempt.
 ///
-/// Needs 5 looks and 3 system calls of the host, and a buffer of at most 2^20 bytes.
+/// The host must have 5 looks and 3 system calls, and the buffer at most 2^20 bytes.
 pub fn begin<H: VHost>(host: &mut H, st: &mut VState, buf: &mut [u8], flags: u32) -> Came
     requires looks { 5 ≤ H.looks_left host.old }
     requires calls { 3 ≤ H.calls_left host.old }
@@ -44,9 +44,9 @@ pub fn begin<H: VHost>(host: &mut H, st: &mut VState, buf: &mut [u8], flags: u32
     })
 }
 
-/// Ends a call from where it stands, behind the point there.
+/// Continues a call after its point, and ends it.
 ///
-/// Needs what [`behind`] needs.
+/// The conditions are those of [`behind`].
 ///
 /// # Errors
 ///
@@ -76,15 +76,15 @@ pub fn finish<H: VHost>(
     }
 }
 
-/// Writes random bytes over all of `buf` out of the state, which first takes a new key where its own is not of the
-/// published generation (the kernel's `__cvdso_getrandom_data`). The state may be wiped at the host's points: no byte
-/// of a wiped state is given out.
+/// Writes random bytes from the state over all of `buf` (the kernel's `__cvdso_getrandom_data`). If the state's key is
+/// not of the published generation, the state takes a new key first. The state may be wiped at the host's points: no
+/// byte of a wiped state is given out.
 ///
-/// The system call serves where the flags are bad, nothing is published yet, the state is in use (as by a call that
-/// this one is inside of; a wipe clears that mark), no key can be read, or both attempts were outdated. Where the flags
-/// are good and something is published, a call for no bytes is `Zero`.
+/// The system call serves if the flags are bad, nothing is published yet, the state is in use (as by a call that this
+/// one is inside of; a wipe clears that mark), no key can be read, or both attempts were outdated. If the flags are
+/// good and something is published, a call for no bytes is `Zero`.
 ///
-/// Needs 5 looks and 3 system calls of the host, and a buffer of at most 2^20 bytes.
+/// The host must have 5 looks and 3 system calls, and the buffer at most 2^20 bytes.
 ///
 /// # Errors
 ///

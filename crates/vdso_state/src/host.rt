@@ -1,4 +1,4 @@
-//! What a call of vgetrandom stands on: the published generation, the system call, and memory that may be wiped.
+//! The surroundings of a vgetrandom call: the published generation, the system call, and memory that may be wiped.
 
 ghost use Rattle.std.specs.Prelude.{◌≡◌, ◌^◌, ◌<◌, ◌≤◌, ℕ, suc, Bool, length};
 ghost use Rattle.key_names.specs.declared.point.Point.{Point};
@@ -11,9 +11,9 @@ use key_names::{Errno, Point};
 
 /// The host of vgetrandom calls.
 ///
-/// What a host publishes, answers and wipes is told by three relations between the host before a step, what it was
-/// given and did, and the host after it. A call needs a number of looks and of system calls, and the host says how many
-/// it has left of each.
+/// Three relations describe what a host publishes, answers and wipes. Each relates the host before a step, the input
+/// and the result of the step, and the host after it. A call needs a number of looks and of system calls; `looks_left`
+/// and `calls_left` are the numbers that the host has left.
 pub trait VHost {
     /// It publishes a generation.
     ghost publishes: { Self → ℕ → Self → Type 0 };
@@ -28,10 +28,10 @@ pub trait VHost {
 
     ghost calls_left: { Self → ℕ };
 
-    /// No generation below it is published any more.
+    /// The host publishes no generation below it any more.
     ghost floor: { Self → ℕ };
 
-    /// What the core publishes now: a generation, no lower than any before it, or 0 before it is ready.
+    /// The generation that the core publishes now: no lower than any before it, or 0 before the core is ready.
     fn published(&mut self) -> u64
         requires { 0 < looks_left self.old }
         ensures publishes { publishes self.old result self.new }

@@ -1,4 +1,4 @@
-//! A copy out of the batch with no call around it, for a caller that looked at the generation itself.
+//! A copy out of the batch without a vgetrandom call, for a caller that has looked at the generation itself.
 
 ghost use Rattle.std.specs.Prelude.{◌≡◌, length};
 ghost use Rattle.vdso_state.specs.Local.{CopiesLocally};
@@ -6,8 +6,8 @@ ghost use Rattle.vdso_state.specs.Local.{CopiesLocally};
 use crate::outcome::Local;
 use crate::state::VState;
 
-/// Copies bytes of the batch over all of `buf` where the state's key is that of the published generation `g`, no call
-/// is inside, and the batch has as many bytes left. Otherwise, or where `g` is 0, nothing changes.
+/// Copies bytes of the batch over all of `buf` if the state's key is that of the published generation `g`, the state is
+/// not in use, and the batch has enough bytes left. Otherwise, or if `g` is 0, nothing changes.
 pub fn local(g: u64, st: &mut VState, buf: &mut [u8]) -> Local
     ensures { CopiesLocally g (length buf.old) st.old st.new result buf.old buf.new }
 {

@@ -1,9 +1,9 @@
 //! How calls on a state end.
 
-/// What [`local`](crate::local) did.
+/// The result of [`local`](crate::local).
 #[derive(Clone, Copy, Debug, PartialEq, Eq)]
 pub enum Local {
-    /// Nothing: only [`vgetrandom`](crate::vgetrandom) can serve.
+    /// Nothing was copied: only [`vgetrandom`](crate::vgetrandom) can serve.
     NeedsSystem,
     /// The bytes were copied.
     Served,
@@ -12,10 +12,10 @@ pub enum Local {
 /// How a call of [`vgetrandom`](crate::vgetrandom) ended.
 #[derive(Clone, Copy, Debug, PartialEq, Eq)]
 pub enum VEnd {
-    /// No bytes were wanted.
+    /// The call asked for no bytes.
     Zero,
-    /// The bytes are out of the state.
+    /// The bytes came from the state.
     Batch,
-    /// The system call gave the bytes.
+    /// The system call wrote the bytes.
     System,
 }

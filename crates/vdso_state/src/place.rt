@@ -1,26 +1,26 @@
-//! Where a call of vgetrandom stands.
+//! The point that a vgetrandom call has reached.
 
 ghost use Rattle.std.specs.Prelude.{◌≡◌};
 
 use crate::outcome::VEnd;
 use key_names::{Errno, Point};
 
-/// One of the two attempts of a call: the second follows where the first does not hold.
+/// One of the two attempts of a call. The second follows if the first was outdated at its end.
 #[derive(Clone, Copy, Debug, PartialEq, Eq)]
 pub enum Turn {
     First,
     Second,
 }
 
-/// A point of a call, before what happens there, with all that the call goes on with. Beside it there are the state and
-/// the buffer.
+/// A point that a call has reached, before the events at that point. Together with the state and the buffer it is all
+/// that the call needs to go on.
 #[derive(Clone, Copy, Debug, PartialEq, Eq)]
 pub struct Place {
     pub turn: Turn,
     pub point: Point,
-    /// The generation that was published as the attempt began.
+    /// The generation that was published when the attempt began.
     pub published: u64,
-    /// The key's next block. The second attempt goes on where the first one stopped: no block is used twice.
+    /// The key's next block. The second attempt continues where the first one stopped: no block is used twice.
     pub next_block: u64,
 }
 
@@ -33,11 +33,11 @@ impl Place {
     }
 }
 
-/// How far a call came.
+/// How far a call has come.
 #[derive(Clone, Copy, Debug, PartialEq, Eq)]
 pub enum Came {
-    /// It stands at a point.
+    /// The call is at a point.
     At(Place),
-    /// It is over.
+    /// The call is over.
     Ended(Result<VEnd, Errno>),
 }

@@ -1,4 +1,4 @@
-//! The state that a thread's memory holds (`struct vgetrandom_state`), and the bytes that are copied out of it.
+//! The state in a thread's memory (`struct vgetrandom_state`), and the bytes that are copied out of it.
 
 ghost use Rattle.std.specs.Prelude.{◌≡◌, ◌+◌, ◌-◌, ◌*◌, ◌/◌, ◌%◌, ◌^◌, ◌≤◌, true, false, length, min, take, drop, replicate};
 ghost use Rattle.key_names.specs.Keystream.{keystream};
@@ -9,15 +9,16 @@ ghost use Rattle.key_names.specs.BatchCopy.{state_of_same_batch, state_of_new_ba
 use chacha_blocks::fill;
 use std::marker::Model;
 
-/// Bytes of a batch: three halves of a block of the keystream, so that a batch and the next key take two blocks.
+/// The bytes of a batch: one and a half blocks of the keystream, so that a batch and the next key take two blocks.
 const BATCH_BYTES: usize = 96;
 
 const KEY_BYTES: usize = 32;
 
 const BLOCK_BYTES: usize = 64;
 
-/// What a pass went over: the first `taken` bytes of `front`, which lay in the batch, and then the stream of `key` from
-/// the block on that the pass began with. The next block of that key, behind those of the new batch, is `next_block`.
+/// The bytes that [`VState::pass`] skipped: the first `taken` bytes of `front`, which were in the batch, and
+/// then the stream of `key` from the block on at which the pass began. `next_block` is the key's next block,
+/// after those of the new batch.
 #[derive(Drop)]
 pub struct Passed {
     pub front: [u8; 96],
@@ -26,8 +27,8 @@ pub struct Passed {
     pub next_block: u64,
 }
 
-/// A vgetrandom state. Of the batch only the bytes from `pos` on can still be served. Those before it were served and
-/// are 0, or a new key gave them up (`pos` is then 96).
+/// A vgetrandom state. Only the bytes of the batch from `pos` on can still be served. Those before `pos` were served
+/// and are 0, or were dropped when a new key came (`pos` is then 96).
 #[derive(Drop)]
 pub struct VState {
     pub(crate) batch: [u8; 96],
@@ -50,7 +51,7 @@ impl Model for VState {
 }
 
 impl VState {
-    /// A state whose memory is all zeros, as a new one is and one after a fork or a wipe.
+    /// A state whose memory is all zeros, as when it is new or after a fork or a wipe.
     pub fn wiped() -> VState
         ensures { result ≡ wiped_state }
     {
@@ -63,8 +64,8 @@ impl VState {
         }
     }
 
-    /// A state with this key for a published generation, and no batch yet. It is for a caller that begins in the middle
-    /// of a run, as tests do: a run's states begin wiped.
+    /// A state with this key for a published generation, and no batch yet. It is for callers that begin in the middle
+    /// of a run, as tests do. The states of a run begin wiped.
     pub fn keyed(key: [u8; 32], generation: u64) -> VState
         ensures { result
             ≡ record { batch = replicate 96 0; key = key; generation = generation; pos = 96; in_use = false } }
@@ -92,14 +93,14 @@ impl VState {
         self.generation
     }
 
-    /// Whether a call is inside.
+    /// Whether a call is using the state.
     pub fn is_in_use(&self) -> bool
         ensures { result ≡ self.now.in_use }
     {
         self.in_use
     }
 
-    /// How many bytes of the batch were not served.
+    /// The number of bytes of the batch that were not served.
     pub fn left(&self) -> usize
         ensures { result ≡ bytes_left self.now }
     {
@@ -120,15 +121,15 @@ impl VState {
         self.in_use = false;
     }
 
-    /// Writes down the generation that the next key is read for. It stands there before the key does: memory that is
-    /// wiped in between has generation 0 again.
+    /// Records the generation that the next key is read for. It is written before the key is read: memory that is wiped
+    /// in between has generation 0 again.
     pub fn begin_generation(&mut self, generation: u64)
         ensures { self.new ≡ record self.old { generation = generation } }
     {
         self.generation = generation;
     }
 
-    /// Takes a new key. The batch that is left was the old key's, so none of it is served any more.
+    /// Replaces the key. The rest of the batch came from the old key, so none of it is served any more.
     pub fn take_key(&mut self, key: [u8; 32])
         ensures { self.new ≡ record self.old { key = key; pos = 96 } }
     {
@@ -136,8 +137,8 @@ impl VState {
         self.pos = 96;
     }
 
-    /// Copies the next bytes of the batch over all of `out`, which has room for no more than are
-    /// [`left`](VState::left), and sets them to 0 where they lay.
+    /// Copies the next bytes of the batch over all of `out`, and sets them to 0 in the batch. `out` is no longer
+    /// than [`left`](VState::left).
     pub fn copy_from_batch(&mut self, out: &mut [u8])
         requires { length out.old ≤ bytes_left self.old }
         ensures bytes { out.new ≡ take (length out.old) (drop self.old.pos self.old.batch) }
@@ -150,7 +151,7 @@ impl VState {
         self.pos += out.len() as u8;
     }
 
-    /// Makes a new batch and the next key out of the two blocks of the key's stream from `block` on. The old key is gone.
+    /// Makes a new batch and the next key from the two blocks of the key's stream from `block` on. The old key is gone.
     fn refill(&mut self, block: u64)
         requires { block ≤ 2 ^ 21 }
         ensures { self.new ≡ record self.old {
@@ -167,8 +168,8 @@ impl VState {
     }
 
     /// Copies bytes of the key's stream from the block `next_block` on over all of `out`: whole blocks as they are, and
-    /// the rest out of a new batch. The batch and the next key are the two blocks behind the whole ones, so the old key
-    /// is gone. Answers the block behind these two.
+    /// the rest from a new batch. The batch and the next key are the two blocks after the whole ones, so the old key is
+    /// gone. Returns the number of the block after these two.
     fn copy_from_key(&mut self, next_block: u64, out: &mut [u8]) -> u64
         requires near { next_block ≤ 2 ^ 20 }
         requires short { length out.old ≤ 2 ^ 20 }
@@ -186,7 +187,7 @@ impl VState {
         behind + 2
     }
 
-    /// Goes over bytes of the key's stream from the block `next_block` on, as `copy_from_key` does.
+    /// Skips bytes of the key's stream from the block `next_block` on, and changes the state as `copy_from_key` does.
     fn pass_key(&mut self, next_block: u64, len: usize) -> u64
         requires near { next_block ≤ 2 ^ 20 }
         requires short { len ≤ 2 ^ 20 }
@@ -200,8 +201,8 @@ impl VState {
         behind + 2
     }
 
-    /// Copies bytes over all of `out`, those left in the batch first. The key's next block is `next_block`; answers the
-    /// one after the copy. Block and length are at most 2^20.
+    /// Copies bytes over all of `out`, those left in the batch first. The key's next block is `next_block`; the result
+    /// is the next block after the copy. Block and length are at most 2^20.
     pub fn copy(&mut self, next_block: u64, out: &mut [u8]) -> u64
         requires near { next_block ≤ 2 ^ 20 }
         requires short { length out.old ≤ 2 ^ 20 }
@@ -221,8 +222,8 @@ impl VState {
         }
     }
 
-    /// Goes over the next `len` bytes as [`copy`](VState::copy) does, and makes none of them but those left in the batch.
-    /// Block and length are at most 2^20.
+    /// Skips the next `len` bytes, and changes the state as [`copy`](VState::copy) does. It makes no bytes: the only
+    /// ones in the result are those that were left in the batch. Block and length are at most 2^20.
     pub fn pass(&mut self, next_block: u64, len: u32) -> Passed
         requires near { next_block ≤ 2 ^ 20 }
         requires short { len ≤ 2 ^ 20 }

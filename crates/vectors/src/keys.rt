@@ -7,13 +7,13 @@ use blake2s_core::{Blake2s, hash};
 use chacha_blocks::{erase_and_fill, fill, user_read};
 use std::alloc::Global;
 
-/// A row's bytes end before this position of a stream.
+/// The bytes of a row end before this position of a stream.
 const STREAM_END: u64 = 1 << 39;
 
-/// A row asks for at most so many bytes.
+/// The most bytes that a row can ask for.
 const MOST_BYTES: u64 = 4096;
 
-// The hash of a text that comes in pieces of so many bytes, or at once if that is 0.
+// The hash of a text in pieces of `size` bytes, or of the whole text at once if `size` is 0.
 fn digest(key: Option<&[u8; 32]>, text: &[u8], size: usize) -> [u8; 32] {
     if size == 0 {
         return hash(key, text);
@@ -59,7 +59,7 @@ pub fn stream_row(alloc: Global, key: &str, from: &str, len: &str) -> Result<Str
     shown(alloc, &bytes)
 }
 
-/// Who a read is for.
+/// The reader of a read.
 #[derive(Clone, Copy)]
 pub enum Reader {
     Kernel,
@@ -79,7 +79,7 @@ pub fn read_row(alloc: Global, reader: Reader, key: &str, len: &str) -> Result<S
     Ok(format!(in alloc; "{key} {bytes}")?)
 }
 
-/// Bytes as a row has them.
+/// Bytes in the form of a row.
 pub fn shown(alloc: Global, bytes: &[u8]) -> Result<String> {
     if bytes.is_empty() {
         return Ok("-".to_string(alloc)?);

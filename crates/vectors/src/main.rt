@@ -1,19 +1,23 @@
-//! Answers rows of vectors: of the hash, of the keystream, and of the kernel's rules for samples, credits and reseeds.
+//! Answers rows of vectors: of the hash, of the keystream, and of the kernel's rules for samples, credits and
+//! reseeds.
 //!
-//! Each line of standard input is a row: a word, and its fields, with one space between. The answer is a line. Bytes are
-//! hexadecimal, and `-` stands for none; moments are milliseconds, below 2^40.
+//! Each line of standard input is a row: a word and its fields, with one space between. The answer is a line. Bytes
+//! are hexadecimal, and `-` is no bytes; moments are milliseconds, below 2^40.
 //!
 //! - `hash KEY TEXT SIZE`: the BLAKE2s-256 of the text under the key, in pieces of SIZE bytes, or at once for 0.
-//! - `stream KEY FROM LEN`: so many bytes of the key's ChaCha20 stream.
-//! - `kernel KEY LEN` and `user KEY LEN`: the key after a read of so many bytes, and the bytes.
-//! - `mix TEXT`, `credit BITS` and `extract HARDWARE`: of the input pool. They answer its bits, what the credit crosses
-//!   with the bits after it, and the root.
-//! - `irq WORD WORD MOMENT`: of the fast pool. The answer is the dump with its bits if one is due, which is then made.
-//! - `bits MOMENT`: what an input event at the moment is worth.
-//! - `reseed MOMENT` and `due MOMENT`: of the base, by its timer if that is due; the generation, and whether it is due.
+//! - `stream KEY FROM LEN`: LEN bytes of the key's ChaCha20 stream.
+//! - `kernel KEY LEN` and `user KEY LEN`: the key after a read of LEN bytes, and the bytes.
+//! - `mix TEXT`, `credit BITS` and `extract HARDWARE`: of the input pool. The answers are its bits, the threshold
+//!   that the credit crosses with the bits after it, and the root.
+//! - `irq WORD WORD MOMENT`: of the fast pool. If a dump is due it is made, and the answer is the dump with its
+//!   bits.
+//! - `bits MOMENT`: the bits that an input event at the moment is worth.
+//! - `reseed MOMENT` and `due MOMENT`: of the base, by its timer if that is due. The answers are the generation, and
+//!   whether the timer is due.
 //!
-//! The files `stdin` and `stdout` have published vectors and those of other implementations (`tools/vectors.py`). Nothing
-//! is promised of a row but that it is answered by the calls of the crates, and that no row stops the program.
+//! The files `stdin` and `stdout` have published vectors and those of other implementations (`tools/vectors.py`).
+//! The only promises are that the calls of the crates answer each row, and that no row aborts the program. A line
+//! that is no row ends the program with an error.
 #![tactic(auto)]
 
 mod fields;

@@ -9,7 +9,7 @@ use input_pool::{Crossing, Pool};
 use sample_credit::{FastPool, InputTimer};
 use std::alloc::Global;
 
-/// A moment is below this.
+/// The bound of a moment.
 const LAST_MOMENT: u64 = 1 << 40;
 
 /// An input pool, a fast pool, an input timer and a base, each as the kernel begins with it.

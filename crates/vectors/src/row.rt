@@ -8,7 +8,7 @@ use std::alloc::Global;
 ///
 /// # Errors
 ///
-/// What is no row, and want of memory.
+/// The line is no row, or memory ran out.
 pub fn answer(alloc: Global, parts: &mut Parts, row: &str) -> Result<String> {
     let fields: Vec<&str> = row.split_whitespace().collect(alloc)?;
     match fields.as_slice() {

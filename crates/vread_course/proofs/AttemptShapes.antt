@@ -1,4 +1,4 @@
--- The shapes of an attempt: what stands behind its steps, what it gives, and that its course is told.
+-- The shapes of an attempt: its steps, its result, and that its course is followed.
 use Rattle.std.proofs.Common.{◌≡◌, ℕ, zero, suc, ◌<◌, ◌≤◌, ◌^◌, Bool, true, false, List, [], ◌∷◌, ◌++◌, Some, None, ◌⊎◌, inl, inr, refl, sym, subst, ap, ◌∙◌, append_assoc, arith}
 use Rattle.std.specs.Prelude.{◌==◌, ◌&&◌, not, ⊤, MatchBool, Option, if◌then◌else◌}
 use Rattle.key_names.specs.declared.point.Point.TheVariants.{Start, Written, Serve, End}
@@ -30,7 +30,7 @@ use Rattle.vread_course.specs.Course.{published, Behind, looked_again, key_in_fr
 use Rattle.vread_course.proofs.SeenShapes.{SeenLook, look_seen, cpu_seen, base_seen, see_at}
 use Rattle.vread_course.proofs.CalledSays.{answered}
 
--- a look of a transcript is published as the code counts it
+-- the published generation of a transcript's look is the one that the code computes
 pub published_is : (g : ℕ) → 1 ≤ g → g < 2 ^ 63 → published_by g ≡ published g
 published_is zero some small = absurd (omega arith)
 published_is (suc g) some small = omega arith
@@ -51,7 +51,7 @@ Known (nothing_there ∷ ds) = Known ds
 pub known_at : {ds xs : List Deed} → ds ≡ xs → Known ds → Known xs
 known_at {ds = ds} {xs = xs} p h = let P : List Deed → Type 0 = λ x. Known x in subst P p h
 
--- an attempt that read a key came to Written
+-- an attempt that read a key reached Written
 abbrev pub with_written : Bool → Bool → List PointReached → List PointReached
 with_written true wiped points = reached Written wiped ∷ points
 with_written false wiped points = points
@@ -60,14 +60,14 @@ with_written false wiped points = points
 abbrev pub wiping : Bool → Bool → Bool → Bool → Bool → Inside
 wiping any w1 w2 w3 w4 = record { any = any; start = w1; written = w2; serve = w3; end = w4 }
 
--- a told attempt is this one
+-- the attempt of the relation and the followed one are the same
 pub record Matches (a : Attempt) (b : Behind) : Type 0 where
   pub out : a.out ≡ bytes_made b.tried.served
   pub state : a.state ≡ b.state
   pub next_block : a.next_block ≡ b.tried.next_block
   pub end : a.end ≡ (if b.tried.holds then holds else outdated)
 
--- behind entries it is still
+-- the same for an equal attempt
 pub matches_at : (a a' : Attempt) (b : Behind) → a ≡ a' → Matches a' b → Matches a b
 matches_at a a' b is m = let P : Attempt → Type 0 = λ x. Matches x b in subst P (sym is) m
 
@@ -110,7 +110,7 @@ module _ (set : Setting) (more : List HostStep) where
         points = ap (λ x. points_of (x ++ more)) all;
       }
 
-  -- ---- a key's call
+  -- ---- a system call for a key
 
   -- two looks, a visit of the base or none, and a visit of a CPU
   record KeyRead (seen : List Seen) (rest : List Deed) (answer : SystemAnswer) : Type 0 where
@@ -222,7 +222,7 @@ module _ (set : Setting) (more : List HostStep) where
     pub told : (any w : Bool) → (keyed ≡ true → w ≡ w2) →
         ToldAs (attempted (wiping any w1 w w3 w4) n c s seen) a keyed behind
 
-  -- what a copy gives is as told
+  -- the copy of the relation and the followed one are the same
   copy_matches : (n c h : ℕ) (w3 w4 keyed : Bool) (s : VgetrandomState) (behind : List Seen) → 1 ≤ h → h < 2 ^ 63 →
       Matches (copy_attempt n c (published_by h) w3 w4 s)
       (looked_again n c keyed (state_left w3 s) (state_left w4 (state_after_copy (state_left w3 s) c n)) h behind)

@@ -1,4 +1,4 @@
--- An attempt that is told is one.
+-- Steps that are followed as an attempt are one.
 use Rattle.std.proofs.Common.{◌≡◌, ℕ, ◌<◌, ◌≤◌, ◌^◌, Bool, true, false, List, [], ◌∷◌, ◌++◌, Some, refl, sym, subst, ap, ◌∙◌}
 use Rattle.std.specs.Prelude.{◌==◌, if◌then◌else◌}
 use Rattle.std.specs.List.{AllByRecursion}
@@ -34,7 +34,7 @@ use Rattle.vread_course.proofs.CalledRows.{called_row}
 use Rattle.vread_course.proofs.CalledSays.{called_says}
 use Rattle.vread_course.proofs.AttemptShapes.{published_is, with_written, Matches}
 
--- what is read off kinds, of a call that is told
+-- the kinds of a recognized system call are a row of one
 pub row_of_called : (set : Setting) (n flags : ℕ) (seen : List Seen) (s : Shape set.cpu seen) (c : Called) →
     called n flags seen ≡ Some c → IsSystemCall n flags (kinds_of set.cpu (deeds_in set.cpu seen s))
 row_of_called set n flags seen s c e =
@@ -66,7 +66,7 @@ module _ (cf : LaneFacts) (set : Setting) (n : ℕ) (first : Sign) where
   found_at inside c s deeds {b = b} {b' = b'} e found =
       let is : b ≡ b' = cc in let P : Behind → Type 0 = λ x. Found inside c s deeds x in subst P is found
 
-  -- a call for a key, before a look
+  -- a system call for a key, before a look
   record KeyCall (call : List Deed) (key : List ℕ) : Type 0 where
     form : SysForm set 32 0 call
     answer : read (keystream key 32 32) (last_place call) ≡ answer_behind 0 call
@@ -116,7 +116,7 @@ module _ (cf : LaneFacts) (set : Setting) (n : ℕ) (first : Sign) where
         })
     current t _ sh b x y fill fits e = absurd cc
 
-    -- behind a call for a key
+    -- after a system call for a key
     keyed : (s1.generation == published g) ≡ false → (call : List Deed) (key : List ℕ) → KeyCall call key → (h : ℕ) →
         1 ≤ h → h < 2 ^ 63 → (behind : List Seen) (sh : Shape set.cpu behind) (x y : Sign) →
         Fill x y (deeds_in set.cpu behind sh) → AllByRecursion LookFits behind →

@@ -1,4 +1,4 @@
--- The points of a call: where the acts stand, and which of them the first attempt came to.
+-- The points of a call: the points of its acts, and those that the first attempt reached.
 use Rattle.std.proofs.Common.{◌≡◌, ◌⊎◌, inl, inr, Bool, true, false, List, [], ◌∷◌, refl, sym, subst, ap, ◌∙◌}
 use Rattle.std.specs.Prelude.{not, MatchBool}
 use Rattle.std.specs.List.{AllByRecursion}
@@ -14,12 +14,12 @@ use Rattle.vread_course.specs.Inside.{inside_of, includes, reached_by}
 use Rattle.key_names.proofs.Unique.UniqueTries.{reached}
 use Rattle.vread_course.proofs.AttemptShapes.{with_written}
 
--- the points of an attempt with these wipes, and those behind it
+-- the points of an attempt with these wipes, and those after it
 abbrev pub attempt_points : Bool → Bool → Bool → Bool → Bool → List PointReached → List PointReached
 attempt_points keyed w1 w2 w3 w4 ps =
     reached Start w1 ∷ with_written keyed w2 (reached Serve w3 ∷ reached End w4 ∷ ps)
 
--- the points behind a first attempt: none, or those of a second
+-- the points after a first attempt: none, or those of a second
 pub record Second (ps : List PointReached) : Type 0 where
   pub keyed : Bool
   pub w1 : Bool
@@ -35,7 +35,7 @@ EndPoints ps = (ps ≡ []) ⊎ Second ps
 abbrev pub Unwiped : List PointReached → Type 0
 Unwiped ps = (ps ≡ []) ⊎ ((keyed : Bool) × (ps ≡ attempt_points keyed false false false false []))
 
--- ---- told points stand
+-- ---- from the followed points to the relation
 
 pub none_stand : (acts : List BoundAct) (ps : List PointReached) → ps ≡ [] → WipesStand acts ps
 none_stand acts ps is =
@@ -106,7 +106,7 @@ which_reached keyed w1 w2 w3 w4 all ps is behind act = ap (λ x. is_reached x ac
     go true ps (inr second) = ap (λ x. is_reached (attempt_points true w1 w2 w3 w4 x) act) second.is
     go false ps (inr second) = ap (λ x. is_reached (attempt_points false w1 w2 w3 w4 x) act) second.is
 
--- ---- points that stand are told
+-- ---- from the relation to the followed points
 
 -- the wipes of an attempt are those of the acts
 pub record AsTold (acts : List BoundAct) (keyed w1 w2 w3 w4 : Bool) : Type 0 where
@@ -134,7 +134,7 @@ first_as_told acts keyed w1 w2 w3 w4 all ps is stand =
       end = h.first.1.1.0;
     }
 
--- those of a second attempt are none
+-- a second attempt has no wipes
 pub record NotWiped (keyed w1 w2 w3 w4 : Bool) : Type 0 where
   pub start : w1 ≡ false
   pub written : keyed ≡ true → false ≡ w2
@@ -161,7 +161,7 @@ second_not_wiped acts keyed w1 w2 w3 w4 keyed' v1 v2 v3 v4 all ps more is second
 
 -- ---- acts
 
--- acts mean the same by a test that answers alike
+-- acts have the same meaning for two tests with equal answers
 pub acts_by : (set : Setting) (f g : BoundAct → Bool) → ((act : BoundAct) → f act ≡ g act) →
     (acts : List BoundAct) (ms : List LineMeaning) → ActsMean set f acts ms → ActsMean set g acts ms
 acts_by set f g same [] [] h = tt

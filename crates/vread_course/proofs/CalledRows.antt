@@ -1,4 +1,4 @@
--- A system call is told exactly where the kinds of what is seen are a row of one.
+-- A system call is recognized exactly if the kinds of its seen steps are a row of one.
 use Rattle.std.proofs.Common.{◌≡◌, ℕ, Bool, true, false, ◌⊎◌, inl, inr, List, [], ◌∷◌, Option, Some, refl, subst}
 use Rattle.std.specs.Prelude.{◌==◌, ◌&&◌, ◌||◌, not, map, MatchBool, if◌then◌else◌}
 use Rattle.key_names.specs.declared.events.Answer.{Answer}
@@ -64,7 +64,7 @@ wait_row n (Base wait ∷ Base interrupt ∷ []) c e = inl refl
 wait_row n (Base wait ∷ Resumed ∷ seen) c e = inr (kinds seen, refl, on_row n seen c e)
 wait_row n _ c e = absurd cc
 
--- the test of a row, out of the test of the code
+-- from the test in the code to the test of a row
 behind_row : (n flags : ℕ) (ready : Bool) (seen : List Seen) (c : Called) → behind_look n flags ready seen ≡ Some c →
     IsBehindLook n flags ready (kinds seen)
 behind_row n flags ready seen c e = go ready (is_insecure flags) (is_nonblock flags) e
@@ -93,7 +93,7 @@ called_row n flags seen c e = go (is_bad flags) seen e
     go false (Ready g ∷ seen) e = inr (kinds seen, refl, behind_row n flags true seen c e)
     go false _ e = absurd cc
 
--- ---- a row is told
+-- ---- from a row to the test in the code
 
 abbrev Told : Option Called → Type 0
 Told o = (c : Called) × (o ≡ Some c)

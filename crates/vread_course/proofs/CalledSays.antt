@@ -1,4 +1,4 @@
--- What a system call that is told answers and serves, out of what stands behind its steps.
+-- The answer and bytes of a recognized system call, from the visits of its steps.
 use Rattle.std.proofs.Common.{◌≡◌, ℕ, Bool, true, false, List, [], ◌∷◌, Option, Some, None, refl, sym, subst, ap, ◌∙◌}
 use Rattle.std.specs.Prelude.{◌==◌, ◌&&◌, ◌||◌, not, nat_lt, nat_le, if◌then◌else◌}
 use Rattle.key_names.specs.declared.entries.Taken.{Taken}
@@ -35,7 +35,7 @@ use Rattle.vread_course.specs.Seen.{ServesBy}
 use Rattle.vread_course.specs.Called.{serving, no_more, cpu_read, unready_read, read, waited, behind_look, by_look, called}
 use Rattle.vread_course.proofs.SeenShapes.{Shape, deeds_in}
 
--- a call's answer and bytes are those of the steps, and those that the steps show of the host's answer
+-- a call's answer and bytes are those of its steps, and those that the steps show of the host's answer
 pub record Says (flags : ℕ) (deeds : List Deed) (c : Called) : Type 0 where
   pub answer : c.answer ≡ system_answer flags deeds
   pub bytes : bytes_made c.served ≡ served_bytes deeds
@@ -73,7 +73,7 @@ user_bytes key n = go (nat_lt 32 n)
     go true = refl
     go false = refl
 
--- what a read of a CPU serves, and a draw
+-- the bytes of a read of a CPU, and of a draw
 cpu_bytes : (key : List ℕ) (n : ℕ) (e : CpuEntry) (serves : List ℕ) (look : ℕ) (refill : Option ℕ) →
     e ≡ CpuRead look refill (User n) → ServesBy key e serves → bytes_made (user_recipe key n) ≡ serves
 cpu_bytes key n e serves look refill is by =
@@ -83,7 +83,7 @@ draw_bytes : (key : List ℕ) (n : ℕ) (e : BaseEntry) (serves : List ℕ) (roo
     serves ≡ base_serves key e → bytes_made (user_recipe key n) ≡ serves
 draw_bytes key n e serves root is by = user_bytes key n ∙ sym (by ∙ ap (base_serves key) is)
 
--- the answer of a call whose flags are good, by its tests
+-- the answer of a call with good flags, by its tests
 pub answered : (flags : ℕ) (deeds : List Deed) (u w : Bool) → is_bad flags ≡ false →
     (found_unready deeds && (is_nonblock flags && not (is_insecure flags))) ≡ u → was_interrupted deeds ≡ w →
     system_answer flags deeds ≡ (if u then Again else (if w then Interrupted else Done))
@@ -101,7 +101,7 @@ module _ (cf : LaneFacts) (set : Setting) (sooner : Taken) (n flags : ℕ) (firs
   abbrev Fill : Sign → Sign → List Deed → Type 0
   Fill = AllFill (FillsPart cf set sooner (User n) first)
 
-  -- behind a first look at g, where it does not end in EAGAIN
+  -- after a first look at g that does not end the call with EAGAIN
   module _ (g : ℕ) (on : (found_unready (looked g ∷ []) && (is_nonblock flags && not (is_insecure flags))) ≡ false) where
     goes_done : (ds : List Deed) (recipe : Recipe) → was_interrupted (looked g ∷ ds) ≡ false →
         bytes_made recipe ≡ served_bytes (looked g ∷ ds) → Says flags (looked g ∷ ds) (serving recipe)
@@ -159,7 +159,7 @@ module _ (cf : LaneFacts) (set : Setting) (sooner : Taken) (n flags : ℕ) (firs
         go true e = none_says seen s c e
         go false e = unready_says a seen s c f e
 
-    -- behind a wait that went on
+    -- after a wait that went on
     on_says : (a b : Sign) (wait : List ℕ) (seen : List Seen) (s : Shape set.cpu (Base wait ∷ Resumed ∷ seen)) (c : Called) →
         Fill a b (deeds_in set.cpu (Base wait ∷ Resumed ∷ seen) s) → read n true seen ≡ Some c →
         Says flags (looked g ∷ deeds_in set.cpu (Base wait ∷ Resumed ∷ seen) s) c

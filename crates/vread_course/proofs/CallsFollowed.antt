@@ -1,4 +1,4 @@
--- A call is told: its course is followed over what is seen of its steps.
+-- The course of a call can be followed over its seen steps.
 use Rattle.std.proofs.Common.{◌≡◌, ℕ, ◌≤◌, inl, inr, Bool, true, false, List, [], ◌∷◌, ◌++◌, Some, Option, refl, sym, subst, ap, ◌∙◌, append-nil}
 use Rattle.std.specs.Prelude.{◌==◌, MatchBool, if◌then◌else◌}
 use Rattle.std.specs.Option.{option_map}
@@ -44,7 +44,7 @@ fit_behind c [] rest fit = fit
 fit_behind c (d ∷ front) rest fit = fit_behind c front rest fit.1
 
 module _ (cf : LaneFacts) (set : Setting) (n flags : ℕ) where
-  -- what a call gives is followed
+  -- the result of a call is followed
   pub record Follows (o : Option Followed) (ending : Ending) (state : VgetrandomState) (r : Reached) : Type 0 where
     pub f : Followed
     pub is : o ≡ Some f
@@ -140,7 +140,7 @@ module _ (cf : LaneFacts) (set : Setting) (n flags : ℕ) where
 
   -- ---- the second attempt
 
-  -- a second attempt is followed without wipes, and its points are those of one
+  -- a second attempt is followed without wipes, and its points are those of a second one
   record SecondFollows (o : Option Followed) (ending : Ending) (state : VgetrandomState) (r : Reached)
       (ps : List PointReached) : Type 0 where
     follows : Follows o ending state r

@@ -1,4 +1,4 @@
--- A call that is told is one.
+-- Steps that are followed as a call are one.
 use Rattle.std.proofs.Common.{◌≡◌, ℕ, inl, inr, Bool, true, false, List, [], ◌∷◌, ◌++◌, Some, None, Option, refl, sym, subst, ap, ◌∙◌, append-nil}
 use Rattle.std.specs.Prelude.{◌==◌, MatchBool, if◌then◌else◌}
 use Rattle.std.specs.List.{AllByRecursion}
@@ -41,7 +41,7 @@ module _ (cf : LaneFacts) (set : Setting) (n flags : ℕ) (first : Sign) where
   abbrev ds : (seen : List Seen) → Shape set.cpu seen → List Deed
   ds seen sh = deeds_in set.cpu seen sh
 
-  -- the host's steps that lead to what was followed
+  -- the host's steps that lead to the followed result
   pub record CallTold (Leads : List HostStep → Outcome → Type 0) (Points : List PointReached → Type 0) (r : Reached)
       (deeds : List Deed) (f : Followed) : Type 0 where
     pub steps : List HostStep
@@ -63,7 +63,7 @@ module _ (cf : LaneFacts) (set : Setting) (n flags : ℕ) (first : Sign) where
   call_at {Leads = Leads} {Points = Points} {r = r} {deeds = deeds} {f = f} {f' = f'} e told =
       let is : f ≡ f' = cc in let P : Followed → Type 0 = λ x. CallTold Leads Points r deeds x in subst P is told
 
-  -- s being the state that the relation leaves, and t the one that was followed
+  -- s is the state after the relation, and t the one after the followed course
   system_told : (r : Reached) (s t : VgetrandomState) → s ≡ t → (seen : List Seen) (sh : Shape set.cpu seen)
       (f : Followed) (x y : Sign) → F x y (ds seen sh) → leaving t (course.by_system n flags r seen) ≡ Some f →
       CallTold (BySystem n flags s) None_ r (ds seen sh) f
@@ -112,7 +112,7 @@ module _ (cf : LaneFacts) (set : Setting) (n flags : ℕ) (first : Sign) where
   })
   batch_told r a recipe t out same (z ∷ seen) sh f e = absurd cc
 
-  -- an attempt, and what follows it
+  -- an attempt, and the steps after it
   module _ (inside : Inside) (c : ℕ) (s : VgetrandomState) (seen : List Seen) (sh : Shape set.cpu seen) (b : Behind)
       (found : Found cf set n first inside c s (ds seen sh) b) where
     ended : (t : Bool) → b.tried.holds ≡ t → found.attempt.end ≡ (if t then holds else outdated)
@@ -291,7 +291,7 @@ module _ (cf : LaneFacts) (set : Setting) (n flags : ℕ) (first : Sign) where
         (MatchBool s.in_use (BySystem n flags s steps outcome)
         (FirstAttempt n flags (record s { in_use = true }) steps outcome))
 
-    -- with other words for what a call leads to
+    -- the same for another relation between the steps and the outcome
     turned : {L M : List HostStep → Outcome → Type 0} {deeds : List Deed} {f : Followed} →
         ((steps : List HostStep) (outcome : Outcome) → L steps outcome → M steps outcome) → Call acts L deeds f →
         Call acts M deeds f

@@ -1,4 +1,4 @@
--- What stands behind steps of which this is seen, and what is seen of what stands there.
+-- From seen steps to looks and visits, and back.
 use Rattle.std.proofs.Common.{◌≡◌, ℕ, ◌≤◌, true, false, List, [], ◌∷◌, refl, sym, subst, ap, arith}
 use Rattle.std.specs.Prelude.{◌==◌, ⊤, map}
 use Rattle.std.proofs.lemmas.Bool.Decides.{nat_tests}
@@ -29,7 +29,7 @@ module _ (cpu : ℕ) where
     pub on : v.cpu ≡ cpu
     pub serves : ServesBy key v.entry v.serves
 
-  -- what stands behind a step of which this is seen
+  -- the look or visit of a seen step
   abbrev pub One : Seen → Type 0
   One Unready = ⊤
   One (Ready g) = 1 ≤ g
@@ -96,7 +96,7 @@ module _ (cpu : ℕ) where
   kinds_seen (x ∷ xs) [] h = absurd h
   kinds_seen (x ∷ xs) (d ∷ ds) h = let p = kind_seen x d h.0 in let q = kinds_seen xs ds h.1 in cc
 
-  -- what is seen of a shape
+  -- the seen step of a shape
   one_seen : (x : Seen) (p : One x) → IsSeen cpu x (deed x p)
   one_seen Unready p = refl
   one_seen (Ready g) p = (refl, p)
@@ -110,7 +110,7 @@ module _ (cpu : ℕ) where
   shape_seen [] s = tt
   shape_seen (x ∷ xs) s = (one_seen x s.0, shape_seen xs s.1)
 
-  -- ---- the other way round: what is seen of a step
+  -- ---- from a look or visit to its seen step
 
   pub record SeenLook (g : ℕ) (seen : List Seen) (rest : List Deed) : Type 0 where
     pub behind : List Seen

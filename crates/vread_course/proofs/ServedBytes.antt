@@ -20,7 +20,7 @@ pub few_made : (front key : List ℕ) (k from len : ℕ) (r : Recipe) → k ≤ 
 few_made front key k from len r within few is =
     subst (λ n. n < 2 ^ 32) (length_made front key k from len within ∙ ap (λ r. length (bytes_made r)) is) few
 
--- one more piece behind those that are there
+-- one more piece after those that are made
 pub put_more : (old items more part key : List ℕ) (from done next : ℕ) → items ≡ old ++ keystream key from done →
     part ≡ keystream key (from + done) next → more ≡ items ++ part → more ≡ old ++ keystream key from (done + next)
 put_more old items more part key from done next were is made =
@@ -32,7 +32,7 @@ pub on_err : {T E : Type 0} (result : Result T E) (P : Type 0) → P → OnErr r
 on_err (Ok value) P p = tt
 on_err (Err error) P p = p
 
--- what was put of the rest is put of all
+-- a part put of the rest is a part put of the whole
 pub put_some : {T E : Type 0} (result : Result T E) (old mid items front made : List ℕ) → mid ≡ old ++ front →
     OnErr result ((n : ℕ) × (items ≡ mid ++ take n made)) →
     OnErr result ((n : ℕ) × (items ≡ old ++ take n (front ++ made)))
@@ -50,7 +50,7 @@ same_more bytes key from done next were is =
     ∙ ap (λ x. keystream key from done ++ x) is
     ∙ keystream-append key from done (from + done) next (done + next) refl (λ some. refl)
 
--- all bytes being the stream's, a piece of them is
+-- if all bytes equal the stream, so does a piece of them
 pub piece_same : (bytes key : List ℕ) (from done next : ℕ) → done + next ≤ length bytes →
     bytes ≡ keystream key from (length bytes) → take next (drop done bytes) ≡ keystream key (from + done) next
 piece_same bytes key from done next within is =

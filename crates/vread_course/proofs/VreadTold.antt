@@ -1,4 +1,4 @@
--- The steps around each visit of a vread tell its entry.
+-- Each visit of a vread has the entry that is inferred from the steps around it.
 use Rattle.std.proofs.Common.{◌≡◌, ℕ, ◌⊎◌, inl, inr, Bool, true, false, List, [], ◌∷◌, ◌++◌, refl, sym, subst, ap, ◌∙◌, append-nil}
 use Rattle.std.specs.Prelude.{◌==◌, ◌&&◌, not, MatchBool}
 use Rattle.key_names.specs.declared.entries.Taken.TheVariants.{User}
@@ -29,7 +29,7 @@ fit_front : (c : LaneFacts) (front rest : List Deed) → AllFit c (front ++ rest
 fit_front c [] rest fit = tt
 fit_front c (d ∷ front) rest fit = (fit.0, fit_front c front rest fit.1)
 
--- ---- something stands behind each step of a system call
+-- ---- each step of a system call is a look, or a visit that the lists have
 
 cpu_there : (set : Setting) (n : ℕ) (ds : List Deed) → CpuReadForm set (User n) ds → AllThere ds
 cpu_there set n ds (inl f) = there_at f.deeds_are (tt, (tt, tt))
@@ -87,7 +87,7 @@ module _ (cf : LaneFacts) (set : Setting) (n flags : ℕ) (first : Sign) where
   shows_at : {steps xs : List HostStep} (ds : List Deed) → steps ≡ xs → Shows set steps ds → Shows set xs ds
   shows_at {steps = steps} {xs = xs} ds p h = let P : List HostStep → Type 0 = λ x. Shows set x ds in subst P p h
 
-  -- whatever stands before, each visit has the entry told
+  -- whatever comes before, each visit has the inferred entry
   abbrev Filled : List Deed → Type 0
   Filled ds = (x y : Sign) → Fill x y ds
 
@@ -173,7 +173,7 @@ module _ (cf : LaneFacts) (set : Setting) (n flags : ℕ) (first : Sign) where
             (λ e. starts (ap (λ (w : Attempt). w.end) (st.attempt_is
             ∙ ap (attempt_behind (wipe_entry st.wiped)) k.attempt_is) ∙ e))
 
-  -- an attempt and what follows it
+  -- an attempt, and the steps after it
   tried_filled : is_bad flags ≡ false → (Outdated : ℕ → VgetrandomState → List HostStep → Outcome → Type 0) →
       ((c : ℕ) (s : VgetrandomState) (steps : List HostStep) (outcome : Outcome) (ds : List Deed) →
       Outdated c s steps outcome → Shows set steps ds → AllFit cf ds → Filled ds) →

@@ -1,4 +1,4 @@
--- A vread is followed exactly where it is one.
+-- Steps can be followed as a vread exactly if they are one.
 use Rattle.std.proofs.Common.{◌≡◌, ℕ, suc, ◌≤◌, Bool, true, false, List, [], ◌∷◌, ◌++◌, length, Some, None, Option, refl, sym, subst, ap, ◌∙◌, arith}
 use Rattle.std.specs.Prelude.{◌==◌, ◌&&◌, ◌||◌, not, nat_le, MatchBool, if◌then◌else◌}
 use Rattle.std.specs.List.{AllByRecursion, list_any}
@@ -114,7 +114,7 @@ known_from cpu last some (Elsewhere ∷ seen) (((at_cpu v), p), s) h fits = know
 known_from cpu last some (Elsewhere ∷ seen) ((nothing_there, p), s) h fits = known_from cpu last some seen s h fits.1
 known_from cpu last some (Elsewhere ∷ seen) ((d, p), s) h fits = absurd p
 
--- ---- what is followed is a vread
+-- ---- steps that are followed are a vread
 
 refused : (b : Bool) (o : Option Followed) (f : Followed) → b ≡ false → (if b then o else None) ≡ Some f → ⊥
 refused true o f p e = cc
@@ -127,7 +127,7 @@ no_acts_left set f [] (m ∷ ms) none h = absurd h
 no_acts_left set f (act ∷ acts) ms none h =
     (let p : (suc (length acts) == 0) ≡ false = not_zero (suc (length acts)) (omega arith) in absurd cc)
 
--- with no acts, none of them is done
+-- without acts, no act is done
 none_done : (set : Setting) (f : BoundAct → Bool) (acts : List BoundAct) (ms : List LineMeaning) →
     (length acts == 0) ≡ true → ms ≡ [] → ActsMean set f acts ms
 none_done set f [] ms none is = let P : List LineMeaning → Type 0 = λ x. ActsMean set f [] x in subst P (sym is) tt
@@ -170,7 +170,7 @@ module _ (cf : LaneFacts) (n flags : ℕ) (acts : List BoundAct) (before : Calle
   Tried deeds f = (entries : List VEntry)
       × Looked (LocalOrCall n flags acts (meaning_of before deeds ms entries f)) deeds
 
-  -- behind a look that does not let a copy be made
+  -- after a look that does not allow a copy
   not_local : (g : ℕ) (rest : List Deed) (f : Followed) → serves_locally (published_by g) s n ≡ false →
       Is (looked g ∷ rest) f → Tried (looked g ∷ rest) f
   not_local g rest f other k =
@@ -291,7 +291,7 @@ vread_of_followed cf n flags acts before deeds seen f ms sees fits fill e inside
         )
     go false r e = absurd cc
 
--- ---- a vread is followed
+-- ---- a vread can be followed
 
 module _ (cf : LaneFacts) (n flags : ℕ) (acts : List BoundAct) (m : CallMeaning) (looks : NeverFall (looks_of m.own.deeds))
     (fit : AllFit cf m.own.deeds) where
@@ -415,7 +415,7 @@ call_says c set n flags deeds seen told sees fill e =
     let k = called_says c set (User n) n flags (first_sign deeds) nowhere nowhere seen w.0 told (subst F w.1 fill) e in
     subst P (sym w.1) (k.answer, k.bytes)
 
--- one act more at the end of those that are looked through
+-- one more act at the end of the list
 or_false : (b : Bool) → (b || false) ≡ (false || b)
 or_false true = refl
 or_false false = refl

@@ -1,4 +1,4 @@
--- A system call, told by what is seen of its steps: the same cases as the code has, and as the rows of kinds.
+-- A system call, recognized by its seen steps: the same cases as in the code, and as the rows of kinds.
 use Rattle.std.specs.Prelude.{ℕ, ◌==◌, ◌||◌, Bool, true, false, Option, Some, None, List, [], ◌∷◌, if◌then◌else◌}
 use Rattle.key_names.specs.declared.events.Answer.{Answer}
 use Rattle.key_names.specs.declared.events.Answer.TheVariants.{Ok as Done, Again, Invalid, Interrupted}
@@ -11,7 +11,7 @@ use Rattle.vread_course.specs.Recipe.{Recipe, no_recipe, user_recipe}
 abbrev pub serving : Recipe → Called
 serving recipe = record { answer = Done; served = recipe }
 
--- nothing more is seen, and nothing served
+-- no steps are left, and no bytes are served
 abbrev pub no_more : Answer → List Seen → Option Called
 no_more answer [] = Some (record { answer = answer; served = no_recipe })
 no_more answer _ = None
@@ -28,18 +28,18 @@ unready_read n (Base key ∷ []) = Some (serving (user_recipe key n))
 unready_read n (Pool ∷ Base key ∷ []) = Some (serving (user_recipe key n))
 unready_read n seen = cpu_read n seen
 
--- what follows the first look of a read
+-- the steps of a read after its first look
 abbrev pub read : ℕ → Bool → List Seen → Option Called
 read n true seen = if n == 0 then no_more Done seen else cpu_read n seen
 read n false seen = if n == 0 then no_more Done seen else unready_read n seen
 
--- a wait, which was interrupted or went on
+-- a wait that was interrupted, or that went on
 abbrev pub waited : ℕ → List Seen → Option Called
 waited n (Base wait ∷ Base interrupt ∷ []) = Some (record { answer = Interrupted; served = no_recipe })
 waited n (Base wait ∷ Resumed ∷ seen) = read n true seen
 waited n _ = None
 
--- what follows the first look of a system call
+-- the steps of a system call after its first look
 abbrev pub behind_look : ℕ → ℕ → Bool → List Seen → Option Called
 behind_look n flags ready seen =
     if ready || is_insecure flags then read n ready seen
@@ -50,6 +50,6 @@ by_look n flags (Unready ∷ rest) = behind_look n flags false rest
 by_look n flags (Ready found ∷ rest) = behind_look n flags true rest
 by_look n flags _ = None
 
--- a system call of n bytes with these flags, where its steps are those of one
+-- a system call of n bytes with these flags, if its steps are those of one
 abbrev pub called : ℕ → ℕ → List Seen → Option Called
 called n flags seen = if is_bad flags then no_more Invalid seen else by_look n flags seen

@@ -1,4 +1,4 @@
--- The course of a vread over what is seen of its steps: the same cases as the code has.
+-- The course of a vread over its seen steps: the same cases as in the code.
 use Rattle.std.specs.Prelude.{ℕ, ◌+◌, ◌-◌, ◌^◌, ◌==◌, ◌||◌, min, Bool, true, false, Option, Some, None, List, [], ◌∷◌}
 use Rattle.std.specs.Prelude.{if◌then◌else◌}
 use Rattle.std.specs.Option.{option_map}
@@ -20,13 +20,13 @@ use Rattle.vread_course.specs.Seen.{rises}
 use Rattle.vread_course.specs.Inside.{inside_of, reached_by}
 use Rattle.vread_course.specs.Called.{called}
 
--- the generation that is published where a look found this one
+-- the published generation, from the one that a look found
 abbrev pub published : ℕ → ℕ
 published found = min (found + 1) (2 ^ 64 - 1)
 
 -- ---- an attempt
 
--- an attempt, the state that it left, and what is seen behind its steps
+-- an attempt, the state after it, and the seen steps after it
 pub record Behind : Type 0 where
   pub tried : Tried
   pub state : VgetrandomState
@@ -44,7 +44,7 @@ looked_again n c keyed s left found rest = record {
   rest = rest;
 }
 
--- from Serve on, in a state that was wiped there or not
+-- from Serve on, in a state that may have been wiped there
 abbrev pub copied : Inside → ℕ → ℕ → Bool → VgetrandomState → List Seen → Option Behind
 copied inside n c keyed s (Ready found ∷ rest) =
     Some (looked_again n c keyed s (state_left inside.end (state_after_copy s c n)) found rest)
@@ -53,7 +53,7 @@ copied inside n c keyed s _ = None
 abbrev pub from_serve : Inside → ℕ → ℕ → Bool → VgetrandomState → List Seen → Option Behind
 from_serve inside n c keyed s seen = copied inside n c keyed (state_left inside.serve s) seen
 
--- the key that a system call in front read, and what is seen behind it
+-- the key that a system call read first, and the seen steps after that call
 pub record Keyed : Type 0 where
   pub key : List ℕ
   pub rest : List Seen
@@ -70,20 +70,20 @@ with_key inside n c s None = None
 with_key inside n c s (Some keyed) =
     from_serve inside n c true (record s { key = keyed.key; pos = 96 }) keyed.rest
 
--- from Start on, in a state that was wiped there or not
+-- from Start on, in a state that may have been wiped there
 abbrev pub from_start : Inside → ℕ → ℕ → VgetrandomState → ℕ → List Seen → Option Behind
 from_start inside n c s g seen =
     if s.generation == g then from_serve inside n c false s seen
     else with_key inside n c (state_left inside.written (record s { generation = g })) (key_in_front seen)
 
--- an attempt to copy n bytes, c being the key's next block
+-- an attempt to copy n bytes; c is the key's next block
 abbrev pub attempted : Inside → ℕ → ℕ → VgetrandomState → List Seen → Option Behind
 attempted inside n c s (Ready found ∷ rest) = from_start inside n c (state_left inside.start s) (published found) rest
 attempted inside n c s _ = None
 
 -- ---- a call
 
--- what a call came to, and the state that it left
+-- the result of a call, and the state after it
 pub record Followed : Type 0 where
   pub course : Course
   pub state : VgetrandomState
@@ -91,23 +91,23 @@ pub record Followed : Type 0 where
 abbrev pub leaving : VgetrandomState → Option Course → Option Followed
 leaving s o = option_map (λ course. record { course = course; state = s }) o
 
--- these bytes, with nothing more seen
+-- these bytes, if no steps are left
 abbrev pub at_end : Recipe → Reached → List Seen → Option Course
 at_end recipe reached [] = Some (record { answer = Done; served = recipe; reached = reached })
 at_end recipe reached _ = None
 
--- the system's answer to the call as it was made, all its bytes and its flags
+-- the system's answer to the whole call, with all its bytes and its flags
 abbrev pub by_system : ℕ → ℕ → Reached → List Seen → Option Course
 by_system n flags reached seen =
     option_map (λ c. record { answer = c.answer; served = c.served; reached = reached }) (called n flags seen)
 
--- behind the second attempt
+-- after the second attempt
 abbrev pub tried_again : ℕ → ℕ → Reached → Option Behind → Option Followed
 tried_again n flags reached None = None
 tried_again n flags reached (Some b) = leaving (state_after_call b.state)
     (if b.tried.holds then at_end b.tried.served reached b.rest else by_system n flags reached b.rest)
 
--- behind the first attempt
+-- after the first attempt
 abbrev pub tried_once : ℕ → ℕ → Option Behind → Option Followed
 tried_once n flags None = None
 tried_once n flags (Some b) =
@@ -116,7 +116,7 @@ tried_once n flags (Some b) =
     else tried_again n flags (reached_by b.tried.keyed)
     (attempted (inside_of []) n b.tried.next_block b.state b.rest)
 
--- behind a look that found the core ready
+-- after a look that found the core ready
 abbrev pub from_ready : ℕ → ℕ → Inside → VgetrandomState → List Seen → Option Followed
 from_ready n flags inside s seen =
     if n == 0 then leaving s (at_end no_recipe Nothing seen)
@@ -133,7 +133,7 @@ abbrev pub by_vgetrandom : ℕ → ℕ → Inside → VgetrandomState → List S
 by_vgetrandom n flags inside s seen =
     if is_bad flags then leaving s (by_system n flags Nothing seen) else from_look n flags inside s seen
 
--- a copy out of the state where one may be made, and else a call
+-- a copy out of the state if one may be made, and a call otherwise
 abbrev pub copy_or_call : ℕ → ℕ → Inside → VgetrandomState → List Seen → Option Followed
 copy_or_call n flags inside s (Ready found ∷ rest) =
     if serves_locally (published found) s n
@@ -141,7 +141,7 @@ copy_or_call n flags inside s (Ready found ∷ rest) =
     else by_vgetrandom n flags inside s (Ready found ∷ rest)
 copy_or_call n flags inside s seen = by_vgetrandom n flags inside s seen
 
--- the course of a vread of n bytes with these flags, where its steps are those of one
+-- the course of a vread of n bytes with these flags, if its steps are those of one
 abbrev pub followed : ℕ → ℕ → Inside → VgetrandomState → List Seen → Option Followed
 followed n flags inside s seen =
     if rises 0 seen

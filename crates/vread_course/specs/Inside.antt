@@ -1,4 +1,4 @@
--- What the acts inside a call do to its state, and which of their points the call came to.
+-- The effect of the acts inside a call on its state, and the points that the call reached.
 use Rattle.std.specs.Prelude.{◌==◌, not, Bool, true, false, List, [], ◌∷◌, length}
 use Rattle.std.specs.List.{list_any}
 use Rattle.key_names.specs.declared.point.Point.{Point}
@@ -10,7 +10,7 @@ use Rattle.vread_course.specs.declared.inside.Inside.{Inside}
 use Rattle.vread_course.specs.declared.inside.Reached.{Reached}
 use Rattle.vread_course.specs.declared.inside.Reached.TheVariants.{Nothing, AllButWritten, All}
 
--- what these acts do
+-- the effect of these acts
 abbrev pub inside_of : List BoundAct → Inside
 inside_of acts = record {
   any = not (length acts == 0);
@@ -25,11 +25,11 @@ points_in Nothing = []
 points_in AllButWritten = Start ∷ Serve ∷ End ∷ []
 points_in All = Start ∷ Written ∷ Serve ∷ End ∷ []
 
--- whether the first attempt came to the point
+-- whether the first attempt reached the point
 abbrev pub includes : Reached → Point → Bool
 includes reached point = list_any (λ p. is_same_point p point) (points_in reached)
 
--- the points of an attempt, which came to Written where it read a key
+-- the points of an attempt, which reached Written if it read a key
 abbrev pub reached_by : Bool → Reached
 reached_by true = All
 reached_by false = AllButWritten

@@ -1,4 +1,4 @@
--- One act more inside a call.
+-- One more act inside a call.
 use Rattle.std.specs.Prelude.{◌&&◌, ◌||◌, true}
 use Rattle.key_names.specs.declared.point.Point.{Point}
 use Rattle.key_names.specs.declared.point.Point.TheVariants.{Start, Written, Serve, End}

@@ -21,17 +21,17 @@ use Rattle.vread_course.specs.InsideSteps.{inside_after}
 use Rattle.vread_course.specs.Called.{called}
 use Rattle.vread_course.specs.Course.{Followed, followed}
 
--- each visit of a vread of n bytes has the entry that the steps around it tell: a read of 32 bytes for a key, and of
--- all bytes where nothing follows
+-- each visit of a vread of n bytes has the entry that is inferred from the steps around it: as a read of n bytes if no
+-- step follows, and otherwise as a read of 32 bytes for a key
 abbrev pub VreadFills : LaneFacts → Setting → ℕ → List Deed → Type 0
 VreadFills c set n deeds = AllFill (FillsPart c set (User 32) (User n) (first_sign deeds)) nowhere nowhere deeds
 
--- in lists where all entries fit, the visits of a vread are as its steps tell
+-- if all entries fit, the visits of a vread have the inferred entries
 abbrev pub VreadIsTold : Type 0
 VreadIsTold = (c : LaneFacts) (n flags : ℕ) (acts : List BoundAct) (m : CallMeaning) → VreadMeans n flags acts m →
     AllFit c m.own.deeds → VreadFills c m.before.setting n m.own.deeds
 
--- what a vread means that was followed
+-- the meaning of a vread that was followed
 abbrev pub meaning_of : CallerState → List Deed → List LineMeaning → List VEntry → Followed → CallMeaning
 meaning_of before deeds acts entries f = record {
   own = record {
@@ -45,7 +45,8 @@ meaning_of before deeds acts entries f = record {
   after = with_state before f.state;
 }
 
--- a vread that is followed is one, with some entries of its state's list
+-- steps that can be followed are a vread, with some entries of its state's list, if their visits have the inferred
+-- entries
 abbrev pub FollowedIsVread : Type 0
 FollowedIsVread = (c : LaneFacts) (n flags : ℕ) (acts : List BoundAct) (before : CallerState) (deeds : List Deed)
     (seen : List Seen) (f : Followed) (ms : List LineMeaning) → AllSeen before.setting.cpu seen deeds →
@@ -54,7 +55,7 @@ FollowedIsVread = (c : LaneFacts) (n flags : ℕ) (acts : List BoundAct) (before
     ActsMean before.setting (λ act. includes f.course.reached act.point) acts ms →
     (entries : List VEntry) × VreadMeans n flags acts (meaning_of before deeds ms entries f)
 
--- a vread is followed, to what it means
+-- a vread can be followed, to its meaning
 pub record IsFollowed (n flags : ℕ) (acts : List BoundAct) (m : CallMeaning) (seen : List Seen) : Type 0 where
   pub f : Followed
   pub is : followed n flags (inside_of acts) (current_state m.before) seen ≡ Some f
@@ -68,7 +69,7 @@ VreadIsFollowed = (c : LaneFacts) (n flags : ℕ) (acts : List BoundAct) (m : Ca
     VreadMeans n flags acts m → AllSeen m.before.setting.cpu seen m.own.deeds → AllByRecursion LookFits seen →
     AllFit c m.own.deeds → IsFollowed n flags acts m seen
 
--- a system call is told exactly where the kinds of its steps are a row of one
+-- a system call is recognized exactly if the kinds of its steps are a row of one
 abbrev pub CalledIsRow : Type 0
 CalledIsRow = (n flags : ℕ) (seen : List Seen) (c : Called) → called n flags seen ≡ Some c →
     IsSystemCall n flags (map seen_kind seen)
@@ -77,14 +78,14 @@ abbrev pub RowIsCalled : Type 0
 RowIsCalled = (n flags : ℕ) (seen : List Seen) → IsSystemCall n flags (map seen_kind seen) →
     (c : Called) × (called n flags seen ≡ Some c)
 
--- and its answer and bytes are those that its steps have, where each visit has the entry told
+-- and its answer and bytes are those of its steps, if each visit has the inferred entry
 abbrev pub CalledSays : Type 0
 CalledSays = (c : LaneFacts) (set : Setting) (n flags : ℕ) (deeds : List Deed) (seen : List Seen) (told : Called) →
     AllSeen set.cpu seen deeds → AllFill (FillsPart c set (User n) (User n) (first_sign deeds)) nowhere nowhere deeds →
     called n flags seen ≡ Some told →
     (told.answer ≡ system_answer flags deeds) × (bytes_made told.served ≡ served_bytes deeds)
 
--- one act more
+-- one more act
 abbrev pub ActJoins : Type 0
 ActJoins = (acts : List BoundAct) (act : BoundAct) →
     inside_of (acts ++ act ∷ []) ≡ inside_after (inside_of acts) act.point act.act

@@ -1,11 +1,11 @@
--- How the bytes of a read are made: a few are there, and the rest is a piece of a key's stream.
+-- How the bytes of a read are made: a few exist already, and the rest is a piece of a key's stream.
 use Rattle.std.specs.Prelude.{ℕ, ◌+◌, ◌-◌, ◌*◌, min, List, [], ◌++◌, take, drop, nat_lt, if◌then◌else◌}
 use Rattle.key_names.specs.Keystream.{keystream}
 use Rattle.key_names.specs.KeyInUse.{zero_key}
 use Rattle.key_names.specs.VgetrandomState.{VgetrandomState}
 use Rattle.key_names.specs.BatchCopy.{bytes_left}
 
--- the bytes that are there, and len bytes of the key's stream from a position on
+-- the bytes that exist already, and len bytes of the key's stream from a position on
 pub record Recipe : Type 0 where
   pub front : List ℕ
   pub key : List ℕ
@@ -18,7 +18,7 @@ bytes_made r = r.front ++ keystream r.key r.from r.len
 abbrev pub no_recipe : Recipe
 no_recipe = record { front = []; key = zero_key; from = 0; len = 0 }
 
--- what a read of n bytes serves with this key in use: a user's read of more than 32 bytes has a key of its own
+-- the bytes of a read of n bytes with this key in use; a user's read of more than 32 bytes uses a call key
 abbrev pub user_recipe : List ℕ → ℕ → Recipe
 user_recipe key n =
     if nat_lt 32 n then record { front = []; key = keystream key 32 32; from = 64; len = n }
@@ -27,11 +27,11 @@ user_recipe key n =
 abbrev pub kernel_recipe : List ℕ → ℕ → Recipe
 kernel_recipe key n = record { front = []; key = key; from = 32; len = n }
 
--- the integer of this width that comes after these many of a batch that was filled with this key in use
+-- the integer of this width that a batch serves after count others; the batch was filled with this key in use
 abbrev pub int_recipe : List ℕ → ℕ → ℕ → Recipe
 int_recipe key width count = record { front = []; key = key; from = 32 + width * count; len = width }
 
--- what a copy out of a state serves, c being the key's next block
+-- the bytes of a copy out of a state; c is the key's next block
 abbrev pub copy_recipe : VgetrandomState → ℕ → ℕ → Recipe
 copy_recipe s c n = record {
   front = take (min n (bytes_left s)) (drop s.pos s.batch);

@@ -1,4 +1,4 @@
--- What is seen of the steps of a line.
+-- The seen steps of a line.
 use Rattle.std.specs.Prelude.{ℕ, ◌≡◌, ◌^◌, ◌<◌, ◌≤◌, ◌==◌, ◌&&◌, ⊤, Bool, true, false, List, [], ◌∷◌, nat_le}
 use Rattle.key_names.specs.declared.entries.BaseEntry.TheVariants.{Resume}
 use Rattle.key_names.specs.declared.entries.CpuEntry.{CpuEntry}
@@ -22,7 +22,7 @@ seen_kind Resumed = ResumedKind
 seen_kind (Cpu key) = CpuKind
 seen_kind Elsewhere = OtherCpu
 
--- a read of a CPU serves what the key in use gives; of other entries the key says nothing
+-- a read of a CPU serves the bytes that the key in use gives; for other entries the key determines nothing
 abbrev pub ServesBy : List ℕ → CpuEntry → List ℕ → Type 0
 ServesBy key (Read look refill taken) serves = serves ≡ taken_bytes key taken
 ServesBy key (Int look refill width filled) serves = ⊤
@@ -31,7 +31,7 @@ ServesBy key (Dump now) serves = ⊤
 ServesBy key Prepare serves = ⊤
 ServesBy key Online serves = ⊤
 
--- this is seen of what stands behind a step, cpu being the one that the caller is on
+-- the seen step shows this look or visit, with cpu as the caller's CPU
 abbrev pub IsSeen : ℕ → Seen → Deed → Type 0
 IsSeen cpu Unready (looked g) = g ≡ 0
 IsSeen cpu (Ready found) (looked g) = (g ≡ found) × (1 ≤ found)
@@ -48,7 +48,7 @@ AllSeen cpu [] [] = ⊤
 AllSeen cpu (x ∷ seen) (d ∷ deeds) = IsSeen cpu x d × AllSeen cpu seen deeds
 AllSeen cpu _ _ = ⊥
 
--- whether no look is below the one before it, last being the one before the first
+-- whether each look finds at least the generation before it; last is the one before the first
 abbrev pub rises : ℕ → List Seen → Bool
 rises last [] = true
 rises last (Unready ∷ seen) = last == 0 && rises last seen
@@ -59,7 +59,7 @@ rises last (Resumed ∷ seen) = rises last seen
 rises last (Cpu key ∷ seen) = rises last seen
 rises last (Elsewhere ∷ seen) = rises last seen
 
--- a transcript has only looks below 2^63
+-- the looks of a transcript are below 2^63
 abbrev pub LookFits : Seen → Type 0
 LookFits Unready = ⊤
 LookFits (Ready found) = found < 2 ^ 63

@@ -1,4 +1,4 @@
-//! An attempt of a vgetrandom call, followed over its steps.
+//! One attempt of a vgetrandom call, followed over its steps.
 ghost use Rattle.std.specs.Prelude.{◌≡◌, ◌+◌, ◌^◌, ◌≤◌, IfSome, MatchOption, Some, None};
 ghost use Rattle.key_names.specs.VgetrandomState.{state_left};
 ghost use Rattle.vread_course.specs.Course.{published, copied, from_serve, key_in_front, from_start, attempted};
@@ -9,8 +9,8 @@ use crate::served::Served;
 use chacha_blocks::derive_key;
 use vdso_state::VState;
 
-/// What an attempt came to: the bytes that it copied, whether it read a key, whether the generation that was published
-/// in the end is the state's, and the key's next block.
+/// The result of an attempt: the bytes that it copied, whether it read a key, whether the generation published at its
+/// end is the state's, and the key's next block.
 #[derive(Drop)]
 pub struct Tried {
     pub served: Served,
@@ -19,7 +19,7 @@ pub struct Tried {
     pub next_block: u64,
 }
 
-/// The generation that is published where a look found this one.
+/// The published generation, from the one that a look found.
 pub(crate) fn published(found: u64) -> u64
     ensures { result ≡ published found }
 {
@@ -84,7 +84,7 @@ fn from_serve<'a>(
     copied(st, inside, len, next_block, keyed, seen)
 }
 
-/// The key that a system call of 32 bytes in front read, and what is seen behind it.
+/// The key that a system call of 32 bytes read first, and the seen steps after that call.
 fn key_in_front(seen: &[Seen]) -> Option<([u8; 32], &[Seen])>
     ensures { MatchOption result (key_in_front seen.now ≡ None)
         (λ r. key_in_front seen.now ≡ Some (record { key = r.0; rest = r.1.now })) }
@@ -131,9 +131,9 @@ fn from_start<'a>(
     }
 }
 
-/// Follows an attempt to copy `len` bytes, `next_block` being the next block of the state's key, both at most 2^20.
-/// Answers what it came to and what is seen behind its steps, or `None` where they are not those of an attempt; what
-/// then stands in the state is not said.
+/// Follows an attempt to copy `len` bytes. `next_block` is the next block of the state's key; both are at most 2^20.
+/// Returns the attempt's result and the seen steps after it, or `None` if the steps are not those of an attempt. After
+/// `None` the state is unspecified.
 pub(crate) fn attempt<'a>(
     st: &mut VState,
     inside: Inside,

@@ -13,7 +13,7 @@ use crate::system_call::system_call;
 use key_names::{Answer, flags};
 use vdso_state::VState;
 
-/// What a call came to: its answer, the bytes that it served, and which points its first attempt came to.
+/// The result of a call: its answer, the bytes that it served, and the points that its first attempt reached.
 #[derive(Drop)]
 pub struct Course {
     pub answer: Answer,
@@ -125,7 +125,7 @@ fn by_vgetrandom(
     }
 }
 
-// Whether a copy may be made with no call around it.
+// Whether a copy may be made without a call.
 fn serves_locally(st: &VState, found: u64, len: u32) -> bool
     ensures { result ≡ serves_locally (published found) st.now len }
 {
@@ -151,9 +151,9 @@ fn copy_or_call(
     }
 }
 
-/// Follows a `vread` of `len` bytes, at most 2^20, with these flags on the caller's current state, over what is seen of
-/// the steps of its line. Answers what it came to and leaves the state as the call does, or answers `None` where the
-/// steps are not those of such a call on this state; what then stands in the state is not said.
+/// Follows a `vread` of `len` bytes, at most 2^20, with these flags. It goes over the seen steps of its line on the
+/// caller's current state. Returns the result and changes the state as the call does. Returns `None` if the steps are
+/// not those of such a call on this state, and then the state is unspecified.
 pub fn follow(
     st: &mut VState,
     len: u32,

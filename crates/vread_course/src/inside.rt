@@ -7,8 +7,8 @@ ghost use Rattle.vread_course.specs.InsideSteps.{inside_after};
 
 use key_names::{InsideAct, Point};
 
-/// What the acts inside a call do to its state: whether there are any, and at which points of the first attempt one
-/// wipes it.
+/// The effect of the acts inside a call on its state: whether there are any, and the points of the first attempt at
+/// which one wipes the state.
 #[derive(Clone, Copy, Debug, PartialEq, Eq)]
 pub struct Inside {
     pub any: bool,
@@ -32,7 +32,7 @@ impl Inside {
         }
     }
 
-    /// One act more, at this point.
+    /// Adds an act at this point.
     pub fn add(&mut self, point: Point, act: InsideAct)
         ensures { self.new ≡ inside_after self.old point act }
     {
@@ -44,14 +44,14 @@ impl Inside {
     }
 }
 
-// Whether a point is wiped, with one act more, which may be at another point.
+// Whether a point is wiped, with one more act, which may be at another point.
 fn is_wiped(wiped: bool, here: Point, point: Point, act: InsideAct) -> bool
     ensures { result ≡ (wiped || (is_same_point point here && is_wipe act)) }
 {
     wiped || (point.is(here) && matches!(act, InsideAct::Wipe))
 }
 
-/// Which points the first attempt of a call came to.
+/// The points that the first attempt of a call reached.
 #[derive(Clone, Copy, Debug, PartialEq, Eq)]
 pub enum Reached {
     /// There was no attempt.
@@ -63,7 +63,7 @@ pub enum Reached {
 }
 
 impl Reached {
-    /// Whether the point is among them.
+    /// Whether the attempt reached the point.
     #[tactic(auto, using(crate::proofs::CallPoints::all_included, crate::proofs::CallPoints::included_but_written))]
     pub fn includes(self, point: Point) -> bool
         ensures { result ≡ includes self point }

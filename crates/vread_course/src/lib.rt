@@ -1,10 +1,12 @@
-//! How reads of a transcript are made anew: each read's bytes as a recipe, a system call told by what is seen of its
-//! steps, and a `vread` followed over the steps of its line on the caller's own vgetrandom state.
+//! The reads of a transcript, made again: recipes for the bytes of reads, system calls recognized by their seen steps,
+//! and `vread`s followed over the steps of their lines, on the caller's own vgetrandom state.
 //!
-//! A function here answers a line's course exactly where the line's steps are those of such a call: it is the same
-//! cases as a function of `specs/`, and the laws say that these are the calls of `key_names` (`specs/Meaning.antt`), both
-//! ways. It stands on the forms of lines of `line_forms` and on the state of `vdso_state`. That a line's steps are where
-//! the lanes have them, and that its entries are those that the steps tell, is for its callers to see.
+//! A function here returns the course of a line exactly if the line's steps are those of such a call. It has the same
+//! cases as a function of `specs/`, and the laws state that these are exactly the calls of `key_names`
+//! (`specs/Meaning.antt`).
+//!
+//! The crate uses the forms of `line_forms` and the state of `vdso_state`. Its callers must check that the lanes have a
+//! line's steps at their places, and that the line's entries are the inferred ones.
 #![tactic(auto)]
 
 pub mod attempt;

@@ -1,9 +1,9 @@
-//! What is kept of a step of a line for those that make its bytes.
+//! Seen steps: the data kept of a line's steps, from which its bytes are made.
 ghost use Rattle.std.specs.Prelude.{◌≡◌};
 ghost use Rattle.vread_course.specs.Seen.{rises};
 
-/// What is seen of a step: its kind, the generation that a look found, and of a visit that may serve bytes the key in
-/// use, before the visit erases it.
+/// A seen step: its kind, the generation that a look found, and for a visit that may serve bytes the key in use, before
+/// the visit erases it.
 #[derive(Clone, Copy, Debug, PartialEq, Eq)]
 pub enum Seen {
     /// A look that found generation 0: the core was not ready.
@@ -14,15 +14,15 @@ pub enum Seen {
     Pool,
     /// A visit of the base with this key in use.
     Base([u8; 32]),
-    /// A visit of the base by which a waiting caller went on.
+    /// A visit of the base with which a waiting caller went on.
     Resumed,
-    /// A visit of the CPU that the line is on, with this key in use.
+    /// A visit of the caller's CPU with this key in use.
     Cpu([u8; 32]),
-    /// A visit of another CPU, or nothing.
+    /// A visit of another CPU, or one that the lists do not have.
     Elsewhere,
 }
 
-/// Whether no look found less than the one before it.
+/// Whether each look found at least the generation of the look before it.
 pub(crate) fn rises(seen: &[Seen]) -> bool
     ensures { result ≡ rises 0 seen.now }
 {

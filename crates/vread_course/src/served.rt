@@ -1,4 +1,4 @@
-//! How the bytes of a read are made.
+//! The bytes of a read, and how they are made.
 ghost use Rattle.std.specs.Prelude.{◌≡◌, ℕ, ◌+◌, ◌^◌, ◌<◌, ◌↔◌, ◌++◌, length, take, IsTrue, IfOk, OnErr};
 ghost use Rattle.key_names.specs.Keystream.{keystream};
 
@@ -8,14 +8,14 @@ use std::marker::Model;
 use vdso_state::VState;
 use vdso_state::state::Passed;
 
-/// Bytes that are made at a time.
+/// Bytes are made in pieces of this length.
 const PIECE_BYTES: usize = 4096;
 
-/// The most bytes that are made at once.
+/// Up to this many bytes are made in one shorter piece.
 const SHORT_BYTES: usize = 512;
 
-/// The bytes that a read serves, as a recipe: at most 96 that are there, and then a piece of a key's stream, of which
-/// nothing is made before it is asked for. There are fewer than 2^32.
+/// The bytes of a read, as a recipe: at most 96 bytes that are made already, and then a piece of a key's stream, which
+/// is made only when it is needed. There are fewer than 2^32 bytes.
 #[derive(Drop)]
 pub struct Served {
     front: [u8; 96],
@@ -80,8 +80,8 @@ impl Served {
         Served::of_key(*key, 32, len)
     }
 
-    /// The integer of `width` bytes that comes after `count` others of a batch that was filled with this key in use.
-    /// `width * count` has to be below 2^31.
+    /// The integer of `width` bytes that a batch serves after `count` others. The batch was filled with this key in
+    /// use. `width * count` has to be below 2^31.
     pub fn of_int(key: &[u8; 32], width: u8, count: u32) -> Served
         requires { width * count < 2 ^ 31 }
         ensures { result ≡ int_recipe key.now width count }
@@ -93,8 +93,9 @@ impl Served {
         )
     }
 
-    /// What a copy of `len` bytes out of a state serves, `next_block` being the next block of the state's key, and the
-    /// one after the copy. Block and length are at most 2^20. The state is left as a copy leaves it.
+    /// The bytes that a copy of `len` bytes out of a state serves, and the key's next block after the copy.
+    /// `next_block` is the next block before it. Block and length are at most 2^20. The state changes as the copy
+    /// changes it.
     pub fn of_copy(st: &mut VState, next_block: u64, len: u32) -> (Served, u64)
         requires near { next_block ≤ 2 ^ 20 }
         requires short { len ≤ 2 ^ 20 }
@@ -119,7 +120,7 @@ impl Served {
         (served, behind)
     }
 
-    /// How many bytes there are.
+    /// The number of bytes.
     pub fn len(&self) -> usize
         ensures bytes { result ≡ length (bytes_made self.now) }
         ensures short { result < 2 ^ 32 }
@@ -127,11 +128,11 @@ impl Served {
         usize::from(self.front_len) + self.len as usize
     }
 
-    /// Puts the bytes behind those of `out`.
+    /// Appends the bytes to `out`.
     ///
     /// # Errors
     ///
-    /// Want of memory; `out` may then have got the first of the bytes.
+    /// `AllocError` if memory runs out; then a prefix of the bytes may have been appended.
     pub fn put(&self, out: &mut Vec<u8>) -> Result<(), AllocError>
         ensures short { length (bytes_made self.now) < 2 ^ 32 }
         ensures made { IfOk result (λ _. out.new.items ≡ out.old.items ++ bytes_made self.now) }
@@ -141,7 +142,7 @@ impl Served {
         put_key(&self.key, self.from, self.len as usize, out)
     }
 
-    /// Whether the bytes are these.
+    /// Whether the bytes equal these.
     pub fn is(&self, bytes: &[u8]) -> bool
         ensures { IsTrue result ↔ (bytes.now ≡ bytes_made self.now) }
     {
@@ -160,8 +161,8 @@ fn are_same(a: &[u8], b: &[u8]) -> bool
     a == b
 }
 
-/// Puts bytes of the key's stream behind those of `out`. The piece that they are made in is no longer than it has to be,
-/// since it is cleared for each read.
+/// Appends bytes of the key's stream to `out`. The piece in which they are made is no longer than needed, since it is
+/// cleared for each read.
 fn put_key(key: &[u8; 32], from: u64, len: usize, out: &mut Vec<u8>) -> Result<(), AllocError>
     requires { from + len < 2 ^ 40 }
     ensures made { IfOk result (λ _. out.new.items ≡ out.old.items ++ keystream key.now from len) }
@@ -174,7 +175,7 @@ fn put_key(key: &[u8; 32], from: u64, len: usize, out: &mut Vec<u8>) -> Result<(
     }
 }
 
-/// The same, as many bytes at a time as the piece has room for.
+/// The same, in steps of the piece's length.
 fn put_key_by(
     key: &[u8; 32],
     from: u64,
@@ -198,7 +199,7 @@ fn put_key_by(
     Ok(())
 }
 
-/// Whether the bytes are those of the key's stream from this position on.
+/// Whether the bytes equal the key's stream from this position on.
 fn is_key(key: &[u8; 32], from: u64, bytes: &[u8]) -> bool
     requires { from + length bytes.now < 2 ^ 40 }
     ensures { IsTrue result ↔ (bytes.now ≡ keystream key.now from (length bytes.now)) }
@@ -210,7 +211,7 @@ fn is_key(key: &[u8; 32], from: u64, bytes: &[u8]) -> bool
     }
 }
 
-/// The same, as many bytes at a time as the piece has room for.
+/// The same, in steps of the piece's length.
 fn is_key_by(key: &[u8; 32], from: u64, bytes: &[u8], piece: &mut [u8]) -> bool
     requires near { from + length bytes.now < 2 ^ 40 }
     requires room { 0 < length piece.old }

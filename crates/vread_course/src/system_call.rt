@@ -1,4 +1,4 @@
-//! A system call, by what is seen of its steps.
+//! A system call, recognized by its seen steps.
 ghost use Rattle.std.specs.Prelude.{◌≡◌};
 ghost use Rattle.vread_course.specs.Called.{serving, no_more, cpu_read, unready_read, read, waited, behind_look, called};
 
@@ -6,7 +6,7 @@ use crate::seen::Seen;
 use crate::served::Served;
 use key_names::{Answer, flags};
 
-/// What a system call answers and serves.
+/// The answer and the bytes of a system call.
 #[derive(Drop)]
 pub struct Called {
     pub answer: Answer,
@@ -95,7 +95,7 @@ fn behind_look(len: u32, flags: u32, ready: bool, seen: &[Seen]) -> Option<Calle
     }
 }
 
-/// What a system call of `len` bytes with these flags answers and serves (getrandom(2)), or `None` where its steps are
+/// The answer and the bytes of a system call of `len` bytes with these flags (getrandom(2)), or `None` if its steps are
 /// not those of one.
 pub fn system_call(len: u32, flags: u32, seen: &[Seen]) -> Option<Called>
     ensures { result ≡ called len flags seen.now }

@@ -1,5 +1,5 @@
--- The entries of the lanes, and what they prove. Acts inside calls of vgetrandom: whose setting they have, and where
--- they stand in the order.
+-- The entries of the lanes, and the cases that they prove: acts inside vgetrandom calls, with the setting that they
+-- have and their place in the order.
 use Rattle.std.proofs.Common.{[], ◌∷◌, refl, Some, None}
 use Rattle.key_names.specs.declared.entries.Taken.TheVariants.{User}
 use Rattle.key_names.specs.declared.entries.PoolEntry.TheVariants.{Mix, Extract}

@@ -1,4 +1,4 @@
--- The entries of the lanes, and what they prove. Runs of two callers.
+-- The entries of the lanes, and the cases that they prove: runs of two callers.
 use Rattle.std.proofs.Common.{[], ◌∷◌, refl, Some, None}
 use Rattle.key_names.specs.declared.entries.Taken.TheVariants.{User}
 use Rattle.key_names.specs.declared.entries.PoolEntry.TheVariants.{Mix, Extract}

@@ -13,7 +13,7 @@ miss_verdict case lanes miss = text_verdict case.script (transcript_with (lines_
 abbrev number_missed : NearMiss → ℕ
 number_missed miss = clause_number (clause_missed miss)
 
--- that of the case, and then those of its near misses
+-- the verdict on the case, and then those on its near misses
 unfoldable pub verdicts : Case → Lanes → List ℕ
 unfolding text_verdict
 verdicts case lanes = text_verdict case.script (transcript_with case.lines) lanes ∷ map (miss_verdict case lanes)

@@ -1,4 +1,4 @@
--- Facts that are decided by computing: what is found carries its own proof.
+-- Facts that are decided by computing. Each answer comes with its proof.
 use Rattle.std.proofs.Common.{◌≡◌, ◌<◌, ◌≤◌, ◌⊎◌, ℕ, suc, Bool, true, false, Option, Some, None, List, [], ◌∷◌, refl}
 use Rattle.std.proofs.Common.{sym, ap, inl, inr, eqb, leb, arith}
 use Rattle.std.specs.Prelude.{MatchBool}
@@ -56,7 +56,7 @@ abbrev pub negated : {P : Type 0} → Decided P → Decided (P → ⊥)
 negated (yes p) = no (λ f. f p)
 negated (no p) = yes p
 
--- another way to say the same
+-- the same fact in another form
 abbrev pub likewise : {P Q : Type 0} → (P → Q) → (Q → P) → Decided P → Decided Q
 likewise f g (yes p) = yes (f p)
 likewise f g (no p) = no (λ q. p (g q))
@@ -112,9 +112,9 @@ same_bool false true = no (λ e. true_is_not_false (sym e))
 abbrev pub same_bytes : (xs ys : List ℕ) → Decided (xs ≡ ys)
 same_bytes = same_list same_number
 
--- ---- what may be found
+-- ---- facts that may be found
 
--- what is found where it holds
+-- the proof of a fact, if it holds
 abbrev pub found : {P : Type 0} → Decided P → Option P
 found (yes p) = Some p
 found (no p) = None

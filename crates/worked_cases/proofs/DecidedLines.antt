@@ -41,7 +41,7 @@ each_caller d c (x ∷ xs) (y ∷ ys) = both (d c x y) (each_caller d (suc c) xs
 abbrev pub has_lines : (script : Script) (t : List (List SeenLine)) → Decided (HasLines script t)
 has_lines script t = each_caller (λ c. lines_fit c 0) 0 script.callers t
 
--- ---- what holds of each line and of what it means
+-- ---- facts about each line and its meaning
 
 abbrev each_act : {P : SeenLine → LineMeaning → Type 0} → ((line : SeenLine) (m : LineMeaning) → Decided (P line m)) →
     (acts : List BoundAct) (ms : List LineMeaning) → Decided (EachAct P acts ms)

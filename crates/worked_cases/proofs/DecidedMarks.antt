@@ -87,7 +87,7 @@ by_lane marks n all pool base cpus (CpuLane c) = by (leb n c) refl
         (record { once = tt; rise = tt })
     by false e = cpus c (let lt : c < n = grind (arith, nat_tests) in lt)
 
--- n is above each CPU of the marks; where it is not, nothing is said
+-- n is above the number of each CPU among the marks. If it is not, there is no answer
 abbrev lanes_from : (marks : List MarkBy) (n : ℕ) → Decided (AllByRecursion (λ by. CpuBelow n by.mark.lane) marks) →
     Option (Decided ((lane : LaneId) → PlacesStand (lane_marks lane marks)))
 lanes_from marks n (no p) = None

@@ -1,4 +1,4 @@
--- The form of a line, found from what stands behind its steps.
+-- The form of a line, found from the deeds of its steps.
 use Rattle.std.proofs.Common.{◌≡◌, ℕ, Bool, true, false, Option, Some, None, List, [], ◌∷◌, refl, ◌==◌}
 use Rattle.std.specs.Prelude.{not, ◌&&◌}
 use Rattle.key_names.specs.declared.entries.Taken.{Taken}

@@ -1,4 +1,4 @@
--- That the lanes' lists are lawful, found by computing.
+-- The lanes' lists are lawful: found by computing.
 use Rattle.std.proofs.Common.{◌≡◌, ◌≢◌, ◌↔◌, ℕ, zero, suc, false, Option, Some, None, List, [], ◌∷◌, refl, ap, subst}
 use Rattle.std.proofs.Common.{slice_get}
 use Rattle.std.specs.Prelude.{option_and_then}
@@ -136,7 +136,7 @@ pub at_number : {E : Type 0} (P : ℕ → List E → Type 0) (es : List E) (list
 at_number P es lists here later zero = here
 at_number P es lists here later (suc c) = later c
 
--- P holds of each list with its number, and of no entries beyond the last
+-- P holds for each list with its number, and for the empty lists beyond the last
 abbrev pub each_list : {E : Type 0} (P : ℕ → List E → Type 0) → ((c : ℕ) → P c []) →
     ((c : ℕ) (es : List E) → Option (P c es)) →
     (lists : List (List E)) → Option ((c : ℕ) → P c (list_at lists c))
@@ -163,7 +163,7 @@ abbrev named : {N : Type 0} (Q : N → Type 0) → ((n : N) → Option (Q n)) �
 named Q d None = Some (λ n e. absurd (none_is_not_some n e))
 named Q d (Some m) = found_by (λ q n e. at_name Q m n q e) (d m)
 
--- Q holds of each name that an entry has, and of the entry's place
+-- Q holds for each name that an entry has, with the entry's place
 abbrev pub each_name : {E N : Type 0} (name : E → Option N) (Q : ℕ → N → Type 0) → ((p : ℕ) (n : N) → Option (Q p n)) →
     (es : List E) → Option ((p : ℕ) (n : N) → option_and_then name (slice_get es p) ≡ Some n → Q p n)
 each_name name Q d [] = Some (λ p n e. absurd (no_entry name p n e))

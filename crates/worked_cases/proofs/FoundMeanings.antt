@@ -1,4 +1,4 @@
--- What the calls of a caller mean, found from its lines and the lanes' lists.
+-- The meanings of a caller's calls, found from its lines and the lanes' lists.
 use Rattle.std.proofs.Common.{◌≡◌, ℕ, Bool, true, false, Option, Some, None, List, [], ◌∷◌, refl, sym, ◌∙◌, ap, subst}
 use Rattle.std.specs.Prelude.{MatchBool}
 use Rattle.key_names.specs.declared.events.Event.{Event}
@@ -25,11 +25,11 @@ use Rattle.worked_cases.proofs.Decided.{found, found_by, found_both, same_bool, 
 use Rattle.worked_cases.proofs.FoundForms.{no_steps, form_found, end_form, system_call_found}
 use Rattle.worked_cases.proofs.FoundVreads.{HostFound, vgetrandom_found}
 
--- the deeds are those behind the line's steps
+-- the deeds are those of the line's steps
 abbrev pub Behind : Lists → SeenLine → LineMeaning → Type 0
 Behind lists line m = deeds_of lists line.steps ≡ m.deeds
 
--- what a call means, from where its caller stands
+-- the meaning of a call, from its caller's state
 pub record CallFound (lists : Lists) (before : CallerState) (call : Call) : Type 0 where
   pub m : CallMeaning
   pub begins : m.before ≡ before
@@ -147,7 +147,7 @@ never_fall [] = Some tt
 never_fall (a ∷ []) = Some tt
 never_fall (a ∷ b ∷ rest) = found_both (λ p q. (p, q)) (found (at_most a b)) (never_fall (b ∷ rest))
 
--- a vread in one of its ways
+-- a vread in one of its ways: a copy, or a vgetrandom call
 pub record WayFound (lists : Lists) (before : CallerState) (acts : List BoundAct) (line : SeenLine)
     (Way : CallMeaning → Type 0) : Type 0 where
   pub m : CallMeaning

@@ -1,4 +1,4 @@
--- That the samples of a book are lawful, found by computing.
+-- The samples of a book are lawful: found by computing.
 use Rattle.std.proofs.Common.{◌≡◌, ◌<◌, ℕ, zero, suc, true, Option, Some, None, List, [], ◌∷◌, refl, sym, ◌∙◌, ap}
 use Rattle.std.proofs.Common.{slice_get}
 use Rattle.std.specs.Prelude.{option_and_then}
@@ -36,7 +36,7 @@ same_event a b = both (same_number a.caller b.caller) (same_number a.event b.eve
 
 -- ---- places of a list
 
--- R holds of each place and of what stands there
+-- R holds for each place and its entry
 abbrev EachAt : {E : Type 0} → (ℕ → E → Type 0) → List E → Type 0
 EachAt {E} R es = (k : ℕ) (e : E) → option_and_then Some (slice_get es k) ≡ Some e → R k e
 
@@ -44,7 +44,7 @@ abbrev each_at : {E : Type 0} (R : ℕ → E → Type 0) → ((k : ℕ) (e : E) 
     Option (EachAt R es)
 each_at R d es = each_name Some R d es
 
--- a place of which R holds
+-- a place and an entry for which R holds
 pub record Place {E : Type 0} (R : ℕ → E → Type 0) (es : List E) : Type 0 where
   pub at : ℕ
   pub entry : E
@@ -67,12 +67,12 @@ found_if (yes p) (Some q) = Some (λ h. q)
 found_if (yes p) None = None
 found_if (no p) o = Some (λ h. absurd (p h))
 
--- ---- what is asked of the dumps of one CPU
+-- ---- the conditions on the dumps of one CPU
 
 abbrev Visits : Type 0
 Visits = List (Visit CpuEntry)
 
--- a place before this one, where the same event made a dump due; or one behind it, where the same event dumped
+-- an earlier place where the same event made a dump due, or a later one where the same event dumped
 abbrev DueBefore : Visits → ℕ → Who → Type 0
 DueBefore visits k who =
     Place (λ i v. (i < k) × (SameEvent v.who who × MakesDue (fast_before visits i) v.entry)) visits

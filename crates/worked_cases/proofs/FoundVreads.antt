@@ -1,4 +1,4 @@
--- A call of vgetrandom, found from what stands behind the steps of its line.
+-- A vgetrandom call, found from the deeds of its line.
 use Rattle.std.proofs.Common.{◌≡◌, ℕ, Bool, true, false, Option, Some, None, List, [], ◌∷◌, ◌++◌, refl, sym, append-nil}
 use Rattle.std.proofs.Common.{◌==◌}
 use Rattle.std.specs.Prelude.{MatchBool}
@@ -18,7 +18,7 @@ use Rattle.key_names.proofs.Vgetrandom.Attempts.{current_attempt, current_steps,
 use Rattle.worked_cases.proofs.Decided.{found_by, found_both}
 use Rattle.worked_cases.proofs.FoundForms.{no_steps, system_call_found}
 
--- what a host did, with what it leads to, behind these deeds
+-- the steps of a host with these deeds, and an outcome that they lead to
 pub record HostFound (set : Setting) (Leads : List HostStep → Outcome → Type 0) (deeds : List Deed) : Type 0 where
   pub steps : List HostStep
   pub outcome : Outcome
@@ -115,7 +115,7 @@ keyed_with set n c g h wiped s other call rest = found_both (λ form r. record {
   );
 }) (system_call_found set 32 0 call) (read_found (answer_behind 0 call))
 
--- an attempt that reads a key: the system call has two looks, a visit of the base or none, and one of a CPU
+-- an attempt that reads a key: the system call has two looks, at most one visit of the base, and one of a CPU
 abbrev keyed_found : (set : Setting) (n c g : ℕ) (wiped : Point → Bool) (s : VgetrandomState) →
     ((state_left (wiped Start) s).generation == published_by g) ≡ false → (deeds : List Deed) →
     Option (AttemptFound set n c s (looked g ∷ deeds))
@@ -135,7 +135,7 @@ attempt_found set n c wiped s (looked g ∷ deeds) = by ((state_left (wiped Star
     by false e = keyed_found set n c g wiped s e deeds
 attempt_found set n c wiped s _ = None
 
--- what follows an attempt
+-- the steps after an attempt
 abbrev after_found : (set : Setting) (n flags : ℕ) (Outdated : ℕ → VgetrandomState → List HostStep → Outcome → Type 0)
     (end : AttemptEnd) (attempt : Attempt) (deeds : List Deed) →
     Option (HostFound set (Outdated attempt.next_block attempt.state) deeds) →
@@ -173,7 +173,7 @@ abbrev tried : {P : Type 0} {Q : Type 0} → Option P → (P → Option Q) → O
 tried (Some p) f = f p
 tried None f = None
 
--- the acts happen in the first attempt alone
+-- the acts happen only in the first attempt
 abbrev second_found : (set : Setting) (n flags c : ℕ) (s : VgetrandomState) (deeds : List Deed) →
     Option (HostFound set (SecondAttempt n flags c s) deeds)
 second_found set n flags c s deeds = tried (attempt_found set n c (λ p. false) s deeds)

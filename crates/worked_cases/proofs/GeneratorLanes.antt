@@ -1,5 +1,5 @@
--- The entries of the lanes, and what they prove. The base and the CPUs of a ready core: refills, reseeds and their
--- timer, batched integers.
+-- The entries of the lanes, and the cases that they prove: the base and the CPUs of a ready core, with refills, reseeds
+-- and their timer, and batched integers.
 use Rattle.std.proofs.Common.{[], ◌∷◌, ◌++◌, refl, Some, None, replicate, true, false}
 use Rattle.key_names.specs.declared.entries.Taken.TheVariants.{User, Kernel}
 use Rattle.key_names.specs.declared.entries.PoolEntry.TheVariants.{Mix, Extract}

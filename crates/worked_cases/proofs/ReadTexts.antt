@@ -1,5 +1,5 @@
--- The lines that a text of a transcript may spell. Nothing is claimed of them here: what they are used for computes
--- their text.
+-- The lines that a text of a transcript may spell. No fact about them is proved here: the proofs that use
+-- them compute their text.
 use Rattle.std.proofs.Common.{ℕ, List, [], ◌∷◌, map, filter, find, ◌==◌, if◌then◌else◌, unwrap_or, codes, bytes_eq}
 use Rattle.std.specs.List.{range_with_len}
 use Rattle.std.specs.Str.Parse.{digits_value}
@@ -71,7 +71,7 @@ line_of line = of_fields (parts 32 line)
         }
     of_fields _ = record { caller = 0; event = 0; word = End; answer = Done; steps = []; shown = no_data }
 
--- all lines but the first, the last and the empty one behind it
+-- all lines except the first, the last and the empty one after it
 abbrev inner : List (List ℕ) → List (List ℕ)
 inner [] = []
 inner (first ∷ lines) = but_two lines
@@ -82,7 +82,7 @@ inner (first ∷ lines) = but_two lines
     but_two (a ∷ b ∷ []) = []
     but_two (a ∷ b ∷ c ∷ rest) = a ∷ but_two (b ∷ c ∷ rest)
 
--- the lines of so many callers
+-- the lines of this number of callers
 abbrev pub lines_of : ℕ → List ℕ → List (List SeenLine)
 lines_of callers text =
     let lines = map line_of (inner (parts 10 text)) in

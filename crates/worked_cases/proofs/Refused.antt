@@ -1,4 +1,4 @@
--- Where a clause fails first, the texts are those of no lawful transcript.
+-- If a clause is the first that fails, the texts are not those of a lawful transcript.
 use Rattle.std.proofs.Common.{◌≡◌, List, Result, Ok, subst}
 use Rattle.key_names.specs.SeenLine.{SeenLine}
 use Rattle.key_names.specs.Texts.ScriptGrammar.{Script}

@@ -1,4 +1,4 @@
--- The entries of the lanes, and what they prove. Interrupts and input events.
+-- The entries of the lanes, and the cases that they prove: interrupts and input events.
 use Rattle.std.proofs.Common.{[], ◌∷◌, refl, Some}
 use Rattle.key_names.specs.declared.entries.Taken.TheVariants.{User}
 use Rattle.key_names.specs.declared.entries.PoolEntry.TheVariants.{Mix, Input, Bits, Extract}

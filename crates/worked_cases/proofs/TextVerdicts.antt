@@ -108,13 +108,13 @@ texts_found input output = found_both (λ s l. record
     { script_is = script_takes input (script_in input) s; lines_are = l })
     (gives_script (script_of input)) (text_found output (lines_in input output))
 
--- 1 where the texts are not a script's and a transcript's
+-- 1 if the texts are not a script's and a transcript's
 abbrev number_of : {input output : List ℕ} → Option (TextsFound input output) → Verdict (script_in input)
     (lines_in input output) → ℕ
 number_of (Some f) v = verdict_number v
 number_of None v = 1
 
--- worked out with all that it takes
+-- the verdict as a number, computed with all definitions unfolded
 unfoldable pub text_verdict : (input output : List ℕ) (lanes : Lanes) → ℕ
 unfolding blake2s compressed folded start_vector round mixed_at mixed u32_at keystream_byte block_word double_rounds
     column_round diagonal_round quarter_round sip_round word_mixed script_of script_from digits decode_pairs
@@ -177,7 +177,7 @@ fails_at clause input output (Some f) (first_fails other h) e =
     same h)
 fails_at clause input output (Some f) unknown e = (let two = from_two clause in absurd (omega arith))
 
--- ---- what a number says
+-- ---- the meaning of a number
 
 pub lawful_run : (input output : List ℕ) (lanes : Lanes) → text_verdict input output lanes ≡ 0 → IsLawfulRun input
     output
@@ -193,7 +193,7 @@ fails_first clause input output lanes e =
 
 -- ---- steps that have no form
 
--- lines and marks are as they must be
+-- lines and marks are correct
 pub record FrontFound (input output : List ℕ) : Type 0 where
   pub texts : TextsFound input output
   pub lines : HasLines (script_in input) (lines_in input output)

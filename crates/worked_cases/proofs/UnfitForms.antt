@@ -1,4 +1,4 @@
--- Steps that are no form of their event's word.
+-- Steps that match no form of their event's word.
 use Rattle.std.proofs.Common.{◌≡◌, ◌≤◌, ℕ, suc, Some, List, [], ◌∷◌, refl, sym, ◌∙◌, ap, is_some, true, length}
 use Rattle.std.proofs.Common.{arith, inl, inr, subst, false, ◌++◌}
 use Rattle.std.specs.List.{AllByRecursion}
@@ -27,7 +27,7 @@ use Rattle.worked_cases.proofs.Decided.{no_first, none_is_not_some}
 use Rattle.worked_cases.proofs.FoundMeanings.{Behind}
 use Rattle.worked_cases.proofs.TextVerdicts.{text_verdict, script_in, lines_in, no_form, front_found}
 
--- what a call means in some book
+-- the meaning of a call in some book
 pub record CallHas (lists : Lists) (call : Call) : Type 0 where
   pub m : CallMeaning
   pub means : Means call m
@@ -54,11 +54,11 @@ callers_have lists settings first (calls ∷ callers) (m ∷ ms) h = (
 abbrev case_calls : Case → List (List Call)
 case_calls case = script_calls (script_in case.script) (lines_in case.script (transcript_with case.lines))
 
--- what the calls of a case mean in some book
+-- the meanings of a case's calls in some book
 abbrev CallsHave : Case → Lists → Type 0
 CallsHave case lists = AllByRecursion (AllByRecursion (CallHas lists)) (case_calls case)
 
--- the texts are a script's and a transcript's, with its lines and marks as they must be
+-- the texts are a script's and a transcript's, and the transcript's lines and marks are correct
 abbrev HasFront : Case → Type 0
 HasFront case = is_some (front_found case.script (transcript_with case.lines)) ≡ true
 
@@ -105,7 +105,7 @@ visit_of_no_cpu_fails = no_form visit_of_no_cpu.script (transcript_with visit_of
     (front_found visit_of_no_cpu.script (transcript_with visit_of_no_cpu.lines)) refl
     (λ made. no_stamp made.book.cpus _ made.forms.cpus made.forms.visits.stand.1.1.1.1.0)
 
--- what the first call of a child means, that of caller 1: the child begins with wiped states
+-- the meaning of the first call of child 1: the child begins with wiped states
 pub record ChildBegins (lists : Lists) (set : Setting) (call : Call) : Type 0 where
   pub m : CallMeaning
   pub begins : m.before ≡ caller_start set
@@ -122,7 +122,7 @@ child_begins lists settings parents call calls (p ∷ [] ∷ ms) h = absurd h.1.
 child_begins lists settings parents call calls (p ∷ (m ∷ rest) ∷ ms) h =
     record { m = m; begins = h.1.0.follows.0; means = h.1.0.follows.1; deeds = h.1.0.deeds.0 }
 
--- no attempt shows in no steps
+-- an attempt cannot show without steps
 no_attempt : (set : Setting) (rest : List HostStep) (n flags : ℕ) (s : VgetrandomState) (outcome : Outcome) →
     FirstAttempt n flags s rest outcome → Shows set rest [] → ⊥
 no_attempt set rest n flags s outcome attempt shows =
@@ -131,7 +131,7 @@ no_attempt set rest n flags s outcome attempt shows =
     let looks = subst (λ (h : List HostStep). Shows set h []) begins shows in
     no_first _ _ looks.2
 
--- a wiped state is not served by one look alone
+-- a wiped state is not served after only one look
 wiped_needs_a_key : (m : CallMeaning) → current_state m.before ≡ wiped_state → looked 1 ∷ [] ≡ m.own.deeds →
     VreadMeans 40 0 [] m → ⊥
 wiped_needs_a_key m wiped deeds means =

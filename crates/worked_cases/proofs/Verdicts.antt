@@ -1,4 +1,4 @@
--- Whether a transcript is lawful for a script, given the entries of its lanes: the clauses one after another.
+-- Whether a transcript is lawful for a script, given the entries of its lanes: one clause after another.
 use Rattle.std.proofs.Common.{◌≡◌, ℕ, suc, Option, Some, None, List, [], ◌∷◌, refl, map, replicate, length, ◌==◌, ◌&&◌}
 use Rattle.std.proofs.Common.{if◌then◌else◌}
 use Rattle.key_names.specs.declared.names.LaneId.{LaneId}
@@ -32,7 +32,7 @@ pub record Lanes : Type 0 where
   pub base : List BaseEntry
   pub cpus : List (List CpuEntry)
 
--- where a script sets no hardware words
+-- the hardware words if the script sets none
 abbrev pub no_hardware : List ℕ
 no_hardware = replicate 32 0
 
@@ -41,7 +41,7 @@ no_hardware = replicate 32 0
 abbrev nobody : Who
 nobody = record { caller = 0; event = 0; step = 0 }
 
--- the visit of an entry that the mark of its place makes
+-- the visit that an entry and the mark of its place make
 abbrev visit_at : {E : Type 0} → LaneId → ℕ → E → List MarkBy → Visit E
 visit_at lane place e [] = record { stamp = 0; who = nobody; entry = e }
 visit_at lane place e (by ∷ marks) =
@@ -92,7 +92,7 @@ callers_found lists settings first (calls ∷ callers) = found_both
     (λ f r. record { ms = f.ms ∷ r.ms; means = (record { follows = f.follows; deeds = f.deeds }, r.means) })
     (calls_found lists (caller_start (settings first)) calls) (callers_found lists settings (suc first) callers)
 
--- no call's meaning depends on the lists of the vgetrandom states
+-- the meaning of a call does not depend on the lists of the vgetrandom states
 pub means_again : (lists : Lists) (states : List (List (List VEntry))) (settings : ℕ → Setting) (first : ℕ)
     (callers : List (List Call)) (ms : List (List CallMeaning)) →
     EachCaller (λ c calls ms. CallerMeans lists (settings c) calls ms) first callers ms →
@@ -105,7 +105,7 @@ means_again lists states settings first (calls ∷ callers) (m ∷ ms) h = (
   means_again lists states settings (suc first) callers ms h.1,
 )
 
--- a book of a transcript, with what its calls mean
+-- a book of a transcript, with the meanings of its calls
 pub record FormsFound (script : Script) (t : List (List SeenLine)) : Type 0 where
   pub book : Book
   pub ms : List (List CallMeaning)
@@ -190,7 +190,7 @@ by_lines script t lanes (no lines) = first_fails lines_clause lines
 abbrev pub verdict : (script : Script) (t : List (List SeenLine)) (lanes : Lanes) → Verdict script t
 verdict script t lanes = by_lines script t lanes (has_lines script t)
 
--- 0 where it is lawful, and otherwise the number of the clause; 1 where nothing is known
+-- 0 if it is lawful, else the number of the clause; 1 if neither is known
 abbrev pub verdict_number : {script : Script} {t : List (List SeenLine)} → Verdict script t → ℕ
 verdict_number (lawful h) = 0
 verdict_number (first_fails clause h) = clause_number clause

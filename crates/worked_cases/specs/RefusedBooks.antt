@@ -1,4 +1,4 @@
--- Books that are no books of the kernel's.
+-- Books that the kernel cannot have.
 use Rattle.std.specs.Prelude.{true, false, Some, None, List, [], ◌∷◌, replicate}
 use Rattle.key_names.specs.declared.entries.Taken.TheVariants.{User}
 use Rattle.key_names.specs.declared.entries.PoolEntry.TheVariants.{Mix, Extract}
@@ -17,7 +17,7 @@ shared_refill = record {
   callers = [];
 }
 
--- an extraction whose base place is there, and names nothing
+-- an extraction with a base place that exists and does not name it
 abbrev pub unanswered : Lists
 unanswered = record {
   pool = Mix [] 256 ∷ Extract (replicate 32 0) 0 ∷ [];
@@ -26,7 +26,7 @@ unanswered = record {
   callers = [];
 }
 
--- two integers of 4 bytes out of one batch
+-- two integers of 4 bytes from one batch
 abbrev pub two_integers : Lists
 two_integers = record {
   pool = Mix [] 256 ∷ Extract (replicate 32 0) 0 ∷ [];
@@ -44,7 +44,7 @@ lone_dump = record {
   callers = [];
 }
 
--- a state that takes a key and no new batch with it, and one that gives blocks and then no refill
+-- a state that takes a key and no new batch with it, and one that serves blocks and has no refill after them
 abbrev pub only_rekeyed : List VEntry
 only_rekeyed = Rekey 0 0 ∷ []
 

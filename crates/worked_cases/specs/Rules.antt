@@ -1,4 +1,4 @@
--- What the worked rules speak of: lists of entries read up to a place, and SipHash by rounds.
+-- The definitions of the worked rules: lists of entries read up to a place, and SipHash by rounds.
 use Rattle.std.specs.Prelude.{ℕ, zero, suc, Option, Some, None, [], ◌∷◌, bit_xor, take}
 use Rattle.key_names.specs.declared.entries.PoolEntry.TheVariants.{Input}
 use Rattle.key_names.specs.declared.entries.BaseEntry.TheVariants.{Reseed, Tick}
@@ -6,18 +6,18 @@ use Rattle.key_names.specs.FastPool.{FastWords, sip_round}
 use Rattle.key_names.specs.PoolList.{pool_after}
 use Rattle.key_names.specs.BaseList.{base_after}
 
--- the pool's bits after the first n of four input events, of which the last repeats a value
+-- the pool's bits after the first n of four input events; the last event repeats a value
 abbrev pub bits_after : ℕ → ℕ
 bits_after n = (pool_after (take n
     (Input 0 1 30 1 1000 ∷ Input 0 1 30 2 3000 ∷ Input 0 1 30 3 8000 ∷ Input 0 1 30 3 8000 ∷ []))).bits
 
--- the timer after the first n of six entries: a forced reseed leaves it, and one that fired sets it
+-- the timer after the first n of six entries: a forced reseed leaves it, and a fired one sets it
 abbrev pub timer_at : ℕ → Option ℕ
 timer_at n = (base_after (take n
     (Reseed 0 0 ∷ Tick 999 None ∷ Tick 1000 (Some 1) ∷ Reseed 2 1500 ∷ Tick 1999 None ∷ Tick 2000
     (Some 3) ∷ []))).timer
 
--- so many rounds
+-- this number of rounds
 abbrev pub rounds : ℕ → FastWords → FastWords
 rounds zero s = s
 rounds (suc n) s = rounds n (sip_round s)
@@ -31,6 +31,6 @@ siphash_start = record {
   s3 = bit_xor 0x7465646279746573 0x0f0e0d0c0b0a0908;
 }
 
--- the hash that four last rounds give
+-- the hash after four last rounds
 abbrev pub finished : FastWords → ℕ
 finished s = let t = rounds 4 (record s { s2 = bit_xor s.s2 0xff }) in bit_xor (bit_xor t.s0 t.s1) (bit_xor t.s2 t.s3)

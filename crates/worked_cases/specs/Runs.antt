@@ -1,4 +1,5 @@
--- What a worked case says: the text of a transcript is lawful for the text of a script, and its near misses are not.
+-- The meaning of a worked case: the text of a transcript is lawful for the text of a script, and
+-- its near misses are not.
 use Rattle.std.specs.Prelude.{ℕ, suc, List, [], ◌∷◌, ◌++◌, codes, take, drop, slice_set}
 use Rattle.std.specs.List.{AllByRecursion}
 use Rattle.key_names.specs.SeenLine.{SeenLine}
@@ -7,7 +8,7 @@ use Rattle.key_names.specs.Texts.ScriptGrammar.{Script, IsScript}
 use Rattle.key_names.specs.Texts.TranscriptGrammar.{IsTranscriptText}
 use Rattle.key_names.specs.IsTranscript.{IsTranscript, FirstFails, Clause, lines_clause}
 
--- the input is the text of a script, and the output that of a transcript, which is lawful for it
+-- the input is the text of a script, and the output the text of a transcript that is lawful for it
 pub record IsLawfulRun (input output : List ℕ) : Type 0 where
   pub script : Script
   pub lines : List (List SeenLine)
@@ -15,7 +16,8 @@ pub record IsLawfulRun (input output : List ℕ) : Type 0 where
   pub lines_are : IsTranscriptText output lines
   pub lawful : IsTranscript script lines
 
--- the input is the text of a script, and the output that of a transcript, of which this clause is the first that fails
+-- the input is the text of a script, the output the text of a transcript, and this clause is the
+-- first that fails for them
 pub record FailsFirst (clause : Clause) (input output : List ℕ) : Type 0 where
   pub script : Script
   pub lines : List (List SeenLine)
@@ -23,8 +25,8 @@ pub record FailsFirst (clause : Clause) (input output : List ℕ) : Type 0 where
   pub lines_are : IsTranscriptText output lines
   pub fails : FirstFails script lines clause
 
--- a change of a transcript, its lines being numbered from 0: one is left out, or others stand in the place of one or
--- two; and then the clause that is the first to fail
+-- a change of a transcript with its lines numbered from 0: one line is left out, or one or two are replaced; and the
+-- clause that is the first to fail
 pub data NearMiss : Type 0 where
   left_out : ℕ → NearMiss
   instead : ℕ → List ℕ → Clause → NearMiss
@@ -40,7 +42,7 @@ lines_with lines (left_out n) = take n lines ++ drop (suc n) lines
 lines_with lines (instead n line clause) = slice_set lines n line
 lines_with lines (instead_both n line m other clause) = slice_set (slice_set lines n line) m other
 
--- the text of a script, the lines of a transcript between its first line and its last, and changes of them
+-- the text of a script, the lines of a transcript between its first line and its last, and changes of these
 pub record Case : Type 0 where
   pub script : List ℕ
   pub lines : List (List ℕ)

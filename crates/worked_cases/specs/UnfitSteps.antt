@@ -1,4 +1,4 @@
--- Transcripts with steps that are no form of their event's word, whatever the entries are.
+-- Transcripts with steps that match no form of their event's word, whatever the entries are.
 use Rattle.std.specs.Prelude.{[], ◌∷◌, codes, slice_set}
 use Rattle.worked_cases.specs.ManyCallers.{fork_wipes_the_childs_state}
 use Rattle.worked_cases.specs.Runs.{Case, one_cpu}
@@ -11,7 +11,7 @@ read_without_a_look = record {
   near_misses = [];
 }
 
--- a fork that visits nothing
+-- a fork without a visit
 abbrev pub fork_without_a_visit : Case
 fork_without_a_visit = record {
   script = one_cpu (codes "fork 1" ∷ codes "caller 1" ∷ []);
@@ -19,7 +19,7 @@ fork_without_a_visit = record {
   near_misses = [];
 }
 
--- a visit of a CPU that there is not
+-- a visit of a CPU that the script does not have
 abbrev pub visit_of_no_cpu : Case
 visit_of_no_cpu = record {
   script = one_cpu (codes "credit 256" ∷ codes "read 8 0" ∷ []);
@@ -41,7 +41,7 @@ looks_that_fall = record {
   near_misses = [];
 }
 
--- a child that goes on with its parent's batch, and so is served the parent's next bytes without a key of its own
+-- a child that goes on with its parent's batch, and so gets the parent's next bytes without a key of its own
 abbrev pub batch_of_the_parent : Case
 batch_of_the_parent = record fork_wipes_the_childs_state {
   lines = slice_set fork_wipes_the_childs_state.lines 5

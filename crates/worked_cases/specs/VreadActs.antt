@@ -1,4 +1,4 @@
--- Acts inside calls of vgetrandom: whose setting they have, and where they stand in the order.
+-- Acts inside vgetrandom calls: the setting that they have, and their place in the order.
 use Rattle.std.specs.Prelude.{[], ◌∷◌, codes}
 use Rattle.key_names.specs.IsTranscript.{answers_clause, data_clause, looks_clause, marks_clause}
 use Rattle.worked_cases.specs.Runs.{Case, left_out, instead, instead_both, one_cpu, script_with}

@@ -1,4 +1,4 @@
--- Calls of vgetrandom.
+-- vgetrandom calls.
 use Rattle.std.specs.Prelude.{[], ◌∷◌, ◌++◌, codes}
 use Rattle.key_names.specs.IsTranscript.{answers_clause, data_clause, looks_clause, marks_clause}
 use Rattle.worked_cases.specs.Runs.{Case, left_out, instead, one_cpu, script_with}

@@ -22,7 +22,7 @@ pub fn reseed_timer()
     ensures { Holds reseed_timer }
 {}
 
-/// Intervals at 120 seconds and later, also where the moments go back.
+/// Intervals at 120 seconds and later, also if the moments go back.
 #[tactic(auto, using(crate::proofs::GeneratorLanes::late_interval_holds))]
 pub fn late_interval()
     ensures { Holds late_interval }

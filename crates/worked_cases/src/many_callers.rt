@@ -1,9 +1,9 @@
-//! Runs of two callers. Each is one order of many that are lawful.
+//! Runs of two callers. Each is one of many lawful orders.
 ghost use Rattle.worked_cases.specs.Runs.{Holds};
 ghost use Rattle.worked_cases.specs.ManyCallers.{both_wait_one_lawful_example, waiter_resumes_one_lawful_example};
 ghost use Rattle.worked_cases.specs.ManyCallers.{fork_wipes_the_childs_state, handed_back_child};
 
-/// Two callers wait, and the last one that runs is interrupted: one order of many.
+/// Two callers wait, and the last running one is interrupted: one order of many.
 #[tactic(auto, using(crate::proofs::CallerLanes::both_wait_one_lawful_example_holds))]
 pub fn both_wait()
     ensures { Holds both_wait_one_lawful_example }
@@ -21,7 +21,7 @@ pub fn fork_wipes_the_childs_state()
     ensures { Holds fork_wipes_the_childs_state }
 {}
 
-/// The same where the thread of the fork was handed back and started again.
+/// The same, if the fork got no thread, and the parent ran the child itself.
 #[tactic(auto, using(crate::proofs::CallerLanes::handed_back_child_holds))]
 pub fn handed_back_child()
     ensures { Holds handed_back_child }

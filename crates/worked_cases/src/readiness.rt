@@ -5,13 +5,13 @@ ghost use Rattle.worked_cases.specs.Readiness.{empty_base_extracts_each_time, re
 ghost use Rattle.worked_cases.specs.Readiness.{early_then_ready, early_step_skipped, early_base_no_second_extraction};
 ghost use Rattle.worked_cases.specs.Readiness.{random_file_not_ready, kernel_and_file_reads};
 
-/// A write, and a read that takes its bytes from a key extracted for it alone.
+/// A write, and a read served from a root that is extracted for it alone.
 #[tactic(auto, using(crate::proofs::ReadinessLanes::first_run_holds))]
 pub fn first_run()
     ensures { Holds first_run }
 {}
 
-/// Reads of a core that is not ready: refused, turned away and interrupted, with the bits beside them.
+/// A core that is not ready: reads (`EAGAIN`, `EINVAL`, `EINTR`), a reseed (`ENODATA`), and its bits.
 #[tactic(auto, using(crate::proofs::ReadinessLanes::before_readiness_holds))]
 pub fn before_readiness()
     ensures { Holds before_readiness }
@@ -29,7 +29,7 @@ pub fn empty_base_extracts_each_time()
     ensures { Holds empty_base_extracts_each_time }
 {}
 
-/// A read of more than 32 bytes goes on in a block of its own.
+/// A read of more than 32 bytes is served from a key of its own.
 #[tactic(auto, using(crate::proofs::ReadinessLanes::read_of_33_before_readiness_holds))]
 pub fn read_of_33_before_readiness()
     ensures { Holds read_of_33_before_readiness }
@@ -41,19 +41,19 @@ pub fn early_then_ready()
     ensures { Holds early_then_ready }
 {}
 
-/// A credit that passes 128 and 256 at once makes the core ready.
+/// A credit that passes both 128 and 256 makes the core ready.
 #[tactic(auto, using(crate::proofs::ReadinessLanes::early_step_skipped_holds))]
 pub fn early_step_skipped()
     ensures { Holds early_step_skipped }
 {}
 
-/// A read from a base that is early extracts no root.
+/// A read from an early base extracts no root.
 #[tactic(auto, using(crate::proofs::ReadinessLanes::early_base_no_second_extraction_holds))]
 pub fn early_base_no_second_extraction()
     ensures { Holds early_base_no_second_extraction }
 {}
 
-/// Reads of the random file, one that does not wait and one that waits in vain.
+/// Reads of /dev/random, one that does not wait and one that waits in vain.
 #[tactic(auto, using(crate::proofs::ReadinessLanes::random_file_not_ready_holds))]
 pub fn random_file_not_ready()
     ensures { Holds random_file_not_ready }

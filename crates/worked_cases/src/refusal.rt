@@ -1,8 +1,8 @@
-//! What it means for a near miss that a clause is the first to fail.
+//! A near miss, for which some clause is the first to fail, is refused.
 ghost use Rattle.worked_cases.specs.Refusal.{FailsIsRefused};
 
-/// A text of which some clause is the first that fails is not the text of a lawful transcript for the same script,
-/// whatever book is tried.
+/// A text for which some clause is the first that fails is not the text of a lawful transcript for the same
+/// script, whatever the book.
 pub fn near_misses_are_refused()
     ensures { FailsIsRefused }
 {}

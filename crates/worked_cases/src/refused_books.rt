@@ -14,8 +14,8 @@ pub fn one_refill_for_two_cpus()
     ensures { ¬ IsDisjoint shared_refill }
 {}
 
-/// An extraction names the base's place that it is for, and that place names the extraction. Only a place that is not
-/// yet there may be named by itself.
+/// An extraction names the base's place that it is for, and that place names the extraction. Only a place that does not
+/// exist yet need not name it.
 #[tactic(auto, using(crate::proofs::BooksRefused::unanswered_is_refused))]
 pub fn unanswered_extraction()
     ensures { ¬ HalfFinishedLanes unanswered }
@@ -27,13 +27,13 @@ pub fn served_bytes_that_stay()
     ensures { ¬ IsErased two_integers (λ batch. replicate 96 1) }
 {}
 
-/// A dump follows an interrupt of its own event that made it due.
+/// A dump without an interrupt of its own event that made it due is refused.
 #[tactic(auto, using(crate::proofs::BooksRefused::lone_dump_is_refused))]
 pub fn dump_without_an_interrupt()
     ensures { ¬ LawfulSamples lone_dump }
 {}
 
-/// The list of a vgetrandom state does not end behind a new key, nor behind whole blocks: a new batch follows both.
+/// The list of a vgetrandom state does not end after a new key, nor after whole blocks: a new batch follows both.
 #[tactic(auto, using(crate::proofs::BooksRefused::only_rekeyed_is_refused, crate::proofs::BooksRefused::only_blocks_is_refused))]
 pub fn state_lists_cut_short()
     ensures rekeyed { ¬ LawfulStateList (cpu_list two_integers) 0 0 only_rekeyed }

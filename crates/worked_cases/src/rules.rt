@@ -1,4 +1,4 @@
-//! The kernel's small rules on numbers of their own: credits, input events, interrupts and the reseed timer.
+//! The kernel's small rules on example numbers: credits, input events, interrupts and the reseed timer.
 ghost use Rattle.std.specs.Prelude.{◌≡◌, ℕ, true, false, Some, [], ◌∷◌, map, replicate, ◌++◌};
 ghost use Rattle.key_names.specs.declared.entries.PoolEntry.TheVariants.{Input};
 ghost use Rattle.key_names.specs.declared.entries.BaseEntry.TheVariants.{Reseed, Tick};
@@ -8,7 +8,7 @@ ghost use Rattle.key_names.specs.PoolList.{credit, crossing, ready, early, none,
 ghost use Rattle.key_names.specs.BaseList.{base_after, interval};
 ghost use Rattle.worked_cases.specs.Rules.{bits_after, timer_at, finished, rounds, siphash_start};
 
-/// One more bit crosses 128 and 256, and a credit that passes both crosses 256 alone (`_credit_init_bits`).
+/// One more bit crosses 128 and 256, and a credit that passes both crosses only 256 (`_credit_init_bits`).
 #[tactic(auto, using(crate::proofs::WorkedRules::crossings, crate::proofs::WorkedRules::early_is_skipped))]
 pub fn credits()
     ensures crossings { map (λ (n : ℕ). crossing n (credit n 1)) (126 ∷ 127 ∷ 254 ∷ 255 ∷ 256 ∷ [])
@@ -16,8 +16,8 @@ pub fn credits()
     ensures early_is_skipped { crossing 100 (credit 100 300) ≡ ready }
 {}
 
-/// What input events are worth, and the bytes that they mix; the last value once more mixes nothing
-/// (`add_timer_randomness`, `add_input_randomness`).
+/// The bits that input events are credited with, and the bytes that they mix. If the last value is repeated, nothing is
+/// mixed (`add_timer_randomness`, `add_input_randomness`).
 #[tactic(auto, using(crate::proofs::WorkedRules::bits_of_inputs, crate::proofs::WorkedRules::text_of_inputs))]
 pub fn input_events()
     ensures bits { map bits_after (1 ∷ 2 ∷ 3 ∷ 4 ∷ []) ≡ 9 ∷ 9 ∷ 19 ∷ 19 ∷ [] }
@@ -25,8 +25,8 @@ pub fn input_events()
         ≡ 0 ∷ 0 ∷ 0 ∷ 0 ∷ 0 ∷ 0 ∷ 0 ∷ 0 ∷ 14 ∷ 0 ∷ 0 ∷ 0 ∷ [] }
 {}
 
-/// A dump is due behind 1,000 milliseconds, and by the 1,024th interrupt, with 16 bits. Where the CPU came online
-/// before that dump, it credits one bit (`add_interrupt_randomness`, `mix_interrupt_randomness`).
+/// A dump is due after more than 1,000 milliseconds, and at the 1,024th interrupt, then with 16 bits. If the CPU came
+/// online before that dump, it is credited with one bit (`add_interrupt_randomness`, `mix_interrupt_randomness`).
 #[tactic(auto, using(crate::proofs::WorkedRules::due_by_time, crate::proofs::WorkedRules::due_by_count, crate::proofs::WorkedRules::bits_of_count, crate::proofs::WorkedRules::bits_after_online))]
 pub fn dumps()
     ensures by_time { map (makes_due fast_start) (1000 ∷ 1001 ∷ []) ≡ false ∷ true ∷ [] }
@@ -35,8 +35,8 @@ pub fn dumps()
     ensures after_online { dump_bits (fast_after (replicate 1024 (Irq 1 2 0) ++ Online ∷ [])) ≡ 1 }
 {}
 
-/// The milliseconds to the next reseed by the age of the system, and the timer after reseeds that were forced and that
-/// fired (`crng_reseed_interval`).
+/// The milliseconds to the next reseed by the age of the system, and the timer after forced and fired reseeds
+/// (`crng_reseed_interval`).
 #[tactic(auto, using(crate::proofs::WorkedRules::intervals, crate::proofs::WorkedRules::late_interval, crate::proofs::WorkedRules::timers))]
 pub fn reseed_intervals()
     ensures by_age { map (interval true) (0 ∷ 1999 ∷ 5000 ∷ 119999 ∷ 120000 ∷ [])
@@ -46,7 +46,7 @@ pub fn reseed_intervals()
         ≡ Some 1000 ∷ Some 1000 ∷ Some 2000 ∷ Some 2000 ∷ Some 2000 ∷ Some 3000 ∷ [] }
 {}
 
-/// The round that mixes samples gives SipHash-2-4 of no bytes under the published key 00 01 .. 0f.
+/// The round that mixes samples computes SipHash-2-4 of no bytes under the published key 00 01 .. 0f.
 #[tactic(auto, using(crate::proofs::WorkedRules::siphash_of_nothing))]
 pub fn siphash_of_nothing()
     ensures { finished (rounds 2 siphash_start) ≡ 0x726fdb47dd0e0e31 }

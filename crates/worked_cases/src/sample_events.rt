@@ -9,13 +9,13 @@ pub fn irq_at_1000_no_dump()
     ensures { Holds irq_at_1000_no_dump }
 {}
 
-/// One at 1,001 milliseconds dumps, with one bit.
+/// An interrupt at 1,001 milliseconds dumps, with one bit.
 #[tactic(auto, using(crate::proofs::SampleLanes::irq_at_1001_dumps_holds))]
 pub fn irq_at_1001_dumps()
     ensures { Holds irq_at_1001_dumps }
 {}
 
-/// What input events are worth by their times, and that a repeated value is worth nothing.
+/// Input events are credited by their times, and a repeated value with nothing.
 #[tactic(auto, using(crate::proofs::SampleLanes::input_timer_holds))]
 pub fn input_timer()
     ensures { Holds input_timer }

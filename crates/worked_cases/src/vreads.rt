@@ -1,9 +1,9 @@
-//! Calls of vgetrandom.
+//! vgetrandom calls.
 ghost use Rattle.worked_cases.specs.Runs.{Holds};
 ghost use Rattle.worked_cases.specs.Vreads.{vread_batch, vread_of_nothing, wipe_inside_with_nested_read};
 ghost use Rattle.worked_cases.specs.Vreads.{reseed_inside_vread, point_not_reached, two_vgetrandom_states, load_1_1_8};
 
-/// Three reads from one state: with a new key, out of the batch, and with a new batch.
+/// Three reads from one state: with a new key, from the batch, and with a new batch.
 #[tactic(auto, using(crate::proofs::VreadLanes::vread_batch_holds))]
 pub fn vread_batch()
     ensures { Holds vread_batch }
@@ -27,7 +27,7 @@ pub fn reseed_inside_vread()
     ensures { Holds reseed_inside_vread }
 {}
 
-/// An act at a point that its read does not come to is not done.
+/// An act at a point that its read does not reach is not done.
 #[tactic(auto, using(crate::proofs::VreadLanes::point_not_reached_holds))]
 pub fn point_not_reached()
     ensures { Holds point_not_reached }

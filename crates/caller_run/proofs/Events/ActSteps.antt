@@ -1,4 +1,4 @@
--- What acts at a point did, as a caller's doings.
+-- The steps of the acts at a point, as steps of their caller.
 use Rattle.std.proofs.Common.{◌≡◌, Bool, true, false, not, List, [], ◌∷◌, ◌++◌, refl, sym, ap, ◌∙◌, subst}
 use Rattle.std.specs.Prelude.{MatchBool, ◌&&◌, ⊤, if◌then◌else◌}
 use Rattle.std.specs.List.{AllByRecursion}
@@ -15,7 +15,7 @@ use Rattle.rng_core.proofs.InsideCalls.{IsUndone}
 use Rattle.caller_run.specs.Items.{Item, items_from, line_items, items_at_point}
 use Rattle.caller_run.proofs.Orders.PartItems.{Part, part_nothing, part_then, part_went}
 
--- two points, which are not the same
+-- two different points
 abbrev pub Apart : Point → Point → Type 0
 Apart p q = is_same_point p q ≡ false
 
@@ -35,7 +35,7 @@ all_untouched p (a ∷ asks) (x ∷ xs) all = (go (is_same_point a.point p), all
     go true = all.0
     go false = tt
 
--- the two orders of a test
+-- the test gives the same in both orders
 same_test : (p q : Point) → is_same_point p q ≡ is_same_point q p
 same_test Start Start = refl
 same_test Written Written = refl
@@ -48,7 +48,7 @@ module _ (set : Setting) where
   abbrev pub act_items : List Ask → List ActOutcome → Point → List Item
   act_items asks xs p = items_at_point (bound_acts set asks xs) p
 
-  -- none, where none was done
+  -- an act that was not done has no steps
   pub untouched_items : (p : Point) (asks : List Ask) (xs : List ActOutcome) → Untouched p asks xs →
       act_items asks xs p ≡ []
   untouched_items p [] xs k = refl
@@ -60,7 +60,7 @@ module _ (set : Setting) where
       go true h rest = ap (λ (l : List Step). items_from a.event 0 l ++ act_items asks xs p) h.empty ∙ rest
       go false h rest = rest
 
-  -- one act did these steps, as its line tells
+  -- one act made these steps, and its line shows them
   act_part : (a : Ask) (v w : View) (y : ActOutcome) → ActRan set a v w y →
       Part set.caller v w (line_items (act_line set a y))
   act_part a v w y k =
@@ -68,7 +68,7 @@ module _ (set : Setting) where
       (part_went set.caller a.event 0 v w k.did.made_steps k.did.told.went)
 
   module _ (point : Point) where
-    -- the acts at the point, where none of them was done before
+    -- the acts at the point, if none of them was done before it
     pub acts_part : (asks : List Ask) (v w : View) (xs ys : List ActOutcome) → ActsAt set point asks v w xs ys →
         Untouched point asks xs → Part set.caller v w (act_items asks ys point)
     acts_part [] v w [] [] k untouched = part_nothing set.caller v w k
@@ -94,7 +94,7 @@ module _ (set : Setting) where
         go false false same h u rest = subst (λ (z : View). Part set.caller z w (act_items asks ys point))
             h.1 rest
 
-    -- at another point nothing changes
+    -- the acts of other points stay as they are
     pub acts_elsewhere : (q : Point) → Apart point q →
         (asks : List Ask) (v w : View) (xs ys : List ActOutcome) →
         ActsAt set point asks v w xs ys →

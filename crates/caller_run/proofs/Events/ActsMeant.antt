@@ -1,4 +1,4 @@
--- What the acts inside a call mean, and their samples.
+-- The meaning of the acts inside a call, and their samples.
 use Rattle.std.proofs.Common.{◌≡◌, ℕ, inl, Bool, true, false, List, [], ◌∷◌, map, refl, sym, ap, subst}
 use Rattle.std.specs.Prelude.{if◌then◌else◌}
 use Rattle.std.specs.List.{AllByRecursion}
@@ -28,7 +28,7 @@ use Rattle.rng_core.proofs.ActRuns.{Meant, AllMeant}
 use Rattle.key_names.proofs.Transcripts.QuietForms.{sys, form_samples}
 
 module _ (set : Setting) (w : View) where
-  -- the line of each act is what it means
+  -- a fact about each act and its meaning holds of the line of each
   module _ (lists : Lists) where
     pub each_act : (P : SeenLine → LineMeaning → Type 0) →
         ((a : Ask) (z : ActOutcome) → Meant set w a z → P (act_line set a z) (outcome_line lists z)) →

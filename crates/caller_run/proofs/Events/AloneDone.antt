@@ -1,4 +1,4 @@
--- An event by itself, an act that nothing follows, and the end, out of what their calls tell.
+-- Three kinds of calls, out of the contracts of the core: an event alone, an act without a vread after it, and the end.
 use Rattle.std.proofs.Common.{◌≡◌, ℕ, List, [], map, refl, sym, ap, ◌∙◌, subst, inl}
 use Rattle.key_names.specs.declared.events.Answer.TheVariants.{Ok as Done, Unused}
 use Rattle.key_names.specs.declared.events.Event.{Event}
@@ -22,7 +22,7 @@ use Rattle.rng_core.specs.SampleDeeds.{fast_in}
 use Rattle.caller_run.specs.Done.{CallDone}
 use Rattle.caller_run.proofs.Orders.Chains.{items_from_doings, ran_nothing, ran_went}
 
--- the call of a line went from v to w by these deals, which are the line's steps
+-- the call of a line went from v to w by these steps, and they are the line's
 module _ (caller : ℕ) (v w : View) (s : CallerState) (line : SeenLine) (made_steps : List MadeStep)
     (went : Advances caller line.event 0 v w made_steps) (steps : line.steps ≡ map step_of made_steps) where
   order : items_of (numbered_steps_from line.event 0 made_steps) ≡ items_from line.event 0 line.steps
@@ -101,7 +101,7 @@ module _ (caller : ℕ) (v w : View) (s : CallerState) (line : SeenLine) (made_s
     samples = λ lanes visits callers c. (sampled lanes visits callers c, tt);
   }
 
--- an act that no vread follows is not done
+-- an act without a vread after it is not done
 pub unbound_done : (caller : ℕ) (v : View) (s : CallerState) (bound : BoundAct) → bound.line.steps ≡ [] →
     bound.line.answer ≡ Unused → bound.line.shown ≡ no_data → CallDone caller v v s s (unbound bound)
 unbound_done caller v s bound none answer shown = record {

@@ -1,4 +1,4 @@
--- Bytes that a line shows fit it.
+-- The bytes that a line shows are bytes, and as many as its word allows.
 use Rattle.std.proofs.Common.{◌≡◌, ℕ, List, [], ◌∷◌, Fits, w8, arith}
 use Rattle.std.specs.Prelude.{slice_index, ◌<◌, ◌^◌, ⊤}
 use Rattle.key_names.specs.declared.events.Word.{Word}
@@ -14,12 +14,12 @@ pub bytes_fit : (word : Word) (bytes : List ℕ) → (word ≡ Bits → ⊥) →
 bytes_fit word [] other is = tt
 bytes_fit word (b ∷ bytes) other is = (other, omega arith, λ i. let byte = is i in omega arith)
 
--- a count that is shown
+-- a count that is shown is below 2^32
 abbrev pub IsSmall : Shows → Type 0
 IsSmall (Count n) = n < 2 ^ 32
 IsSmall _ = ⊤
 
--- what a call shows fits the line of its word
+-- the data of a call fit the line of its word
 pub shown_fits : (word : Word) (served : List ℕ) (shows : Shows) → ShowsFit word shows →
     ((i : ℕ) → Fits w8 (slice_index served i)) → IsSmall shows → ShownFits word (shown_by served shows)
 shown_fits word served Nothing fit bytes small = tt

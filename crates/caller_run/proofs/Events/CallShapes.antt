@@ -10,7 +10,7 @@ use Rattle.key_names.specs.VgetrandomState.{VgetrandomState}
 use Rattle.rng_core.specs.declared.vdso.attempt.Attempt.TheVariants.{Before, First}
 use Rattle.caller_run.proofs.Orders.OwnSteps.{Quiet, later_quiet, LooksFirst}
 
--- a second attempt, and what follows it
+-- a second attempt, and the steps after it
 pub record NextAttempt (steps : List HostStep) : Type 0 where
   pub published : ℕ
   pub rest : List HostStep
@@ -18,7 +18,7 @@ pub record NextAttempt (steps : List HostStep) : Type 0 where
   pub quiet : Quiet First rest
   pub looks : LooksFirst rest
 
--- what follows a first attempt that copied
+-- the steps after a first attempt that copied
 abbrev pub Behind : List HostStep → Type 0
 Behind steps = (steps ≡ []) ⊎ NextAttempt steps
 
@@ -31,7 +31,7 @@ pub record Copies (steps : List HostStep) : Type 0 where
   pub steps_are : steps ≡ at_point Serve at_serve ∷ at_point End at_end ∷ publishes published ∷ rest
   pub behind : Behind rest
 
--- behind Written, a new key was read
+-- after Written, a new key was read
 pub record Rekeys (steps : List HostStep) : Type 0 where
   pub key : List ℕ
   pub visit : Option CpuPlace
@@ -39,7 +39,7 @@ pub record Rekeys (steps : List HostStep) : Type 0 where
   pub steps_are : steps ≡ system_call 32 0 (read key visit) ∷ rest
   pub copies : Copies rest
 
--- or it was not, and a last system call follows
+-- or the read failed, and a last system call follows
 pub record Fails (steps : List HostStep) : Type 0 where
   pub errno : Errno
   pub n : ℕ
@@ -91,7 +91,7 @@ module _ (n : ℕ) where
             ∙ ap end_of last.attempt_is;
       }
 
-  -- the second attempt begins with two own steps that are looks
+  -- the caller's own steps in the second attempt begin with two looks
   start_looks : (c published : ℕ) (s : VgetrandomState) (steps more : List HostStep) (attempt : Attempt) →
       FromStart n c published s steps attempt → LooksFirst (steps ++ more)
   start_looks c published s steps more attempt k = go (s.generation == published) k
@@ -220,7 +220,7 @@ module _ (n : ℕ) where
             let ne = eqb-false found 0 some in
             inr (first_attempt found (record s { in_use = true }) steps outcome (omega (arith, ne)) h)
 
-    -- each call is one or the other
+    -- each call has one of the two shapes
     pub call_shape : (s : VgetrandomState) (steps : List HostStep) (outcome : Outcome) →
         IsCall n flags s steps outcome →
         Quiet Before steps ⊎ Tries steps

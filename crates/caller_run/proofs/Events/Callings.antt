@@ -1,4 +1,4 @@
--- Calls of the core as what a caller's events ask for.
+-- From the contracts of the core's calls to those of a caller's events.
 use Rattle.std.proofs.Common.{◌≡◌, ℕ, List, [], map, refl, sym, ap, subst, arith, rules}
 use Rattle.key_names.specs.declared.events.Answer.{Answer}
 use Rattle.key_names.specs.declared.events.Answer.TheVariants.{Ok as Done}
@@ -26,6 +26,7 @@ use Rattle.caller_run.proofs.Events.OwnSites.{own_hands}
 use Rattle.caller_run.specs.Kinds.{IsQuiet}
 use Rattle.caller_run.specs.Says.{shown_by, ShowsFit, IsNoCount}
 use Rattle.caller_run.specs.declared.states.States.{States}
+use Rattle.std.specs.Global.{Box}
 use Rattle.caller_run.specs.declared.reply.Shows.{Shows}
 use Rattle.caller_run.specs.declared.reply.Shows.TheVariants.{Nothing, Served, Count}
 use Rattle.caller_run.specs.declared.reply.Reply.{Reply}
@@ -58,7 +59,7 @@ module _ {event e : Event} {m n : Site} {said : Reply} {served : List ℕ} {step
         shows = fit;
       })
 
-  -- where it was no interrupt
+  -- the same, if it was no interrupt
   pub by_shown : {answer : Answer} (shown : Shown) → said.answer ≡ answer → shown_by served said.shows ≡ shown →
       ShowsFit (event_word e) said.shows → IsNoInterrupt e → Completes steps e answer shown m n →
       Asked event said served m n
@@ -69,7 +70,7 @@ module _ {event e : Event} {m n : Site} {said : Reply} {served : List ℕ} {step
     did = quietly m.set e answer shown (at m) (at n) other done.did;
   })
 
-  -- and nothing but an answer is told of it
+  -- the same, if the call only gives an answer
   pub by_answer : {answer : Answer} → said ≡ record { answer = answer; shows = Nothing } → IsNoInterrupt e →
       Completes steps e answer no_data m n → Asked event said served m n
   by_answer says other done =
@@ -91,7 +92,7 @@ as_credit done = record {
   };
 }
 
--- what asks nothing of the core
+-- an event that makes no call of the core
 
 quiet_fulfil : (set : calls.Setting) (event : Event) → IsQuiet event → IsOutcomeOf set event Done no_data []
 quiet_fulfil set (At moment) is = record { form = refl; answers = refl; shows = refl }
@@ -111,8 +112,8 @@ asks_nothing {event = event} {m = m} can is says = by_answer {steps = 0} refl sa
       (quiet_fulfil (setting_of m.set) event is);
 })
 
--- at a site that a caller made, what was asked there is its own call
-pub called : {event : Event} {m n : Site} {said : Reply} {served : List ℕ} {states : States} {p : Pass}
+-- at a site that a caller made, the call of an event is the caller's own call
+pub called : {event : Event} {m n : Site} {said : Reply} {served : List ℕ} {states : Box States} {p : Pass}
     {steps : List Step} → p ≡ n.pass.now → steps ≡ n.trace.now → m.trace.now ≡ [] → Asked event said served m n →
     Called m.lanes.now event (record { pass = m.pass.now; set = m.set; states = states })
     (record { pass = p; set = m.set; states = states }) said served steps
@@ -125,7 +126,7 @@ called {event = event} {m = m} {n = n} {said = said} {served = served} pass trac
   shows = asked.shows;
 }))
 
--- bytes stand on the line of a word that is not bits
+-- bytes are on the line of a word other than bits
 pub no_count : (word : Word) (shows : Shows) → (word ≡ Bits → ⊥) → IsNoCount shows → ShowsFit word shows
 no_count word Nothing other is = tt
 no_count word Served other is = other

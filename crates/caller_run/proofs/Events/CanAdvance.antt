@@ -1,4 +1,4 @@
--- What a caller needs for its next event.
+-- The preconditions of a caller's next event.
 use Rattle.std.proofs.Common.{◌≡◌, ℕ, ◌+◌, ◌<◌, ◌≤◌, ◌^◌, List, [], ◌∷◌, sym, ap, ◌∙◌, subst, arith}
 use Rattle.std.proofs.lemmas.List.Sums.{sum_by-cons}
 use Rattle.key_names.specs.declared.events.Event.{Event}
@@ -26,7 +26,7 @@ use Rattle.caller_run.specs.Standing.{read_inside, CanAdvanceWith, CanAdvance}
 use Rattle.caller_run.proofs.Law.Seeing.{seen_after}
 use Rattle.caller_run.proofs.Planning.LogFills.{Fills}
 
--- a setting of the table's
+-- the setting's CPU is one of the table's, and its moment is below 2^40
 record Fits (cpus : ℕ) (set : calls.Setting) : Type 0 where
   cpu : set.cpu < cpus
   moment : set.now < 2 ^ 40
@@ -38,7 +38,7 @@ fits_after version cpus set (On cpu) range f = record { cpu = range; moment = f.
 fits_after version cpus set (Hw bytes) range f = record { cpu = f.cpu; moment = f.moment }
 fits_after version cpus set event range f = f
 
--- the caller behind an event: d made its call, and e goes on, as `go_on` ensures
+-- the caller after an event: d made its call, and e goes on, as `go_on` ensures
 abbrev pub GoesOn : Event → Caller → Caller → Type 0
 GoesOn event d e = record {
   stand : stand e ≡ caller_after (stand d) event;
@@ -72,7 +72,8 @@ first_can {event = event} {rest = rest} can = let g = can.goes in record {
   act_room = can.act_room;
 }
 
--- an event is made and the lines go on: c is the caller before it, d behind its call, and e where it goes on
+-- the caller made an event, and its lines grew: c is the caller before the event, d after its call, and e when it goes
+-- on
 module _ {t : Lanes} {event : Event} {c e : Caller} {before after : Gathered} {acts left : List Bound}
     {served inside : ℕ}
     {rest : List Event} (d : Caller) where

@@ -1,4 +1,4 @@
--- The course of a call with acts inside, out of what the caller did as the host of its own call.
+-- The course of a call with acts inside, out of the caller's steps as the host of its own call.
 use Rattle.std.proofs.Common.{◌≡◌, ℕ, zero, suc, ◌<◌, ◌≤◌, ◌⊎◌, inl, inr, Bool, List, [], ◌∷◌, ◌++◌, length, drop, map, refl, sym, ap, subst, arith}
 use Rattle.key_names.specs.declared.names.Step.TheVariants.{Look}
 use Rattle.key_names.specs.declared.point.Point.{Point}
@@ -29,7 +29,7 @@ use Rattle.caller_run.proofs.Events.KeyCuts.{key_cut, plain_cut, key_call}
 use Rattle.caller_run.proofs.Orders.OwnSteps.{Spot, view_at, spot, Quiet, BeginsUnmarked, at, line_of, items_at, goes_published, goes_answered, goes_passed, OwnSteps, own_nothing, own_then, own_told, own_look, next_items, quietly, Reached, reached_not, reached_first}
 use Rattle.caller_run.proofs.Orders.PartItems.{Part}
 
--- what a pass knows goes on from itself, and from what it knew before
+-- the lists that a pass has seen begin with themselves, and with those that it had seen before
 known_continues : (v w : View) → Onward v w → 1 < length v.lanes → Consistent w →
     Continues (length w.lanes) v (known_of w)
 known_continues v w onward two consistent =
@@ -51,7 +51,7 @@ module _ (set : Setting) (asks : List Ask) where
   point_onward attempt s t point wiped k =
       acts_onward set point asks (view_at s) (view_at t) s.outcomes t.outcomes k.ran
 
-  -- behind the end of a first attempt
+  -- after the end of a first attempt
   record Tail (s t : Spot) : Type 0 where
     pub items : List Item
     pub own : OwnSteps set asks s t items
@@ -116,7 +116,7 @@ module _ (set : Setting) (asks : List Ask) where
         consistent = look.1.consistent;
       }
 
-  -- from Start on, a generation having been seen
+  -- from Start on, after the looks found a generation
   record Looked (s looked started : Spot) : Type 0 where
     pub first : Item
     pub second : Item
@@ -191,7 +191,7 @@ module _ (set : Setting) (asks : List Ask) where
                 d.unmarked);
           }
 
-      -- where there was none to be had
+      -- the read of a new key failed
       by_failure : (steps : List HostStep) → Fails steps →
           DoesAll acting (at set asks First written) steps (at set asks last t) →
           Course set asks s t
@@ -283,7 +283,7 @@ module _ (set : Setting) (asks : List Ask) where
         two = (let f = a.sized in let g = b.sized in let h = e.sized in omega arith);
       }) c.rest c.goes_on start.2
 
-  -- what the caller did in any call, in order
+  -- the caller's steps in any call, in order
   pub inside_part : (n flags : ℕ) (state : VgetrandomState) (steps : List HostStep) (outcome : Outcome) (s t : Spot)
       (last : Attempt) →
       1 < length (view_at s).lanes → ((p : Point) → Untouched p asks s.outcomes) → s.moment.steps ≡ [] →

@@ -35,7 +35,7 @@ use Rattle.caller_run.proofs.Events.InsideCourse.{inside_part}
 use Rattle.caller_run.proofs.Orders.PartItems.{Part}
 use Rattle.caller_run.proofs.Events.VreadDone.{vread_quiet}
 
--- the read went from v to w, with these steps in its line, and with acts of which none was done before it
+-- the read went from v to w, with these steps in its line. None of its acts was done before it
 module _ (set : Setting) (v w : View) (s : CallerState) (n flags : ℕ) (t : VgetrandomState) (answer : Answer)
     (shown : Shown)
     (word : Word) (steps : List Step) (asks : List Ask) (xs zs : List ActOutcome) (same : s.setting ≡ setting_of set)

@@ -1,4 +1,4 @@
--- Where the steps of a vread are cut: behind those of the system call for a new key, if there is one.
+-- The place where the steps of a vread are cut: after the steps of the system call for a new key, if it made one.
 use Rattle.std.proofs.Common.{◌≡◌, ℕ, suc, ◌≤◌, ◌⊎◌, inl, inr, Bool, true, false, not, Option, Some, None, List, [], ◌∷◌, ◌++◌, drop, map, refl, sym, ap, ◌∙◌, subst, arith}
 use Rattle.std.specs.Prelude.{MatchBool, ◌==◌, ◌&&◌, slice_get, if◌then◌else◌}
 use Rattle.std.specs.List.{AllByRecursion}
@@ -63,7 +63,7 @@ marks_cut event n (step ∷ steps) rest all begins =
     go item true marks e parts = ap (λ (cut : List Item × List Item). (item ∷ cut.0, cut.1)) parts
     go item false marks e parts = absurd (cc e)
 
--- behind the steps for a new key
+-- the cut is after the steps for a new key
 pub key_cut : (event n : ℕ) (steps : List Step) (rest : List Item) → IsKeySteps steps → BeginsUnmarked rest →
     AreParts (cut_rekey (items_from event n steps ++ rest)) (items_from event n steps) rest
 key_cut event n [] rest k begins = absurd k
@@ -80,7 +80,7 @@ key_cut event n (a ∷ b ∷ c ∷ more) rest k begins =
     go front marks true e parts = ap (λ (cut : List Item × List Item). (front ++ cut.0, cut.1)) parts
     go front marks false e parts = absurd (cc e)
 
--- and in front of all, where there are none
+-- and at the front, if there are none
 pub plain_cut : (items : List Item) → BeginsUnmarked (drop 2 items) → AreParts (cut_rekey items) [] items
 plain_cut [] begins = refl
 plain_cut (a ∷ []) begins = refl
@@ -114,7 +114,7 @@ module _ (lists : Lists) where
   visit_at (CpuLane c) place = visit_or (λ e. at_cpu (cpu_visit lists c place e)) (slice_get (cpu_list lists c) place)
       (λ e. refl)
 
-  -- a mark stands exactly where a visit does
+  -- the steps with a mark are exactly those with a visit
   marks_are : (steps : List Step) → map is_mark steps ≡ map is_visit (deeds_of lists steps)
   marks_are [] = refl
   marks_are (Look g ∷ steps) = ap (λ (l : List Bool). false ∷ l) (marks_are steps)
@@ -134,7 +134,7 @@ module _ (lists : Lists) where
       let rest : map is_mark steps ≡ more = cc e in
       (cc e, all_marks steps (subst (AllByRecursion (λ b. b ≡ true)) (sym rest) all))
 
-  -- a read from a CPU behind a look
+  -- a read from a CPU after a look
   read_steps : (set : CallSetting) (steps : List Step) (g : ℕ) (rest : List Deed) →
       deeds_of lists steps ≡ look_deed g ∷ rest → CpuReadForm set (User 32) rest → IsKeySteps steps
   read_steps set steps g rest e (inl f) =
@@ -145,7 +145,7 @@ module _ (lists : Lists) where
       ∙ ap (λ (l : List Deed). false ∷ map is_visit l) f.deeds_are)
       (refl, tt)
 
-  -- its look is no less than what was seen before it
+  -- its look is at least the largest generation that was seen before it
   look_seen : (w : View) (low high g : ℕ) (rest : List Deed) (made_steps : List MadeStep) → Sees w low made_steps high →
       deeds_of lists (map step_of made_steps) ≡ look_deed g ∷ rest → low ≤ g
   look_seen w low high g rest [] sees e = absurd (cc e)
@@ -155,7 +155,7 @@ module _ (lists : Lists) where
       let no : true ≡ false = sym (visit_at mark.lane mark.place)
       ∙ ap (λ (l : List Deed). elim l as (λ _. Bool) [ [] ↦ true | d ∷ ds ↦ is_visit d ]) e in absurd (cc no)
 
--- where a generation was seen, a system call for a new key reads from the CPU
+-- after a look that found a generation, a system call for a new key reads from the CPU
 pub key_call : (set : Setting) (answer : SystemAnswer) (l m : Moment)
     (k : Makes (SystemCall (setting_of set) 32 0 answer) set l m)
     (lanes : ℕ) (visits : ℕ → List Visit) → Continues lanes m.view visits → 1 ≤ floor l.view →

@@ -1,4 +1,4 @@
--- A caller whose calls are made at a site over its own pass: what was lent to the site is what came back.
+-- A caller that makes its calls at a site over its own pass: after the call the pass is that of the site.
 use Rattle.std.proofs.Common.{◌≡◌, ◌≤◌, ℕ, List, [], refl, sym, subst}
 use Rattle.key_names.specs.declared.entries.BaseEntry.TheVariants.{End, Stall, Unstall}
 use Rattle.key_names.specs.declared.names.Step.{Step}
@@ -15,10 +15,11 @@ use Rattle.rng_core.specs.Makes.{Makes}
 use Rattle.rng_core.specs.Sites.{Does, HasInHands, Same, at, base_lane, lane_of, seen_by}
 use Rattle.rng_core.specs.Traces.{moment, knowing}
 use Rattle.caller_run.specs.declared.states.States.{States}
+use Rattle.std.specs.Global.{Box}
 use Rattle.caller_run.specs.Calling.{HasLeft}
 use Rattle.caller_run.specs.Ways.{AtFork, RanHere}
 
--- the hands at a site are those of its pass
+-- the lanes that are held at a site are those that its pass holds
 pub own_hands : {m n : Site} → Same m n → HasInHands [] n → HoldsLanes m.lanes.now m.set.caller [] n.pass.now
 own_hands {m = m} {n = n} same has =
     subst (λ (set : Setting). HoldsLanes m.lanes.now set.caller [] n.pass.now) same.set
@@ -32,7 +33,7 @@ pub given_hands : {m n : Site} {caller : ℕ} {p : Pass} → Same m n → HoldsL
 given_hands {caller = caller} {p = p} same has = subst (λ (t : Lanes). HoldsLanes t caller [] p) same.lanes has
 
 -- the last visit of the caller that made the site
-pub has_left : {m n : Site} {states : States} {p : Pass} {steps : List Step} → p ≡ n.pass.now → steps ≡ n.trace.now →
+pub has_left : {m n : Site} {states : Box States} {p : Pass} {steps : List Step} → p ≡ n.pass.now → steps ≡ n.trace.now →
     m.trace.now ≡ [] → Does 1 (BaseOnly End) m n → seen_by n ≤ (lane_of n base_lane).base.generation →
     HasLeft m.lanes.now (record { pass = m.pass.now; set = m.set; states = states })
     (record { pass = p; set = m.set; states = states }) steps
@@ -44,8 +45,8 @@ has_left {m = m} {n = n} pass trace new done reached = rw pass (rw trace (record
       done.did;
 }))
 
--- and its fork
-pub at_fork : (m n : Site) {states : States} {p theirs : Pass} {steps : List Step} {child : ℕ} → p ≡ n.pass.now →
+-- its fork
+pub at_fork : (m n : Site) {states : Box States} {p theirs : Pass} {steps : List Step} {child : ℕ} → p ≡ n.pass.now →
     steps ≡ n.trace.now → m.trace.now ≡ [] → Forked m.set (at m) n.trace.now child n.pass.now theirs →
     AtFork (record { pass = m.pass.now; set = m.set; states = states })
     (record { pass = p; set = m.set; states = states }) steps child theirs
@@ -55,7 +56,7 @@ at_fork m n {theirs = theirs} {child = child} pass trace new forked = rw pass (r
   forked = subst (λ (l : List Step). Forked m.set (moment m.pass.now l) n.trace.now child n.pass.now theirs) new forked;
 }))
 
--- and what it did before a child that ran in its place, and behind it
+-- and its visits around a child that ran in its thread
 pub ran_here : {l m n : Site} {v : View} {steps : List Step} → v ≡ view n.pass.now → steps ≡ n.trace.now →
     Does 1 (BaseOnly Stall) l m → Does 1 (BaseOnly Unstall) m n →
     RanHere l.set (at l) (knowing v steps)

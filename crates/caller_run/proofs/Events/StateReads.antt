@@ -1,4 +1,4 @@
--- Reads out of a caller's current vgetrandom state, as its loop over the events sees them.
+-- Reads out of a caller's current vgetrandom state, in the terms of its loop over the events.
 use Rattle.std.proofs.Common.{Option, ◌≤◌, ◌≡◌, ℕ, ◌<◌, List, [], ◌++◌, length, map, get_or, sym, ap, ◌∙◌, subst, refl}
 use Rattle.std.specs.Prelude.{Result, slice_get, unwrap_or}
 use Rattle.std.specs.List.{AllByRecursion}
@@ -38,25 +38,26 @@ use Rattle.caller_run.specs.Says.{shown_by, line_of}
 use Rattle.caller_run.specs.declared.caller.Caller.{Caller}
 use Rattle.caller_run.specs.declared.reply.Reply.{Reply}
 use Rattle.caller_run.specs.declared.states.States.{States}
+use Rattle.std.specs.Global.{Box}
 use Rattle.rng_core.specs.declared.setting.Setting.{Setting}
 use Rattle.caller_run.proofs.Events.InsideDone.{inside_done}
 use Rattle.caller_run.proofs.Events.VreadDone.{vread_done}
 
--- what was lent is what came back
-pub lent_read : {t : Lanes} {n flags : ℕ} {c : Caller} {set : Setting} {states : States} {said : Reply} {served : List ℕ}
+-- the same read, between equal values: those that were lent, and those that came back
+pub lent_read : {t : Lanes} {n flags : ℕ} {c : Caller} {set : Setting} {states : Box States} {said : Reply} {served : List ℕ}
     {asks : List Ask} {p q : Pass} {steps told : List Step} {zs left : List ActOutcome} → p ≡ q → steps ≡ told →
     zs ≡ left →
     StateRead t n flags c (record { pass = q; set = set; states = states }) said served told asks left →
     StateRead t n flags c (record { pass = p; set = set; states = states }) said served steps asks zs
 lent_read pass trace outcomes read = rw pass (rw trace (rw outcomes read))
 
--- the current one of some states
+-- the current state of a caller's states
 pub current_is : (states : List VgetrandomState) (i : ℕ) (other : VgetrandomState) → i < length states →
     get_or states i other ≡ unwrap_or (slice_get states i) wiped_state
 current_is states i other low = sym (ap (λ (o : Option VgetrandomState). unwrap_or o wiped_state)
     (slice_get-get_or states i other low))
 
--- d is c behind a read out of this state, which left that one
+-- d is c after a read out of state `st`, which became `left`
 pub record IsBehind (t : Lanes) (c d : Caller) (said : Reply) (served : List ℕ) (before : List Step)
     (st left : VgetrandomState)
     (ended : Result (Unit {0}) Errno) : Type 0 where
@@ -72,7 +73,7 @@ pub record IsBehind (t : Lanes) (c d : Caller) (said : Reply) (served : List ℕ
 
 module _ {t : Lanes} {c d : Caller} {said : Reply} {served : List ℕ} {before : List Step} {st left : VgetrandomState}
     {ended : Result (Unit {0}) Errno} (b : IsBehind t c d said served before st left ended) where
-  -- as the line tells it
+  -- a fact about the read holds in the terms of the caller's state and reply
   told_by : (P : VgetrandomState → Answer → Shown → List Step → Type 0) →
       P st (result_answer ended) (bytes_or_none (given ended served)) before →
       P (current_state (stand c)) said.answer (shown_by served said.shows) []
@@ -88,7 +89,7 @@ module _ {t : Lanes} {c d : Caller} {said : Reply} {served : List ℕ} {before :
       (sym (trace ∙ ap (λ (l : List Step). l ++ map step_of made_steps) b.new)) fits
 
   module _ {n flags : ℕ} {steps : List Step} where
-    -- a read is told by what it did
+    -- a read, out of the call that it was
     read_by : (asks : List Ask) (zs : List ActOutcome) →
         CallDone c.set.caller (view c.pass) (view d.pass) (stand c) (with_state (stand c) left)
         (vread_call n flags (line_of c.set VreadWord served said steps) (bound_acts c.set asks zs)) →
@@ -110,7 +111,7 @@ module _ {t : Lanes} {c d : Caller} {said : Reply} {served : List ℕ} {before :
       shows = b.bytes;
     }
 
-    -- with no act inside
+    -- without acts inside
     pub read_alone : (acts : List Bound) → acts ≡ [] →
         VreadMakes n flags st left (result_answer ended) (bytes_or_none (given ended served)) c.set
         (moment c.pass before) (moment d.pass steps) →
@@ -123,7 +124,7 @@ module _ {t : Lanes} {c d : Caller} {said : Reply} {served : List ℕ} {before :
         (told_by (λ s a x l. VreadMakes n flags s left a x c.set (moment c.pass l) (moment d.pass steps)) did))
         refl (steps_fit did.did.made_steps did.did.told.trace did.did.told.fits) tt)
 
-    -- with these acts inside, which then were those
+    -- with the acts `acts` inside, which are `after` at the end
     pub read_inside : (acts after : List Bound) (out out_after : List ℕ) → AllByRecursion IsWaitingAct acts →
         1 < length (view c.pass).lanes →
         asks_of after ≡ asks_of acts →

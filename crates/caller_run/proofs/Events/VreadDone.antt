@@ -36,7 +36,7 @@ use Rattle.caller_run.proofs.Orders.Chains.{items_from_doings, unsplit, ran_went
 use Rattle.caller_run.proofs.Orders.CallSteps.{own_items}
 use Rattle.key_names.proofs.Transcripts.QuietForms.{sys}
 
--- a look that no step tells
+-- a look without a step in the line
 pub ran_glanced : (caller : ℕ) (v w : View) → Stayed v w → Ran caller v w []
 ran_glanced caller v w k =
     let same : (lane : ℕ) → at lane w ≡ at lane v = λ lane. ap (λ (l : List LaneView). get_or l lane blank) k.lanes in
@@ -51,7 +51,7 @@ ran_glanced caller v w k =
       stood = tt;
     }
 
--- no step of a read makes a dump due or dumps
+-- no step of a read dumps a fast pool or makes a dump due
 module _ (fast : ℕ → ℕ → FastPool) where
   abbrev Quiet : List Deed → Type 0
   Quiet deeds = AllByRecursion (IsQuiet fast) deeds

@@ -1,4 +1,4 @@
--- A caller that goes on by a vread, with the acts inside that waited for it.
+-- A caller that goes on with a vread, and with the acts that waited for it.
 use Rattle.std.proofs.Common.{◌≡◌, ℕ, ◌+◌, ◌*◌, ◌≤◌, List, [], ◌∷◌, ◌++◌, length, refl, sym, ap, ◌∙◌, subst, arith, length-append}
 use Rattle.key_names.specs.declared.events.Event.{Event}
 use Rattle.key_names.specs.declared.events.Event.TheVariants.{Vread}
@@ -28,8 +28,8 @@ use Rattle.caller_run.proofs.Events.CanAdvance.{GoesOn, can_next}
 use Rattle.caller_run.proofs.Orders.ToldAnew.{anew_long, fit_anew, lines_long, bound_same}
 use Rattle.caller_run.proofs.Forks.HasAdvanced.{gone_by, fit_more, own_line}
 
--- d read out of c's current state for this event, with the acts inside that waited for it, and e goes on: these are the
--- lines and the acts that wait, before it and behind it
+-- d read out of c's current state for this event, with the acts inside that waited for it, and e goes on. `before` and
+-- `after` are the lines, `acts` and `left` the acts that wait, before the read and after it
 pub record HasRead (t : Lanes) (event : Event) (c d e : Caller) (before after : Gathered)
     (acts left : List Bound) : Type 0 where
   pub len : ℕ
@@ -95,7 +95,7 @@ module _ {t : Lanes} {event : Event} {c d e : Caller} {before after : Gathered} 
       (subst (λ (w : List Ask). CallsSoFar events (Vread k.len k.flags ∷ rest) before.lines w g.calls) (g.waits refl)
       g.so_far))
       (fit_more begun.caller c.set.event events (Vread k.len k.flags) rest (told_anew before.lines asks told) line
-      (own_line d g set on k.said k.served k.steps)
+      (own_line d g set k.said k.served k.steps)
       (λ more f. fit_anew begun.caller d.set (ap (λ (s : Setting). s.caller) set ∙ g.own) events asks k.zs before.lines more
       g.idle
       (g.fit more f)))

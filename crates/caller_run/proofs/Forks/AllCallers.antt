@@ -121,7 +121,7 @@ module _ {t : Lanes} {script : Script} {p : Pass} {a : Plot} {q : Pass} {b : Plo
         t' ≡ lines_of_all (in_order (length script.callers) 0 runs o)
     lines_are o = put ∙ ap (put_in slots) back.told ∙ put_all (length script.callers) runs o slots long
 
-    -- and the last caller has one
+    -- the last caller has a line
     pub last_there : LastHasLines t'
     last_there = subst LastHasLines (sym (lines_are each_once))
         (last_has (in_order (length script.callers) 0 runs each_once)
@@ -148,7 +148,7 @@ module _ {t : Lanes} {script : Script} {p : Pass} {a : Plot} {q : Pass} {b : Plo
               (lawful_runs script _ (view q) can.well all);
         })
 
--- a new table's pass has done nothing, and has the whole share
+-- a new table's pass has made no visit, and has the whole share
 pub new_first : (plan : TablePlan) → IsFirst (first_view plan)
 new_first plan = record {
   places = λ lane. ap (λ (a : LaneView). a.places) (blank_at plan.count lane);

@@ -1,4 +1,4 @@
--- The only caller of a script, whose lines are kept nowhere.
+-- The only caller of a script; its lines are not kept.
 use Rattle.std.proofs.Common.{◌≡◌, ℕ, ◌+◌, ◌≤◌, ◌^◌, Some, List, [], ◌∷◌, ◌++◌, length, refl, sym, ap, ◌∙◌, subst, arith}
 use Rattle.std.specs.Prelude.{slice_get, sum_by, take, vec_len}
 use Rattle.std.specs.List.{AllByRecursion}
@@ -21,7 +21,7 @@ use Rattle.lane_table.proofs.Calls.HandLemmas.{idle_of}
 use Rattle.rng_core.specs.Makes.{setting_of}
 use Rattle.rng_core.specs.Settings.{first_setting}
 use Rattle.caller_run.specs.Alone.{IsToldOnce, CalledOnce, GoesAlone, IsGoing, IsLawful, as_kept, first_start, last_line}
-use Rattle.caller_run.specs.Calling.{Called, HasLeft, StateRead}
+use Rattle.caller_run.specs.Calling.{Called, HasLeft, Seen, StateRead, caller_at}
 use Rattle.caller_run.specs.Families.{SameHalves, RanSo, RunsIn}
 use Rattle.caller_run.specs.Forest.{Forest, no_more, more, forks, AreForked}
 use Rattle.caller_run.specs.Kinds.{IsCall}
@@ -37,7 +37,9 @@ use Rattle.caller_run.proofs.Events.CanAdvance.{GoesOn, can_next}
 use Rattle.caller_run.proofs.Events.VreadGoes.{HasRead, can_read, gone_read}
 use Rattle.caller_run.proofs.Forks.HasAdvanced.{gone_all, gone_call, gone_nothing}
 use Rattle.caller_run.proofs.Forks.Runs.{once, ran_end, ran_so, whole}
-use Rattle.caller_run.proofs.Forks.WentOn.{at_number, few_events, newly}
+use Rattle.caller_run.proofs.Forks.WentOn.{all_wiped, at_number, few_events, newly}
+use Rattle.caller_run.specs.declared.states.States.{States}
+use Rattle.std.specs.Global.{Box}
 use Rattle.caller_run.proofs.Law.Seeing.{called_kept, read_kept, seen_start}
 use Rattle.caller_run.proofs.Law.Whole.{lawful_runs}
 use Rattle.caller_run.proofs.Orders.OwnPlaces.{MadeNothing}
@@ -100,7 +102,7 @@ event_goes (Inside point act) d said served steps k on g = absurd g.once.0
 event_goes (Fork child) d said served steps k on g = absurd g.once.0
 event_goes event d said served steps k on g = call_goes tt k on g
 
--- what its line needs
+-- the preconditions of its line
 pub record HasCalled (event : Event) (c d : Caller) (said : Reply) (steps : List Step) : Type 0 where
   pub set : d.set ≡ c.set
   pub steps_fit : AllByRecursion StepFits steps
@@ -121,7 +123,7 @@ once_called t served event k = call_called k
 
 -- ---- the start
 
--- nobody is forked
+-- no caller is forked
 pub forks_nobody : (events : List Event) → AllByRecursion IsToldOnce events → forks events ≡ []
 forks_nobody [] all = refl
 forks_nobody (event ∷ events) all = first event all.0 (forks_nobody events all.1)
@@ -132,8 +134,9 @@ forks_nobody (event ∷ events) all = first event all.0 (forks_nobody events all
 
 module _ (t : Lanes) (script : Script) (p : Pass) (events : List Event) (m : ℕ) (has : HoldsLanes t 0 [] p)
     (well : WellFormed script) (cpus : t.cpus ≡ script.cpus) (there : slice_get script.callers 0 ≡ Some events)
-    (longest : AllByRecursion (λ event. most_shown event ≤ m) events) (all : AllByRecursion IsToldOnce events) where
-  pub starts_alone : GoesAlone t m (first_start p) events events (newly p (first_setting 0)) []
+    (longest : AllByRecursion (λ event. most_shown event ≤ m) events) (all : AllByRecursion IsToldOnce events)
+    (states : Box States) (wiped : states.value ≡ all_wiped) where
+  pub starts_alone : GoesAlone t m (first_start p) events events (newly p (first_setting 0) states) []
   starts_alone = record {
     inside = sum_by read_inside events;
     can = record {
@@ -142,7 +145,8 @@ module _ (t : Lanes) (script : Script) (p : Pass) (events : List Event) (m : ℕ
         cpu = (let some = well.cpus.0 in omega arith);
         moment = omega arith;
       };
-      states = seen_start (floor (view p)) (setting_of (first_setting 0));
+      states = subst (λ (s : States). Seen (floor (view p)) (caller_at (setting_of (first_setting 0)) s)) (sym wiped)
+          (seen_start (floor (view p)) (setting_of (first_setting 0)));
       range = (
         script.version,
         subst (λ (n : ℕ). AllByRecursion (InRange script.version n) events) (sym cpus)
@@ -160,7 +164,8 @@ module _ (t : Lanes) (script : Script) (p : Pass) (events : List Event) (m : ℕ
       told = tt;
     };
     once = all;
-    gone = gone_nothing (first_start p) events (newly p (first_setting 0)) refl refl refl refl;
+    gone = gone_nothing (first_start p) events (newly p (first_setting 0) states) refl refl
+        (ap (caller_at (setting_of (first_setting 0))) wiped) refl;
   }
 
 -- ---- the end
@@ -218,7 +223,7 @@ module _ (script : Script) (well : WellFormed script) (one : length script.calle
 
 -- ---- the run of the only caller
 
--- the line that was made last is that of this event, d being the caller behind its call
+-- the line that was made last is that of this event; d is the caller after its call
 pub record MadeLine (y : LoneRun) (event : Event) (d : Caller) (said : Reply) (served : List ℕ) (steps : List Step)
     : Type 0 where
   pub on : GoesOn event d y.caller
@@ -239,7 +244,7 @@ line_is m = (λ i. record {
   shown = shown_by (m.shown i) (m.reply i).shows;
 })
 
--- the run was x before it, and is y now
+-- the run was x before the event, and is y now
 pub goes_on : {script : Script} {lines : List SeenLine} (x y : LoneRun) (event : Event) (d : Caller) (said : Reply)
     (served : List ℕ) (steps : List Step) → IsGoing script x lines → x.rest.now ≡ event ∷ y.rest.now →
     CalledOnce x.lanes event x.caller d said served steps → MadeLine y event d said served steps → y.lanes ≡ x.lanes →
@@ -264,7 +269,7 @@ goes_on {lines = lines} x y event d said served steps g next k m same long = rec
       (first_start g.pass) g.events rest x.caller lines) next g.goes))));
 }
 
--- no step is told yet
+-- the invariant does not depend on the trace
 pub still_going : {script : Script} {x : LoneRun} {lines : List SeenLine} (steps : List Step) → IsGoing script x lines
     → IsGoing script (record x { trace = steps }) lines
 still_going steps g = record {
@@ -280,7 +285,7 @@ still_going steps g = record {
   goes = g.goes;
 }
 
--- it made its last line
+-- the caller made its last line
 module _ {script : Script} {lines : List SeenLine} (x : LoneRun) (d : Caller) (said : Reply) (steps : List Step) where
   pub ends_lawfully : IsGoing script x lines → x.rest.now ≡ [] →
       said ≡ record { answer = Done; shows = Nothing } → HasLeft x.lanes x.caller d steps →

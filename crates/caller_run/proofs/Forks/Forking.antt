@@ -1,5 +1,4 @@
--- A fork: the visit that tells of it, the split of the pass, and, where the thread was handed back, the visits around the
--- child's run.
+-- A fork: its visit, the split of the pass, and the two visits around the child's run if the child has no thread.
 use Rattle.std.proofs.Common.{◌≡◌, ℕ, ◌+◌, ◌<◌, ◌≤◌, List, [], ◌∷◌, ◌++◌, length, map, refl, sym, ap, ◌∙◌, subst, arith, append_assoc, append-nil, inl, inr, length-append}
 use Rattle.std.proofs.lemmas.List.{map-append}
 use Rattle.std.proofs.lemmas.List.Sums.{fold-append}
@@ -232,10 +231,10 @@ module _ (set : Setting) (v u w : View) (s : CallerState) (child : ℕ) (line : 
     );
   }
 
--- a caller goes on behind a fork: d made the fork's visits, and e goes on; the child starts with the caller's setting, and
--- its pass was split off behind the first visit
-module _ {begun : Start} {events rest : List Event} {child : ℕ} {c e : Caller} {lines : List SeenLine}
-    {asks : List Ask} {kids : List Start} (d : Caller) (u : View) (steps : List Step)
+-- a caller goes on after a fork: d made the fork's visits, and e goes on. The child starts with the caller's setting,
+-- and its pass was split off after the first visit
+module _ {begun : Start} {events rest : List Event} {child : ℕ} {c : Caller} {lines : List SeenLine}
+    {asks : List Ask} {kids : List Start} (d e : Caller) (u : View) (steps : List Step)
     (g : HasAdvanced begun events (Fork child ∷ rest) c lines asks kids) (set : d.set ≡ c.set)
     (states : d.states ≡ c.states) (on : GoesOn (Fork child) d e) (above : begun.caller < child)
     (t : Took c.set child (view c.pass) u (view d.pass) steps) where
@@ -255,7 +254,7 @@ module _ {begun : Start} {events rest : List Event} {child : ℕ} {c e : Caller}
   first = subst (λ (n : ℕ). RanBy n 0 (view c.pass) u t.first.numbered_steps) g.own t.first.ran
 
   stands : stand d ≡ stand c
-  stands = (λ i. caller_at (setting_of (set i)) (states i))
+  stands = (λ i. caller_at (setting_of (set i)) (states i).value)
 
   forked : Forked begun (view d.pass) (g.calls ++ alone (Fork child) line ∷ []) kid
   forked = record {

@@ -1,4 +1,4 @@
--- What a caller has done, behind one event more.
+-- The calls and lines of a caller, after one event more.
 use Rattle.std.proofs.Common.{◌≡◌, ℕ, suc, true, List, [], ◌∷◌, ◌++◌, refl, sym, ap, ◌∙◌, subst, arith, append_assoc, length}
 use Rattle.std.specs.List.{AllByRecursion}
 use Rattle.key_names.specs.declared.events.Answer.TheVariants.{Ok as Done}
@@ -54,12 +54,26 @@ pub fit_more : (caller n : ℕ) (events : List Event) (event : Event) (rest : Li
 fit_more caller n events event rest lines line is fit more f =
     subst (LinesFit caller 0 events) (sym (append_assoc lines (line ∷ []) more)) (fit (line ∷ more) (is, f))
 
--- an event that the caller made, c being the caller before it, d behind its call, and e where it goes on
+-- the line of an event's call; c is the caller before the call, and d after it
+module _ {begun : Start} {events rest : List Event} {event : Event} {c : Caller} {lines : List SeenLine}
+    {asks : List Ask} {kids : List Start}
+    (d : Caller) (g : HasAdvanced begun events (event ∷ rest) c lines asks kids) (set : d.set ≡ c.set) where
+  -- it is the line of the event
+  pub own_line : (said : Reply) (served : List ℕ) (steps : List Step) →
+      LineIs begun.caller c.set.event (event_word event) (line_of d.set (event_word event) served said steps)
+  own_line said served steps =
+      record {
+        caller = ap (λ (s : Setting). s.caller) set ∙ g.own;
+        event = ap (λ (s : Setting). s.event) set;
+        word_is = refl;
+      }
+
+-- an event that the caller made; c is the caller before the event, d after its call, and e when it goes on
 module _ {begun : Start} {events rest : List Event} {event : Event} {c e : Caller} {lines : List SeenLine}
     {asks : List Ask} {kids : List Start}
     (d : Caller) (g : HasAdvanced begun events (event ∷ rest) c lines asks kids) (set : d.set ≡ c.set)
     (on : GoesOn event d e) where
-  -- behind it the calls are these, and these callers were forked
+  -- after it these are the calls and the forked callers
   pub gone_on : (calls : List Call) (after : List SeenLine) (left waiting : List Ask) (more : List Start) →
       CallsDone begun.caller (length more) begun.view (view d.pass) (caller_start begun.set)
       (caller_after (stand d) event) calls →
@@ -90,7 +104,7 @@ module _ {begun : Start} {events rest : List Event} {event : Event} {c e : Calle
     idle = idle;
   }
 
-  -- they are one more, which forks nobody
+  -- they are one call more, which forks no caller
   pub gone_by : (call : Call) (after : List SeenLine) (left waiting : List Ask) →
       CallDone c.set.caller (view c.pass) (view d.pass) (stand c) (caller_after (stand d) event) call →
       (caller_after (stand d) event).setting ≡ setting_after_call (stand c).setting call →
@@ -110,17 +124,7 @@ module _ {begun : Start} {events rest : List Event} {event : Event} {c e : Calle
       (forked_more begun (view c.pass) (view d.pass) g.calls (call ∷ []) kids done.ran.same.sized done.ran.grows
       g.forked)
 
-  -- the line of its call is the event's
-  pub own_line : (said : Reply) (served : List ℕ) (steps : List Step) →
-      LineIs begun.caller c.set.event (event_word event) (line_of d.set (event_word event) served said steps)
-  own_line said served steps =
-      record {
-        caller = ap (λ (s : Setting). s.caller) set ∙ g.own;
-        event = ap (λ (s : Setting). s.event) set;
-        word_is = refl;
-      }
-
--- an event whose call was one of the core
+-- an event with one call of the core
 module _ {begun : Start} {events rest : List Event} {event : Event} {t : Lanes} {c d e : Caller}
     {lines : List SeenLine}
     {asks : List Ask} {kids : List Start} {said : Reply} {served : List ℕ} {steps : List Step} (is : IsCall event)
@@ -141,7 +145,7 @@ module _ {begun : Start} {events rest : List Event} {event : Event} {t : Lanes} 
       (setting_moves (stand d) event ∙ ap (λ (s : CallerState). setting_after s.setting event) (same_stand k))
       (λ has. g.waits (alone_follows event (call_alone event is) rest ∙ has))
       (so_far_alone events rest lines g.waiting g.calls event line (call_alone event is) g.so_far)
-      (fit_more begun.caller c.set.event events event rest lines line (own_line d g k.set on said served steps) g.fit)
+      (fit_more begun.caller c.set.event events event rest lines line (own_line d g k.set said served steps) g.fit)
       (idle_more begun.caller lines line asks g.idle)
 
 -- the end

@@ -1,4 +1,4 @@
--- Passes that are joined: what the one heard, and what it made, with those of the other.
+-- Joins of passes: the result has seen what both had seen, and has the visits of both.
 use Rattle.std.proofs.Common.{◌≡◌, inl, inr, ℕ, ◌+◌, ◌*◌, ◌-◌, ◌^◌, ◌<◌, max, List, [], ◌∷◌, ◌++◌, length, refl, sym, ap, ◌∙◌, subst, arith}
 use Rattle.std.specs.List.{sum_by}
 use Rattle.std.proofs.lemmas.List.Sums.{sum_by-append, sum_by-cons}
@@ -71,14 +71,14 @@ joined_nothing v = record {
   made = λ lane low. omega arith;
 }
 
--- a caller that started from a pass which was just split off made its own visits alone
+-- a caller that started from a pass which was just split off: the visits of its pass at the end are its own
 pub record OwnPlaces (r : Run) : Type 0 where
   pub placed : (f : ℕ → ℕ) (lane : LaneId) → index_of lane < length r.end.lanes →
       sum_by f (at (index_of lane) r.end).places ≡ marked_by f lane r
   pub made : (lane : LaneId) → index_of lane < length r.end.lanes →
       (at (index_of lane) r.end).made ≡ marked_by (λ p. 1) lane r
 
--- one pass more, of a caller r with those that it took in, is taken in
+-- one pass more is taken in: that of caller r, with the callers that it took in
 module _ (v w d : View) (r : Run) (xs ys : List Run) (mine : Joined v w xs) (theirs : Joined r.end d ys)
     (own : OwnPlaces r) (alike : length r.end.lanes ≡ length v.lanes) where
   long : length w.lanes ≡ length d.lanes
@@ -110,7 +110,7 @@ module _ (v w d : View) (r : Run) (xs ys : List Run) (mine : Joined v w xs) (the
         let h = sum_by-cons (marked_by (λ p. 1) lane) r ys in omega arith);
   }
 
--- who began a caller is still there among more
+-- the caller that began another is also in a longer list
 one_more : {X : Type 0} (x : X) (xs ys : List X) → IsOneOf x xs → IsOneOf x (xs ++ ys)
 one_more x [] ys here = absurd here
 one_more x (y ∷ xs) ys (inl same) = inl same
@@ -136,7 +136,7 @@ family_both script ss ts xs ys a b = record {
       ]) b.began);
 }
 
--- a caller with the families of those that it forked
+-- a caller with the families of the callers that it forked
 pub family_own : (script : Script) (r : Run) (runs : List Run) → RunsIn script r → Family script r.kids runs →
     Family script (r.begun ∷ []) (r ∷ runs)
 family_own script r runs has f = record {

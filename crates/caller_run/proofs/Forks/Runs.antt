@@ -25,7 +25,7 @@ share_from : (x u w : View) → SameHalves x u → SameShare u w → SameShare x
 share_from x u w same s =
     ap (λ (h : ℕ). w.share * 2 ^ h) (sym same.halvings) ∙ s ∙ ap (λ (n : ℕ). n * 2 ^ w.halvings) same.share
 
--- a caller that forks nobody more
+-- a caller that forks no more callers
 pub ran_end : (script : Script) (x e : View) → SameHalves x e → RanOn script x e e [] []
 ran_end script x e same = record {
   family = record { each = tt; began = tt };
@@ -33,8 +33,8 @@ ran_end script x e same = record {
   share = share_from x e e same refl;
 }
 
--- a fork: behind its visit the pass knew u, and z where the caller went on; then the rest, and the child with all that it
--- forked
+-- a fork: u is the pass's view after its visit, and z when the caller goes on. Then come the rest, and the child with
+-- all that it forked
 pub ran_fork : (script : Script) (x u z e w d : View) (kid : Start) (starts : List Start) (xs : List Run) (own : Run)
     (ys : List Run) → SameHalves x u → SameHalves (halved u) z → RanOn script z e w starts xs →
     kid.view ≡ split_off u → RanSo script kid d own ys → length own.end.lanes ≡ length e.lanes →
@@ -61,7 +61,7 @@ ran_so script begun w own runs is has on = record {
   share = on.share;
 }
 
--- caller 0 with all that it forked, on a table of which the pass knows the end
+-- caller 0 with all that it forked, on a table; the pass has seen all of the final lists
 module _ (script : Script) (ok : WellFormed script) (root : Start) (w : View) (own : Run) (runs : List Run)
     (ran : RanSo script root w own runs) (new : MadeNothing root.view)
     (first : (root.caller ≡ 0) × (root.set ≡ first_setting)) (f : Forest)
@@ -79,7 +79,7 @@ module _ (script : Script) (ok : WellFormed script) (root : Start) (w : View) (o
   low = numbers_low (own ∷ runs)
       (subst (AllByRecursion (λ x. x < length script.callers)) (sym same) (below script ok f are))
 
-  -- the pass heard of all
+  -- the pass has taken in all others
   hears : Hears (known_of w) w
   hears = record {
     known = λ lane near. begins_refl (known_of w lane);

@@ -39,7 +39,9 @@ use Rattle.caller_run.specs.declared.rooms.Room.{Room}
 use Rattle.caller_run.specs.declared.rooms.Sheet.{Sheet}
 use Rattle.caller_run.specs.declared.logs.Log.{Log}
 use Rattle.caller_run.specs.declared.ways.Way.{Way}
-use Rattle.caller_run.specs.Calling.{stand, StatesStand}
+use Rattle.caller_run.specs.Calling.{Seen, caller_at, stand, StatesStand}
+use Rattle.caller_run.specs.declared.states.States.{States}
+use Rattle.std.specs.Global.{Box}
 use Rattle.caller_run.specs.Families.{SameHalves, RanOn, RanSo}
 use Rattle.caller_run.specs.Forest.{more, forks}
 use Rattle.caller_run.specs.Grove.{Grove, Plot, plant, grove_of, tree, told_in}
@@ -69,7 +71,7 @@ plain_event e other = tt
 pub as_slices : (P : ℕ → ℕ → Type 0) (a b c d : ℕ) → c ≡ a → d ≡ b → P a b → P c d
 as_slices P a b c d first second here = subst (λ (n : ℕ). P n d) (sym first) (subst (P a) (sym second) here)
 
--- nobody was forked between two moments
+-- no caller was forked between two moments
 gone_halves : {begun : Start} {events es rest : List Event} {c d : Caller} {ls ls' : List SeenLine} {xs ys : List Ask}
     {kids : List Start} → HasAdvanced begun events es c ls xs kids → HasAdvanced begun events rest d ls' ys kids →
     SameHalves (view c.pass) (view d.pass)
@@ -93,7 +95,7 @@ same_kids x y is = record {
   space = ap vec_capacity is;
 }
 
--- a caller that forks nobody more
+-- a caller that forks no more callers
 module _ (t : Lanes) (script : Script) {events : List Event} {x m : Way} (y : Way) where
   pub went_end : CanAdvanceOn t script events x → RanPlain t events x [] m → y.kids ≡ m.kids →
       y.caller.set ≡ m.caller.set → HoldsLanes t y.caller.set.caller [] y.caller.pass →
@@ -149,9 +151,9 @@ module _ (m w : Caller) (steps : List Step) (child : ℕ) (theirs : Pass) (at : 
         (subst (λ (s : Setting). Makes (BaseOnly Unstall) s here.middle (moment p after)) at.set here.unstall);
   }
 
--- ---- what a caller may do next
+-- ---- the preconditions of a caller's next events
 
--- a pass that saw more
+-- a pass that has seen more
 pub can_still : (t : Lanes) (c d : Caller) (log : Log) {served inside : ℕ} {rest : List Event} → d.set ≡ c.set →
     d.states ≡ c.states → HoldsLanes t d.set.caller [] d.pass → floor (view c.pass) ≤ floor (view d.pass) →
     CanAdvance t c log served inside rest → CanAdvance t d log served inside rest
@@ -242,7 +244,7 @@ can_on t script child rest w z steps tell kids can = record {
   ready = subst (λ ks. ArePrepared script.callers (grove_of (map plot ks.items)) (forks rest)) (sym kids) tell.ready;
 }
 
--- the line was told, and the caller went on
+-- the line was made, and the caller went on
 module _ (t : Lanes) (script : Script) (child : ℕ) {rest : List Event} (w : Way) {z y : Way} (d : Caller) (steps : List Step)
     (gone : (begun : Start) (events : List Event) (kids : List Start) (m : Caller) (u : View) →
     TookFrom m d child u steps → begun.caller < child → GoneIn begun events (Fork child ∷ rest) m w kids →
@@ -354,12 +356,17 @@ few_events (x ∷ xs) zero es there = let same : x ≡ es = cc in let long = ap 
 few_events (x ∷ xs) (suc c) es there = let rest = few_events xs c es there in
     omega (arith, sum_by-cons length x xs)
 
+-- the states of a caller at its start
+abbrev pub all_wiped : States
+all_wiped = record { all = replicate 16 wiped_state; current = 0 }
+
 -- a caller at its start
-abbrev pub newly : Pass → Setting → Caller
-newly p set = record { pass = p; set = set; states = record { all = replicate 16 wiped_state; current = 0 } }
+abbrev pub newly : Pass → Setting → Box States → Caller
+newly p set states = record { pass = p; set = set; states = states }
 
 module _ (t : Lanes) (script : Script) (set : Setting) (p : Pass) (a : Plot) (sheet : Sheet) (x : Way)
-    {events : List Event} (can : CanRun t script set p a) (begins : x.caller ≡ newly p set) (filled : x.sheet ≡ sheet)
+    {events : List Event} (can : CanRun t script set p a) (begins : x.caller ≡ newly p set x.caller.states)
+    (wiped : x.caller.states.value ≡ all_wiped) (filled : x.sheet ≡ sheet)
     (kids : grove_of (map plot x.kids.items) ≡ a.kids) (is : a.sheet ≡ sheet)
     (there : slice_get script.callers a.caller ≡ Some events) where
   listed : list_at script.callers a.caller ≡ events
@@ -380,7 +387,9 @@ module _ (t : Lanes) (script : Script) (set : Setting) (p : Pass) (a : Plot) (sh
         cpu = subst (λ (c : Caller). c.set.cpu < t.cpus) (sym begins) can.cpu;
         moment = subst (λ (c : Caller). c.set.now < 2 ^ 40) (sym begins) can.now';
       };
-      states = subst (λ (c : Caller). Seen' c) (sym begins) (seen_start (floor (view p)) (setting_of set));
+      states = subst (λ (c : Caller). Seen' c) (sym begins)
+          (subst (λ (s : States). Seen (floor (view p)) (caller_at (setting_of set) s)) (sym wiped)
+          (seen_start (floor (view p)) (setting_of set)));
       range = (
         script.version,
         subst (λ (n : ℕ). AllByRecursion (InRange script.version n) events) (sym can.cpus)
@@ -428,7 +437,8 @@ module _ (t : Lanes) (script : Script) (set : Setting) (p : Pass) (a : Plot) (sh
       let begun : Start = start_of set p in
       let none : HasAdvanced begun events events x.caller [] [] [] =
       subst (λ (c : Caller). HasAdvanced begun events events c [] [] []) (sym begins)
-      (gone_nothing begun events (newly p set) refl can.none_yet refl refl) in
+      (gone_nothing begun events (newly p set x.caller.states) refl can.none_yet (ap (caller_at (setting_of set)) wiped)
+      refl) in
       let gone : GoneIn begun events events x.caller x [] =
       subst (λ (l : List SeenLine). HasAdvanced begun events events x.caller l (waiting_in x.sheet.log) [])
       (sym new.lines)

@@ -1,4 +1,4 @@
--- The marks of a caller's lines are those of its visits: what they weigh, lane by lane and in all.
+-- The marks of a caller's lines are those of its visits: they have the same weights, in each lane and in all.
 use Rattle.std.proofs.Common.{◌≡◌, ℕ, suc, ◌+◌, Bool, true, false, cond, List, [], ◌∷◌, ◌++◌, map, refl, sym, ap, ◌∙◌, arith, append-nil}
 use Rattle.std.specs.Prelude.{◌==◌, if◌then◌else◌}
 use Rattle.std.specs.List.{AllByRecursion, flat_map, sum_by}
@@ -20,7 +20,7 @@ use Rattle.caller_run.specs.NumberedSteps.{NumberedStep, made_steps_of, item_of,
 use Rattle.caller_run.proofs.Orders.CallSteps.{lines_items}
 use Rattle.caller_run.proofs.Planning.Sums.{sum_flat, sum_one}
 
--- the mark of a step of a caller, if it is one
+-- the mark of a caller's step, if it has one
 abbrev mark_by : ℕ → ℕ → ℕ → Step → List MarkBy
 mark_by caller event number (Look g) = []
 mark_by caller event number (Marked mark) = record { mark = mark; who = maker caller event number } ∷ []
@@ -62,7 +62,7 @@ pub marks_are : (caller : ℕ) (lines : List SeenLine) → AllByRecursion (IsOfC
     all_marks (lines ∷ []) ≡ flat_map (mark_of caller) (lines_items lines)
 marks_are caller lines own = append-nil (flat_map line_marks lines) ∙ lines_marks caller lines own
 
--- lanes and their numbers
+-- the numbers of lanes
 
 same_lane_number : (c d : ℕ) → (c == d) ≡ (c + 2 == d + 2)
 same_lane_number c d = grind (arith, nat_tests)
@@ -78,7 +78,7 @@ same_lane (CpuLane c) PoolLane = grind (arith, nat_tests)
 same_lane (CpuLane c) BaseLane = grind (arith, nat_tests)
 same_lane (CpuLane c) (CpuLane d) = same_lane_number c d
 
--- what the places of a lane weigh
+-- the weight of a lane's places
 module _ (w : ℕ → ℕ) where
   abbrev pub place_of : Mark → ℕ
   place_of mark = mark.place
@@ -126,7 +126,7 @@ module _ (w : ℕ → ℕ) where
           (places_in (index_of lane) (made_steps_of numbered_steps))
           ∙ (λ i. sym (sum_one (in_lane lane) (record { mark = mark; who = maker caller d.event d.number })) i + same i)
 
-  -- the places of a lane weigh the same in the marks and in what was done
+  -- the places of a lane have the same weight in the marks and in the caller's steps
   pub lane_weight : (lane : LaneId) (caller : ℕ) (lines : List SeenLine) (numbered_steps : List NumberedStep) →
       AllByRecursion (IsOfCaller caller) lines →
       ((f : Item → ℕ) → sum_by f (items_of numbered_steps) ≡ sum_by f (lines_items lines)) →

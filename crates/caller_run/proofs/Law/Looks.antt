@@ -1,4 +1,4 @@
--- Each look of a caller stands: it is at least what was seen before it, and at most the number of reseeds.
+-- Each look of a caller is right: at least the generation seen before it, and at most the number of reseeds.
 use Rattle.std.proofs.Common.{◌≡◌, ℕ, suc, ◌+◌, ◌<◌, ◌≤◌, max, List, [], ◌∷◌, length, map, take, ◌++◌, refl, sym, subst, ap, arith, Some, None, Option}
 use Rattle.std.specs.Prelude.{slice_get}
 use Rattle.std.proofs.lemmas.List.Sums.{fold-append}
@@ -60,7 +60,7 @@ module _ (lanes : ℕ) (visits : ℕ → List Visit) (callers : StateLists) (ok 
       ap (λ (s : CpuState). s.generation)
       (fold_next (cpu_step lists.base c) cpu_start (cpu_list lists c) place e is) in omega arith
 
-  -- a visit is no look, and after it no more is seen than the lane's generation
+  -- a visit is no look, and raises the seen generation at most to the lane's
   abbrev Passes : ℕ → ℕ → ℕ → Deed → Type 0
   Passes reseeds seen mid deed = LookStands reseeds seen deed × (seen_after seen deed ≤ mid)
 
@@ -85,11 +85,11 @@ module _ (lanes : ℕ) (visits : ℕ → List Visit) (callers : StateLists) (ok 
       go None is = (tt, low)
       go (Some e) is = (tt, (let r = cpu_reached c place e below within is in omega arith))
 
--- what was seen after one more step
+-- the seen generation after one more step
 seen_more : (before : List Deed) (deed : Deed) → seen (before ++ deed ∷ []) ≡ seen_after (seen before) deed
 seen_more before deed = fold-append seen_after 0 before (deed ∷ [])
 
--- the looks among what was done, each visit of which is known in the end
+-- the looks in a list of steps, if each visit among them is in the final lists
 pub looks_stand : (w : View) (callers : StateLists) → ClosedLanes (length w.lanes) (known_of w) →
     (made_steps : List MadeStep) (low high reseeds : ℕ) (before : List Deed) → AllKnown w made_steps →
     Sees w low made_steps high → seen before ≤ low → high ≤ reseeds →

@@ -34,7 +34,7 @@ use Rattle.lane_table.proofs.Lists.Places.{stands_at}
 use Rattle.caller_run.specs.NumberedSteps.{NumberedStep, item_of, items_of}
 use Rattle.caller_run.specs.Ran.{Stood}
 
--- what some marks have of a lane
+-- the marks of one lane among some
 
 pub in_one_lane : (lanes : ℕ) (visits : ℕ → List Visit) (lane : LaneId) (marks : List MarkBy) →
     AllByRecursion (MarksVisit lanes visits) marks →
@@ -69,7 +69,7 @@ none_beyond lanes visits lane (by ∷ marks) beyond all =
         let low = here.1 in absurd (omega arith)
     go false is here rest = rest
 
--- a caller that did this, and knows all lists in the end
+-- a caller that made these steps, with a view of all final lists
 module _ (caller : ℕ) (w : View) (numbered_steps : List NumberedStep)
     (stood : AllByRecursion (Stood w caller) numbered_steps) where
   -- each of its marks is that of a visit
@@ -124,7 +124,7 @@ all_visit w k (es ∷ callers) (r ∷ rs) each sized grows =
     each_append (MarksVisit (length w.lanes) (known_of w)) (flat_map line_marks r.lines) (all_marks (lines_of_all rs))
     (run_visits w k es r each.0 sized.0 grows.0) (all_visit w (suc k) callers rs each.1 sized.1 grows.1)
 
--- How many marks there are
+-- The number of marks
 
 abbrev lane_of : ℕ → LaneId
 lane_of zero = PoolLane

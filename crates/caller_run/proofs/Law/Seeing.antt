@@ -1,4 +1,4 @@
--- What a caller has seen of the generations of its vgetrandom states, event by event.
+-- A bound on the generations of a caller's vgetrandom states, kept event by event.
 use Rattle.std.proofs.Common.{◌≡◌, ℕ, ◌≤◌, List, [], replicate, refl, sym, ◌∙◌, subst, arith}
 use Rattle.std.proofs.lemmas.List.{length-set}
 use Rattle.key_names.specs.declared.events.Event.{Event}
@@ -37,7 +37,7 @@ seen_start found set = let P : VgetrandomState → Type 0 =
       published = recursion_from_All P (replicate 16 wiped_state) (All-replicate P 16 wiped_state (omega arith));
     }
 
--- more was seen
+-- a larger generation was seen
 pub seen_up : (a b : ℕ) (s : CallerState) → a ≤ b → Seen a s → Seen b s
 seen_up a b s le k = record {
   many = k.many;
@@ -58,7 +58,7 @@ seen_with found s st low k = record {
       low;
 }
 
--- behind an event by itself
+-- after an event alone
 pub seen_after : (version cpus found : ℕ) (s : CallerState) (event : Event) → InRange version cpus event →
     Seen found s →
     Seen found (caller_after s event)
@@ -67,9 +67,9 @@ seen_after version cpus found s (State number) range k =
     record { many = k.many; current = range.1; published = k.published }
 seen_after version cpus found s event range k = record { many = k.many; current = k.current; published = k.published }
 
--- a call of any event
+-- the call of any event
 
--- what holds behind each, c being the caller before it, and d behind it
+-- the facts that remain after it; c is the caller before it, and d after it
 pub record Kept (t : Lanes) (event : Event) (c d : Caller) (said : Reply) : Type 0 where
   pub has : HoldsLanes t d.set.caller [] d.pass
   pub set : d.set ≡ c.set
@@ -78,7 +78,7 @@ pub record Kept (t : Lanes) (event : Event) (c d : Caller) (said : Reply) : Type
 
 module _ {t : Lanes} {event : Event} {c d : Caller} {said : Reply} {served : List ℕ} {steps : List Step} where
   pub same_stand : Called t event c d said served steps → stand d ≡ stand c
-  same_stand k = (λ i. caller_at (setting_of (k.set i)) (k.states i))
+  same_stand k = (λ i. caller_at (setting_of (k.set i)) (k.states i).value)
 
   pub called_kept : Called t event c d said served steps → Kept t event c d said
   called_kept k = record {

@@ -1,4 +1,4 @@
--- What all callers of a script did, from the start of a table to its end, is a lawful transcript of the script.
+-- The calls of all callers of a script, from the start of a table to its end, make a lawful transcript of the script.
 use Rattle.std.proofs.Common.{◌≡◌, ℕ, suc, ◌+◌, ◌-◌, ◌<◌, ◌≤◌, List, [], ◌∷◌, ◌++◌, length, map, refl, sym, ap, ◌∙◌, subst, arith, inl, inr, Some}
 use Rattle.std.specs.Prelude.{slice_get}
 use Rattle.std.specs.List.{AllByRecursion, range_with_len}
@@ -56,7 +56,7 @@ climbs_rise low high [] c = tt
 climbs_rise low high (a ∷ []) c = tt
 climbs_rise low high (a ∷ b ∷ stamps) c = (c.1.0, climbs_rise a high (b ∷ stamps) c.1)
 
--- what stands behind steps has nothing to do with the callers' own lists
+-- the deed at a place does not depend on the callers' own lists
 
 deed_same : (lanes : ℕ) (w : View) (callers : StateLists) (lane : LaneId) (place : ℕ) →
     deed_at (book_lists lanes (known_of w) []) lane place ≡ deed_at (book_lists lanes (known_of w) callers) lane place

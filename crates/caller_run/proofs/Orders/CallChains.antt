@@ -1,4 +1,4 @@
--- What some calls did, one after another: what a loop over a caller's calls keeps, with one call more.
+-- Calls one after another: the invariant of a loop over a caller's calls holds after one call more.
 use Rattle.std.proofs.Common.{◌≡◌, ℕ, ◌+◌, subst, arith, List, [], ◌∷◌, ◌++◌, refl, sym, ap, ◌∙◌, append-nil}
 use Rattle.std.proofs.lemmas.List.{map-append}
 use Rattle.std.proofs.lemmas.Grind.{flat_map-append}
@@ -86,7 +86,7 @@ calls_done_then caller m n u v w s t r calls call a b = record {
       (b.samples lanes visits callers c);
 }
 
--- and the same where that one forks nobody
+-- the same of a call that forks no caller
 pub calls_done_plainly : (caller m : ℕ) (u v w : View) (s t r : CallerState) (calls : List Call) (call : Call) →
     CallsDone caller m u v s t calls → CallDone caller v w t r call → CallsDone caller m u w s r (calls ++ call ∷ [])
 calls_done_plainly caller m u v w s t r calls call a b =

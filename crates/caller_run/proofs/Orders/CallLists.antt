@@ -1,4 +1,4 @@
--- The calls of some events with their lines: what each kind of call keeps holds of all of them.
+-- The calls of some events with their lines: a fact that each kind of call keeps holds of all of them.
 use Rattle.std.proofs.Common.{◌≡◌, ℕ, suc, Bool, true, false, List, [], ◌∷◌, ◌++◌, refl, sym, subst}
 use Rattle.std.specs.Prelude.{if◌then◌else◌}
 use Rattle.key_names.specs.declared.events.Event.{Event}
@@ -12,8 +12,8 @@ use Rattle.key_names.specs.IsTranscript.{LineIs, LinesFit}
 abbrev pub Kept : Type 1
 Kept = List BoundAct → List Event → List SeenLine → List Call → Type 0
 
--- what is shown of each kind of call of caller c: P speaks of the acts that wait, of the events with their lines, and
--- of their calls
+-- the premises for each kind of call of caller c. P is about the waiting acts, the events with their lines, and their
+-- calls
 pub record Keeps (c : ℕ) (P : Kept) : Type 0 where
   pub ends : (n : ℕ) (line : SeenLine) → LineIs c n EndWord line → P [] [] (line ∷ []) (ending line ∷ [])
   pub does : (waiting : List BoundAct) (n : ℕ) (event : Event) (es : List Event) (line : SeenLine)
@@ -32,7 +32,7 @@ pub record Keeps (c : ℕ) (P : Kept) : Type 0 where
       P waiting (Inside bound.point bound.act ∷ es) (bound.line ∷ lines) (unbound bound ∷ calls)
 
 module _ (c : ℕ) (P : Kept) (k : Keeps c P) where
-  -- acts wait only where a vread follows
+  -- acts wait only if a vread follows
   kept_from : (n : ℕ) (waiting : List BoundAct) (events : List Event) (lines : List SeenLine) →
       (has_vread events ≡ false → waiting ≡ []) → LinesFit c n events lines →
       P waiting events lines (calls_from waiting events lines)
@@ -71,7 +71,7 @@ module _ (c : ℕ) (P : Kept) (k : Keeps c P) where
       k.does waiting n event es line lines (calls_from waiting es lines) fit.0
       (kept_from (suc n) waiting es lines none fit.1)
 
-  -- it holds of a caller's calls
+  -- P holds of a caller's calls
   pub kept : (events : List Event) (lines : List SeenLine) → LinesFit c 0 events lines →
       P [] events lines (calls_of events lines)
   kept events lines fit = kept_from 0 [] events lines (λ e. refl) fit

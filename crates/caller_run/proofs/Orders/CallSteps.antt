@@ -19,7 +19,7 @@ use Rattle.caller_run.specs.Done.{lines_in_order}
 abbrev pub lines_items : List SeenLine → List Item
 lines_items lines = flat_map line_items lines
 
--- both parts of a cut are the whole
+-- the two parts of a cut make the whole
 cut_whole : (items : List Item) → items ≡ (cut_items items).0 ++ (cut_items items).1
 cut_whole [] = refl
 cut_whole (item ∷ items) = go (is_mark item.step) (cut_whole items)
@@ -44,11 +44,11 @@ rekey_whole (a ∷ b ∷ c ∷ items) = go (is_mark c.step)
     go true = ap (λ (l : List Item). a ∷ b ∷ l) (cut_whole (c ∷ items))
     go false = refl
 
--- two lists without steps between others
+-- two empty lists between others
 pub no_steps : (xs ys a b front : List Item) → a ≡ [] → b ≡ [] → (((front ++ xs) ++ a) ++ b) ++ ys ≡ front ++ (xs ++ ys)
 no_steps xs ys a b front e f = (λ i. (((front ++ xs) ++ e i) ++ f i) ++ ys) ∙ simp append-nil (append_assoc front xs ys)
 
--- without steps at the points Serve and End the cut is of no account
+-- without steps at the points Serve and End the cut makes no difference
 pub no_late : (items : List Item) (acts : List BoundAct) → items_at_point acts Serve ≡ [] →
     items_at_point acts End ≡ [] →
     vread_items items acts ≡ (take 2 items ++ items_at_point acts Start ++ items_at_point acts Written) ++ drop 2 items
@@ -58,7 +58,7 @@ no_late items acts e f =
     no_steps cut.0 cut.1 (items_at_point acts Serve) (items_at_point acts End) front e f
     ∙ ap (λ (l : List Item). front ++ l) (sym (rekey_whole (drop 2 items)))
 
--- where no act has any the steps of the line stand as they are
+-- if no act has steps, the line's steps stay as they are
 pub own_items : (items : List Item) (acts : List BoundAct) → ((p : Point) → items_at_point acts p ≡ []) →
     vread_items items acts ≡ items
 own_items items acts none =
@@ -69,12 +69,12 @@ own_items items acts none =
 abbrev pub act_line : BoundAct → SeenLine
 act_line bound = bound.line
 
--- what each step weighs
+-- the weight of each step
 module _ (f : Item → ℕ) where
   abbrev weight : List Item → ℕ
   weight items = sum_by f items
 
-  -- what is bound to a point weighs at that one alone
+  -- the steps of an act have weight at its own point only
   abbrev weight_at : Point → ℕ → Point → ℕ
   weight_at p w point = cond (is_same_point p point) w 0
 
@@ -135,22 +135,22 @@ module _ (f : Item → ℕ) where
       let behind : weight (drop 2 items) ≡ weight r + weight end =
       ap weight (rekey_whole (drop 2 items)) ∙ sum_by-append f r end in omega arith
 
--- what holds of each step
+-- a fact about each step
 module _ (P : Item → Type 0) where
   abbrev Each : List Item → Type 0
   Each items = AllByRecursion P items
 
-  -- an act with this line, p being its point, and other acts at a point
+  -- an act with this line at point p, and other acts at a point
   abbrev At : List BoundAct → SeenLine → Point → Point → Type 0
   At acts line p point =
       Each (if is_same_point p point then line_items line ++ items_at_point acts point else items_at_point acts point)
 
-  -- what holds of each step of the acts at every point holds of each step of some lines
+  -- a fact about the steps of the acts at every point holds of each step of some lines
   abbrev OfAll : List BoundAct → List SeenLine → Type 0
   OfAll acts lines = Each (items_at_point acts Start) → Each (items_at_point acts Written) →
       Each (items_at_point acts Serve) → Each (items_at_point acts End) → Each (lines_items lines)
 
-  -- those of each act are among those at its point
+  -- the steps of each act are among those at its point
   of_acts : (acts : List BoundAct) → OfAll acts (map act_line acts)
   of_acts [] a b c d = tt
   of_acts (bound ∷ acts) a b c d = go bound.point a b c d (of_acts acts)
@@ -171,7 +171,7 @@ module _ (P : Item → Type 0) where
       go Serve a b c d rest = both Serve c (λ x. rest a b x d)
       go End a b c d rest = both End d (λ x. rest a b c x)
 
-  -- what holds of each step of a call holds of each step of its lines
+  -- a fact about each step of a call holds of each step of its lines
   pub call_each : (call : Call) → Each (call_items call) → Each (lines_items (lines_in_order call))
   call_each (alone event line) all = subst Each (sym (append-nil (line_items line))) all
   call_each (vread_call len flags line acts) all =

@@ -14,7 +14,7 @@ use Rattle.caller_run.specs.Done.{lines_in_order}
 use Rattle.caller_run.proofs.Orders.CallLists.{Kept, Keeps, kept}
 use Rattle.caller_run.proofs.Orders.CallSteps.{lines_items, act_line, vread_weight, call_each}
 
--- the steps of acts that wait, with one more
+-- the steps of the waiting acts, with one more
 waiting_more : (waiting : List BoundAct) (bound : BoundAct) → lines_items (map act_line (waiting ++ bound ∷ []))
     ≡ lines_items (map act_line waiting) ++ line_items bound.line
 waiting_more waiting bound =
@@ -64,7 +64,7 @@ module _ (f : Item → ℕ) where
         (omega arith) rest in omega arith;
   }
 
-  -- they weigh the same
+  -- they have the same weight
   pub calls_weight : (c : ℕ) (events : List Event) (lines : List SeenLine) → LinesFit c 0 events lines →
       weight (calls_items (calls_of events lines)) ≡ weight (lines_items lines)
   calls_weight c events lines fit = let e = kept c Weighs (keeps_weight c) events lines fit in omega arith
@@ -114,7 +114,7 @@ module _ (P : Item → Type 0) where
         );
   }
 
-  -- what holds of each step of the calls holds of each step of the lines
+  -- a fact about each step of the calls holds of each step of the lines
   pub calls_each : (c : ℕ) (events : List Event) (lines : List SeenLine) → LinesFit c 0 events lines →
       Each (calls_items (calls_of events lines)) → Each (lines_items lines)
   calls_each c events lines fit all = (kept c HoldsOfEach (keeps_each c) events lines fit all).1
@@ -146,7 +146,7 @@ module _ (Q : SeenLine → Type 0) where
     idles = λ waiting n bound es lines calls is rest all. let r = rest all.1 in (r.0, (all.0.0, r.1));
   }
 
-  -- what holds of each line of the calls holds of each line
+  -- a fact about each line of the calls holds of each line
   pub calls_lines : (c : ℕ) (events : List Event) (lines : List SeenLine) → LinesFit c 0 events lines →
       AllByRecursion (λ call. EachSeen (lines_in_order call)) (calls_of events lines) → EachSeen lines
   calls_lines c events lines fit all = (kept c HoldsOfLines (keeps_lines c) events lines fit all).1

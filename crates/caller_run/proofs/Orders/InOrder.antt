@@ -1,4 +1,4 @@
--- Runs of which each caller has one, in the order of the callers.
+-- Runs with one for each caller, in the order of the callers.
 use Rattle.std.proofs.Common.{◌≡◌, inl, inr, ℕ, zero, suc, ◌+◌, ◌<◌, ◌≤◌, Bool, true, false, cond, List, [], ◌∷◌, map, refl, sym, ap, ◌∙◌, arith}
 use mathlib.Core.Logic.{dite}
 use native.Mathlib.Decide.{ℕ_discrete}
@@ -17,7 +17,7 @@ number r = r.begun.caller
 abbrev pub numbers_of : List Run → List ℕ
 numbers_of runs = map number runs
 
--- the runs of caller k among some, weighed
+-- the weight of caller k's runs among some
 abbrev of_caller : (Run → ℕ) → ℕ → Run → ℕ
 of_caller f k r = cond (number r == k) (f r) 0
 
@@ -25,7 +25,7 @@ pub cons_times : (k : ℕ) (r : Run) (rs : List Run) →
     times_in k (numbers_of (r ∷ rs)) ≡ hit (number r == k) + times_in k (numbers_of rs)
 cons_times k r rs = sum_by-cons (λ x. hit (x == k)) (number r) (numbers_of rs)
 
--- where none is of this caller, they weigh nothing
+-- if no run is of this caller, the weight is zero
 nothing_of : (f : Run → ℕ) (k : ℕ) (runs : List Run) → times_in k (numbers_of runs) ≡ 0 →
     sum_by (of_caller f k) runs ≡ 0
 nothing_of f k [] none = refl
@@ -103,7 +103,7 @@ in_order (suc count) k runs once =
     (one_of k runs (first_once count k runs once)).run
     ∷ in_order count (suc k) runs (rest_once count k runs once)
 
--- all of them are there
+-- the list has all of them
 pub in_order_all : (count k : ℕ) (runs : List Run) (once : AllOnce k count runs) (r : Run) → IsOneOf r runs →
     k ≤ number r → number r < k + count → IsOneOf r (in_order count k runs once)
 in_order_all zero k runs once r here from to = absurd (omega arith)
@@ -124,7 +124,7 @@ in_order_of P (suc count) k runs once all =
       in_order_of P count (suc k) runs (rest_once count k runs once) all,
     )
 
--- they weigh the same
+-- they have the same weight
 
 -- one run, over the callers
 none_in : (f : Run → ℕ) (r : Run) (k count : ℕ) → number r < k →

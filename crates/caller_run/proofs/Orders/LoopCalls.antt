@@ -1,4 +1,4 @@
--- What a loop over a caller's events keeps of its calls, with one event more of each kind.
+-- The calls in the invariant of a loop over a caller's events, after one event more of each kind.
 use Rattle.std.proofs.Common.{◌≡◌, ℕ, zero, suc, ◌<◌, true, false, List, [], ◌∷◌, ◌++◌, length, refl, sym, ap, ◌∙◌, arith, append_assoc, length-append}
 use Rattle.std.specs.Prelude.{if◌then◌else◌}
 use Rattle.key_names.specs.declared.events.Event.{Event}
@@ -38,7 +38,7 @@ last_of (suc n) (l ∷ acts) many =
       many = (let m = rest.many in omega arith);
     }
 
--- the first call of events that begin with one of each kind
+-- the first call of events that begin with an event of each kind
 
 alone_first : (event : Event) → IsAlone event → (acts : List BoundAct) (es : List Event) (line : SeenLine)
     (lines : List SeenLine) → calls_from acts (event ∷ es) (line ∷ lines) ≡ alone event line ∷ calls_from acts es lines
@@ -63,7 +63,7 @@ so_far_nothing events = record {
 }
 
 module _ (events es : List Event) (lines : List SeenLine) (waiting : List Ask) (calls : List Call) where
-  -- a line at the end, whose event makes one call more and leaves the same acts waiting
+  -- a line at the end; its event makes one call more, and the same acts wait
   one_more : (event : Event) (line : SeenLine) (call : Call) → CallsSoFar events (event ∷ es) lines waiting calls →
       (has_vread es ≡ false → waiting ≡ []) →
       ((acts : List BoundAct) (more : List SeenLine) →
@@ -80,7 +80,7 @@ module _ (events es : List Event) (lines : List SeenLine) (waiting : List Ask) (
         ∙ one_call calls call (calls_from (all_bound waiting acts) es more);
   }
 
-  -- an event by itself
+  -- an event alone
   pub so_far_alone : (event : Event) (line : SeenLine) → IsAlone event →
       CallsSoFar events (event ∷ es) lines waiting calls →
       CallsSoFar events es (lines ++ line ∷ []) waiting (calls ++ alone event line ∷ [])
@@ -88,7 +88,7 @@ module _ (events es : List Event) (lines : List SeenLine) (waiting : List Ask) (
       one_more event line (alone event line) s (λ none. s.follows (alone_follows event is es ∙ none))
       (λ acts more. alone_first event is acts es line more)
 
-  -- an act that no vread follows
+  -- an act without a vread after it
   pub so_far_idle : (x : Ask) (line : SeenLine) → has_vread es ≡ false →
       CallsSoFar events (Inside x.point x.act ∷ es) lines waiting calls →
       CallsSoFar events es (lines ++ line ∷ []) waiting (calls ++ unbound (bound_by x line) ∷ [])

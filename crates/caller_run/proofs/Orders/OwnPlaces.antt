@@ -1,4 +1,4 @@
--- What a caller's own visits weigh, in what its pass made and in the marks of its lines.
+-- The weight of a caller's own visits is the same in its pass and in the marks of its lines.
 use Rattle.std.proofs.Common.{◌≡◌, ℕ, ◌<◌, List, [], ◌∷◌, ◌++◌, length, sym, ap, ◌∙◌, arith}
 use Rattle.std.specs.List.{sum_by}
 use Rattle.std.proofs.Math.ListN.{get_or-map}
@@ -23,7 +23,7 @@ use Rattle.caller_run.proofs.Law.LineMarks.{fit_own, lane_weight}
 use Rattle.caller_run.proofs.Forks.Joins.{OwnPlaces}
 use Rattle.caller_run.proofs.Planning.Sums.{sum_ones}
 
--- a pass that made nothing yet
+-- a pass that has made no visit yet
 pub record MadeNothing (v : View) : Type 0 where
   pub places : (lane : ℕ) → (at lane v).places ≡ []
   pub made : (lane : ℕ) → (at lane v).made ≡ 0

@@ -21,7 +21,7 @@ use Rattle.caller_run.specs.Items.{Item, items_from}
 use Rattle.caller_run.proofs.Orders.PartItems.{Part, part_nothing, part_then, part_went, items_append}
 use Rattle.caller_run.proofs.Events.ActSteps.{Apart, Untouched, act_items, untouched_items, acts_part, acts_elsewhere}
 
--- what a pass knows, the steps so far, and what came of the acts
+-- a pass's view, the steps so far, and the outcomes of the acts
 pub record Spot : Type 0 where
   pub moment : Moment
   pub outcomes : List ActOutcome
@@ -46,7 +46,7 @@ later_quiet (publishes g ∷ steps) = later_quiet steps
 later_quiet (system_call n flags answer ∷ steps) = later_quiet steps
 later_quiet (at_point point wiped ∷ steps) = (refl, later_quiet steps)
 
--- the first step of the caller itself, if there is one, is a look
+-- the first step of the caller itself, if it has one, is a look
 abbrev pub LooksFirst : List HostStep → Type 0
 LooksFirst [] = ⊤
 LooksFirst (publishes g ∷ steps) = ⊤
@@ -109,7 +109,7 @@ module _ (set : Setting) (asks : List Ask) where
 
   -- Own steps
 
-  -- from s to t the caller made these items of its own line, and nothing came of the acts
+  -- from s to t the caller appended these items to its own line, and the outcomes of the acts did not change
   pub record OwnSteps (s t : Spot) (items : List Item) : Type 0 where
     pub line : line_of t ≡ line_of s ++ items
     pub part : Part set.caller (view_at s) (view_at t) items

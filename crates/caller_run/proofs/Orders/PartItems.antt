@@ -1,4 +1,4 @@
--- Parts of what a caller did, each with the items that it makes in the caller's order.
+-- Parts of a caller's steps, each with its items in the caller's order.
 use Rattle.std.proofs.Common.{◌≡◌, ℕ, suc, ◌+◌, List, [], ◌∷◌, ◌++◌, length, map, refl, sym, ap, ◌∙◌, subst, arith}
 use Rattle.std.proofs.lemmas.List.{map-append}
 use Rattle.key_names.specs.declared.names.Step.{Step}
@@ -9,7 +9,7 @@ use Rattle.caller_run.specs.Items.{Item, items_from}
 use Rattle.caller_run.specs.Ran.{Ran}
 use Rattle.caller_run.proofs.Orders.Chains.{items_from_doings, ran_nothing, ran_then, ran_went}
 
--- from v to w the caller did what makes these items
+-- from v to w the caller made the steps of these items
 pub record Part (caller : ℕ) (v w : View) (items : List Item) : Type 0 where
   pub numbered_steps : List NumberedStep
   pub ran : Ran caller v w numbered_steps

@@ -1,4 +1,4 @@
--- A caller's lines, as those of the acts that waited for a vread are told anew.
+-- A caller's lines, after a vread replaced the lines of the acts that waited for it.
 use Rattle.std.proofs.Common.{◌≡◌, ℕ, zero, suc, Some, ◌<◌, ◌⊎◌, inl, inr, List, [], ◌∷◌, ◌++◌, length, refl, sym, ap, ◌∙◌, subst, arith, length-append}
 use Rattle.std.specs.Prelude.{slice_get, slice_set}
 use Rattle.std.specs.List.{AllByRecursion}
@@ -29,7 +29,7 @@ anew_long lines [] acts = refl
 anew_long lines (a ∷ asks) [] = refl
 anew_long lines (a ∷ asks) (l ∷ acts) = anew_long (slice_set lines a.event l) asks acts ∙ length-set lines a.event l
 
--- with lines behind them
+-- with more lines after them
 pub anew_front : (lines more : List SeenLine) (asks : List Ask) (acts : List SeenLine) → AreTold (length lines) asks →
     told_anew (lines ++ more) asks acts ≡ told_anew lines asks acts ++ more
 anew_front lines more [] acts told = refl
@@ -54,14 +54,14 @@ anew_last lines idle line (a ∷ asks) x (l ∷ acts) at told many =
     ∙ anew_last (slice_set lines a.event l) idle line asks x acts (at ∙ sym (length-set lines a.event l))
     (subst (λ (n : ℕ). AreTold n asks) (sym (length-set lines a.event l)) told.1) (omega arith)
 
--- one line more leaves those of the acts
+-- one line more leaves the lines of the acts as they are
 pub told_more : (lines : List SeenLine) (line : SeenLine) (asks : List Ask) → AreTold (length lines) asks →
     AreTold (length (lines ++ line ∷ [])) asks
 told_more lines line asks told =
     each_weaker (λ (a : Ask). a.event < length lines) (λ a. a.event < length (lines ++ line ∷ [])) asks
     (λ a low. omega (arith, length-append lines (line ∷ []))) told
 
--- a line of the same event fits where the other stood
+-- a line of the same caller, event and word fits in the other's place
 module _ (old new : SeenLine) (caller : new.caller ≡ old.caller) (event : new.event ≡ old.event)
     (word : new.word ≡ old.word) where
   is_too : (c n : ℕ) (w : Word) (line : SeenLine) → line ≡ old → LineIs c n w line → LineIs c n w new
@@ -80,7 +80,7 @@ module _ (old new : SeenLine) (caller : new.caller ≡ old.caller) (event : new.
       (is_too c n (event_word e) line same fit.0, fit.1)
   fit_set c n (e ∷ events) (line ∷ lines) (suc i) there fit = (fit.0, fit_set c (suc n) events lines i there fit.1)
 
--- what stands at a place where a line was set there or elsewhere
+-- the line at a place, after a line was set there or elsewhere
 get_set : (lines : List SeenLine) (i j : ℕ) (old new : SeenLine) → slice_get lines j ≡ Some old →
     ((i ≡ j) × (slice_get (slice_set lines i new) j ≡ Some new)) ⊎ (slice_get (slice_set lines i new) j ≡ Some old)
 get_set [] i j old new there = absurd (cc there)
@@ -125,7 +125,7 @@ module _ (caller : ℕ) where
       each_weaker (HasLine caller lines) (λ (a : Ask). a.event < length lines) asks
       (λ a has. slice_get_within lines a.event has.line has.there) idle
 
-  -- lines with those of acts told anew fit too
+  -- the lines still fit after the acts' lines are replaced
   module _ (set : Setting) (own : set.caller ≡ caller) (events : List Event) where
     pub fit_anew : (asks : List Ask) (zs : List ActOutcome) (lines more : List SeenLine) → Idle lines asks →
         LinesFit caller 0 events (lines ++ more) →

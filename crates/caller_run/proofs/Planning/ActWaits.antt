@@ -32,7 +32,7 @@ use Rattle.caller_run.proofs.Events.CanAdvance.{GoesOn}
 use Rattle.caller_run.proofs.Orders.ToldAnew.{idle_more}
 use Rattle.caller_run.proofs.Forks.HasAdvanced.{gone_by, fit_more}
 
--- what c tells of an act that is not done
+-- the line of c for an act that is not done
 abbrev pub idle_line : Caller → SeenLine
 idle_line c = record {
   caller = c.set.caller;
@@ -43,8 +43,8 @@ idle_line c = record {
   shown = no_data;
 }
 
--- c keeps an act for its next vread at this event, and e goes on: these are the lines, of which the last tells that the act
--- was not done, and the acts that wait, before it and behind it
+-- c keeps an act for its next vread at this event, and e goes on. `before` and `after` are the lines, of which the last
+-- has the act as not done; `acts` and `left` are the acts that wait, before the event and after it
 pub record Keeps (event : Event) (c e : Caller) (before after : Gathered) (acts left : List Bound) : Type 0 where
   pub point : Point
   pub act : InsideAct
@@ -99,7 +99,7 @@ module _ {event : Event} {c e : Caller} {before after : Gathered} {acts left : L
         LinesFit begun.caller 0 events ((before.lines ++ line ∷ []) ++ more)
     fit = fit_more begun.caller c.set.event events (Inside k.point k.act) rest before.lines line line_is g.fit
 
-    -- no vread follows, so the act is a call of its own
+    -- no vread follows, so the act is a call by itself
     gone_idle : has_vread rest ≡ false →
         HasAdvanced begun events rest e (before.lines ++ line ∷ []) (asks ++ x ∷ []) kids
     gone_idle none =

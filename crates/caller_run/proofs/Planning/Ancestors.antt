@@ -1,5 +1,5 @@
--- What each caller of a script starts with, and what its ancestors did before it: a parent has a lower number than its
--- child.
+-- The setting at the start of each caller of a script, and the steps of its ancestors before it. A parent has a lower
+-- number than its child.
 use Rattle.std.proofs.Common.{◌≡◌, ◌⊎◌, inl, inr, ℕ, zero, suc, ◌<◌, ◌≤◌, max, Bool, true, false, None, List, [], ◌∷◌, ◌++◌, length, map, refl, sym, ap, ◌∙◌, subst, arith, length-append, append_assoc}
 use Rattle.std.specs.Prelude.{nat_lt, ◌&&◌, if◌then◌else◌}
 use Rattle.std.specs.List.{AllByRecursion, fold}
@@ -30,10 +30,9 @@ use Rattle.caller_run.specs.Ran.{RanBy}
 use Rattle.caller_run.proofs.Orders.Chains.{stood_known}
 use Rattle.caller_run.proofs.Planning.Parents.{ParentIs, parent_is, no_parent, each_of}
 
--- What was done in an order
+-- Steps in an order
 
--- these steps are those of deals that all callers of the order made, up to where a pass knows v; w knows all visits in
--- the end
+-- all callers of the order made these steps, up to the view v of a pass; w has all visits at the end
 pub record Course (w v : View) (steps : List Step) : Type 0 where
   pub made_steps : List MadeStep
   pub first : ℕ
@@ -163,7 +162,7 @@ module _ (script : Script) (runs : List Run) (w : View) (ok : WellFormed script)
       start_setting callers r.begun.caller ≡ r.begun.set
   starts_so r here low = has_set (length callers) r here low
 
-  -- What its ancestors did
+  -- The steps of its ancestors
 
   abbrev HasCourse : ℕ → Type 0
   HasCourse n = (r : Run) → IsOneOf r runs → r.begun.caller < n →

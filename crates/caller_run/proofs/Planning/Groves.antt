@@ -1,4 +1,4 @@
--- Rooms that are taken out of a row and put back, and what they tell.
+-- Rooms that are taken out of a row and put back, with their lines.
 use Rattle.std.proofs.Common.{◌≡◌, ℕ, ◌<◌, List, [], ◌∷◌, ◌++◌, length, map, refl, ap, ◌∙◌, subst}
 use Rattle.std.proofs.lemmas.List.{map-append}
 use Rattle.key_names.specs.declared.events.Event.{Event}

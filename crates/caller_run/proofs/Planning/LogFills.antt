@@ -1,4 +1,4 @@
--- How a caller's lines and the acts that wait go on by an event of each kind.
+-- A caller's lines and waiting acts after an event of each kind.
 use Rattle.std.proofs.Common.{◌≡◌, ℕ, nat_cmp, false, Ok, ◌+◌, ◌*◌, ◌<◌, ◌≤◌, List, [], ◌∷◌, ◌++◌, length, take, drop, refl, sym, ap, ◌∙◌, subst, arith, length-append}
 use Rattle.std.specs.List.{AllByRecursion}
 use Rattle.std.specs.Ordering.{ord_max}
@@ -22,7 +22,7 @@ use Rattle.transcript_text.specs.Gathered.{Gathered}
 use Rattle.caller_run.specs.Standing.{read_inside}
 use Rattle.caller_run.proofs.Orders.ToldAnew.{AreTold, told_more}
 
--- a list whose items were lent out, with those that came back
+-- a list after its items were lent out and came back
 pub put_back : {A : Type 0} (back items : List A) (n : ℕ) → length back ≡ n
     → take n (back ++ drop (length back) items) ≡ back
 put_back back items n long =
@@ -36,7 +36,7 @@ above n most more max is le = grind (arith, nat_tests)
 pub above_more : (most more max n : ℕ) → max ≡ ord_max nat_cmp most more → more ≡ n → n ≤ max
 above_more most more max n is at = grind (arith, nat_tests)
 
--- how lines and the acts that wait go on by an event
+-- the change of the lines and of the waiting acts by an event
 pub record Fills (event : Event) (before after : Gathered) (acts left : List Bound) : Type 0 where
   pub lines : length after.lines ≡ length before.lines + 1
   pub line_room : after.line_room + 1 ≡ before.line_room
@@ -48,7 +48,7 @@ pub record Fills (event : Event) (before after : Gathered) (acts left : List Bou
   pub fresh : AllByRecursion IsWaitingAct left
   pub told : AreTold (length after.lines) (asks_of left)
 
--- an act shows at most what it reads
+-- an act shows at most the bytes that it reads
 shown_inside : (point : Point) (act : InsideAct) → most_shown (Inside point act) ≡ wants act
 shown_inside point Wipe = refl
 shown_inside point (ReadAct len) = refl
@@ -72,7 +72,7 @@ short Wipe range = omega arith
 short (ReadAct len) range = range
 short Reseed range = omega arith
 
--- acts that were not done yet want no more than a vread gives each of them
+-- acts that are not done yet want at most as many bytes as a vread gives each of them
 pub wanted_few : (bounds : List Bound) → AllByRecursion IsWaitingAct bounds →
     all_wanted (asks_of bounds) ≤ 1048576 * length bounds
 wanted_few [] all = omega arith
@@ -124,7 +124,7 @@ module _ (before after : Gathered) (line : SeenLine) (lines : after.lines ≡ be
             (told_more before.lines line (asks_of acts) told) (omega (arith, length-append before.lines (line ∷ [])))));
       }
 
--- a vread, behind which no act waits
+-- a vread; after it no act waits
 pub fills_read : {before after : Gathered} {n flags : ℕ} {acts left : List Bound} →
     length after.lines ≡ length before.lines + 1 →
     after.line_room + 1 ≡ before.line_room → before.step_room ≤ after.step_room + 20 * (length acts + 1) →

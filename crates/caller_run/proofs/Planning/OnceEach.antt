@@ -1,4 +1,4 @@
--- In the tree of a well-formed script each caller stands once.
+-- Each caller is once in the tree of a well-formed script.
 use Rattle.std.proofs.Common.{◌≡◌, ℕ, zero, suc, ◌+◌, ◌*◌, ◌<◌, ◌≤◌, List, [], ◌∷◌, ◌++◌, length, refl, sym, ap, ◌∙◌, arith}
 use mathlib.Core.Logic.{dite}
 use native.Mathlib.Decide.{ℕ_discrete, dec_lt}
@@ -13,7 +13,7 @@ use Rattle.key_names.specs.Texts.ScriptGrammar.{Script, WellFormed, is_fork_of, 
 use Rattle.caller_run.proofs.Planning.Sums.{hit, hit_same, hit_other, sum_none, sum_same, sum_both, sum_range}
 use Rattle.caller_run.specs.Forest.{Forest, no_more, more, forked_by, forks, numbers, AreForked}
 
--- how often a number stands among some
+-- how often a number is in a list
 abbrev pub times_in : ℕ → List ℕ → ℕ
 times_in k xs = sum_by (λ x. hit (x == k)) xs
 
@@ -33,7 +33,7 @@ module _ (callers : List (List Event)) where
   abbrev pub edges : ℕ → ℕ → ℕ
   edges k x = count_by (is_fork_of k) (list_at callers x)
 
-  -- who stands in a tree is a root, or forked by one of the tree
+  -- each caller in a tree is a root, or forked by one of the tree
   pub incoming : (k : ℕ) (f : Forest) (xs : List ℕ) → AreForked callers f xs →
       times_in k (numbers f) ≡ times_in k xs + sum_by (edges k) (numbers f)
   incoming k no_more [] are = refl
@@ -50,7 +50,7 @@ module _ (callers : List (List Event)) where
       let outs = sum_by-append (edges k) (numbers kids) (numbers rest) in
       let same : hit (c == k) ≡ hit (x == k) = ap (λ (n : ℕ). hit (n == k)) are.0 in omega arith
 
--- sums over numbers, by how often each stands among them
+-- sums over numbers, by how often each is among them
 
 none_of : (g : ℕ → ℕ) (x first count : ℕ) → x < first →
     sum_by (λ j. hit (x == j) * g j) (range_with_len first count) ≡ 0
@@ -93,7 +93,7 @@ sum_weighed g n (x ∷ xs) low =
     sum_same _ _ (range_with_len 0 n) (λ j.
     ap (λ (m : ℕ). m * g j) (sum_by-cons (λ y. hit (y == j)) x xs) ∙ omega arith) in omega arith
 
--- numbers that stand nowhere from n on
+-- if no number from n on is in a list, all are below n
 all_below : (n : ℕ) (xs : List ℕ) → ((k : ℕ) → n ≤ k → times_in k xs ≡ 0) → AllByRecursion (λ x. x < n) xs
 all_below n [] none = tt
 all_below n (x ∷ xs) none =
@@ -214,6 +214,6 @@ module _ (script : Script) (ok : WellFormed script) (f : Forest) (are : AreForke
   once (suc m) k less low = dite (ℕ_discrete k m)
       (λ same. next k (λ j small. once m j (omega arith)) low) (λ ne. once m k (omega arith) low)
 
-  -- each caller of the script stands once in its tree, and no other
+  -- each caller of the script is once in its tree, and no other number is
   pub once_each : (k : ℕ) → k < n → times_in k all ≡ 1
   once_each k low = once n k low low

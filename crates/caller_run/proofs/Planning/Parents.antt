@@ -1,4 +1,4 @@
--- Who forked a caller of a well-formed script, and where.
+-- The parent of a caller of a well-formed script, and the call that forked it.
 use Rattle.std.proofs.Common.{◌≡◌, inl, inr, ℕ, suc, ◌+◌, ◌≤◌, Bool, true, false, Some, None, List, [], ◌∷◌, ◌++◌, refl, sym, ap, ◌∙◌, subst, arith}
 use Rattle.std.specs.Prelude.{count_by, ◌==◌, if◌then◌else◌}
 use Rattle.std.specs.List.{AllByRecursion, sum_by}
@@ -50,7 +50,7 @@ pub counted : (caller c : ℕ) (events : List Event) (lines : List SeenLine) →
     forks_in c (calls_of events lines) ≡ count_by (is_fork_of c) events
 counted caller c events lines fit = kept caller (Counted c) (keeps_counted caller c) events lines fit
 
--- where none forks it, none is found
+-- if no call forks it, none is found
 pub none_found : (c : ℕ) (calls : List Call) → forks_in c calls ≡ 0 → fork_point c calls ≡ None
 none_found c [] none = refl
 none_found c (alone (Fork child) line ∷ calls) none = go (child == c) none (λ rest. none_found c calls rest)
@@ -102,7 +102,7 @@ forked_once c calls fork f =
       (λ most. ap (fork_point c) f.is ∙ found c fork.before fork.line f.after (omega (arith, one))),
     )
 
--- one of those of which this holds each
+-- a fact about each element of a list holds of one of them
 pub each_of : {X : Type 0} (P : X → Type 0) (x : X) (xs : List X) → AllByRecursion P xs → IsOneOf x xs → P x
 each_of P x [] all here = absurd here
 each_of P x (y ∷ ys) all (inl same) = subst P same all.0
@@ -126,7 +126,7 @@ some_forked c k (es ∷ callers) (r ∷ rs) p kid each (inr rest) there =
     let more = some_forked c (suc k) callers rs p kid each.1 rest there in
     let all = sum_by-cons (count_by (is_fork_of kid.caller)) es callers in omega arith
 
--- the parent of a child that p forked, k being the number of the first of some callers
+-- the parent of a child that p forked; k is the number of the first of some callers
 pub record ParentIs (k : ℕ) (callers : List (List Event)) (runs : List Run) (p : Run) (kid : Start) : Type 0 where
   pub calls : List Call
   pub forked : Forked p.begun p.end calls kid
@@ -172,7 +172,7 @@ parent_is k (es ∷ callers) (r ∷ rs) p kid each (inr rest) there most =
           ∙ more.is;
     }
 
--- who is forked by none has no parent
+-- a caller that no call forks has no parent
 pub no_parent : (c k : ℕ) (callers : List (List Event)) (runs : List Run) → EachCaller HasRun k callers runs →
     sum_by (count_by (is_fork_of c)) callers ≡ 0 →
     parent_from c k (all_calls callers (lines_of_all runs)) ≡ None

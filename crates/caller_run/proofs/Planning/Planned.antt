@@ -1,4 +1,4 @@
--- The rooms of callers, made before a run, and emptied behind it.
+-- The rooms of callers, made before a run, and emptied after it.
 use Rattle.std.proofs.Common.{◌≡◌, ℕ, ◌+◌, ◌<◌, ◌≤◌, Some, List, [], ◌∷◌, ◌++◌, map, length, refl, sym, ap, ◌∙◌, subst, arith, append_assoc, append-nil, length-append, take, drop}
 use mathlib.Core.Logic.{dite}
 use native.Mathlib.Decide.{dec_lt}
@@ -27,7 +27,7 @@ use Rattle.caller_run.proofs.Planning.Sums.{hit, hit_same}
 use Rattle.caller_run.proofs.Planning.Slots.{put_long, put_append}
 use Rattle.caller_run.proofs.Forks.WentOn.{above_number, few_events}
 
--- of a caller's events these are left, and the rooms of those that the others fork are there
+-- these are the events of a caller that are left, and the rooms of the callers that the others fork are made
 pub record PreparedSoFar (callers : List (List Event)) (c : ℕ) (rest : List Event) (g : Grove) : Type 0 where
   pub done : List Event
   pub all : list_at callers c ≡ rest ++ done
@@ -97,7 +97,7 @@ one_there k (e ∷ front) back =
 none_past : (n k : ℕ) → n ≤ k → let b : ℕ = (if nat_lt 0 k && nat_lt k n then 1 else 0) in b ≡ 0
 none_past n k from = grind (arith, nat_tests)
 
--- a child has a higher number, and events in the script
+-- a child has a higher number, and is a caller of the script
 pub child_there : (script : Script) → WellFormed script → (c child : ℕ) (front : List Event) {es rest : List Event} {g : Grove} →
     slice_get script.callers c ≡ Some es → PreparedSoFar script.callers c rest g → rest ≡ front ++ Fork child ∷ [] →
     (c < child) × (child < length script.callers)
@@ -134,7 +134,7 @@ prepared callers c es sheet kids a there low new p is =
       ready = subst (λ (l : List Event). ArePrepared callers (grove_of (map plot kids)) (forks l)) (sym p.all) p.ready;
     })
 
--- ---- behind it
+-- ---- after it
 
 have_first : (n : ℕ) (xs ys : List (ℕ × List SeenLine)) → HaveSlots n (xs ++ ys) → HaveSlots n xs
 have_first n [] ys have = tt

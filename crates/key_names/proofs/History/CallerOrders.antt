@@ -1,4 +1,4 @@
--- A caller's order is its start and its own steps; looks go by a number.
+-- A caller's order is its start and its own steps, and a look depends on earlier steps only by a number.
 use Rattle.std.proofs.Common.{◌≡◌, ◌⊎◌, inl, inr, ℕ, zero, suc, ◌<◌, List, [], ◌∷◌, ◌++◌, length, refl, sym, subst, ap, ◌∙◌, arith, length-append}
 use Rattle.std.specs.List.{fold}
 use Rattle.std.proofs.lemmas.List.Sums.{fold-append}

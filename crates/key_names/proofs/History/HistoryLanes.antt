@@ -26,7 +26,7 @@ use Rattle.key_names.proofs.History.SortedVisits.{one_if, Rising, Sorted, count,
 abbrev stamp_of : Happening → ℕ
 stamp_of h = h.stamp
 
--- what a test leaves of a list
+-- the elements of a list that pass a test
 module _ (p : Happening → Bool) where
   count_filter : (k : ℕ) (hs : List Happening) →
       count stamp_of k (filter p hs) ≡ count_by (λ h. p h && (h.stamp == k)) hs
@@ -55,7 +55,7 @@ module _ (p : Happening → Bool) where
       go true rest = (all_filter (λ y. h.stamp ≤ y.stamp) hs sorted.0, rest)
       go false rest = rest
 
-  -- an element that passes is left
+  -- an element that passes the test stays
   abbrev Left : List Happening → Happening → Type 0
   Left hs h = p h ≡ true → IsIn h (filter p hs)
 
@@ -108,7 +108,7 @@ sorted_stamps (h ∷ next ∷ hs) sorted =
         go true less = cc
         go false less = ltb-false a.stamp b.stamp less
 
--- the visits of a lane, of all visits
+-- the visits of one lane among all visits
 abbrev in_lane : LaneId → Happening → Bool
 in_lane lane h = is_same_lane h.lane lane
 
@@ -120,7 +120,7 @@ filter_lane lane other false is i [] = refl
 filter_lane lane other true is i (v ∷ visits) = rw (is, filter_lane lane other true is (suc i) visits) refl
 filter_lane lane other false is i (v ∷ visits) = rw is (filter_lane lane other false is (suc i) visits)
 
--- in a lane that none of the CPUs has
+-- no CPU has visits in this lane
 filter_others : (lane : LaneId) (c : ℕ) (cpus : List (List (Visit CpuEntry))) →
     ((d : ℕ) → c ≤ d → is_same_lane (CpuLane d) lane ≡ false) → filter (in_lane lane) (visits_of_cpus c cpus) ≡ []
 filter_others lane c [] other = refl

@@ -23,7 +23,7 @@ module _ {X : Type 0} (number : X → ℕ) where
   Sorted [] = ⊤
   Sorted (x ∷ xs) = AllByRecursion (λ y. number x ≤ number y) xs × Sorted xs
 
-  -- how many elements have this number
+  -- the number of elements with this number
   abbrev pub count : ℕ → List X → ℕ
   count k xs = count_by (λ x. number x == k) xs
 
@@ -43,7 +43,7 @@ module _ {X : Type 0} (number : X → ℕ) where
     | inr other ↦ other.1 ∙ none_above k xs above.1
   ]
 
-  -- where some element has this number, it is not below a bound of all
+  -- if some element has this number, the number is not below a lower bound of all
   bound_le : (low k : ℕ) (xs : List X) → AllByRecursion (λ y. low ≤ number y) xs → 1 ≤ count k xs → low ≤ k
   bound_le low k [] bound some = absurd (omega arith)
   bound_le low k (x ∷ xs) bound some = elim (counted k x xs) [
@@ -51,7 +51,7 @@ module _ {X : Type 0} (number : X → ℕ) where
     | inr other ↦ bound_le low k xs bound.1 (let is = other.1 in omega arith)
   ]
 
-  -- elements that are not below a number, and of which none has it, are above it
+  -- elements that are not below a number are above it if none has it
   all_above : (k : ℕ) (xs : List X) → AllByRecursion (λ y. k ≤ number y) xs → count k xs ≡ 0 →
       AllByRecursion (λ y. k < number y) xs
   all_above k [] bound none = tt

@@ -1,4 +1,4 @@
--- What one more entry at the end of a list leaves: the law of the list, and what stood before it.
+-- A list with one more entry at its end: its law, and its entries before.
 use Rattle.std.proofs.Common.{◌≡◌, ℕ, zero, suc, List, [], ◌∷◌, ◌++◌, refl, subst, ap, ◌∙◌, Some, Option, take}
 use Rattle.std.specs.Prelude.{slice_get, option_and_then}
 use Rattle.std.specs.List.{fold}
@@ -11,13 +11,13 @@ module _ {S E : Type 0} (May : S → E → Type 0) (step : S → E → S) where
   lawful_more s [] e lawful may = (may, tt)
   lawful_more s (x ∷ xs) e lawful may = (lawful.0, lawful_more (step s x) xs e lawful.1 may)
 
-  -- and so is one with more entries that are lawful from where it ends
+  -- so is a list with more entries that are lawful from its end on
   pub lawful_append : (s : S) (xs ys : List E) → LawfulFrom May step s xs → LawfulFrom May step (fold step s xs) ys →
       LawfulFrom May step s (xs ++ ys)
   lawful_append s [] ys lawful more = more
   lawful_append s (x ∷ xs) ys lawful more = (lawful.0, lawful_append (step s x) xs ys lawful.1 more)
 
-  -- each entry of a lawful list came when it might
+  -- each entry of a lawful list could come in the state before it
   pub may_at : (s : S) (xs : List E) (i : ℕ) (e : E) → LawfulFrom May step s xs → slice_get xs i ≡ Some e →
       May (fold step s (take i xs)) e
   may_at s [] i e lawful is = cc
@@ -56,7 +56,7 @@ front_stays (x ∷ xs) more (suc i) e is =
       whole = ap (λ ys. x ∷ ys) m.whole;
     }
 
--- what an entry names stays
+-- the name that an entry has stays
 pub named_stays : {A B : Type 0} (of : A → Option B) (xs more : List A) (i : ℕ) (b : B) →
     option_and_then of (slice_get xs i) ≡ Some b →
     option_and_then of (slice_get (xs ++ more) i) ≡ Some b
@@ -64,7 +64,7 @@ named_stays of [] more i b is = cc
 named_stays of (x ∷ xs) more zero b is = is
 named_stays of (x ∷ xs) more (suc i) b is = named_stays of xs more i b is
 
--- where an entry names something, it stands
+-- if a place names something, it has an entry
 pub named_entry : {A B : Type 0} (of : A → Option B) (xs : List A) (i : ℕ) (b : B) →
     option_and_then of (slice_get xs i) ≡ Some b →
     (e : A) × (slice_get xs i ≡ Some e) × (of e ≡ Some b)

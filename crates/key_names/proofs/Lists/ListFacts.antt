@@ -1,4 +1,4 @@
--- Facts of lists and options that proofs of other crates use too.
+-- Facts about lists and options that proofs of other crates use too.
 use Rattle.std.proofs.Common.{ℕ, zero, suc, ◌≡◌, ◌+◌, ◌<◌, ◌≤◌, Bool, true, inl, inr, Some, List, [], ◌∷◌, length, map, drop, refl, ap, ◌∙◌, arith}
 use Rattle.std.specs.Prelude.{find, slice_get, option_map}
 use Rattle.std.specs.List.{AllByRecursion}
@@ -23,13 +23,13 @@ list_is [] c xs is = cc
 list_is (ys ∷ xss) zero xs is = cc
 list_is (ys ∷ xss) (suc c) xs is = list_is xss c xs is
 
--- beyond the lists there is the empty one
+-- a list beyond the last is empty
 pub list_beyond : {X : Type 0} (xss : List (List X)) (c : ℕ) → length xss ≤ c → list_at xss c ≡ []
 list_beyond [] c le = refl
 list_beyond (xs ∷ xss) zero le = absurd (omega arith)
 list_beyond (xs ∷ xss) (suc c) le = list_beyond xss c (omega arith)
 
--- the element at a place, and those behind it
+-- the element at a place, and those after it
 pub found_dropped : {X : Type 0} (xs : List X) (i : ℕ) (x : X) → slice_get xs i ≡ Some x → drop i xs ≡ x ∷ drop (i + 1) xs
 found_dropped [] i x is = cc
 found_dropped (y ∷ xs) zero x is = ap (λ z. z ∷ xs) (same_Some y x is)

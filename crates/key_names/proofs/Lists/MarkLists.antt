@@ -16,7 +16,7 @@ pub count_more : (p : ℕ) (m : Mark) (ms : List Mark) →
     count_by (at_place p) (m ∷ ms) ≡ cond (m.place == p) 1 0 + count_by (at_place p) ms
 count_more p m ms = sum_by-cons (λ n. cond (at_place p n) 1 0) m ms
 
--- a place below the first stands nowhere
+-- no mark has a place below the first
 none_below : (i p : ℕ) (ms : List Mark) → InOrder i ms → p < i → count_by (at_place p) ms ≡ 0
 none_below i p [] order below = refl
 none_below i p (m ∷ ms) order below =
@@ -24,7 +24,7 @@ none_below i p (m ∷ ms) order below =
     let other : (m.place == p) ≡ false = (let here : m.place ≡ i = order.0 in grind (arith, nat_tests)) in
     count_more p m ms ∙ rw (other, rest) refl
 
--- a place of theirs stands once
+-- each place from the first to the last occurs once
 once_at : (i p : ℕ) (ms : List Mark) → InOrder i ms → i ≤ p → p < i + length ms → count_by (at_place p) ms ≡ 1
 once_at i p [] order from below = absurd (omega arith)
 once_at i p (m ∷ ms) order from below =
@@ -79,7 +79,7 @@ rise_from i (m ∷ ms) order =
     in
     ((self, behind), with_first m ms ms from (rise_from (suc i) ms order.2))
 
--- marks in order stand as they must
+-- PlacesStand holds for marks in order
 pub in_order_stand : (ms : List Mark) → InOrder 0 ms → PlacesStand ms
 in_order_stand ms order = record {
   once = each_once 0 (length ms) ms (λ p from below. once_at 0 p ms order from below);

@@ -1,4 +1,4 @@
--- What stands behind a mark is the visit at its place.
+-- The deed of a mark is the visit at its place.
 use Rattle.std.proofs.Common.{◌≡◌, ℕ, refl, sym, ap, ◌∙◌, Some, None, Option}
 use Rattle.std.specs.Prelude.{slice_get}
 use Rattle.key_names.specs.declared.names.LaneId.{LaneId}
@@ -14,7 +14,7 @@ use Rattle.key_names.specs.Deeds.{Deed, PoolVisit, CpuVisit, looked, at_pool, at
 use Rattle.key_names.specs.Deeds.{deed_or, deed_at, deed_of, pool_visit, base_visit, cpu_visit}
 
 module _ (lists : Lists) where
-  -- a visit of a CPU or of the pool behind a mark is that of its place
+  -- if the deed of a mark is a visit of a CPU or of the pool, it is the visit at the mark's place
   pub record CpuAt (lane : LaneId) (place : ℕ) (s : CpuVisit) : Type 0 where
     pub lane_is : lane ≡ CpuLane s.cpu
     pub place_is : place ≡ s.place
@@ -95,7 +95,7 @@ module _ (lists : Lists) where
       go None is = absurd (cc is)
       go (Some e) is = absurd (cc is)
 
-  -- the mark of a step behind which a visit of a CPU stands
+  -- the mark of a step with a visit of a CPU as its deed
   pub record CpuStep (step : Step) (s : CpuVisit) : Type 0 where
     pub mark : Mark
     pub is : step ≡ Marked mark

@@ -1,5 +1,5 @@
--- The visits of a book whose visits are the marks of lines: each is behind a step of the line of its event, and what is
--- behind a step of a line is a visit of that event.
+-- A book whose visits are the marks of lines: each visit is a deed of the line of its event, and each visit among a
+-- line's deeds is of that event.
 use Rattle.std.proofs.Common.{◌≡◌, ℕ, ◌<◌, List, sym, ap, ◌∙◌, subst, arith, Some}
 use Rattle.std.specs.Prelude.{slice_get, option_map}
 use Rattle.std.proofs.lemmas.Option.{slice_get_within, slice_get-map}
@@ -34,7 +34,7 @@ module _ (t : List (List SeenLine)) (book : Book) (visits : VisitsAre book (all_
   abbrev lists : Lists
   lists = lists_of book
 
-  -- what stands in the book at a place stands in its lists
+  -- the entry of the book's visit at a place is the entry in its lists
   pub cpu_entry_at : (c place : ℕ) (v : Visit CpuEntry) → slice_get (visits_of book c) place ≡ Some v →
       slice_get (cpu_list lists c) place ≡ Some v.entry
   cpu_entry_at c place v at =
@@ -72,7 +72,7 @@ module _ (t : List (List SeenLine)) (book : Book) (visits : VisitsAre book (all_
   -- ---- from visits to lines
 
   module _ (places : (lane : LaneId) → PlacesStand (lane_marks lane (all_marks t))) where
-    -- who made the visit at a place, and in which line
+    -- the maker of the visit at a place, and the line that has the visit's mark
     record MadeAt (lane : LaneId) (place : ℕ) : Type 0 where
       stamp : ℕ
       who : Who
@@ -127,7 +127,7 @@ module _ (t : List (List SeenLine)) (book : Book) (visits : VisitsAre book (all_
     pub by : visit.who.caller ≡ line.caller
     pub event : visit.who.event ≡ line.event
 
-  -- the visit of a mark whose stamp stands at its place
+  -- the visit of a mark, if the book has the mark's stamp at its place
   visit_behind : {E : Type 0} (list : List (Visit E)) (place : ℕ) (entry : E) (line : SeenLine) (mark : Mark) →
       (m : MarkOf t line mark) → stamped list place ≡ Some (m.by.mark.stamp, m.by.who) →
       ((v : Visit E) → slice_get list place ≡ Some v → v.entry ≡ entry) → Behind list place entry line
@@ -141,7 +141,7 @@ module _ (t : List (List SeenLine)) (book : Book) (visits : VisitsAre book (all_
         event = ap (λ (w : Who). w.event) f.made ∙ m.event_is;
       }
 
-  -- the stamp at a place that a mark has
+  -- the stamp at the place of a mark
   pub stamp_at : (lane : LaneId) (place : ℕ) (line : SeenLine) (mark : Mark) (m : MarkOf t line mark) → mark.lane ≡ lane →
       mark.place ≡ place → stamped_at book lane place ≡ Some (m.by.mark.stamp, m.by.who)
   stamp_at lane place line mark m p q =

@@ -1,4 +1,4 @@
--- The lines of all callers: a mark is of one of them, and no two have one caller and one event.
+-- The lines of all callers: each mark is of one of them, and no two have the same caller and event.
 use Rattle.std.proofs.Common.{◌≡◌, ℕ, suc, ◌+◌, ◌≤◌, ◌⊎◌, inl, inr, List, [], ◌∷◌, ◌++◌, length, refl, sym, ap, ◌∙◌, subst, arith}
 use Rattle.std.specs.List.{AllByRecursion, flat_map}
 use Rattle.key_names.specs.declared.events.Event.{Event}
@@ -144,7 +144,7 @@ mark_of t line mark (lines, lines_in, line_in) here =
       event_is = f.event_is;
     }
 
--- no two lines of a caller have one event
+-- no two lines of a caller have the same event
 
 number_from : (c n : ℕ) (events : List Event) (lines : List SeenLine) (line : SeenLine) → LinesFit c n events lines →
     IsIn line lines → (line.caller ≡ c) × (n ≤ line.event)
@@ -184,7 +184,7 @@ same_line c n (event ∷ events) (l ∷ lines) a b fit (inr x) (inl y) same =
 same_line c n (event ∷ events) (l ∷ lines) a b fit (inr x) (inr y) same =
     same_line c (suc n) events lines a b fit.1 x y same
 
--- a caller has a line for each event, and its last one
+-- a caller has a line for each event, and a last line
 pub fits_long : (c n : ℕ) (events : List Event) (lines : List SeenLine) → LinesFit c n events lines →
     length lines ≡ length events + 1
 fits_long c n [] [] fit = absurd fit

@@ -1,4 +1,4 @@
--- Where the samples of each line stand, those of the book are lawful.
+-- If the samples of each line are correct, those of the book are lawful.
 use Rattle.std.proofs.Common.{◌≡◌, ℕ, ◌<◌, inl, inr, List, [], ◌∷◌, refl, sym, ap, ◌∙◌, subst, arith, Some}
 use Rattle.std.specs.Prelude.{slice_get}
 use Rattle.std.specs.List.{AllByRecursion}
@@ -19,7 +19,7 @@ use Rattle.key_names.proofs.History.SortedVisits.{IsIn}
 use Rattle.key_names.proofs.Samples.Lines.{each_in, Among, Apart}
 use Rattle.key_names.proofs.Samples.LineVisits.{InLine, Behind, cpu_in_line, pool_in_line, cpu_behind, pool_behind}
 
--- what excludes what
+-- facts about entries that exclude each other
 
 pub quiet_dump : (f : FastPool) (e : CpuEntry) → EntryIsQuiet f e → IsDump e → ⊥
 quiet_dump f (Dump now) quiet dump = quiet
@@ -99,7 +99,7 @@ module _ (fast : ℕ → ℕ → FastPool) (deeds : List Deed) where
     mix_in : IsIn (at_pool d.mix) deeds
     mix_in = subst (IsIn (at_pool d.mix)) (sym d.deeds_are) (inr (inr (inl refl)))
 
--- what a mix mixes
+-- the bytes that a mix mixes
 abbrev text_or : PoolEntry → List ℕ
 text_or (Mix text bits) = text
 text_or _ = []
@@ -108,7 +108,7 @@ abbrev bits_or : PoolEntry → ℕ
 bits_or (Mix text bits) = bits
 bits_or _ = 0
 
--- `fast` tells each CPU's fast pool before a visit
+-- `fast` gives each CPU's fast pool before a visit
 module _ (t : List (List SeenLine)) (book : Book) (fast : ℕ → ℕ → FastPool)
     (fast_is : (c place : ℕ) (v : Visit CpuEntry) → slice_get (visits_of book c) place ≡ Some v →
     fast_before (visits_of book c) place ≡ fast c place)
@@ -142,7 +142,7 @@ module _ (t : List (List SeenLine)) (book : Book) (fast : ℕ → ℕ → FastPo
       Behind t book visits book.pool s.place s.entry line
   of_pool = pool_behind t book visits
 
-  -- the visit behind a deed of a line whose event is this one's
+  -- the visit of a line's deed, if the line's event is this one
   pub due_at : (line : SeenLine) (s : CpuVisit) (who : Who) → Among line t → IsIn (at_cpu s) (deeds line) →
       line.event ≡ who.event → who.caller ≡ line.caller → MakesDue (fast s.cpu s.place) s.entry →
       DueAt (visits_of book s.cpu) s.place who
@@ -174,7 +174,7 @@ module _ (t : List (List SeenLine)) (book : Book) (fast : ℕ → ℕ → FastPo
       let b = of_pool line s among here in
       record { visit = b.visit; is = b.at; event = (b.by ∙ sym by, b.event ∙ event); mixes = b.is ∙ mixes }
 
-  -- a visit of a line's event is behind a step of the line
+  -- a visit of a line's event is the deed of one of its steps
   own_line : (line : SeenLine) (a who : Who) (deed : Deed) → Among line t → line.event ≡ who.event →
       who.caller ≡ line.caller → SameEvent a who → InSome a deed → IsIn deed (deeds line)
   own_line line a who deed among event by same g =
@@ -271,7 +271,7 @@ module _ (t : List (List SeenLine)) (book : Book) (fast : ℕ → ℕ → FastPo
         let same : o.dumps.dump ≡ v = is_the_dump fast (deeds o.line) o.dumps v here b.dumps in
         sym o.at ∙ ap (λ (v : CpuVisit). v.place) same
 
-    -- what the fast pool held at the dump
+    -- the fast pool at the dump
     dumped : (c k : ℕ) (who : Who) (o : OfDump c k who) → DumpAt (visits_of book c) k who →
         fast o.dumps.dump.cpu o.dumps.dump.place ≡ fast_before (visits_of book c) k
     dumped c k who o a = (λ i. fast (o.on i) (o.at i)) ∙ sym (fast_is c k a.visit a.is)

@@ -1,4 +1,4 @@
--- What stands before a line: one more event, or one more block.
+-- A draft, the script before a line: one more event, or one more block.
 use Rattle.std.proofs.Common.{◌≡◌, ℕ, zero, suc, ◌+◌, ◌<◌, ◌≤◌, ◌==◌, leb, ltb, false, cond, ◌&&◌, ◌||◌, ◌⊎◌, inl, inr, List, [], ◌∷◌, ◌++◌, length, refl, sym, subst, ◌∙◌, arith}
 use Rattle.std.specs.List.{AllByRecursion, list_any}
 use Rattle.std.specs.Prelude.{count_by, fold, nat_lt, sum_by, if◌then◌else◌}
@@ -11,9 +11,9 @@ use Rattle.key_names.specs.Texts.ScriptGrammar.{FewActs, ForksAbove, InRange, Is
 use Rattle.key_names.proofs.Lists.Each.{each_append, each_left, each_right}
 use Rattle.key_names.specs.Texts.ScriptFaults.{Draft, blocks_of, has_orphan, is_bad_fork, is_fork_from, is_past_limits, with_block, with_event}
 
--- ---- what adds up over events
+-- ---- sums over events
 
--- f adds up over a list of events
+-- f is 0 for no events, and for joined lists of events it is the sum
 pub record Adds (f : List Event → ℕ) : Type 0 where
   pub none : f [] ≡ 0
   pub more : (xs ys : List Event) → f (xs ++ ys) ≡ f xs + f ys
@@ -40,7 +40,7 @@ total_split f adds done later events es =
       adds.more events es,
     )
 
--- an empty block more
+-- one more empty block
 pub total_block : (f : List Event → ℕ) → Adds f → (blocks : List (List Event)) → sum_by f (blocks ++ [] ∷ []) ≡
     sum_by f blocks
 total_block f adds blocks = omega (arith, sum_by-append f blocks ([] ∷ []), sum_by-cons f [] [], adds.none)
@@ -116,7 +116,7 @@ fork_above d (Fork child) good =
     omega arith
 fork_above d e good = tt
 
--- how often a number is forked with one more event
+-- the number of forks of a number, with one more event
 pub times_with : (d : Draft) (e : Event) (c : ℕ)
     → times_forked (blocks_of (with_event d e)) c ≡ times_forked (blocks_of d) c + count_by (is_fork_of c) (e ∷ [])
 times_with d e c = total_split (count_by (is_fork_of c)) (forks_of c) d.done [] d.events (e ∷ []) ∙ omega arith
@@ -232,7 +232,7 @@ none_of n c (event ∷ events) high e =
     let here : count_by (is_fork_of c) (event ∷ []) ≡ 0 = rw (not_of n c event high parts.0) refl in
     omega (arith, (forks_of c).more (event ∷ []) events, none_of n c events high parts.1)
 
--- where there are no orphans, no number from n on is forked
+-- if no number is orphaned, no number from n on is forked
 pub no_orphan : (n c : ℕ) (callers : List (List Event)) → n ≤ c → list_any (list_any (is_fork_from n)) callers ≡
     false → times_forked callers c ≡ 0
 no_orphan n c [] high e = refl
@@ -264,7 +264,7 @@ none_from n (e ∷ events) none =
     (not_from n e (λ c high. omega (arith, none c high, (forks_of c).more (e ∷ []) events)))
     (none_from n events (λ c high. omega (arith, none c high, (forks_of c).more (e ∷ []) events)))
 
--- where no number from n on is forked, there are no orphans
+-- if no number from n on is forked, no number is orphaned
 pub orphanless : (n : ℕ) (callers : List (List Event)) → NoneFrom n (times_forked callers) →
     list_any (list_any (is_fork_from n)) callers ≡ false
 orphanless n [] none = refl
@@ -275,7 +275,7 @@ orphanless n (events ∷ callers) none =
 
 -- ---- whole scripts
 
--- all that a well-formed script keeps, but for the length of its text
+-- all conditions of a well-formed script except the length of its text
 pub record Whole (version cpus : ℕ) (blocks : List (List Event)) : Type 0 where
   pub versions : (1 ≤ version) × (version ≤ 3)
   pub few_cpus : (1 ≤ cpus) × (cpus ≤ most_cpus version)
@@ -321,7 +321,7 @@ end_whole d fine whole =
       reads = fine.reads;
     }
 
--- ---- what a whole script says of a draft on the way to it
+-- ---- a draft on the way to a whole script
 
 none_low : (k c : ℕ) (events : List Event) → c ≤ k → AllByRecursion (IsForkAbove k) events →
     count_by (is_fork_of c) events ≡ 0
@@ -332,7 +332,7 @@ none_low k c (Fork child ∷ events) low above =
     omega (arith, (forks_of c).more (Fork child ∷ []) events, none_low k c events low above.1)
 none_low k c (e ∷ events) low above = omega (arith, (forks_of c).more (e ∷ []) events, none_low k c events low above.1)
 
--- blocks from number k on fork nobody up to k
+-- blocks from number k on fork no number up to k
 none_forked_low : (k c : ℕ) (callers : List (List Event)) → c ≤ k → ForksAbove k callers → times_forked callers c ≡ 0
 none_forked_low k c [] low above = refl
 none_forked_low k c (events ∷ callers) low above =

@@ -1,4 +1,4 @@
--- The fields behind a word give an event if and only if they are its own, and it is in its range.
+-- The fields after a word give an event if and only if they are its own, and it is in its range.
 use Rattle.std.proofs.Common.{◌≡◌, ℕ, ◌^◌, ◌<◌, ◌≤◌, leb, Bool, true, false, cond, inl, inr, Result, Ok, Err, List, [], ◌∷◌, refl, sym, ap, subst, ◌∙◌, arith}
 use Rattle.std.specs.Prelude.{codes}
 use Rattle.std.specs.Str.{bytes_eq}
@@ -17,7 +17,7 @@ use Rattle.key_names.specs.Texts.ScriptGrammar.{ActInRange, InRange, act_fields,
 use Rattle.key_names.specs.Texts.ScriptFaults.{◌>>=◌, event_of, four_fields, input_of, inside_of, number, point_of, one_field, since, two_fields, vread_at}
 use Rattle.key_names.proofs.Script.FieldReaders.{points, Takes, binary_again, binary_takes, byte_fields, hardware_fields, numbers, numbers_in, one_is, plain_takes, same_ok, step_ok, two_are, unary_again, unary_takes}
 
--- the fields are those behind this word of the event, which is in its range
+-- the fields are those of this event, which has this word and is in its range
 pub record IsEvent (version cpus : ℕ) (by : Word) (fields : List (List ℕ)) (event : Event) : Type 0 where
   pub word : event_word event ≡ by
   pub spelt : fields ≡ arguments event

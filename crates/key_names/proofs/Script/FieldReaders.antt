@@ -1,4 +1,4 @@
--- A field, or all the fields behind a word, are read if and only if they are spelt so.
+-- A field, or all fields after a word, can be read if and only if they are spelt so.
 use Rattle.std.proofs.Common.{◌≡◌, ℕ, ◌^◌, ◌<◌, ◌≤◌, ◌==◌, arith, ltb, Bool, true, false, cond, Option, Some, None, Result, Ok, Err, List, [], ◌∷◌, length, refl, sym, ap, subst, ◌∙◌}
 use Rattle.std.specs.Prelude.{⊤}
 use Rattle.std.specs.Fmt.{decimal}
@@ -15,7 +15,7 @@ use Rattle.key_names.proofs.Points.{point_again, number_small, numbered}
 use Rattle.key_names.proofs.Script.HexFields.{bytes_again, bytes_takes}
 use Rattle.key_names.proofs.Script.Numbers.{number_again, number_takes}
 
--- the value of a step that did not fail, and what the next step made of it
+-- the value of a step that did not fail, and the result of the next step
 pub step_ok : {A B E : Type 0} (r : Result A E) (f : A → Result B E) (y : B) → (r >>= f) ≡ Ok y →
     (x : A) × (r ≡ Ok x) × (f x ≡ Ok y)
 step_ok (Ok x) f y e = (x, refl, e)
@@ -31,7 +31,7 @@ pub found : {A E : Type 0} (o : Option A) (k : E) (x : A) → ok_or o k ≡ Ok x
 found {A} {E} (Some y) k x e = ap (λ (z : A). Some z) (same_ok {A = A} {E = E} y x e)
 found None k x e = absurd cc
 
--- a reader of fields, and how what it reads is spelt
+-- a reader of fields, and the spelling of its results
 pub record Spells {A : Type 0} (read : List ℕ → Result A FaultKind) (spell : A → List ℕ) (Fits : A → Type 0)
     : Type 0 where
   pub takes : (field : List ℕ) (a : A) → read field ≡ Ok a → (field ≡ spell a) × Fits a
@@ -95,7 +95,7 @@ hardware_fields = record {
   again = λ bs fits. rw (byte_fields.again bs fits.0, eq-eqb (length bs) 32 fits.1) refl;
 }
 
--- ---- the fields behind a word
+-- ---- the fields after a word
 
 pub none_is : (fields none : List (List ℕ)) → no_field fields ≡ Ok none → fields ≡ []
 none_is [] none e = refl
@@ -113,7 +113,7 @@ two_are [] both e = absurd cc
 two_are (a ∷ []) both e = absurd cc
 two_are (a ∷ b ∷ c ∷ fields) both e = absurd cc
 
--- P holds of the fields and the event that a reader of them gives
+-- P holds for any fields and the event that a reader gives for them
 abbrev pub Takes : (List (List ℕ) → Result Event FaultKind) → (List (List ℕ) → Event → Type 0) → Type 0
 Takes read P = (fields : List (List ℕ)) (event : Event) → read fields ≡ Ok event → P fields event
 

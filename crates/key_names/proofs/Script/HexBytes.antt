@@ -12,7 +12,7 @@ use Rattle.key_names.specs.Texts.ScriptFaults.{bytes_of}
 use Rattle.key_names.specs.Texts.Spelling.{AllLower, hex, is_lower_digit}
 use Rattle.key_names.proofs.Script.HexFields.{bytes_again, bytes_none, spells_letter, spells_number}
 
--- a digit stands at its value in the table
+-- a digit's place in the table is its value
 place_of : (c : ℕ) → is_lower_digit c ≡ true → (d : ℕ) × (d < 16) × (slice_index lower_digits d ≡ c)
 place_of c lower =
     elim (or_cases (leb 48 c && leb c 57) (leb 97 c && leb c 102) lower) [
@@ -36,7 +36,7 @@ pub no_bytes : encode_lower [] ≡ []
 unfolding encode_with
 no_bytes = refl
 
--- digits, two for each byte, are those of some bytes
+-- two digits for each byte are the digits of some bytes
 pub digits_of_bytes : (n : ℕ) (digits : List ℕ) → length digits ≡ 2 * n → AllLower digits →
     (bytes : List ℕ) × (encode_lower bytes ≡ digits)
 unfolding encode_with
@@ -59,7 +59,7 @@ lower_place n lower = elim (cases_lt n 16) [
       let zero_lower : is_lower_digit 0 ≡ true = rw none at lower in absurd (cc zero_lower))
 ]
 
--- what is spelt in lower case are bytes
+-- a list that is spelt in lower case is a list of bytes
 spelt_bytes : (bytes : List ℕ) → AllLower (encode_lower bytes) → IsBytes bytes
 unfolding encode_with
 spelt_bytes [] lower = λ i. omega arith
@@ -90,7 +90,7 @@ pub no_dash : (field : List ℕ) (n : ℕ) → length field ≡ 2 * n → bytes_
 no_dash field n even = false_from_ne_true _ (λ e.
     omega (arith, even, ap length ((bytes_eq-Decides field (hex [])).0 e)))
 
--- whether a field that is no dash spells bytes
+-- whether a field that is not a dash spells bytes
 pub is_spelt : (field : List ℕ) (lower : Bool) → bytes_eq field (hex []) ≡ false → 0 < length field →
     length field % 2 ≡ 0 → (lower ≡ true ↔ AllLower field) → lower ≡ is_some (bytes_of field)
 is_spelt field true dash some even is =
@@ -101,7 +101,7 @@ is_spelt field true dash some even is =
 is_spelt field false dash some even is =
     ap is_some (sym (bytes_none field dash (λ found n lower e. absurd (false≢true (is.1 lower)))))
 
--- what is written over all of a list is all that it holds
+-- if the bytes written are as many as the list has, they are the whole list
 pub written : (out items : List ℕ) (n : ℕ) → length out ≡ length items → n ≡ length items →
     take n (out ++ drop (length out) items) ≡ out
 written out items n same all =

@@ -94,7 +94,7 @@ parts_spaced field (next ∷ fields) clean others =
     parts_at 32 field (spaced (next ∷ fields)) (lacks_space field clean)
     ∙ ap (λ (rest : List (List ℕ)). field ∷ rest) (parts_spaced next fields others.0 others.1)
 
--- a line is what its fields spell
+-- a line is the spelling of its fields
 pub spaced_parts : (line : List ℕ) → spaced (parts 32 line) ≡ line
 spaced_parts line = join_with_byte-slice_split 32 line
 
@@ -137,7 +137,7 @@ feedless (b ∷ line) fine = (not_feed b fine.0, feedless line fine.1)
 
 -- ---- a text of lines
 
--- a text of printable lines falls into them, with nothing behind the last
+-- a text of printable lines falls into them, with nothing after the last
 pub parts_lined : (lines : List (List ℕ)) → AllByRecursion Printable lines → parts 10 (lined lines) ≡ lines ++ [] ∷ []
 parts_lined [] fine = refl
 parts_lined (line ∷ lines) fine =
@@ -153,6 +153,6 @@ joined_lines (line ∷ next ∷ lines) =
     ∙ sym (append_assoc line (10 ∷ []) (lined (next ∷ lines)))
     ∙ sym (flat_map-cons (λ (l : List ℕ). l ++ 10 ∷ []) line (next ∷ lines))
 
--- a text that falls into lines, with nothing behind the last, is those lines
+-- a text that falls into lines, with nothing after the last, is the text of those lines
 pub lined_parts : (text : List ℕ) (lines : List (List ℕ)) → parts 10 text ≡ lines ++ [] ∷ [] → text ≡ lined lines
 lined_parts text lines e = sym (join_with_byte-slice_split 10 text) ∙ ap (join_with_byte 10) e ∙ joined_lines lines

@@ -22,7 +22,7 @@ pub first_part : (byte : ℕ) (text : List ℕ) → HasFirst (parts byte text)
 first_part byte [] = record { first = []; others = []; is = refl }
 first_part byte (b ∷ text) = first_of (b == byte) b (parts byte text)
 
--- no byte of the text is this one
+-- no byte of the text has this value
 abbrev pub Lacks : ℕ → List ℕ → Type 0
 Lacks byte text = All (λ b. (b == byte) ≡ false) text
 

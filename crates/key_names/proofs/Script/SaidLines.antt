@@ -1,4 +1,4 @@
--- What a line says, and the line that says it.
+-- The content of a line, and the line with that content.
 use Rattle.std.proofs.Common.{◌≡◌, ℕ, ◌≤◌, false, inl, inr, Some, Result, Ok, List, [], ◌∷◌, refl, sym, ap, subst, ◌∙◌, arith}
 use Rattle.std.specs.Fmt.{decimal}
 use Rattle.std.specs.List.{AllByRecursion}
@@ -36,7 +36,7 @@ not_caller : (w : Word) → bytes_eq (word_text w) (codes "caller") ≡ false
 not_caller words.End = refl
 not_caller _ = refl
 
--- ---- what is said
+-- ---- the content
 
 abbrev pub said_fields : Said → List (List ℕ)
 said_fields (SaysEvent event) = event_fields event
@@ -87,7 +87,7 @@ by_first version cpus (first ∷ fields) what few is =
           (by_word version cpus fields step.0 what few step.2)
     ]
 
--- the line that says it
+-- the line with this content
 abbrev pub said_line : Said → List ℕ
 said_line what = spaced (said_fields what)
 

@@ -1,4 +1,4 @@
--- The lines behind the heads: they give a script if and only if they are its lines.
+-- The lines after the heads: they give a script if and only if they are its lines.
 use Rattle.std.proofs.Common.{◌≡◌, ℕ, suc, ◌+◌, ◌<◌, ◌≤◌, ◌==◌, false, inl, inr, Result, Ok, Err, List, [], ◌∷◌, ◌++◌, length, map, refl, sym, ap, subst, ◌∙◌, append_assoc, arith}
 use Rattle.std.specs.List.{list_any}
 use Rattle.std.specs.Prelude.{codes}
@@ -51,7 +51,7 @@ nothing_takes n ((b ∷ tail) ∷ next ∷ more) x e =
 
 -- ---- the lines that are left
 
--- the lines behind those of a draft with c blocks done: more events, more blocks, and the end
+-- the lines after those of a draft with c finished blocks: more events, more blocks, and the end
 abbrev pub rest_lines : ℕ → List Event → List (List Event) → List (List ℕ)
 rest_lines c es later = map spaced ((map event_fields es ++ block_lines (suc c) later) ++ (codes "end" ∷ []) ∷ [])
     ++ [] ∷ []
@@ -62,7 +62,7 @@ callers_with d es later = d.done ++ (d.events ++ es) ∷ later
 abbrev pub script_with : Draft → List Event → List (List Event) → Script
 script_with d es later = record { version = d.version; cpus = d.cpus; callers = callers_with d es later }
 
--- the lines are what is left of the script behind the draft
+-- the lines are the rest of the script after the draft
 pub record Continues (d : Draft) (lines : List (List ℕ)) (s : Script) : Type 0 where
   pub es : List Event
   pub later : List (List Event)
@@ -70,7 +70,7 @@ pub record Continues (d : Draft) (lines : List (List ℕ)) (s : Script) : Type 0
   pub spelt : lines ≡ rest_lines (length d.done) es later
   pub whole : Whole d.version d.cpus (callers_with d es later)
 
--- ---- what the lines give is spelt so
+-- ---- the lines that give a script are its lines
 
 few_cpus : (version cpus : ℕ) → cpus ≤ most_cpus version → cpus ≤ 256
 few_cpus version cpus few = grind arith
@@ -115,7 +115,7 @@ end_after d next is =
       | inr whole ↦ (whole, same_ok {E = FaultKind} Ends next (rw whole at is))
     ]
 
--- what the lines behind give, as a fact of them
+-- the fact about the lines after the first
 abbrev Behind : List (List ℕ) → Script → Type 0
 Behind more s = (d : Draft) (n : ℕ) → Fine d → script_from d n more ≡ Ok s → Continues d more s
 
@@ -200,13 +200,13 @@ from_takes d n (line ∷ more) s fine e =
     subst (λ l. Continues d (l ∷ more) s) (sym is)
     (by_said d n more s what.0 next.0 fine says.1 what.2 next.2 (λ d' m fine' e'. from_takes d' m more s fine' e'))
 
--- ---- what is spelt so is given
+-- ---- the lines of a script give it
 
 first_behind : (lines : List (List ℕ)) (line : List ℕ) (more : List (List ℕ)) → HasFirst (lines ++ line ∷ more)
 first_behind [] line more = record { first = line; others = more; is = refl }
 first_behind (l ∷ lines) line more = record { first = l; others = lines ++ line ∷ more; is = refl }
 
--- a line that says what may come
+-- a line with content that may come next
 step_again : (d : Draft) (n : ℕ) (what : Said) (more : List (List ℕ)) (next : Next) → d.cpus ≤ 256 →
     SaidInRange d.version d.cpus what
     → HasFirst more → after d what ≡ Ok next
@@ -231,7 +231,7 @@ event_lines es = map (λ e. said_line (SaysEvent e)) es
 abbrev with_events : Draft → List Event → Draft
 with_events d es = record d { events = d.events ++ es }
 
--- the events of a block, one after the other
+-- the events of a block, one after another
 events_again : (d : Draft) (n : ℕ) (es : List Event) (later : List (List Event)) (line : List ℕ)
     (more : List (List ℕ)) (s : Script)
     → d.cpus ≤ 256 → Whole d.version d.cpus (callers_with d es later)
@@ -247,7 +247,7 @@ events_again d n (e ∷ es) later line more s few whole ends =
     (first_behind (event_lines es) line more) (event_next d e fits)
     ∙ events_again (with_event d e) (n + 1) es later line more s few (rw same whole) (λ m. rw same (ends m))
 
--- the lines behind those of a block's events
+-- the lines after those of a block's events
 abbrev tail_lines : ℕ → List (List Event) → List (List ℕ)
 tail_lines c [] = codes "end" ∷ [] ∷ []
 tail_lines c (es ∷ later) = said_line (SaysCaller (suc c)) ∷ rest_lines (suc c) es later

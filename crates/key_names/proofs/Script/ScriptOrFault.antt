@@ -1,4 +1,4 @@
--- Of a script's text no fault can be told, and of every other text one can.
+-- A script's text has no fault, and every other text has one.
 use Rattle.std.proofs.Common.{◌≡◌, ℕ, List, None, ap, refl}
 use Rattle.std.specs.Prelude.{Result, Ok, Err}
 use Rattle.key_names.specs.declared.faults.ScriptFault.{ScriptFault}

@@ -1,4 +1,4 @@
--- The calls of a well-formed script's callers name one of the sixteen vgetrandom states.
+-- Each call of a well-formed script's callers has one of the sixteen vgetrandom states as the current one.
 use Rattle.std.proofs.Common.{ℕ, ◌<◌, List, []}
 use Rattle.std.specs.Prelude.{⊤}
 use Rattle.std.specs.List.{AllByRecursion}

@@ -258,7 +258,7 @@ well_formed s whole short = record {
   text = short;
 }
 
--- what a text gives is its script
+-- a text that gives a script is the script's
 pub script_takes : (text : List ℕ) (s : Script) → script_of text ≡ Ok s → IsScript s text
 unfolding script_of
 script_takes text s e =
@@ -279,7 +279,7 @@ whole_again s (es ∷ later) e whole =
     (record s { callers = callers })) e
     (lines_again s.version s.cpus es later (subst (Whole s.version s.cpus) (sym e) whole))
 
--- a script's text gives it
+-- a script's text gives the script
 pub script_again : (text : List ℕ) (s : Script) → IsScript s text → script_of text ≡ Ok s
 unfolding script_of
 script_again text s is =

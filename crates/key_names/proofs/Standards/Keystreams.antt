@@ -26,7 +26,7 @@ keystream-add key from (suc a) b =
     ap (keystream key from) p ∙ ap (λ ys. keystream_byte key from ∷ ys)
     (keystream-add key (from + 1) a b ∙ ap (λ f. keystream key (from + 1) a ++ keystream key f b) q)
 
--- how many bytes a piece has
+-- the number of bytes in a piece
 pub length-keystream : (key : List ℕ) (from len : ℕ) → length (keystream key from len) ≡ len
 length-keystream key from len = length-map-range_with_len (λ j. keystream_byte key j) from len
 
@@ -55,7 +55,7 @@ slice_range-keystream key from len i j ordered within =
     let short : i ≤ len = omega arith in let fits : j - i ≤ len - i = omega arith in
     ap (take (j - i)) (drop-keystream key from len i short) ∙ take-keystream key (from + i) (len - i) (j - i) fits
 
--- a piece and what goes on from it, or from anywhere if it is nothing
+-- two pieces joined: the second begins after the first, or is empty
 pub keystream-append : (key : List ℕ) (from a next b len : ℕ) → a + b ≡ len → (0 < b → next ≡ from + a) →
     keystream key from a ++ keystream key next b ≡ keystream key from len
 keystream-append key from a next zero len sum goes_on =

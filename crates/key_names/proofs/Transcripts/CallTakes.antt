@@ -29,7 +29,7 @@ module _ (lane : LaneId) (p : ℕ) where
   acts_append [] ys = omega arith
   acts_append (x ∷ xs) ys = omega (arith, acts_append xs ys)
 
-  -- how many marks of this place the lines of a call have
+  -- the number of marks of this place in the lines of a call
   abbrev pub call_marks : Call → ℕ
   call_marks (alone event line) = mark_takes lane p line.steps
   call_marks (vread_call n flags line acts) = mark_takes lane p line.steps + acts_marks acts
@@ -122,7 +122,7 @@ module _ (c p : ℕ) where
       means.entries refl
   call_within lists (ending line) m deeds means = none_taken m.entries [] (mark_takes (CpuLane c) p line.steps) means.entries refl
 
-  -- nor than all its lines have
+  -- a call takes no more reads than all its lines have marks
   pub call_within_all : (lists : Lists) (call : Call) (m : CallMeaning) →
       EachOfCall (λ line m. deeds_of lists line.steps ≡ m.deeds) call m → Means call m →
       takes c p m.entries ≤ call_marks (CpuLane c) p call

@@ -1,4 +1,5 @@
--- Behind a look of a generation a lawful transcript publishes generations, and reads keys that CPUs handed over.
+-- In a lawful transcript, after a look that found a generation, the host publishes generations, and reads
+-- keys that CPUs handed over.
 use Rattle.std.proofs.Common.{◌≡◌, ℕ, zero, suc, ◌≤◌, arith, List, [], ◌∷◌, ◌++◌, sym, subst, ap, ◌∙◌}
 use Rattle.key_names.specs.Book.{Lists}
 use Rattle.key_names.specs.Calls.{Setting}
@@ -38,7 +39,7 @@ look_some : (look g : ℕ) → g ≡ published_by look → 1 ≤ g → 1 ≤ loo
 look_some zero g is some = let p : g ≡ 0 = is in absurd (omega arith)
 look_some (suc look) g is some = omega arith
 
--- behind a look of a generation, what a line shows publishes generations, and reads keys that CPUs handed over
+-- after a look that found a generation, the host of a line publishes generations, and reads keys that CPUs handed over
 good_shown : (lists : Lists) (set : Setting) (steps : List HostStep) (deeds : List Deed) → AllThere lists deeds →
     AllKnown 1 (looks_of deeds) → Shows set steps deeds → Good lists steps
 good_shown lists set [] deeds there known shows = tt
@@ -68,7 +69,7 @@ good_shown lists set (system_call n flags answer ∷ steps) deeds there known sh
       good_shown lists set steps shows.rest h.1 (looks_append 1 shows.call shows.rest after) shows.goes_on,
     )
 
--- the same of a whole call, whose first look may have found none
+-- the same for the steps of a whole call after its first look, if that look found a generation
 pub good_behind : (lists : Lists) (set : Setting) (steps : List HostStep) (deeds : List Deed) → AllThere lists deeds →
     NeverFall (looks_of deeds) → Shows set steps deeds →
     (g : ℕ) (rest : List HostStep) → steps ≡ publishes g ∷ rest → 1 ≤ g → Good lists rest

@@ -1,4 +1,5 @@
--- In a lawful transcript a system call for a new key took 32 bytes of a CPU, and read those that its visit hands over.
+-- In a lawful transcript each system call for a new key takes 32 bytes from a CPU, and reads the key
+-- that this visit hands over.
 use Rattle.std.proofs.Common.{◌≡◌, ℕ, ◌≤◌, Bool, true, false, List, [], ◌∷◌, ◌++◌, ◌⊎◌, inl, inr, refl, sym, subst, ap, ◌∙◌, arith, Some, None, Option, take}
 use Rattle.std.specs.Prelude.{◌==◌, ◌&&◌, slice_get, option_and_then}
 use Rattle.std.proofs.lemmas.Bool.{eqb-true}
@@ -27,7 +28,7 @@ use Rattle.key_names.proofs.Vgetrandom.CallsKeep.{match_cases}
 use Rattle.key_names.proofs.Vgetrandom.StatesReplay.{KeyIs}
 use Rattle.key_names.proofs.Vgetrandom.KeyReads.{IsKeyRead, KeyReads}
 
--- a visit of a CPU stands in its list
+-- a visit of a CPU is in the CPU's list
 abbrev pub IsThere : Lists → Deed → Type 0
 IsThere lists (looked g) = Unit {0}
 IsThere lists (at_pool v) = Unit {0}
@@ -60,7 +61,7 @@ there_at lists PoolLane place = there_at_pool lists place (slice_get lists.pool 
 there_at lists BaseLane place = there_at_base lists place (slice_get lists.base place)
 there_at lists (CpuLane c) place = there_at_cpu lists c place (slice_get (cpu_list lists c) place) refl
 
--- what stands behind steps is there
+-- the deeds of steps are in their lists
 pub all_there : (lists : Lists) (steps : List Step) → AllThere lists (deeds_of lists steps)
 all_there lists [] = tt
 all_there lists (Look g ∷ steps) = (tt, all_there lists steps)
@@ -71,7 +72,7 @@ there_append lists [] ys h = (tt, h)
 there_append lists (x ∷ xs) ys h =
     let m : AllThere lists xs × AllThere lists ys = there_append lists xs ys h.1 in ((h.0, m.0), m.1)
 
--- with no flags a system call is never told to come again
+-- a system call without flags is done, unless it was interrupted
 pub answers_done : (deeds : List Deed) → was_interrupted deeds ≡ false → system_answer 0 deeds ≡ Done
 answers_done deeds is = go (found_unready deeds) refl
   where
@@ -86,11 +87,11 @@ answers_interrupted deeds is = go (found_unready deeds) refl
     go true at = rw (at, is) refl
     go false at = rw (at, is) refl
 
--- a key read took 32 bytes of a CPU, and read what its visit hands over
+-- a key read takes 32 bytes from a CPU, and reads the key that this visit hands over
 abbrev WasRead : Lists → SystemAnswer → Type 0
 WasRead lists answer = IsKeyRead (cpu_list lists) answer × KeyIs lists answer
 
--- a visit of a CPU that took 32 bytes, and served those that it hands over
+-- a visit of a CPU that takes 32 bytes, and serves the key that it hands over
 record Took32 (lists : Lists) (cpu : CpuVisit) : Type 0 where
   is : (taken_at (cpu_list lists cpu.cpu) cpu.place ≡ Some (User 32))
       × (cpu.serves ≡ cpu_call_value lists cpu.cpu cpu.place)
@@ -110,7 +111,7 @@ took lists cpu look refill reads there =
       );
     }
 
--- what a call answers that ends with such a visit
+-- the answer of a call that ends with such a visit
 abbrev Answered : Lists → List Deed → Type 0
 Answered lists call = WasRead lists (answer_behind 0 call)
 
@@ -183,7 +184,7 @@ known_look g some unready = go (g == 0) refl unready
     go true is same = let zero_is : g ≡ 0 = eqb-true g 0 is in absurd (omega arith)
     go false is same = cc
 
--- a system call of 32 bytes with no flags: only one whose look found the core not ready may fail
+-- a system call of 32 bytes without flags: it may fail only if its look found the core not ready
 abbrev AnsweredLook : Lists → ℕ → List Deed → Type 0
 AnsweredLook lists look call =
     IsKeyRead (cpu_list lists) (answer_behind 0 call) × (1 ≤ look → KeyIs lists (answer_behind 0 call))
@@ -209,7 +210,7 @@ sys_answered lists set call there form = go form.0 form.1 form.2 form.3
         ])
         looked_form
 
--- so is each that the steps of a line show
+-- so does each system call that the steps of a line show
 pub key_reads : (lists : Lists) (set : Setting) (steps : List HostStep) (deeds : List Deed) → AllThere lists deeds →
     Shows set steps deeds →
     KeyReads (cpu_list lists) steps

@@ -1,4 +1,4 @@
--- How many marks each lane has, and that a book whose visits are the marks has as many visits.
+-- The number of marks in each lane. A book whose visits are the marks has as many visits.
 use Rattle.std.proofs.Common.{◌≡◌, ℕ, zero, suc, ◌+◌, ◌<◌, ◌≤◌, Bool, true, false, List, [], ◌∷◌, refl, sym}
 use Rattle.std.proofs.Common.{subst, ap, ◌∙◌, arith, Some, length}
 use Rattle.std.specs.Prelude.{count_by, ◌==◌, if◌then◌else◌}
@@ -35,7 +35,7 @@ same_lane (CpuLane c) PoolLane is = cc
 same_lane (CpuLane c) BaseLane is = cc
 same_lane (CpuLane c) (CpuLane d) is = ap CpuLane (eqb-true c d is)
 
--- what holds of each mark holds of a lane's
+-- a fact about each mark holds for each mark of a lane
 pub of_lane : (Q : LaneId → Mark → Type 0) (lane : LaneId) (marks : List MarkBy) →
     AllByRecursion (λ by. Q by.mark.lane by.mark) marks → AllByRecursion (λ m. Q lane m) (lane_marks lane marks)
 of_lane Q lane [] all = tt
@@ -47,7 +47,7 @@ of_lane Q lane (by ∷ marks) all = go (is_same_lane by.mark.lane lane) refl (of
         (subst P (same_lane by.mark.lane lane is) all.0, rest)
     go false is rest = rest
 
--- what holds of the place of each of a lane's marks holds of each place that the lane has marks for
+-- a fact about the place of each of a lane's marks holds for each place below their number
 module _ (Q : ℕ → Type 0) where
   at_some : (place : ℕ) (ms : List Mark) → AllByRecursion (λ m. Q m.place) ms →
       1 ≤ count_by (λ mark. mark.place == place) ms → Q place
@@ -80,7 +80,7 @@ pub every_place : (Q : LaneId → ℕ → Type 0) (lane : LaneId) (marks : List 
 every_place Q lane marks stand all i lt =
     each_place (λ i. Q lane i) (lane_marks lane marks) stand (of_lane (λ l m. Q l m.place) lane marks all) i lt
 
--- how many visits a lane has
+-- the number of visits in a lane
 abbrev pub lane_length : Book → LaneId → ℕ
 lane_length book PoolLane = length book.pool
 lane_length book BaseLane = length book.base
@@ -98,11 +98,11 @@ within_lane book PoolLane place there at = within book.pool place there at
 within_lane book BaseLane place there at = within book.base place there at
 within_lane book (CpuLane c) place there at = within (list_at book.cpus c) place there at
 
--- how many marks a lane has
+-- the number of marks in a lane
 abbrev pub mark_count : LaneId → List MarkBy → ℕ
 mark_count lane marks = length (lane_marks lane marks)
 
--- and the CPUs' lanes together, c being the number of the first
+-- the number of marks in the CPUs' lanes together; c is the number of the first
 abbrev cpu_counts : {X : Type 0} → ℕ → List X → List MarkBy → ℕ
 cpu_counts c [] marks = 0
 cpu_counts c (x ∷ xs) marks = mark_count (CpuLane c) marks + cpu_counts (suc c) xs marks
@@ -115,7 +115,7 @@ one_more_mark : (lane : LaneId) (by : MarkBy) (marks : List MarkBy) →
     mark_count lane (by ∷ marks) ≡ one_if (is_same_lane by.mark.lane lane) + mark_count lane marks
 one_more_mark lane by marks = count_if (is_same_lane by.mark.lane lane) by (lane_marks lane marks)
 
--- a mark of another lane counts for no CPU from c on
+-- a mark of another lane is not counted for any CPU from c on
 skips : {X : Type 0} (c : ℕ) (xs : List X) (by : MarkBy) (marks : List MarkBy) →
     ((d : ℕ) → c ≤ d → is_same_lane by.mark.lane (CpuLane d) ≡ false) →
     cpu_counts c xs (by ∷ marks) ≡ cpu_counts c xs marks
@@ -128,7 +128,7 @@ skips c (x ∷ xs) by marks other =
     let rest : cpu_counts (suc c) xs (by ∷ marks) ≡ cpu_counts (suc c) xs marks =
     skips (suc c) xs by marks (λ d le. other d (omega arith)) in omega arith
 
--- a mark of a CPU that is there counts for it alone
+-- a mark of a CPU in the list is counted for that CPU alone
 counts_once : {X : Type 0} (c d e : ℕ) (xss : List (List X)) (by : MarkBy) (marks : List MarkBy) → e ≡ c + d →
     by.mark.lane ≡ CpuLane e → 1 ≤ length (list_at xss d) → cpu_counts c xss (by ∷ marks) ≡ 1 + cpu_counts c xss marks
 counts_once c d e [] by marks at lane there = absurd (omega arith)
@@ -196,7 +196,7 @@ module _ (book : Book) where
           let z : cpu_counts 0 book.cpus (by ∷ marks) ≡ 1 + cpu_counts 0 book.cpus marks =
           counts_once 0 c c book.cpus by marks (omega arith) is (omega arith) in omega arith
 
--- two sums of which no part of the first is above that of the second
+-- if two sums are equal and no part of the first is above that of the second, the parts are equal
 parts_equal : (a b x y : ℕ) → a ≤ x → b ≤ y → a + b ≡ x + y → (a ≡ x) × (b ≡ y)
 parts_equal a b x y le le' same = (omega arith, omega arith)
 

@@ -1,4 +1,4 @@
--- Marks that stand and are sorted by stamp have places that count up.
+-- If PlacesStand holds for marks, sorted by stamp, their places count up.
 use Rattle.std.proofs.Common.{ℕ, zero, suc, ◌+◌, ◌≡◌, ◌<◌, ◌≤◌, Bool, true, false, cond, List, [], ◌∷◌, length, refl, sym, subst, ap, ◌∙◌, arith}
 use Rattle.std.specs.Prelude.{count_by, ◌==◌, IsPermutation}
 use Rattle.std.specs.List.{AllByRecursion, range_with_len}
@@ -13,7 +13,7 @@ use Rattle.key_names.proofs.Lists.MarkLists.{at_place, count_more, Above, in_ord
 abbrev hit : Bool → ℕ
 hit b = cond b 1 0
 
--- each number of a range, by itself
+-- each number of a range on its own
 in_range : (P : ℕ → Type 0) (i n p : ℕ) → AllByRecursion P (range_with_len i n) → i ≤ p → p < i + n → P p
 in_range P i zero p all from low = absurd (omega arith)
 in_range P i (suc n) p all from low = go (i == p) refl (λ e. in_range P (i + 1) n p all.1 (omega (arith, e)) (omega arith))
@@ -45,7 +45,7 @@ module _ (i : ℕ) where
           let no : hit (m.place == i) ≡ 0 = ap hit is in
           (is, rest (let s = sum in omega (arith, no)))
 
--- marks at the places from i on, each place once
+-- marks at the places from i on, with each place once
 record StandFrom (i : ℕ) (ms : List Mark) : Type 0 where
   once : (p : ℕ) → i ≤ p → p < i + length ms → count_by (at_place p) ms ≡ 1
   from : AllByRecursion (λ m. i ≤ m.place) ms
@@ -55,7 +55,7 @@ module _ (i : ℕ) (m : Mark) (ms : List Mark) (s : StandFrom i (m ∷ ms)) (sor
   once_here : hit (m.place == i) + count_by (at_place i) ms ≡ 1
   once_here = sym (count_more i m ms) ∙ s.once i (omega arith) (omega arith)
 
-  -- a mark behind the first has no lower place
+  -- a mark after the first has no lower place
   behind : m.place ≡ i → AllByRecursion (λ n. n.place < m.place → ⊥) ms
   behind is = each_weaker (λ n. i ≤ n.place) (λ n. n.place < m.place → ⊥) ms (λ n le lt. omega arith) s.from.1
 

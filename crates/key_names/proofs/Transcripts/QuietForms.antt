@@ -1,4 +1,4 @@
--- No event but an interrupt makes a dump due or dumps.
+-- Only an interrupt makes a dump due, or dumps.
 use Rattle.std.proofs.Common.{◌≡◌, ℕ, ◌⊎◌, inl, inr, Bool, true, false, not, List, [], ◌∷◌, sym, subst}
 use Rattle.std.specs.Prelude.{MatchBool, ◌==◌, ◌&&◌, ⊤}
 use Rattle.std.specs.List.{AllByRecursion}
@@ -17,7 +17,7 @@ use Rattle.key_names.specs.FastPool.{FastPool}
 use Rattle.key_names.specs.Forms.{Rooted, BaseOnly, Cross, DrawForm, CpuReadForm, Looked, ReadForm, WaitedInVain, Waited, LookedForm, SysForm, CreditForm, PoolOnly, IntForm, ReseedForm, Form, EndForm}
 use Rattle.key_names.specs.LineSamples.{EntryIsQuiet, IsQuiet, SamplesStand}
 
--- an event that is no interrupt
+-- an event that is not an interrupt
 abbrev pub IsNoInterrupt : Event → Type 0
 IsNoInterrupt (Irq v1 v2) = ⊥
 IsNoInterrupt _ = ⊤
@@ -149,7 +149,7 @@ module _ (fast : ℕ → ℕ → FastPool) where
   pub end_quiet : (deeds : List Deed) → EndForm deeds → Quiet deeds
   end_quiet deeds f = base_only _ deeds f
 
-  -- so the samples behind it stand
+  -- so the samples of its deeds are correct
   pub form_samples : (set : Setting) (event : Event) (deeds : List Deed) → IsNoInterrupt event → Form set event deeds →
       SamplesStand fast deeds
   form_samples set event deeds other f = inl (quiet set event deeds other f)

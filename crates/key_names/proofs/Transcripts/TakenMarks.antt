@@ -1,4 +1,4 @@
--- How often the marks of some lines have a place of a lane: at most once where the marks stand.
+-- The number of marks in some lines that have one place of a lane: at most one if MarksStand holds.
 use Rattle.std.proofs.Common.{◌≡◌, ℕ, zero, suc, ◌+◌, ◌<◌, ◌≤◌, Bool, true, false, cond, List, [], ◌∷◌, ◌++◌, inl, inr, refl, sym, subst, ap, ◌∙◌, arith, Some, None, Option, length}
 use Rattle.std.specs.Prelude.{count_by, ◌==◌, ◌&&◌, nat_lt, if◌then◌else◌, slice_get}
 use Rattle.std.specs.List.{AllByRecursion, range_with_len, flat_map}
@@ -27,13 +27,13 @@ module _ (lane : LaneId) (p : ℕ) where
   abbrev pub lane_takes : LaneId → ℕ → ℕ
   lane_takes other place = if is_same_lane other lane then hit (place == p) else 0
 
-  -- how many marks of this place some steps have
+  -- the number of marks of this place among some steps
   abbrev pub mark_takes : List Step → ℕ
   mark_takes [] = 0
   mark_takes (Look g ∷ steps) = mark_takes steps
   mark_takes (Marked mark ∷ steps) = lane_takes mark.lane mark.place + mark_takes steps
 
-  -- how many marks of the lane have this place
+  -- the number of marks of the lane with this place
   abbrev place_count : List Mark → ℕ
   place_count marks = count_by (λ mark. mark.place == p) marks
 
@@ -123,14 +123,14 @@ module _ (c p : ℕ) where
       cpu None = omega arith
       cpu (Some e) = let same = cpu_takes d place in omega arith
 
-  -- no more visits stand behind steps than they have marks
+  -- the deeds of steps have the visit at this place no more often than the steps have its mark
   pub deeds_within : (lists : Lists) (steps : List Step) → deed_takes c p (deeds_of lists steps) ≤ mark_takes (CpuLane c) p steps
   deeds_within lists [] = omega arith
   deeds_within lists (Look g ∷ steps) = deeds_within lists steps
   deeds_within lists (Marked mark ∷ steps) =
       lane_deed lists mark.lane mark.place (deeds_of lists steps) (mark_takes (CpuLane c) p steps) (deeds_within lists steps)
 
--- how many marks have a place, and a place below a number
+-- the number of marks with a place, and of those with a place below a number
 at_place : ℕ → List Mark → ℕ
 at_place q [] = 0
 at_place q (m ∷ ms) = cond (m.place == q) 1 0 + at_place q ms
@@ -188,7 +188,7 @@ from_range P from (suc n) all zero lt = let p : from ≡ from + 0 = omega arith 
 from_range P from (suc n) all (suc i) lt =
     let p : (from + 1) + i ≡ from + suc i = omega arith in subst P p (from_range P (from + 1) n all.1 i (omega arith))
 
--- where each place below their number stands once among marks, no place stands twice
+-- if PlacesStand holds for marks, no place occurs twice
 at_most_once : (q : ℕ) (ms : List Mark) → PlacesStand ms → at_place q ms ≤ 1
 at_most_once q ms stand = elim (lt_or_le q (length ms)) [
   | inl lt ↦ (let one : at_place q ms ≡ 1 = once q lt in omega arith)

@@ -76,7 +76,7 @@ module _ (c p : ℕ) where
       (if m.before.current == k then m.entries else []) ≤ takes c p m.entries =
       not_both m.before.current j k m.entries ne in omega arith
 
-  -- a read that an entry takes counts
+  -- a read that some entry takes is counted
   pub any_entry : (es : List VEntry) → list_any (rekeys_place c p) es ≡ true → 1 ≤ takes c p es
   any_entry [] is = cc
   any_entry (Rekey cpu place ∷ es) is = elim (or_true (cpu == c && place == p) _ is) [
@@ -108,7 +108,7 @@ module _ (c p : ℕ) where
     | inr later ↦ omega (arith, any_caller mss later)
   ]
 
-  -- the list of a state is that of its entries, or empty
+  -- the list of a state has the state's entries, or is empty
   state_list_is : (k : ℕ) (ms : List CallMeaning) →
       (list_at (state_lists ms) k ≡ entries_of_state k ms) ⊎ (list_at (state_lists ms) k ≡ [])
   state_list_is k ms = elim (lt_or_le k 16) [
@@ -126,7 +126,7 @@ module _ (c p : ℕ) where
     | inr e ↦ (let q : state_takes ms k ≡ 0 = ap (takes c p) e in omega arith)
   ]
 
-  -- the entries at a caller's and a state's number
+  -- the list for these numbers of a caller and a state
   abbrev takes_at : List (List CallMeaning) → ℕ → ℕ → ℕ
   takes_at mss i k = takes c p (list_at (list_at (map state_lists mss) i) k)
 
@@ -170,7 +170,7 @@ module _ (c p : ℕ) where
   abbrev some_read : ℕ → ℕ → Option (ℕ × ℕ)
   some_read cpu place = Some (cpu, place)
 
-  -- an entry that takes the read counts
+  -- an entry that takes the read is counted
   here_is : (cpu place : ℕ) → some_read cpu place ≡ some_read c p → is_here c p cpu place ≡ 1
   here_is cpu place is =
       let a : (cpu == c) ≡ true = eq-eqb cpu c (ap (λ o. option_map_or (λ (x : ℕ × ℕ). x.0) o 0) is) in
@@ -217,7 +217,7 @@ module _ (c p : ℕ) where
       let rest : 2 ≤ takes c p es = counts_two es n m (λ x. ne (ap suc x)) is at in
       let more : takes c p es ≤ takes c p (e ∷ es) = more_takes e es in omega arith
 
-  -- where all lines have at most one mark of the place, one entry takes it
+  -- if all lines together have at most one mark of the place, only one entry takes its read
   pub one_entry : (mss : List (List CallMeaning)) → all_takes mss ≤ 1 → (h i j k n m : ℕ) →
       rekey_at (list_at (list_at (map state_lists mss) h) j) n ≡ Some (c, p) →
       rekey_at (list_at (list_at (map state_lists mss) i) k) m ≡ Some (c, p) →

@@ -11,7 +11,7 @@ use Rattle.key_names.specs.Meaning.{CallMeaning}
 use Rattle.key_names.specs.IsTranscript.{EachCaller, CallerMeans, entries_of_state, state_lists}
 use Rattle.key_names.proofs.Transcripts.TranscriptStates.{caller_keeps}
 
--- no entries are lawful
+-- an empty list is lawful
 none_lawful : (cpus : ℕ → List CpuEntry) (caller k : ℕ) → LawfulStateList cpus caller k []
 none_lawful cpus caller k = record { comes = tt; ends = refl }
 
@@ -20,7 +20,7 @@ lt_or_le a zero = inr (omega arith)
 lt_or_le zero (suc b) = inl (omega arith)
 lt_or_le (suc a) (suc b) = elim (lt_or_le a b) [ inl lt ↦ inl (omega arith) | inr le ↦ inr (omega arith) ]
 
--- element k of a list that is made of the numbers from one on
+-- element k of a list made from a range of numbers
 pub made_at : {A : Type 0} (f : ℕ → List A) (from count k : ℕ) → k < count →
     list_at (map f (range_with_len from count)) k ≡ f (from + k)
 made_at f from zero k lt = absurd (omega arith)
@@ -34,7 +34,7 @@ made_beyond f from zero k le = refl
 made_beyond f from (suc count) zero le = absurd (omega arith)
 made_beyond f from (suc count) (suc k) le = made_beyond f (from + 1) count k (omega arith)
 
--- from caller c on the book's lists of states are those of the calls' meanings
+-- from caller c on, the book's lists of states are those of the calls' meanings
 abbrev pub HasStates : Lists → ℕ → List (List CallMeaning) → Type 0
 HasStates lists c mss = (i : ℕ) → list_at lists.callers (c + i) ≡ list_at (map state_lists mss) i
 
@@ -72,7 +72,7 @@ module _ (lists : Lists) (settings : ℕ → Setting) where
         subst P (sym (made_beyond (λ i. entries_of_state i ms) 0 16 k le)) (none_lawful (cpu_list lists) caller k))
   ]
 
-  -- the states of all callers, c being the number of the first
+  -- the states of all callers; c is the number of the first
   all_callers : (caller c : ℕ) (callers : List (List Call)) (mss : List (List CallMeaning)) →
       EachCaller (λ c calls ms. CallerMeans lists (settings c) calls ms) c callers mss → (i k : ℕ) →
       LawfulStateList (cpu_list lists) caller k (list_at (list_at (map state_lists mss) i) k)

@@ -1,4 +1,4 @@
--- In a lawful transcript each vgetrandom state holds what its list of entries replays to.
+-- In a lawful transcript each vgetrandom state holds what a replay of its list of entries gives.
 use Rattle.std.proofs.Common.{◌≡◌, ℕ, zero, suc, ◌<◌, ◌≤◌, Bool, true, false, List, [], ◌∷◌, refl, sym, subst, ap, ◌∙◌, arith, length, take, replicate}
 use Rattle.std.specs.Prelude.{◌==◌, ◌&&◌, not, if◌then◌else◌, slice_get, slice_set, unwrap_or}
 use Rattle.std.specs.List.{fold}
@@ -45,7 +45,7 @@ module _ (lists : Lists) (caller k : ℕ) (below : k < 16) where
   abbrev Holds : Both → VgetrandomState → Type 0
   Holds = replay.Holds lists caller k
 
-  -- what a call leaves of this state
+  -- this state after a call
   pub record Leaves (x : Both) (m : CallMeaning) : Type 0 where
     pub length_is : length m.after.states ≡ 16
     pub holds : Holds (after x (if m.before.current == k then m.entries else [])) (state_number k m.after)
@@ -123,7 +123,7 @@ module _ (lists : Lists) (caller k : ℕ) (below : k < 16) where
   not_true true h = cc
   not_true false h = refl
 
-  -- a copy that the batch serves alone
+  -- a copy that is served by the batch alone
   local_holds : (x : Both) (n : ℕ) (rest : List Deed) (m : CallMeaning) → 1 ≤ n → length m.before.states ≡ 16 →
       Holds x (state_number k m.before) → ByLocalCopy n rest m → Leaves x m
   local_holds x n rest m some len h by =
@@ -179,7 +179,7 @@ module _ (lists : Lists) (caller k : ℕ) (below : k < 16) where
       subst Q (sym (fold-append (replay.step lists caller k) x es (entries_of_state k (take j ms))))
       (calls_hold j (after x es) m.after calls ms leaves.length_is leaves.holds deeds.1 mean.2)
 
-  -- the names and the bytes that the walk carries are those of the replay
+  -- the names and bytes that the walk carries are those of the replay
   abbrev pub start : Both
   start = record { named = state_start; bytes = state_bytes_start }
 

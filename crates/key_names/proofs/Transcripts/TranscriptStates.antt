@@ -23,7 +23,7 @@ use Rattle.key_names.proofs.Lists.Each.{each_append}
 use Rattle.key_names.proofs.Vgetrandom.KeyReads.{copy_names, call_names}
 use Rattle.key_names.proofs.Transcripts.KeyVisits.{AllThere, all_there, key_reads}
 
--- an element that was set, and the others
+-- an element that was set, and the other elements
 pub set_here : {A : Type 0} (xs : List A) (i : ℕ) (x : A) → i < length xs → slice_get (slice_set xs i x) i ≡ Some x
 set_here [] i x lt = absurd (omega arith)
 set_here (y ∷ ys) zero x lt = refl
@@ -41,7 +41,7 @@ length_set [] i x = refl
 length_set (y ∷ ys) zero x = refl
 length_set (y ∷ ys) (suc i) x = ap suc (length_set ys i x)
 
--- a caller's state of a number
+-- the caller's state with this number
 abbrev pub state_at : CallerState → ℕ → VgetrandomState
 state_at s k = unwrap_or (slice_get s.states k) wiped_state
 
@@ -49,14 +49,14 @@ module _ (lists : Lists) (caller k : ℕ) (below : k < 16) where
   abbrev Reads : List VEntry → Type 0
   Reads es = AllByRecursion (TakesRead (cpu_list lists)) es
 
-  -- what a call leaves of this state: entries that keep its list lawful where it is the current one, and else nothing
+  -- this state after a call. If it is the current one, the call's entries keep its list lawful; else nothing changes
   record Leaves (t : NamedState) (m : CallMeaning) : Type 0 where
     length_is : length m.after.states ≡ 16
     keeps : Keeps caller k (λ u. Settled u (state_at m.after k)) t
         (if m.before.current == k then m.entries else [])
     reads : Reads m.entries
 
-  -- nothing happens to the states
+  -- the states do not change
   same_states : (t : NamedState) (m : CallMeaning) → length m.before.states ≡ 16 → Settled t (state_at m.before k) →
       m.entries ≡ [] → m.after.states ≡ m.before.states → Leaves t m
   same_states t m len h none same = record {
@@ -78,7 +78,7 @@ module _ (lists : Lists) (caller k : ℕ) (below : k < 16) where
           (λ u. Settled u (state_at m.after k)) t es in subst P (sym none) empty
       go false = empty
 
-  -- the current state becomes another one by some entries
+  -- the current state is replaced, with some entries
   set_state : (t : NamedState) (m : CallMeaning) (x : VgetrandomState) → length m.before.states ≡ 16 →
       Settled t (state_at m.before k) →
       m.after.states ≡ slice_set m.before.states m.before.current x →
@@ -186,7 +186,7 @@ module _ (lists : Lists) (caller k : ℕ) (below : k < 16) where
   call_leaves t (ending line) m len h deeds means = same_states t m len h means.entries
       (ap (λ (s : CallerState). s.states) means.after)
 
-  -- what some calls leave in the list of this state
+  -- the entries that some calls append to the list of this state
   record CallsLeave (t : NamedState) (es : List VEntry) : Type 0 where
     keeps : Keeps caller k (λ u. u.expected ≡ anything) t es
     reads : Reads es

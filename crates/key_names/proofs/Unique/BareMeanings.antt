@@ -1,4 +1,4 @@
--- Answers and data have no part in what the steps of a transcript make.
+-- Answers and data do not matter for the book and the meanings that a transcript's steps make.
 use Rattle.std.proofs.Common.{◌≡◌, ℕ, suc, Bool, true, false, List, [], ◌∷◌, length, map, refl, sym, subst, ap, ◌∙◌}
 use Rattle.std.specs.Prelude.{◌==◌, ◌&&◌, ◌||◌, not, MatchBool}
 use Rattle.std.specs.List.{AllByRecursion}

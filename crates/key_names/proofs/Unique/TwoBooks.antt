@@ -1,4 +1,4 @@
--- What stands behind the same steps in two books, and when its entries are told by what stood before them.
+-- The deeds of the same steps in two books, and when the entries are determined by those before them.
 use Rattle.std.proofs.Common.{◌≡◌, ℕ, Bool, true, false, List, [], ◌∷◌, ◌⊎◌, inl, inr, refl, sym, subst, ap, ◌∙◌}
 use Rattle.std.specs.Prelude.{MatchBool, ⊤}
 use Rattle.key_names.specs.declared.names.Who.{Who}
@@ -11,9 +11,9 @@ use Rattle.key_names.specs.Deeds.{Deed, PoolVisit, BaseVisit, CpuVisit, looked, 
 use Rattle.key_names.specs.VreadSteps.{looks_of}
 use Rattle.key_names.specs.Forms.{Looked}
 
--- an event that has visits in both
+-- an event with visits in both books
 module _ (book book' : Book) (who : Who) where
-  -- the visits behind one mark
+  -- the visits of one mark
   pub record SamePool (v v' : PoolVisit) : Type 0 where
     pub place : v.place ≡ v'.place
     pub equal : (lists_of book).pool ≡ (lists_of book').pool → v ≡ v'
@@ -35,7 +35,7 @@ module _ (book book' : Book) (who : Who) where
     pub dumps : IsDump v.entry → DumpAt (visits_of book v.cpu) v.place who
     pub dumps' : IsDump v'.entry → DumpAt (visits_of book' v'.cpu) v'.place who
 
-  -- what stands behind one step in each book
+  -- the deeds of one step in the two books
   abbrev pub SameStep : Deed → Deed → Type 0
   SameStep (looked g) (looked g') = g ≡ g'
   SameStep (at_pool v) (at_pool v') = SamePool v v'
@@ -48,7 +48,7 @@ module _ (book book' : Book) (who : Who) where
   SameSteps (d ∷ ds) (d' ∷ ds') = SameStep d d' × SameSteps ds ds'
   SameSteps _ _ = ⊥
 
-  -- the entries are the same where what decides them is
+  -- the entries are the same if the lists that decide them are
   abbrev pub Told : Deed → Deed → Type 0
   Told (at_pool v) (at_pool v') = (lists_of book).cpus ≡ (lists_of book').cpus → v.entry ≡ v'.entry
   Told (at_base v) (at_base v') =
@@ -61,7 +61,7 @@ module _ (book book' : Book) (who : Who) where
   AllTold (d ∷ ds) [] = ⊤
   AllTold (d ∷ ds) (d' ∷ ds') = Told d d' × AllTold ds ds'
 
-  -- where two predicates hold of what stands behind the same steps, the entries are told
+  -- if two predicates hold for the deeds of the same steps, the entries are the same
   abbrev pub Tells : (List Deed → Type 0) → (List Deed → Type 0) → Type 0
   Tells F F' = (ds ds' : List Deed) → F ds → F' ds' → SameSteps ds ds' → AllTold ds ds'
 
@@ -85,7 +85,7 @@ module _ (book book' : Book) (who : Who) where
       AllTold ds ds'
   through p q f same = told_at p q (f (same_at p q same))
 
-  -- the same visits stand behind the same steps of the same lists
+  -- the same steps in the same lists have the same deeds
   same_deed : (d d' : Deed) → SameStep d d' → lists_of book ≡ lists_of book' → d ≡ d'
   same_deed (looked g) (looked g') same is = ap looked same
   same_deed (at_pool v) (at_pool v') same is = ap at_pool (same.equal (ap (λ (l : Lists). l.pool) is))

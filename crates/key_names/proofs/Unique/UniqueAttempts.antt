@@ -1,4 +1,4 @@
--- Two books' attempts of a vread behind the same steps: they went alike, whatever the values of the keys.
+-- A vread's attempts in two books, with the same steps: they go alike, whatever the values of the keys.
 use Rattle.std.proofs.Common.{◌≡◌, ℕ, ◌≤◌, Bool, true, false, List, [], ◌∷◌, ◌++◌, ◌⊎◌, inl, inr, refl, sym, subst, ap}
 use Rattle.std.proofs.Common.{◌∙◌, arith, Some, Option}
 use Rattle.std.specs.Prelude.{◌==◌, ◌&&◌, MatchBool}
@@ -18,7 +18,7 @@ use Rattle.key_names.proofs.Transcripts.KeyVisits.{answers_done}
 use Rattle.key_names.proofs.Unique.TwoBooks.{SameCpu, SameSteps, AllTold, same_at, told_at, same_looks}
 use Rattle.key_names.proofs.Unique.UniqueForms.{told_system}
 
--- a choice between two facts, made alike
+-- a choice between two facts, made alike in both
 pub match_both : (A B A' B' C : Type 0) (b b' : Bool) → b ≡ b' → ((b ≡ true) → A → A' → C) → ((b ≡ false) → B → B' →
     C) →
     MatchBool b A B → MatchBool b' A' B' → C
@@ -41,7 +41,7 @@ not_zero g some = go (g == 0) refl
     go true is = let zero_is : g ≡ 0 = eqb-true g 0 is in absurd (omega arith)
     go false is = is
 
--- a system call that reads a key from a CPU, and one that refills the CPU first
+-- a system call that reads a key from a CPU, and one that first refills the CPU
 record PlainKey (call : List Deed) : Type 0 where
   g : ℕ
   look : ℕ
@@ -55,7 +55,7 @@ record RefilledKey (call : List Deed) : Type 0 where
   cpu : CpuVisit
   is : call ≡ looked g ∷ looked look ∷ at_base base ∷ at_cpu cpu ∷ []
 
--- a system call for a new key that found the core ready is one of these
+-- a system call for a new key that found the core ready is one of these two
 key_read : (set : Setting) (call more : List Deed) → SysForm set 32 0 call → AllReady (call ++ more) →
     PlainKey call ⊎ RefilledKey call
 key_read set call more form ready =
@@ -105,12 +105,12 @@ module _ (book book' : Book) (who : Who) (set : Setting) where
   abbrev Told : List Deed → List Deed → Type 0
   Told = AllTold book book' who
 
-  -- the looks behind the same steps are the same
+  -- the same steps have the same looks
   same_ready : (ds ds' : List Deed) → Same ds ds' → AllReady ds → AllReady ds'
   same_ready ds ds' same ready = let P : List ℕ → Type 0 = λ gs. AllByRecursion (λ g. 1 ≤ g) gs in
       subst P (same_looks book book' who ds ds' same) ready
 
-  -- two calls of one list of steps end at one step, and both read the same visit
+  -- two calls at the same steps end at one step, and both read the same visit
   record SameRead (call call' more more' : List Deed) : Type 0 where
     key : List ℕ
     key' : List ℕ
@@ -163,8 +163,7 @@ module _ (book book' : Book) (who : Who) (set : Setting) where
       (record { calm = refl; serves = refl; at = refl }) s.1.1.1.0 (s.0, (s.1.0, (s.1.1.0, (s.1.1.1.0, tt)))) s.1.1.1.1
       r.1.1 (λ t u. (tt, (tt, (t.1.1.0, (t.1.1.1.0, u)))))
 
-  -- where both books stand in the steps of a line that a call has still to go through, V being what is known of its
-  -- points
+  -- the steps of a line that a call has still to go through, in both books; V holds for the points still to come
   pub record Here (V : List PointReached → Type 0) (steps steps' : List HostStep) (ds ds' : List Deed) : Type 0 where
     pub shows : Shows set steps ds
     pub shows' : Shows set steps' ds'
@@ -173,7 +172,7 @@ module _ (book book' : Book) (who : Who) (set : Setting) where
     pub points : V (points_of steps)
     pub points' : V (points_of steps')
 
-  -- what is left of them further on
+  -- the rest of them, further on
   pub record Further (V : List PointReached → Type 0) (steps steps' : List HostStep) (ds ds' : List Deed) : Type 0 where
     pub deeds : List Deed
     pub deeds' : List Deed
@@ -187,7 +186,7 @@ module _ (book book' : Book) (who : Who) (set : Setting) where
       let P : List HostStep → Type 0 = λ x. Here V x steps' ds ds' in
       let Q : List HostStep → Type 0 = λ y. Here V xs y ds ds' in subst Q q (subst P p here)
 
-  -- a look shows one published generation in both
+  -- a look publishes the same generation in both
   pub at_look : (V : List PointReached → Type 0) (g g' : ℕ) (steps steps' : List HostStep) (ds ds' : List Deed) →
       Here V (publishes g ∷ steps) (publishes g' ∷ steps') ds ds' → (g ≡ g') × Further V steps steps' ds ds'
   at_look V g g' steps steps' ds ds' here =
@@ -209,7 +208,7 @@ module _ (book book' : Book) (who : Who) (set : Setting) where
         },
       )
 
-  -- and a system call for a new key one visit
+  -- a system call for a new key reads the same visit in both
   pub record Keys (V : List PointReached → Type 0) (answer answer' : SystemAnswer) (steps steps' : List HostStep)
       (ds ds' : List Deed) : Type 0 where
     pub key : List ℕ

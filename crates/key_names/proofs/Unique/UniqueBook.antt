@@ -25,7 +25,7 @@ book_is_unique script t one other =
     (book, alike.equal (ap lists_of book))
 
 module _ (script : Script) (t : List (List SeenLine)) where
-  -- a clause holds, the last three of the book that the steps make
+  -- a clause holds; the last three are about the book that the steps make
   abbrev Passes : Clause → Type 0
   Passes lines_clause = HasLines script t
   Passes marks_clause = MarksStand script t
@@ -52,7 +52,7 @@ module _ (script : Script) (t : List (List SeenLine)) where
   first_number data_clause = omega arith
   first_number looks_clause = omega arith
 
-  -- what comes before the first clause that fails holds
+  -- the clauses before the first that fails hold
   passes : (d c : Clause) → clause_number c < clause_number d → FirstFails script t d → Passes c
   passes lines_clause c lt f = let least : 2 ≤ clause_number c = first_number c in absurd (omega arith)
   passes marks_clause lines_clause lt f = f.0

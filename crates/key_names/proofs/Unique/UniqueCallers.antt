@@ -1,4 +1,4 @@
--- Where a caller stands in two books: its vgetrandom states answer alike.
+-- A caller's state in two books: its vgetrandom states answer alike.
 use Rattle.std.proofs.Common.{◌≡◌, ℕ, zero, suc, List, [], ◌∷◌, refl, sym, subst, ap}
 use Rattle.std.specs.Prelude.{⊤, slice_get, slice_set, unwrap_or}
 use Rattle.key_names.specs.declared.events.Event.{Event}

@@ -1,4 +1,4 @@
--- Two books' calls of vgetrandom behind the same steps go alike.
+-- vgetrandom calls in two books, with the same steps, go alike.
 use Rattle.std.proofs.Common.{◌≡◌, ℕ, zero, suc, ◌≤◌, Bool, true, false, List, [], ◌∷◌, ◌++◌, refl, sym, subst, ap, ◌∙◌}
 use Rattle.std.proofs.Common.{arith, append-nil}
 use Rattle.std.specs.Prelude.{◌==◌}
@@ -50,7 +50,7 @@ module _ (book book' : Book) (who : Who) (set : Setting) where
   shows_at : (steps xs : List HostStep) (ds : List Deed) → steps ≡ xs → Shows set steps ds → Shows set xs ds
   shows_at steps xs ds p shows = let P : List HostStep → Type 0 = λ x. Shows set x ds in subst P p shows
 
-  -- all that is left shows a system call
+  -- all remaining deeds are those of a system call
   record Left (n flags : ℕ) (answer : SystemAnswer) (ds : List Deed) : Type 0 where
     form : SysForm set n flags ds
     answers : answer ≡ answer_behind flags ds
@@ -99,7 +99,7 @@ module _ (book book' : Book) (who : Who) (set : Setting) where
     points = ap points_of by.steps_are ∙ sym (ap points_of by'.steps_are);
   }
 
-  -- an attempt and what follows it
+  -- an attempt and the rest of the call
   tried_alike : (W V : List PointReached → Type 0) (wipes : Point → Bool) →
       ((wiped : Bool) (points : List PointReached) → W (reached Start wiped ∷ points) →
       (wiped ≡ wipes Start) × V points) →
@@ -148,7 +148,7 @@ module _ (book book' : Book) (who : Who) (set : Setting) where
           more more' by by' h.shows h.shows' h.same
 
   module _ (acts : List BoundAct) where
-    -- what is known of the points in the first attempt, and in the second
+    -- the facts about the points of the first attempt, and of the second
     abbrev InFirst : List PointReached → Type 0
     InFirst points = AllByRecursion (λ r. r.wiped ≡ is_wiped acts r.point) (before_start points)
         × AllByRecursion (λ r. r.wiped ≡ false) (from_start points)
@@ -195,7 +195,7 @@ module _ (book book' : Book) (who : Who) (set : Setting) where
       points = ap points_of by.steps_are ∙ sym (ap points_of by'.steps_are);
     }
 
-    -- what follows the first look
+    -- the rest of a call after the first look
     published_alike : (n flags published : ℕ) (s s' : VgetrandomState) → SameState H s s' →
         (steps steps' : List HostStep) (o o' : Outcome) (ds ds' : List Deed) →
         FromPublished n flags s published steps o → FromPublished n flags s' published steps' o' →
@@ -226,7 +226,7 @@ module _ (book book' : Book) (who : Who) (set : Setting) where
         }))))
         f f'
 
-    -- calls behind the same steps, on states that answer alike
+    -- calls with the same steps, on states that answer alike
     pub call_alike : (n flags : ℕ) (s s' : VgetrandomState) → SameState H s s' →
         (steps steps' : List HostStep) (o o' : Outcome) (ds ds' : List Deed) →
         IsCall n flags s steps o → IsCall n flags s' steps' o' → Shows set steps ds → Shows set steps' ds' →

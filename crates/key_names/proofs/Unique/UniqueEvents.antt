@@ -1,4 +1,4 @@
--- What stands behind the steps of an event by itself in two books: its form gives each visit its entry.
+-- The deeds of an event by itself in two books: its form determines the entry of each visit.
 use Rattle.std.proofs.Common.{◌≡◌, ℕ, zero, suc, List, [], ◌∷◌, ◌⊎◌, refl, sym, subst, ap, ◌∙◌, Some, None, take, ◌≤◌}
 use Rattle.std.proofs.Common.{Bool, true, inl, inr, arith, Option}
 use Rattle.std.specs.Prelude.{◌==◌, map}
@@ -37,7 +37,7 @@ entries_at [] c = refl
 entries_at (visits ∷ cpus) zero = refl
 entries_at (visits ∷ cpus) (suc c) = entries_at cpus c
 
--- what a CPU's fast pool holds before a place is read from its entries alone
+-- a CPU's fast pool before a place depends only on its entries
 fast_is : (book : Book) (c k : ℕ) → fast_before (visits_of book c) k ≡ fast_after (take k (cpu_list (lists_of book) c))
 fast_is book c k = ap (λ es. fast_after (take k es)) (entries_at book.cpus c)
 
@@ -51,7 +51,7 @@ module _ (book book' : Book) (who : Who) (samples : LawfulSamples book) (samples
   abbrev Tell : (List Deed → Type 0) → (List Deed → Type 0) → Type 0
   Tell = Tells book book' who
 
-  -- what a credit crossed is told by the pool
+  -- the pool determines the bound that a credit crossed
   told_cross : (set : Setting) (c c' : Crossing) → ((lists_of book).pool ≡ (lists_of book').pool → c ≡ c') →
       Tell (Cross set c) (Cross set c')
   told_cross set none none alike ds ds' f f' same = told_nothing book book' who ds ds' f f' same
@@ -76,7 +76,7 @@ module _ (book book' : Book) (who : Who) (samples : LawfulSamples book) (samples
   told_cross set early early alike ds ds' f f' same =
       told_rooted_or_not book book' who set (λ r. Early (Some r)) (Early None) ds ds' f f' same
 
-  -- a credit, whose entry the CPUs' lists may have to tell
+  -- a credit, with an entry that may depend on the CPUs' lists
   told_credit : (set : Setting) (e e' : PoolEntry) (ds ds' : List Deed) (f : CreditForm set e ds)
       (f' : CreditForm set e' ds') →
       (SamePool book book' who f.pool f'.pool → (lists_of book).cpus ≡ (lists_of book').cpus → e ≡ e') →
@@ -94,7 +94,7 @@ module _ (book book' : Book) (who : Who) (samples : LawfulSamples book) (samples
   told_same_credit : (set : Setting) (e : PoolEntry) → Tell (CreditForm set e) (CreditForm set e)
   told_same_credit set e ds ds' f f' same = told_credit set e e ds ds' f f' (λ s cpus. refl) same
 
-  -- an integer, whose batch the CPU's list before tells
+  -- an integer: the CPU's list before it determines whether it fills its batch
   filled_is : (s s' : CpuState) (e e' : CpuEntry) (look width : ℕ) (filled filled' : Bool) →
       e ≡ Int look None width filled → e' ≡ Int look None width filled' → CpuFits s e → CpuFits s' e' →
       s.fills ≡ s'.fills → e ≡ e'
@@ -170,7 +170,7 @@ module _ (book book' : Book) (who : Who) (samples : LawfulSamples book) (samples
   told_reseed set g ds ds' (inr f) (inr f') same = told_same_rooted book book' who set
       (λ r. Reseeded r set.now) ds ds' f.1 f'.1 same
 
-  -- the fast pools of both books are the same at the same place, where the CPUs' lists are
+  -- the fast pools of both books are the same at the same place if the CPUs' lists are
   same_fast : (c c' k k' : ℕ) → (lists_of book).cpus ≡ (lists_of book').cpus → c ≡ c' → k ≡ k' →
       fast_before (visits_of book c) k ≡ fast_before (visits_of book' c') k'
   same_fast c c' k k' cpus p q =
@@ -181,7 +181,7 @@ module _ (book book' : Book) (who : Who) (samples : LawfulSamples book) (samples
   is_dump : (e : CpuEntry) (now : ℕ) → e ≡ Dump now → IsDump e
   is_dump e now p = subst IsDump (sym p) tt
 
-  -- what a dump mixes is told by the CPUs' lists
+  -- the CPUs' lists determine what a dump mixes
   same_mix : (set : Setting) (text text' : List ℕ) (bits bits' now now' : ℕ) (dump dump' : CpuVisit)
       (pool pool' : PoolVisit) →
       SameCpu book book' who dump dump' → SamePool book book' who pool pool' → dump.entry ≡ Dump now →
@@ -259,7 +259,7 @@ module _ (book book' : Book) (who : Who) (samples : LawfulSamples book) (samples
       ))
       same
 
-  -- an event by itself gives each of its visits the entry
+  -- an event by itself determines the entry of each of its visits
   pub told_event : (set : Setting) (event : Event) → Tell (Form set event) (Form set event)
   told_event set (Write text) = told_pool_only book book' who (Mix text 0)
   told_event set (Device word text) = told_pool_only book book' who (device_entry word text)

@@ -1,4 +1,4 @@
--- What stands behind the same steps in two books: a form gives each visit its entry by what stood before it.
+-- The deeds of the same steps in two books: a form determines the entry of each visit from the entries before it.
 use Rattle.std.proofs.Common.{◌≡◌, ℕ, ◌≤◌, List, [], ◌⊎◌, inl, inr, refl, sym, subst, ap, ◌∙◌, arith, Some, None}
 use Rattle.std.specs.Prelude.{◌==◌, ◌&&◌, not}
 use Rattle.key_names.specs.declared.names.Who.{Who}
@@ -55,7 +55,7 @@ module _ (book book' : Book) (who : Who) where
   told_cpu_only c e ds ds' f f' same =
       through book book' who f.deeds_are f'.deeds_are (λ s. (λ fills. f.is ∙ sym f'.is, tt)) same
 
-  -- a root that is named and one that is not have other steps
+  -- an entry that names a root has other steps than one that does not
   pub told_rooted_or_not : (set : Setting) (e : ℕ → BaseEntry) (plain : BaseEntry) →
       Tell (λ ds. Rooted set e ds ⊎ BaseOnly plain ds) (λ ds. Rooted set e ds ⊎ BaseOnly plain ds)
   told_rooted_or_not set e plain =
@@ -109,7 +109,7 @@ module _ (book book' : Book) (who : Who) where
       cpu_or_draw (inr c) (inr d) = through book book' who c.deeds_are d.deeds_are (λ s. absurd s.0) same
   told_read set taken g ds ds' (inr f) (inr f') same = told_cpu_read set taken ds ds' f f' same
 
-  -- the generation before tells a resume from an interrupt
+  -- the generation before it distinguishes a resume from an interrupt
   resume_or_interrupt : (s s' : BaseState) (e e' : BaseEntry) → e ≡ Resume → e' ≡ Interrupt → BaseFits s e →
       BaseFits s' e' →
       s.generation ≡ s'.generation → ⊥

@@ -1,4 +1,4 @@
--- Two books of the same marks whose entries are told have the same lanes.
+-- Two books with the same marks have the same lanes, if each entry is determined by those before it.
 use Rattle.std.proofs.Common.{◌≡◌, ℕ, suc, ◌<◌, List, [], ◌∷◌, refl, sym, subst, ap, ◌∙◌, arith, Some, Option, length}
 use Rattle.std.proofs.Common.{take}
 use Rattle.std.specs.Prelude.{slice_get, option_and_then, option_map, unwrap_or}
@@ -27,7 +27,7 @@ use Rattle.key_names.proofs.Unique.UniqueEvents.{entries_at}
 use Rattle.key_names.proofs.Unique.UniqueMarks.{one_entry}
 use Rattle.key_names.proofs.Transcripts.LaneCounts.{every_place, lane_length, lane_counts}
 
--- lists of one length whose elements at each place are the same where those before are
+-- lists of one length are equal if their elements at each place are, given equal elements before it
 pub same_lists : {E : Type 0} (xs ys : List E) → length xs ≡ length ys →
     ((i : ℕ) (x y : E) → i < length xs → slice_get xs i ≡ Some x → slice_get ys i ≡ Some y → take i xs ≡ take i ys →
     x ≡ y) →
@@ -51,7 +51,7 @@ same_rows (xs ∷ xss) [] long each = absurd (omega arith)
 same_rows (xs ∷ xss) (ys ∷ yss) long each =
     ap (λ z. z ∷ xss) (each 0) ∙ ap (λ zs. ys ∷ zs) (same_rows xss yss (omega arith) (λ i. each (suc i)))
 
--- a CPU's batches are read from its own list
+-- a CPU's batches depend only on its own list
 fills_alone : (base base' : List BaseEntry) (c : ℕ) (es : List CpuEntry) (s s' : CpuState) → s.place ≡ s'.place →
     s.key ≡ s'.key → s.fills ≡ s'.fills → (fold (cpu_step base c) s es).fills ≡ (fold (cpu_step base' c) s' es).fills
 fills_alone base base' c [] s s' place key fills = fills
@@ -60,7 +60,7 @@ fills_alone base base' c (e ∷ es) s s' place key fills =
     (λ i. cpu_key_after c (place i) e (key i))
     (λ i. fills_after (place i) e (cpu_key_in_use e (key i)) (fills i))
 
--- told entries do not depend on their maker
+-- whether entries are the same does not depend on their maker
 abbrev nobody : Who
 nobody = record { caller = 0; event = 0; step = 0 }
 
@@ -71,7 +71,7 @@ module _ (book book' : Book) where
   abbrev l' : Lists
   l' = lists_of book'
 
-  -- the entries at a place are told
+  -- the entries at a place are determined
   abbrev pub PlaceTold : LaneId → ℕ → Type 0
   PlaceTold lane place = Told book book' nobody (deed_at l lane place) (deed_at l' lane place)
 
@@ -144,7 +144,7 @@ module _ (book book' : Book) (marks : List MarkBy) (places : (lane : LaneId) →
   cpu_long : (b : Book) (c : ℕ) → length (cpu_list (lists_of b) c) ≡ length (list_at b.cpus c)
   cpu_long b c = ap (λ es. length es) (sym (entries_at b.cpus c)) ∙ entries_long (list_at b.cpus c)
 
-  -- what is told of a place of two lists is told of the entries there
+  -- the same for the entries at a place of two lists
   told_there : {E : Type 0} (d d' : E → Deed) (o o' : Option E) (e e' : E) → o ≡ Some e → o' ≡ Some e' →
       Told book book' nobody (deed_or d o) (deed_or d' o') → Told book book' nobody (d e) (d' e')
   told_there {E = E} d d' o o' e e' p q t =
@@ -183,7 +183,7 @@ module _ (book book' : Book) (marks : List MarkBy) (places : (lane : LaneId) →
       (slice_get m.base i) (slice_get m'.base i) x y p q (place_told BaseLane i (omega arith)) pool_same
       (ap (λ es. (base_after es).generation) same))
 
-  -- the same marks stand at each place
+  -- both books have the same mark at each place
   same_stamps : (lane : LaneId) (i : ℕ) → i < lane_length book lane → stamped_at book lane i ≡ stamped_at book' lane i
   same_stamps lane i lt =
       let count = lane_counts book marks places visits lane in

@@ -1,4 +1,4 @@
--- The lines of a transcript are the lines of its calls, so what is told of calls is told of all lines.
+-- The lines of a transcript are the lines of its calls, so facts about calls hold for all lines.
 use Rattle.std.proofs.Common.{◌≡◌, ℕ, suc, Bool, true, false, List, [], ◌∷◌, ◌++◌, ◌⊎◌, inl, inr, refl, sym, subst, ap}
 use Rattle.std.proofs.Common.{◌∙◌, Some}
 use Rattle.std.specs.Prelude.{map, if◌then◌else◌}
@@ -22,7 +22,7 @@ module _ (P Q : SeenLine → Type 0) where
   abbrev Waiting : (SeenLine → Type 0) → List BoundAct → Type 0
   Waiting R waiting = AllByRecursion (λ bound. R bound.line) waiting
 
-  -- what holds of each line holds of each line of the calls, and the other way round
+  -- a fact about each line holds for each line of the calls, and the other way round
   pub record Covers (waiting : List BoundAct) (lines : List SeenLine) (calls : List Call) : Type 0 where
     pub to_calls : Waiting P waiting → AllByRecursion P lines → AllByRecursion (OfCall P) calls
     pub to_lines : AllByRecursion (OfCall Q) calls → Waiting Q waiting × AllByRecursion Q lines
@@ -103,7 +103,7 @@ module _ (book book' : Book) (lawful : LawfulLanes (lists_of book)) (lawful' : L
       let p' = each_parts (Stands book') (line_marks line) (flat_map line_marks lines) stand' in
       (same_steps book book' lawful lawful' line.caller line.event 0 line.steps p.0 p'.0, lines_same lines p.1 p'.1)
 
-  -- the marks of all lines stand for the same visits
+  -- the marks of all lines are the marks of the same visits
   pub all_same : (t : List (List SeenLine)) → AllByRecursion (Stands book) (all_marks t) →
       AllByRecursion (Stands book') (all_marks t) → AllByRecursion (λ lines. AllByRecursion Same lines) t
   all_same [] stand stand' = tt

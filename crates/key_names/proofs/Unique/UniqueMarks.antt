@@ -1,4 +1,4 @@
--- What stands at the place of a mark in two books whose visits are the same marks.
+-- The visits at the place of a mark, in two books with the same marks.
 use Rattle.std.proofs.Common.{take, ◌≡◌, ℕ, suc, List, [], ◌∷◌, refl, sym, subst, ap, ◌∙◌, Some, None, Option}
 use Rattle.std.specs.Prelude.{slice_get, option_and_then, option_map, unwrap_or}
 use Rattle.std.specs.List.{AllByRecursion}
@@ -45,7 +45,7 @@ entry_of {E = E} visits place who f =
     let entry : Visit E → E = λ visit. visit.entry in
     slice_get-map entry visits place ∙ ap (λ o. option_map entry o) f.is
 
--- the entries at a place of two lists that are the same
+-- the entries at a place of two equal lists
 pub one_entry : {E : Type 0} (xs ys : List E) (place : ℕ) (x y : E) → slice_get xs place ≡ Some x →
     slice_get ys place ≡ Some y →
     xs ≡ ys → x ≡ y
@@ -71,7 +71,7 @@ module _ (book book' : Book) (lawful : LawfulLanes (lists_of book)) (lawful' : L
       SameEvent f.visit.who who
   made_by visits i place f = (ap (λ (w : Who). w.caller) f.made, ap (λ (w : Who). w.event) f.made)
 
-  -- what stands at a place of two lists
+  -- the deeds at a place of two lists
   deeds_there : {E : Type 0} (d d' : E → Deed) (o o' : Option E) (e e' : E) → o ≡ Some e → o' ≡ Some e' →
       SameStep book book' who (d e) (d' e') → SameStep book book' who (deed_or d o) (deed_or d' o')
   deeds_there {E = E} d d' o o' e e' p q same =
@@ -159,7 +159,7 @@ module _ (book book' : Book) (lawful : LawfulLanes (lists_of book)) (lawful' : L
       same_cpu i cpu place (found (list_at book.cpus cpu) place stamp (by i) at)
       (found (list_at book'.cpus cpu) place stamp (by i) at')
 
-  -- so the same visits stand behind the steps of a line
+  -- so the steps of a line have the same visits
   pub same_steps : (i : ℕ) (steps : List Step) → AllByRecursion (Stands book) (marks_from c n i steps) →
       AllByRecursion (Stands book') (marks_from c n i steps) →
       SameSteps book book' who (deeds_of l steps) (deeds_of l' steps)

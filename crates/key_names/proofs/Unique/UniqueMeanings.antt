@@ -1,4 +1,5 @@
--- What a call means in two books: its lines' entries are told, and it leaves the caller where it answers alike.
+-- The meaning of a call in two books: the entries of its lines are determined, and the caller's
+-- states answer alike after it.
 use Rattle.std.proofs.Common.{◌≡◌, Bool, List, [], ◌∷◌, refl, sym, subst, ap, ◌∙◌}
 use Rattle.std.specs.List.{AllByRecursion}
 use Rattle.key_names.specs.declared.names.Who.{Who}
@@ -23,11 +24,11 @@ use Rattle.key_names.proofs.Unique.UniqueEvents.{told_event, told_end}
 use Rattle.key_names.proofs.Unique.UniqueAttempts.{match_both}
 use Rattle.key_names.proofs.Unique.UniqueCallers.{SameCaller, same_after, callers_at}
 
--- who made the visits of a line
+-- the maker of a line's visits
 abbrev pub maker : SeenLine → Who
 maker line = record { caller = line.caller; event = line.event; step = 0 }
 
--- P holds of each line of a call
+-- P holds for each line of a call
 abbrev pub OfCall : (SeenLine → Type 0) → Call → Type 0
 OfCall P (alone event line) = P line
 OfCall P (vread_call n flags line acts) = P line × AllByRecursion (λ bound. P bound.line) acts
@@ -38,7 +39,7 @@ module _ (book book' : Book) (samples : LawfulSamples book) (samples' : LawfulSa
   abbrev H : Type 0
   H = lists_of book ≡ lists_of book'
 
-  -- what stands behind the steps of a line in both books is of the same marks
+  -- the deeds of a line in both books are of the same marks
   abbrev pub LineSame : SeenLine → Type 0
   LineSame line =
       SameSteps book book' (maker line) (deeds_of (lists_of book) line.steps) (deeds_of (lists_of book') line.steps)
@@ -53,7 +54,7 @@ module _ (book book' : Book) (samples : LawfulSamples book) (samples' : LawfulSa
   abbrev pub Behind' : SeenLine → LineMeaning → Type 0
   Behind' line m = deeds_of (lists_of book') line.steps ≡ m.deeds
 
-  -- the same deeds where the lists are the same
+  -- the deeds are the same if the lists are
   pub deeds_equal : (line : SeenLine) (m m' : LineMeaning) → Behind line m → Behind' line m' → H → m.deeds ≡ m'.deeds
   deeds_equal line m m' p p' h = sym p ∙ ap (λ lists. deeds_of lists line.steps) h ∙ p'
 

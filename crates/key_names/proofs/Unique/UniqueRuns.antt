@@ -1,4 +1,4 @@
--- What a caller's calls mean in two books: each call means alike, and so do all.
+-- The meanings of a caller's calls in two books: each call, and so all together, have like meanings.
 use Rattle.std.proofs.Common.{◌≡◌, ℕ, List, [], ◌∷◌, ◌++◌, refl, sym, subst, ap, ◌∙◌}
 use Rattle.std.specs.Prelude.{◌==◌, if◌then◌else◌}
 use Rattle.std.specs.List.{AllByRecursion}
@@ -43,7 +43,7 @@ module _ (book book' : Book) (samples : LawfulSamples book) (samples' : LawfulSa
   abbrev Second : SeenLine → LineMeaning → Type 0
   Second = Behind' book book' samples samples'
 
-  -- a vread that went through a call of vgetrandom
+  -- a vread that made a vgetrandom call
   vgetrandom_alike : (n flags : ℕ) (line : SeenLine) (acts : List BoundAct) (m m' : CallMeaning) →
       OfCall Same (vread_call n flags line acts) → EachOfCall First (vread_call n flags line acts) m →
       EachOfCall Second (vread_call n flags line acts) m' → SameCaller H m.before m'.before →
@@ -90,7 +90,7 @@ module _ (book book' : Book) (samples : LawfulSamples book) (samples' : LawfulSa
   none_inside (bound ∷ acts) [] each p = absurd each
   none_inside (bound ∷ acts) (m ∷ ms) each p = cc
 
-  -- one that a copy served
+  -- a vread that a copy served
   local_alike : (n flags g g' : ℕ) (rest rest' : List Deed) (line : SeenLine) (acts : List BoundAct)
       (m m' : CallMeaning) →
       EachOfCall First (vread_call n flags line acts) m → EachOfCall Second (vread_call n flags line acts) m' →

@@ -1,5 +1,5 @@
--- Two vgetrandom states that answer alike: they differ in the bytes of key and batch alone, and not even there where H
--- holds. What a call makes of them answers alike again.
+-- Two vgetrandom states that answer alike: they differ only in the bytes of key and batch, and not even in these if H
+-- holds. After a call they answer alike again.
 use Rattle.std.proofs.Common.{◌≡◌, ℕ, ◌+◌, Bool, true, false, List, ◌++◌, refl, sym, subst, ap, ◌∙◌}
 use Rattle.std.specs.Prelude.{if◌then◌else◌}
 use Rattle.key_names.specs.declared.entries.VEntry.{VEntry}
@@ -51,7 +51,7 @@ module _ (H : Type 0) where
         ∙ ap (λ k. record s' { key = k; pos = 96 }) (keys h);
   }
 
-  -- a choice made alike
+  -- a choice made alike in both
   same_if : (b b' : Bool) → b ≡ b' → (x y x' y' : VgetrandomState) → SameState x x' → SameState y y' →
       SameState (if b then x else y) (if b' then x' else y')
   same_if true true p x y x' y' here there = here
@@ -59,7 +59,7 @@ module _ (H : Type 0) where
   same_if true false p x y x' y' here there = cc
   same_if false true p x y x' y' here there = cc
 
-  -- what a copy leaves and gives is a function of the position, but for the bytes
+  -- the entries and the next block of a copy depend only on the position
   pub same_entries : (c n : ℕ) (s s' : VgetrandomState) → SameState s s' → copy_entries s c n ≡ copy_entries s' c n
   same_entries c n s s' same = ap (λ p. copy_entries (record wiped_state { pos = p }) c n) same.pos
 

@@ -1,4 +1,4 @@
--- Two books' attempts of a vread go alike from each of their points on.
+-- A vread's attempts in two books go alike from each of their points on.
 use Rattle.std.proofs.Common.{◌≡◌, ℕ, Bool, false, List, [], ◌∷◌, ◌++◌, refl, sym, subst, ap, ◌∙◌, Option}
 use Rattle.std.specs.Prelude.{◌==◌, if◌then◌else◌}
 use Rattle.key_names.specs.declared.names.Who.{Who}
@@ -21,8 +21,8 @@ use Rattle.key_names.proofs.Unique.UniqueAttempts.{match_both, Here, Further, he
 abbrev pub reached : Point → Bool → PointReached
 reached point wiped = record { point = point; wiped = wiped }
 
--- an attempt before more steps of the host; W is what is known of its points from the start on, V of those behind it,
--- and both tell whether the host wiped
+-- an attempt before more steps of the host. W holds for its points from the start on, and V for those after it; both
+-- imply at which points the host wiped
 module _ (book book' : Book) (who : Who) (set : Setting) (W V : List PointReached → Type 0) (wipes : Point → Bool)
     (starts : (wiped : Bool) (points : List PointReached) → W (reached Start wiped ∷ points) →
     (wiped ≡ wipes Start) × V points)
@@ -37,7 +37,7 @@ module _ (book book' : Book) (who : Who) (set : Setting) (W V : List PointReache
     pub attempt : SameAttempt H a a'
     pub points : points_of more ≡ points_of more' → points_of (steps ++ more) ≡ points_of (steps' ++ more')
 
-  -- where two relations hold behind the same steps, the attempts go alike; U is what is known of the points
+  -- if two relations hold with the same steps, the attempts go alike; U holds for the points
   abbrev pub GoAlike : (List PointReached → Type 0) → (List HostStep → Attempt → Type 0) →
       (List HostStep → Attempt → Type 0) → Type 0
   GoAlike U F F' = (steps steps' : List HostStep) (a a' : Attempt) (ds ds' : List Deed) → F steps a → F' steps' a' →
@@ -173,7 +173,7 @@ module _ (book book' : Book) (who : Who) (set : Setting) (W V : List PointReache
       (written_alike n c) steps steps' a a' ds ds' x y here)
       f f'
 
-  -- attempts behind the same steps, on states that answer alike
+  -- attempts with the same steps, on states that answer alike
   pub attempt_alike : (n c : ℕ) (s s' : VgetrandomState) → SameState H s s' →
       GoAlike W (IsAttempt n c s) (IsAttempt n c s')
   attempt_alike n c s s' same steps steps' a a' ds ds' is is' here =

@@ -1,4 +1,4 @@
--- The uses of a lawful base list are disjoint, and what it replaced is not live.
+-- The uses of a lawful base list are disjoint, and the keys that it replaced are not live.
 use Rattle.std.proofs.Common.{◌≡◌, ℕ, suc, ◌+◌, ◌≤◌, ◌<◌, true, false, List, [], ◌∷◌, ◌⊎◌, inl, inr, refl, sym, subst, ap, ◌∙◌, arith, Some, None, Option}
 use Rattle.std.specs.Prelude.{is_some, option_and_then}
 use Rattle.key_names.specs.declared.names.LaneId.TheVariants.{Pool as PoolLane, Base as BaseLane, Cpu as CpuLane}
@@ -13,13 +13,13 @@ use Rattle.key_names.specs.BaseList.{BaseState, BaseMayCome, RootStands, base_st
 use Rattle.key_names.proofs.Uses.UseLists.{Disjoint-two, named_uses_cases, named_uses_disjoint, read_disjoint, read_within, choice_cases}
 use Rattle.key_names.proofs.Uses.Walks.{StepFacts, Walk, walk, lawful_and_told}
 
--- a name that was made before this place, with roots below that one
+-- a name that was made before this place, with roots below this number
 abbrev pub IsOld : ℕ → ℕ → KeyName → Type 0
 IsOld place roots (Root r) = r < roots
 IsOld place roots (Base i) = i < place
 IsOld place roots _ = ⊥
 
--- a name that only entries from this place on can use; refill says which places are refills
+-- a name that only entries from this place on can use; refill gives the refill at each place
 abbrev pub IsLater : (ℕ → Option (ℕ × ℕ)) → ℕ → ℕ → KeyName → Type 0
 IsLater refill place roots (Root r) = roots ≤ r
 IsLater refill place roots (Base i) = place ≤ i
@@ -59,7 +59,7 @@ old_not_later refill place roots (Cpu c k) old later = old
 old_not_later refill place roots (Call lane i) old later = old
 old_not_later refill place roots (Vdso c v n) old later = old
 
--- the key in use is the one before, or a root that the entry names
+-- the key in use is the one before, or the root that the entry names
 pub in_use_cases : (e : BaseEntry) (key : Option KeyName) (k : KeyName) → base_key_in_use e key ≡ Some k →
     ((root_of e ≡ None) × (key ≡ Some k)) ⊎ ((r : ℕ) × (root_of e ≡ Some r) × (Root r ≡ k))
 in_use_cases e key k = go (root_of e) refl
@@ -74,7 +74,7 @@ roots_rise : (pool : List PoolEntry) (s : BaseState) (o : Option ℕ) → RootSt
 roots_rise pool s None h = omega arith
 roots_rise pool s (Some r) h = omega arith
 
--- what an entry puts to use
+-- the uses of an entry
 record EntryUses (s : BaseState) (e : BaseEntry) : Type 0 where
   disjoint : Disjoint (base_uses_at s e)
   within : (k : KeyName) (q : ℕ) → IsUsed (base_uses_at s e) k q →
@@ -155,7 +155,7 @@ in_use refill pool s e stands old = record {
     named_stands r is = let W : Option ℕ → Type 0 = λ o. RootStands pool s o in
         let R : RootStands pool s (Some r) = subst W is stands in R.0
 
--- the key after an entry is this place's, where it erases, and else the key in use
+-- the key after an entry is named by its place if the entry erases, and else is the key in use
 pub after_cases : (i : ℕ) (e : BaseEntry) (key : Option KeyName) (k : KeyName) → base_key_after i e key ≡ Some k →
     ((base_erases e ≡ true) × (Base i ≡ k)) ⊎ ((base_erases e ≡ false) × (base_key_in_use e key ≡ Some k))
 after_cases i e key k h = elim (choice_cases (base_erases e) (Some (Base i)) (base_key_in_use e key) (Some k) h)
@@ -168,15 +168,15 @@ old_after refill s e used k h = elim (after_cases s.place e s.key k h) [
   | inr b ↦ old_more s.place (roots_after (root_of e) s.roots) _ k (omega arith) (used.old k b.1)
 ]
 
--- what may be used from a state on
+-- the bytes that may be used from a state on
 abbrev pub MayUse : (ℕ → Option (ℕ × ℕ)) → BaseState → KeyName → ℕ → Type 0
 MayUse refill s k q = (s.key ≡ Some k) ⊎ IsLater refill s.place s.roots k
 
--- which keys may be the base's from a state on
+-- the keys that the base may have from a state on
 abbrev pub MayHold : (ℕ → Option (ℕ × ℕ)) → BaseState → KeyName → Type 0
 MayHold refill s k = MayUse refill s k 0
 
--- what may be used after an entry could be used before it
+-- a byte that may be used after an entry may be used before it
 may_before : (refill : ℕ → Option (ℕ × ℕ)) (s : BaseState) (e : BaseEntry) → InUse refill s e →
     (k : KeyName) (q : ℕ) → MayUse refill (base_step s e) k q → MayUse refill s k q
 may_before refill s e used k q (inr later) = inr (later_less refill s.place s.roots _ k used.rise later)
@@ -186,7 +186,7 @@ may_before refill s e used k q (inl h) = elim (after_cases s.place e s.key k h) 
   | inr b ↦ used.may_use k b.1
 ]
 
--- what an entry uses may not be used after it
+-- a byte that an entry uses may not be used after it
 now_not_later : (refill : ℕ → Option (ℕ × ℕ)) (s : BaseState) (e : BaseEntry) → InUse refill s e →
     (k : KeyName) (q : ℕ) → base_erases e ≡ true →
     (base_key_in_use e s.key ≡ Some k) ⊎ ((Call BaseLane s.place ≡ k) × (refill_of e ≡ None)) →
@@ -205,7 +205,7 @@ now_not_later refill s e used k q erases now (inl h) = elim (after_cases s.place
   | inr b ↦ (let p = b.0 in cc)
 ]
 
--- a root that is named is not old
+-- a named root is not old
 root_not_old : (pool : List PoolEntry) (s : BaseState) (o : Option ℕ) (r : ℕ) (k : KeyName) → RootStands pool s o →
     o ≡ Some r →
     Root r ≡ k → IsOld s.place s.roots k → ⊥
@@ -236,7 +236,7 @@ replaced_not_later refill pool s e stands used old k q named is (inl h) = elim (
   ]
 ]
 
--- an entry that may come, with the refill that is told of its place
+-- an entry that may come, together with the refill at its place
 abbrev MayComeTold : List PoolEntry → (ℕ → Option (ℕ × ℕ)) → BaseState → BaseEntry → Type 0
 MayComeTold pool refill s e = BaseMayCome pool s e × (refill s.place ≡ refill_of e)
 

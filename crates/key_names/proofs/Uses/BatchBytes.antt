@@ -31,12 +31,12 @@ zeros_both (suc m) n rest = let p : suc (m + n) ≡ suc m + n = omega arith in
     let P : ℕ → Type 0 = λ x. StartsZero x (0 ∷ (replicate m 0 ++ replicate n 0 ++ rest)) in
     subst P p (ap (λ xs. 0 ∷ xs) (zeros_both m n rest))
 
--- more zeros behind those at the front
+-- more zeros after those at the front
 pub zeros_more : (from len : ℕ) (bytes : List ℕ) → StartsZero from bytes →
     StartsZero (from + len) (with_zeros from len bytes)
 zeros_more from len bytes h = rw h (zeros_both from len (drop (from + len) bytes))
 
--- a batch keeps the law
+-- the law of a batch
 pub record BatchOk (w : ℕ) (o : Option Fill) (bytes : List ℕ) : Type 0 where
   pub served : StartsZero (batch_pos w o) bytes
   pub dead : o ≡ None → bytes ≡ replicate 96 0
@@ -92,7 +92,7 @@ cpu_batch_step w s (Dump now) used bytes fits ok = ok
 cpu_batch_step w s Prepare used bytes fits ok = record { served = refl; dead = λ e. refl }
 cpu_batch_step w s Online used bytes fits ok = ok
 
--- the batches of a CPU keep the law along a lawful list
+-- the law of a CPU's batches holds along a lawful list
 pub cpu_batches_ok : (lists : Lists) (c w : ℕ) (s : CpuBytes) (es : List CpuEntry) →
     LawfulFrom (CpuMayCome lists.base c) (cpu_step lists.base c) s.named es → BatchOk w (s.named.fills w) (s.batch w) →
     BatchOk w ((fold (cpu_step lists.base c) s.named es).fills w) ((fold (cpu_bytes_step lists c) s es).batch w)
@@ -101,7 +101,7 @@ cpu_batches_ok lists c w s (e ∷ es) lawful ok =
     cpu_batches_ok lists c w (cpu_bytes_step lists c s e) es lawful.1
     (cpu_batch_step w s.named e (cpu_value_in_use lists e s.value) (s.batch w) lawful.0.fits ok)
 
--- the served bytes of a state's batch are 0, but where a rekey or blocks ask for a refill
+-- the served bytes of a state's batch are 0, unless a rekey or blocks need a refill
 abbrev pub StateOk : NamedState → List ℕ → Type 0
 StateOk s bytes = s.expected ≡ anything → StartsZero s.pos bytes
 

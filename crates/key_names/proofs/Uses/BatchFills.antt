@@ -1,4 +1,4 @@
--- The fills of batches, and what integers of a batch use.
+-- The fills of batches, and the bytes that their integers use.
 use Rattle.std.proofs.Common.{◌≡◌, ℕ, suc, ◌+◌, ◌*◌, ◌≤◌, ◌<◌, false, [], ◌∷◌, ◌⊎◌, inl, inr, refl, sym, ap, ◌∙◌, arith, Some, None, Option}
 use Rattle.std.specs.Prelude.{◌==◌, if◌then◌else◌}
 use Rattle.std.proofs.lemmas.Bool.{eqb-true}
@@ -8,7 +8,7 @@ use Rattle.key_names.specs.Uses.{kept, served, use_of, IsUsed, Disjoint, batch_u
 use Rattle.key_names.specs.Batches.{Fill, one_more_served}
 use Rattle.key_names.proofs.Uses.UseLists.{UsesByte, one_use, one_use_disjoint, choice_cases}
 
--- the byte is of a batch that was filled with the key, and is not yet served
+-- the byte belongs to a batch that was filled with the key, and is not yet served
 pub record InBatch (fills : ℕ → Option Fill) (key : KeyName) (q : ℕ) : Type 0 where
   pub width : ℕ
   pub fill : Fill
@@ -25,7 +25,7 @@ pub record Filled (fills : ℕ → Option Fill) (w : ℕ) (key : KeyName) : Type
 pub in_batch : (fills : ℕ → Option Fill) (k : KeyName) (q : ℕ) → (b : InBatch fills k q) → Filled fills b.width k
 in_batch fills k q b = record { fill = b.fill; is = b.is; key_is = b.key_is }
 
--- no fill, no key
+-- without a fill no batch was filled with a key
 pub none_filled : (w : ℕ) (k : KeyName) → Filled (λ w. None) w k → ⊥
 none_filled w k f = let e = f.is in cc
 
@@ -85,7 +85,7 @@ pub filled_before : (width : ℕ) (fills : ℕ → Option Fill) (w : ℕ) (k : K
 filled_before width fills w k f = let m = before_serving width fills w f.fill f.is in
     record { fill = m.fill; is = m.is; key_is = m.same_key ∙ f.key_is }
 
--- what an integer of a batch uses
+-- the bytes that an integer of a batch uses
 pub record Serves (fills : ℕ → Option Fill) (width : ℕ) (k : KeyName) (q : ℕ) : Type 0 where
   pub fill : Fill
   pub is : fills width ≡ Some fill

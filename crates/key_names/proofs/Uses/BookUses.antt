@@ -1,4 +1,4 @@
--- The uses of a lawful book are disjoint, and its states are erased.
+-- The uses of a lawful book are disjoint, and the book is erased.
 use Rattle.std.proofs.Common.{◌≡◌, ℕ, zero, suc, ◌+◌, ◌-◌, ◌*◌, ◌≤◌, ◌<◌, List, [], ◌∷◌, ◌++◌, inl, inr, refl, sym, subst, ap, ◌∙◌, arith, Some, None, Option, length, take, replicate}
 use Rattle.std.specs.Option.{option_map_or}
 use Rattle.key_names.specs.declared.names.LaneId.TheVariants.{Pool as PoolLane, Base as BaseLane, Cpu as CpuLane}
@@ -42,7 +42,7 @@ cpus_apart lists c d (Call BaseLane i) a b = ap (λ o. option_map_or (λ p. p.0)
 cpus_apart lists c d (Call (CpuLane x) i) a b = sym a.0 ∙ b.0
 cpus_apart lists c d (Vdso x v n) a b = absurd a
 
--- the base and a CPU have none
+-- the base and a CPU have no name in common
 base_cpu_apart : (lists : Lists) (c : ℕ) (k : KeyName) → Own lists base_key k → Own lists (cpu_key c) k → ⊥
 base_cpu_apart lists c (Root r) a b = b
 base_cpu_apart lists c (Base i) a b = b
@@ -81,7 +81,7 @@ uses_of lists base_key = base_uses lists
 uses_of lists (cpu_key c) = cpu_uses lists c
 uses_of lists (state_key caller state) = state_uses lists caller state
 
--- whose use a byte of the lists is in
+-- if the lists use a byte, some holder uses it
 pub used_by : (lists : Lists) (k : KeyName) (q : ℕ) → IsUsed (uses lists) k q →
     (h : KeyHolder) × IsUsed (uses_of lists h) k q
 used_by lists k q h = elim (IsUsed-append_cases (base_uses lists ++ uses_below (length lists.cpus) (cpu_uses lists))
@@ -95,12 +95,12 @@ used_by lists k q h = elim (IsUsed-append_cases (base_uses lists ++ uses_below (
           (state_key m.0 n.0, n.1))
     ]
 
--- whose key a batch was filled with
+-- the holder of the key that a batch was filled with
 abbrev pub owner : BatchHolder → KeyHolder
 owner (cpu_batch c width) = cpu_key c
 owner (state_batch caller state) = state_key caller state
 
--- a byte of a span that has a name
+-- a byte of a named span
 pub named_byte : (o : Option KeyName) (from len : ℕ) (span : Span) (k : KeyName) (q : ℕ) →
     named_span o from len ≡ Some span → HoldsByte span k q → UsesByte o from len k q
 named_byte None from len span k q is h = cc
@@ -209,7 +209,7 @@ module _ (lists : Lists) (lanes : ForwardLawful lists) (states : LawfulStates li
   cpus_part = parts_below (λ c. Own lists (cpu_key c)) (cpu_uses lists) (cpus_apart lists)
       (λ c. own_uses (cpu_key c)) (length lists.cpus)
 
-  -- the caller and the state that a state's key is of
+  -- the caller and the state of a state's key
   abbrev caller_of : KeyHolder → ℕ
   caller_of base_key = 0
   caller_of (cpu_key c) = 0
@@ -246,7 +246,7 @@ module _ (lists : Lists) (lanes : ForwardLawful lists) (states : LawfulStates li
             cpu_state_apart n.number m.number (m.own).number k n.own (m.own).own)
       ])
 
-  -- what a holder held in the end, and what its entries replaced
+  -- the key of a holder at the end, and the keys that its entries replaced
   record HeldOk (h : KeyHolder) : Type 0 where
     live : (k : KeyName) → live_key lists h ≡ Some k → Own lists h k
     replaced : (k : KeyName) → WasReplaced lists h k → Own lists h k
@@ -282,7 +282,7 @@ module _ (lists : Lists) (lanes : ForwardLawful lists) (states : LawfulStates li
       let m = named_byte s.batch_key (64 * s.batch_from + s.pos) (96 - s.pos) span k q is h in
       record { key_is = m.key_is; from = m.above; below = (let a = m.above in let b = m.below in omega arith) }
 
-  -- a live byte is of the holder's own names, and not used by it
+  -- a live byte has one of the holder's own names, and the holder did not use it
   record RestOk (a : BatchHolder) (k : KeyName) (q : ℕ) : Type 0 where
     own : Own lists (owner a) k
     unused : IsUsed (uses_of lists (owner a)) k q → ⊥

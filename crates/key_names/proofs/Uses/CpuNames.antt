@@ -91,11 +91,11 @@ module _ (base : List BaseEntry) (c : ℕ) (taken : ℕ → Option Taken) where
   made_for place Prepare m b is = cc
   made_for place Online m b is = cc
 
-  -- the key that a refill brings is new here
+  -- the key that a refill brings is new at this place
   pub call_later : (place b : ℕ) (k : KeyName) → MadeFor b place → Call BaseLane b ≡ k → IsLater place k
   call_later place b k made e = let P : KeyName → Type 0 = λ x. IsLater place x in subst P e (place, made, omega arith)
 
-  -- the key after an entry is this place's, where it erases, and else the key in use
+  -- the key after an entry is named by its place if the entry erases, and else is the key in use
   pub after_cases : (i : ℕ) (e : CpuEntry) (key : Option KeyName) (k : KeyName) → cpu_key_after c i e key ≡ Some k →
       ((cpu_erases e ≡ true) × (Cpu c i ≡ k)) ⊎ ((cpu_erases e ≡ false) × (cpu_key_in_use e key ≡ Some k))
   after_cases i e key k h = elim (choice_cases (cpu_erases e) (Some (Cpu c i)) (cpu_key_in_use e key) (Some k) h)

@@ -1,4 +1,4 @@
--- What each entry of a CPU's list uses, and what may be used after it.
+-- The uses of each entry of a CPU's list, and the bytes that may be used after it.
 use Rattle.std.proofs.Common.{◌≡◌, ℕ, suc, ◌+◌, ◌*◌, ◌≤◌, ◌<◌, Bool, true, false, List, [], ◌∷◌, ◌⊎◌, inl, inr, refl, sym, subst, ap, ◌∙◌, arith, Some, None, Option}
 use Rattle.std.specs.Prelude.{◌==◌}
 use Rattle.std.proofs.lemmas.Bool.{eq-eqb}
@@ -52,18 +52,19 @@ module _ (base : List BaseEntry) (c : ℕ) (taken : ℕ → Option Taken) where
   call_later : (place b : ℕ) (k : KeyName) → MadeFor b place → Call BaseLane b ≡ k → IsLater place k
   call_later = names.call_later base c taken
 
-  -- the keys of a CPU at a moment are old, and no two are one
+  -- all keys of a CPU at a moment are old, and all are different
   pub record KeysApart (place : ℕ) (key : Option KeyName) (fills : ℕ → Option Fill) : Type 0 where
     pub key_old : (k : KeyName) → key ≡ Some k → IsOld place k
     pub fill_old : (w : ℕ) (k : KeyName) → Filled fills w k → IsOld place k
     pub key_apart : (w : ℕ) (k : KeyName) → key ≡ Some k → Filled fills w k → ⊥
     pub fills_apart : (v w : ℕ) (k : KeyName) → Filled fills v k → Filled fills w k → v ≡ w
 
-  -- what may be used from a state on
+  -- the bytes that may be used from a state on
   abbrev pub MayUse : ℕ → Option KeyName → (ℕ → Option Fill) → KeyName → ℕ → Type 0
   MayUse place key fills k q = (key ≡ Some k) ⊎ InBatch fills k q ⊎ IsLater place k
 
-  -- the key in use at an entry: old by the next place, not this place's own, apart from the batches' keys
+  -- the key in use at an entry: it is old at the next place, is not this place's own, and
+  -- differs from the batches' keys
   pub record InUse (place : ℕ) (key used : Option KeyName) (fills : ℕ → Option Fill) : Type 0 where
     pub old : (k : KeyName) → used ≡ Some k → IsOld (suc place) k
     pub not_own : (k : KeyName) → used ≡ Some k → Cpu c place ≡ k → ⊥
@@ -87,7 +88,7 @@ module _ (base : List BaseEntry) (c : ℕ) (taken : ℕ → Option Taken) where
     may = λ k h. inr (call_later place b k (made b refl) cc);
   }
 
-  -- what may be used after an entry could be used before it, keys and batches staying apart
+  -- a byte that may be used after an entry may be used before it, and the keys of CPU and batches stay different
   pub record StepOk (place : ℕ) (key : Option KeyName) (fills : ℕ → Option Fill)
       (now : List Use) (key' : Option KeyName) (fills' : ℕ → Option Fill) : Type 0 where
     pub disjoint : Disjoint now
@@ -96,7 +97,7 @@ module _ (base : List BaseEntry) (c : ℕ) (taken : ℕ → Option Taken) where
     pub apart : (k : KeyName) (q : ℕ) → IsUsed now k q → MayUse (suc place) key' fills' k q → ⊥
     pub keys : KeysApart (suc place) key' fills'
 
-  -- nothing is used, and the key in use stays
+  -- the entry uses no bytes, and the key in use stays
   idle_step : (place : ℕ) (key used : Option KeyName) (fills : ℕ → Option Fill) →
       KeysApart place key fills → InUse place key used fills → StepOk place key fills [] used fills
   idle_step place key used fills ok u = record {
@@ -140,7 +141,7 @@ module _ (base : List BaseEntry) (c : ℕ) (taken : ℕ → Option Taken) where
   abbrev IsOfRead : ℕ → Option KeyName → KeyName → Type 0
   IsOfRead place used k = (used ≡ Some k) ⊎ ((Call (CpuLane c) place ≡ k) × IsLong (taken place))
 
-  -- an erasure with the key in use: its own name becomes the key, and the batches stay
+  -- an erasure of the key in use: the place's own name becomes the key's, and the batches stay
   erase_step : (place : ℕ) (key used : Option KeyName) (fills : ℕ → Option Fill) (now : List Use) →
       Disjoint now → ((k : KeyName) (q : ℕ) → IsUsed now k q → IsOfRead place used k) →
       KeysApart place key fills → InUse place key used fills →

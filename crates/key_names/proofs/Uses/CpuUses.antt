@@ -1,4 +1,4 @@
--- The uses of a lawful CPU list are disjoint, and what it replaced is not live.
+-- The uses of a lawful CPU list are disjoint, and the keys that it replaced are not live.
 use Rattle.std.proofs.Common.{◌≡◌, ℕ, suc, ◌+◌, Bool, true, List, ◌⊎◌, inl, inr, refl, ap, ◌∙◌, arith, Some, None, Option}
 use Rattle.std.specs.Prelude.{option_and_then, is_some}
 use Rattle.key_names.specs.declared.names.KeyName.{KeyName}
@@ -15,7 +15,7 @@ use Rattle.key_names.proofs.Uses.CpuSteps as steps
 use Rattle.key_names.proofs.Uses.Walks.{StepFacts, Walk, walk, lawful_and_told}
 
 module _ (base : List BaseEntry) (c : ℕ) (taken : ℕ → Option Taken) where
-  -- which keys may be the CPU's from a state on
+  -- the keys that the CPU may have from a state on
   abbrev pub MayHold : CpuState → KeyName → Type 0
   MayHold s k = (s.key ≡ Some k) ⊎ names.IsLater base c taken s.place k
 

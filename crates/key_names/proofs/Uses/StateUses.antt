@@ -1,4 +1,4 @@
--- The uses of a lawful list of a vgetrandom state are disjoint, and what it replaced is not live.
+-- The uses of a lawful list of a vgetrandom state are disjoint, and the keys that it replaced are not live.
 use Rattle.std.proofs.Common.{◌≡◌, ℕ, suc, ◌+◌, ◌*◌, ◌≤◌, ◌<◌, List, ◌⊎◌, inl, inr, refl, sym, subst, ap, ◌∙◌, arith, Some, None, Option}
 use Rattle.std.specs.Prelude.{option_and_then}
 use Rattle.key_names.specs.declared.names.LaneId.TheVariants.{Cpu as CpuLane}
@@ -13,7 +13,7 @@ use Rattle.key_names.specs.StateList.{Expected, anything, new_key, refill_from, 
 use Rattle.key_names.proofs.Uses.UseLists.{one_use, one_use_disjoint}
 use Rattle.key_names.proofs.Uses.Walks.{StepFacts, Walk, walk, lawful_and_told}
 
--- the bytes of the key in use that are not yet used: after blocks those behind them
+-- the bytes of the key in use that are not yet used: after blocks, those after them
 abbrev pub IsUnused : Expected → ℕ → Type 0
 IsUnused anything q = Unit {0}
 IsUnused new_key q = Unit {0}
@@ -29,7 +29,7 @@ may_refill_unused anything from q h le = tt
 may_refill_unused new_key from q h le = tt
 may_refill_unused (refill_from n) from q h le = let P : ℕ → Type 0 = λ x. 64 * x ≤ q in subst P h le
 
--- rekeys says of each entry which read it takes
+-- rekeys gives the read that each entry takes
 module _ (caller state : ℕ) (rekeys : ℕ → Option (ℕ × ℕ)) where
   -- a key that an entry from a place on takes
   pub record TakenFrom (place : ℕ) (k : KeyName) : Type 0 where
@@ -40,7 +40,7 @@ module _ (caller state : ℕ) (rekeys : ℕ → Option (ℕ × ℕ)) where
     pub taken : rekeys at ≡ Some (cpu, cpu_place)
     pub is : Call (CpuLane cpu) cpu_place ≡ k
 
-  -- a key that a refill of a number or a later one keeps
+  -- a key that a refill with this number or a later one keeps
   pub record KeptFrom (refills : ℕ) (k : KeyName) : Type 0 where
     pub number : ℕ
     pub above : refills ≤ number
@@ -50,21 +50,21 @@ module _ (caller state : ℕ) (rekeys : ℕ → Option (ℕ × ℕ)) where
   abbrev pub IsLater : ℕ → ℕ → KeyName → Type 0
   IsLater place refills k = KeptFrom refills k ⊎ TakenFrom place k
 
-  -- the byte is of the batch, and not yet served
+  -- the byte belongs to the batch, and is not yet served
   pub record InBatch (s : NamedState) (k : KeyName) (q : ℕ) : Type 0 where
     pub key_is : s.batch_key ≡ Some k
     pub from : 64 * s.batch_from + s.pos ≤ q
     pub below : q < 64 * s.batch_from + 96
 
-  -- what may be used from a state on
+  -- the bytes that may be used from a state on
   abbrev pub MayUse : NamedState → KeyName → ℕ → Type 0
   MayUse s k q = ((s.key ≡ Some k) × IsUnused s.expected q) ⊎ InBatch s k q ⊎ IsLater s.place s.refills k
 
-  -- which keys may be the state's from a state on
+  -- the keys that the state may have from a state on
   abbrev pub MayHold : NamedState → KeyName → Type 0
   MayHold s k = (s.key ≡ Some k) ⊎ IsLater s.place s.refills k
 
-  -- the keys of a state are of no later entry, and the batch is of another key
+  -- the keys of a state are not those of later entries, and the batch has another key
   pub record KeysApart (s : NamedState) : Type 0 where
     pub key : (k : KeyName) → s.key ≡ Some k → IsLater s.place s.refills k → ⊥
     pub batch : (k : KeyName) → s.batch_key ≡ Some k → IsLater s.place s.refills k → ⊥
@@ -104,7 +104,7 @@ module _ (caller state : ℕ) (rekeys : ℕ → Option (ℕ × ℕ)) where
       StepFacts (MayComeTold cpu_list) (state_step caller state)
       state_uses_at StateReplaces KeysApart MayUse MayHold s e
 
-  -- no read is taken twice
+  -- no two entries take the same read
   abbrev pub OneTaker : Type 0
   OneTaker = (a b : ℕ) (read : ℕ × ℕ) → rekeys a ≡ Some read → rekeys b ≡ Some read → a ≡ b
 

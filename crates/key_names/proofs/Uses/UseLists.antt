@@ -1,4 +1,4 @@
--- Uses in lists that are joined, and of keys that may have no name.
+-- Uses in joined lists, and uses of keys that may have no name.
 use Rattle.std.proofs.Common.{◌≡◌, ℕ, zero, suc, ◌+◌, ◌≤◌, ◌<◌, Bool, true, false, List, [], ◌∷◌, ◌++◌, ◌⊎◌, inl, inr, refl, ap, arith, Some, None, Option, nat_lt}
 use Rattle.std.specs.Prelude.{if◌then◌else◌}
 use Rattle.std.specs.List.{flat_map, range_with_len}
@@ -24,7 +24,7 @@ pub used_second : (us vs : List Use) (key : KeyName) (q : ℕ) → IsUsed vs key
 used_second [] vs key q h = h
 used_second (u ∷ us) vs key q h = inr (used_second us vs key q h)
 
--- so are the parts of a disjoint list, and no byte is in both
+-- the parts of a disjoint list are disjoint too, and no byte is in both
 pub record DisjointParts (us vs : List Use) : Type 0 where
   pub first : Disjoint us
   pub second : Disjoint vs
@@ -43,7 +43,7 @@ disjoint_parts (u ∷ us) vs d =
       ];
     }
 
--- two lists are disjoint together where each is, and no byte is in both
+-- two disjoint lists are disjoint together if no byte is in both
 pub Disjoint-append : (us vs : List Use) → Disjoint us → Disjoint vs →
     ((key : KeyName) (q : ℕ) → IsUsed us key q → IsUsed vs key q → ⊥) → Disjoint (us ++ vs)
 Disjoint-append [] vs a b apart = b
@@ -53,7 +53,7 @@ Disjoint-append (u ∷ us) vs a b apart = (
   Disjoint-append us vs a.1 b (λ key q h r. apart key q (inr h) r),
 )
 
--- a use that ends where another begins
+-- a use that ends before another begins
 apart_spans : (u v : Use) (key : KeyName) (q : ℕ) → u.span.from + u.span.len ≤ v.span.from → HoldsByte u.span key q →
     HoldsByte v.span key q → ⊥
 apart_spans u v key q le h m = omega arith
@@ -108,13 +108,13 @@ pub one_use_disjoint : (purpose : Purpose) (o : Option KeyName) (from len : ℕ)
 one_use_disjoint purpose None from len = tt
 one_use_disjoint purpose (Some key) from len = Disjoint-one (use_of purpose key from len)
 
--- a read that serves from a key of its own
+-- a read that is served from a key of its own
 abbrev pub IsLong : Option Taken → Type 0
 IsLong None = ⊥
 IsLong (Some (User n)) = 32 < n
 IsLong (Some (Kernel n)) = ⊥
 
--- what a read puts to use is disjoint
+-- the uses of a read are disjoint
 pub read_disjoint : (rekeys : Bool) (key call : KeyName) (t : Taken) → Disjoint (read_uses rekeys key call t)
 read_disjoint rekeys key call (Kernel n) = Disjoint-two (use_of kept key 0 32) (use_of served key 32 n) (omega arith)
 read_disjoint rekeys key call (User n) =
@@ -130,7 +130,7 @@ read_disjoint rekeys key call (User n) =
           ]
     ]
 
--- a read uses the key in use, and where it is long the key that bytes 32 to 64 become
+-- a read uses the key in use and, if it is long, the key that bytes 32 to 64 become
 pub read_within : (rekeys : Bool) (key call : KeyName) (t : Taken) (k : KeyName) (q : ℕ) →
     IsUsed (read_uses rekeys key call t) k q → (key ≡ k) ⊎ ((call ≡ k) × IsLong (Some t))
 read_within rekeys key call t k q (inl u) = inl u.same_key
@@ -152,7 +152,7 @@ read_within rekeys key call (User n) k q (inr h) = go (nat_lt 32 n) refl h
     ]
     go false is h = inl (one rekeys h)
 
--- which side a choice took
+-- the side that a choice took
 pub choice_cases : {A : Type 0} (b : Bool) (x y z : A) → (if b then x else y) ≡ z →
     ((b ≡ true) × (x ≡ z)) ⊎ ((b ≡ false) × (y ≡ z))
 choice_cases true x y z e = inl (refl, e)
@@ -188,7 +188,7 @@ parts_from Own f one part from (suc count) =
       ];
     }
 
--- parts of which no two have a name in common are disjoint together
+-- if no two parts have a name in common, all together are disjoint
 pub parts_below : (Own : ℕ → KeyName → Type 0) (f : ℕ → List Use) →
     ((m n : ℕ) (k : KeyName) → Own m k → Own n k → m ≡ n) →
     ((n : ℕ) → Part (Own n) (f n)) → (count : ℕ) → Part (OwnFrom Own 0) (uses_below count f)
@@ -202,7 +202,7 @@ used_from f from (suc count) k q h =
     elim (IsUsed-append_cases (f from) (flat_map f (range_with_len (from + 1) count)) k q h)
     [ inl a ↦ (from, a) | inr b ↦ used_from f (from + 1) count k q b ]
 
--- which number's uses have a byte
+-- the number whose uses have a byte
 pub used_below : (f : ℕ → List Use) (count : ℕ) (k : KeyName) (q : ℕ) → IsUsed (uses_below count f) k q →
     (n : ℕ) × IsUsed (f n) k q
 used_below f count k q h = used_from f 0 count k q h

@@ -1,4 +1,4 @@
--- The walk over a list that every law about uses takes: what holds at each entry holds of the whole list.
+-- The walk over a list, for each law about uses: facts about each entry hold for the whole list.
 use Rattle.std.proofs.Common.{◌≡◌, ℕ, suc, ◌+◌, List, [], ◌∷◌, inl, inr, ap, ◌∙◌, arith, Some, refl}
 use Rattle.std.specs.Prelude.{slice_get}
 use Rattle.std.specs.List.{fold}
@@ -7,12 +7,13 @@ use Rattle.key_names.specs.LawfulList.{LawfulFrom, SomeFrom}
 use Rattle.key_names.specs.Uses.{Use, IsUsed, Disjoint, uses_from}
 use Rattle.key_names.proofs.Uses.UseLists.{IsUsed-append_cases, Disjoint-append}
 
--- MayUse says which bytes may still be used in a state, and MayHold which keys may still be its key; Holds is what
--- every state keeps
+-- MayUse relates a state to the bytes that may still be used, and MayHold to the keys that it may still have.
+-- Holds is true in every state
 module _ {S E : Type 0} (May : S → E → Type 0) (step : S → E → S) (uses_at : S → E → List Use)
     (Replaces : KeyName → S → E → Type 0) (Holds : S → Type 0) (MayUse : S → KeyName → ℕ → Type 0)
     (MayHold : S → KeyName → Type 0) where
-  -- an entry uses only what may be used before it and not after it, and what it replaces may not be used after it
+  -- an entry uses only bytes that may be used before it and not after it, and the keys that it replaces
+  -- may not be used after it
   pub record StepFacts (s : S) (e : E) : Type 0 where
     pub disjoint : Disjoint (uses_at s e)
     pub within : (k : KeyName) (q : ℕ) → IsUsed (uses_at s e) k q → MayUse s k q
@@ -23,7 +24,7 @@ module _ {S E : Type 0} (May : S → E → Type 0) (step : S → E → S) (uses_
     pub gone : (k : KeyName) → Replaces k s e → MayHold (step s e) k → ⊥
     pub holds : Holds (step s e)
 
-  -- the same of a list
+  -- the same for a list
   pub record Walk (s : S) (es : List E) : Type 0 where
     pub disjoint : Disjoint (uses_from uses_at step s es)
     pub within : (k : KeyName) (q : ℕ) → IsUsed (uses_from uses_at step s es) k q → MayUse s k q
@@ -65,7 +66,7 @@ module _ {S E : Type 0} (May : S → E → Type 0) (step : S → E → S) (uses_
       let now : StepFacts s e = facts s e lawful.0 holds in
       join s e es now (walk facts (step s e) es lawful.1 now.holds)
 
--- a lawful list of which something is told by places is lawful with what is told
+-- a lawful list stays lawful with a fact that is given for each place
 pub lawful_and_told : {S E A : Type 0} (May : S → E → Type 0) (step : S → E → S) (place : S → ℕ) →
     ((s : S) (e : E) → place (step s e) ≡ suc (place s)) → (at : ℕ → A) (of : E → A) (s : S) (es : List E) →
     ((j : ℕ) (e : E) → slice_get es j ≡ Some e → at (place s + j) ≡ of e) → LawfulFrom May step s es →

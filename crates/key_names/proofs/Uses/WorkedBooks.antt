@@ -1,4 +1,4 @@
--- A lawful book with every kind of list, its uses and what is still live.
+-- A lawful book with every kind of list, its uses, and its live keys and batches.
 use Rattle.std.proofs.Common.{◌≡◌, ℕ, zero, suc, true, false, [], ◌∷◌, inl, inr, refl, sym, ap, ◌∙◌, arith, Some, None, replicate}
 use Rattle.key_names.specs.declared.names.LaneId.TheVariants.{Base as BaseLane, Cpu as CpuLane}
 use Rattle.key_names.specs.declared.names.KeyName.TheVariants.{Root, Base, Cpu, Call, Vdso}
@@ -103,7 +103,7 @@ states_lawful zero zero = record {
 states_lawful zero (suc state) = record { comes = tt; ends = refl }
 states_lawful (suc caller) state = record { comes = tt; ends = refl }
 
--- only the first entry of the one list takes a read
+-- only the first entry of the only list takes a read
 only_taker : (caller state place : ℕ) (read : ℕ × ℕ) →
     rekey_in book (record { caller = caller; state = state; place = place }) ≡ Some read →
     (caller ≡ 0) × (state ≡ 0) × (place ≡ 0)

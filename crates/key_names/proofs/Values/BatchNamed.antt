@@ -1,4 +1,4 @@
--- What a copy out of a vgetrandom state serves is what the names of its entries' served spans tell.
+-- A copy out of a vgetrandom state serves the bytes of its entries' served spans, by names.
 use Rattle.std.proofs.Common.{◌≡◌, ℕ, zero, suc, ◌+◌, ◌-◌, ◌*◌, min, ◌≤◌, Bool, true, false, List, [], ◌∷◌, ◌++◌, inl, inr, refl, sym, subst, ap, ◌∙◌, arith, Some, None, Option, take, drop, append-nil, append_assoc}
 use Rattle.std.specs.Prelude.{if◌then◌else◌}
 use Rattle.std.specs.List.{fold}
@@ -56,14 +56,14 @@ module _ (lists : Lists) (caller k : ℕ) where
   abbrev pub entry_uses : NamedState → List VEntry → List Use
   entry_uses t es = uses_from state_uses_at (state_step caller k) t es
 
-  -- the names tell what the state holds
+  -- the names match the keys and the batch of the state
   pub record NamesTell (x : Both) : Type 0 where
     pub key : (name : KeyName) → x.named.key ≡ Some name → value_of lists name ≡ x.bytes.key
     pub rest : (name : KeyName) → x.named.batch_key ≡ Some name →
         drop x.named.pos x.bytes.batch
         ≡ keystream (value_of lists name) (64 * x.named.batch_from + x.named.pos) (96 - x.named.pos)
 
-  -- a use of a key that has a name
+  -- a use of a named key
   one_served : (o : Option KeyName) (name : KeyName) (from len : ℕ) → o ≡ Some name →
       served_in lists (named_use served o from len) ≡ keystream (value_of lists name) from len
   one_served o name from len is =
@@ -74,7 +74,7 @@ module _ (lists : Lists) (caller k : ℕ) where
   none_kept None from len = refl
   none_kept (Some name) from len = refl
 
-  -- the entry of some bytes of a batch whose key has a name
+  -- the entry for some bytes of a batch with a named key
   serve_named : (t : NamedState) (name : KeyName) (pos n : ℕ) → t.batch_key ≡ Some name →
       served_in lists (entry_uses t (serve_entry pos n))
       ≡ keystream (value_of lists name) (64 * t.batch_from + pos) n
@@ -83,7 +83,7 @@ module _ (lists : Lists) (caller k : ℕ) where
       ap (served_in lists) (append-nil (named_use served t.batch_key (64 * t.batch_from + pos) (suc n)))
       ∙ one_served t.batch_key name (64 * t.batch_from + pos) (suc n) is
 
-  -- the entries of blocks and of a new batch, of a key that has a name
+  -- the entries for blocks and a new batch of a named key
   new_named : (t : NamedState) (name : KeyName) (at r : ℕ) → t.key ≡ Some name →
       served_in lists (entry_uses t (Refill at ∷ serve_entry 0 r)) ≡ keystream (value_of lists name) (64 * at) r
   new_named t name at r is =
@@ -111,7 +111,7 @@ module _ (lists : Lists) (caller k : ℕ) where
       (new_named u name (c + suc m) r is ∙ ap (λ f. keystream (value_of lists name) f r) at)
       ∙ sym (keystream-add (value_of lists name) (64 * c) (64 * suc m) r)
 
-  -- a copy out of a state whose keys have names
+  -- a copy out of a state with named keys
   pub copy_named : (x : Both) (s : VgetrandomState) (c n : ℕ) → 1 ≤ n → replay.Holds lists caller k x s →
       1 ≤ s.generation → NamesTell x →
       copy_bytes s c n ≡ served_in lists (entry_uses x.named (copy_entries s c n))
@@ -183,7 +183,7 @@ module _ (lists : Lists) (caller k : ℕ) where
   named_is x [] = refl
   named_is x (e ∷ es) = named_is (replay.step lists caller k x e) es
 
-  -- the names tell what the state holds behind each front of some entries
+  -- the names match the state after each front of some entries
   abbrev pub Fronts : Both → List VEntry → Type 0
   Fronts x es = (pre post : List VEntry) → es ≡ pre ++ post → NamesTell (after x pre)
 
@@ -344,14 +344,14 @@ module _ (lists : Lists) (caller k : ℕ) where
       is.rest attempt (λ u r rest later good f b. start_named n c is.published some u r rest later good f b)
       is.goes_on g.1 h
 
-  -- the last of some entries have these bytes
+  -- the last of some entries serve these bytes
   pub record LastServes (x : Both) (es : List VEntry) (out : List ℕ) : Type 0 where
     pub earlier : List VEntry
     pub last : List VEntry
     pub entries_are : es ≡ earlier ++ last
     pub bytes_are : out ≡ bytes_of (after x earlier) last
 
-  -- a call that its batch ended served the bytes of the last of its entries
+  -- a call that its batch ended served the bytes of its last entries
   abbrev pub OutcomeNamed : Both → Outcome → Type 0
   OutcomeNamed x outcome = Fronts x outcome.entries → (out : List ℕ) → outcome.ending ≡ by_batch out →
       LastServes x outcome.entries out
@@ -366,7 +366,7 @@ module _ (lists : Lists) (caller k : ℕ) where
   system_named n flags x s steps outcome by fronts out ends =
       let e : by_system by.answer ≡ by_batch out = sym (ap (λ (o : Outcome). o.ending) by.outcome_is) ∙ ends in cc
 
-  -- an attempt, of which Tried relates the steps, and what follows it
+  -- an attempt for which Tried holds, and the rest of the call
   pub rest_named : (n flags : ℕ) (Outdated : ℕ → VgetrandomState → List HostStep → Outcome → Type 0)
       (Tried : List HostStep → Attempt → Type 0) (x : Both) (steps : List HostStep) (outcome : Outcome) →
       ((tried : List HostStep) (attempt : Attempt) → Good lists tried → Tried tried attempt → AttemptNamed x attempt) →
@@ -451,7 +451,7 @@ module _ (lists : Lists) (caller k : ℕ) where
   nothing_named x s steps outcome by fronts out ends =
       let e : no_bytes ≡ by_batch out = sym (ap (λ (o : Outcome). o.ending) by.outcome_is) ∙ ends in cc
 
-  -- a call of vgetrandom, on a state that its list replays to
+  -- a vgetrandom call on a state that matches the replay of its list
   pub call_named : (n flags : ℕ) (x : Both) (s : VgetrandomState) (steps : List HostStep) (outcome : Outcome) →
       replay.GoodBehind lists caller k steps → IsCall n flags s steps outcome → replay.Holds lists caller k x s →
       OutcomeNamed x outcome

@@ -1,4 +1,4 @@
--- The keys and the rests of batches that a lawful book's replay holds are what their names tell.
+-- The keys and the rests of batches in a lawful book's replay are those of their names.
 use Rattle.std.proofs.Common.{◌≡◌, ℕ, zero, suc, ◌+◌, ◌-◌, ◌*◌, Bool, true, false, List, [], ◌∷◌, ◌++◌, refl, sym, subst, ap, ◌∙◌, arith, Some, None, Option, length, take, drop, replicate}
 use Rattle.std.specs.Prelude.{◌==◌, slice_get, if◌then◌else◌}
 use Rattle.std.specs.List.{fold}
@@ -65,7 +65,7 @@ less_rest at pos n key bytes zeros is =
     ∙ sym (drop-drop n pos bytes) ∙ ap (drop n) is ∙ keystream-drop key (at + pos) n (96 - pos)
     ∙ ap (λ f. keystream key f ((96 - pos) - n)) p ∙ ap (keystream key (at + (pos + n))) q
 
--- the entry behind a front, and the front
+-- the entry after a front
 pub entry_behind : {A : Type 0} (xs front : List A) (e : A) (rest : List A) → xs ≡ (front ++ e ∷ []) ++ rest →
     slice_get xs (length front) ≡ Some e
 entry_behind {A = A} xs front e rest is = ap (λ ys. slice_get ys (length front)) is ∙ go front
@@ -83,7 +83,7 @@ front_of {A = A} xs front e rest is = ap (take (length front)) is ∙ go front
     go (x ∷ front) = ap (λ ys. x ∷ ys) (go front)
 
 module _ (lists : Lists) where
-  -- the rest of a CPU's batch is that of its fill's key
+  -- the rest of a CPU's batch comes from the key of its fill
   abbrev RestNamed : ℕ → Option Fill → List ℕ → Type 0
   RestNamed w o bytes = (f : Fill) (k : KeyName) → o ≡ Some f → f.key ≡ Some k →
       drop (w * f.count) bytes ≡ keystream (value_of lists k) (32 + w * f.count) (96 - w * f.count)
@@ -176,7 +176,7 @@ module _ (lists : Lists) where
       (every_front (λ es. FrontNamed c w es) (cpu_list lists c) [] (cpu_list lists c) refl (λ f k is key. cc)
       (front_named_more c w lawful) (length (cpu_list lists c)))
 
-  -- the rest of a state's batch is that of the key that its refill came from
+  -- the rest of a state's batch comes from the key of its refill
   abbrev pub StateRest : NamedState → StateBytes → Type 0
   StateRest s b = (k : KeyName) → s.batch_key ≡ Some k →
       drop s.pos b.batch ≡ keystream (value_of lists k) (64 * s.batch_from + s.pos) (96 - s.pos)
@@ -249,7 +249,7 @@ module _ (lists : Lists) where
       (state_list lists caller state) refl (λ k is. cc)
       (state_front_more caller state lawful) (length (state_list lists caller state)))
 
-  -- a span of a name, read as the bytes of its key
+  -- a named span, as the bytes of its key
   span_bytes : (o : Option KeyName) (from len : ℕ) (span : Span) (bytes : List ℕ) → named_span o from len ≡ Some span →
       ((k : KeyName) → o ≡ Some k → bytes ≡ keystream (value_of lists k) from len) →
       bytes ≡ keystream (value_of lists span.key) span.from span.len

@@ -1,4 +1,4 @@
--- The value that a list's entries leave in a key is the value of the key's name.
+-- The value of the key that a list's entries leave is the value of the key's name.
 use Rattle.std.proofs.Common.{◌≡◌, ℕ, zero, suc, ◌+◌, false, List, [], ◌∷◌, ◌++◌, inl, inr, refl, sym, subst, ap, ◌∙◌, arith, Some, None, Option, length, take, append_assoc}
 use Rattle.std.specs.Prelude.{slice_get, option_and_then}
 use Rattle.std.specs.List.{fold}
@@ -27,7 +27,7 @@ cpu_key_at lists c k =
     option_and_then (λ e. cpu_key_in_use e (cpu_after lists.base c (take k (cpu_list lists c))).key)
     (slice_get (cpu_list lists c) k)
 
--- what each entry keeps holds of each front of a list
+-- a fact that each entry keeps holds for each front of a list
 pub every_front : {A : Type 0} (P : List A → Type 0) (xs front rest : List A) → xs ≡ front ++ rest → P front →
     ((front : List A) (e : A) (rest : List A) → xs ≡ (front ++ e ∷ []) ++ rest → P front → P (front ++ e ∷ [])) →
     (j : ℕ) → P (front ++ take j rest)
@@ -57,7 +57,7 @@ abbrev pub BaseNamed : Lists → List BaseEntry → Type 0
 BaseNamed lists front = (k : KeyName) → (base_after front).key ≡ Some k →
     value_of lists k ≡ base_value_after lists.pool front
 
--- the same of the key in use at an entry
+-- the same for the key in use at an entry
 base_in_use_named : (lists : Lists) (front : List BaseEntry) (e : BaseEntry) → BaseNamed lists front →
     (k : KeyName) → base_key_in_use e (base_after front).key ≡ Some k →
     value_of lists k ≡ base_value_in_use lists.pool e (base_value_after lists.pool front)

@@ -1,4 +1,4 @@
--- What a line prints by its last visit, or by entries of a vgetrandom state, is what their names tell.
+-- The bytes that a line prints by its last visit, or by entries of a vgetrandom state, are those of their names.
 use Rattle.std.proofs.Common.{◌≡◌, ℕ, ◌+◌, ◌≤◌, ◌⊎◌, Bool, true, false, List, [], ◌∷◌, ◌++◌, inl, inr, refl, sym, ap, ◌∙◌, arith, Some, None, Option, length, take, append_assoc, append-nil}
 use Rattle.std.specs.Prelude.{map, slice_get}
 use Rattle.std.specs.List.{range_with_len}
@@ -40,14 +40,14 @@ bytes_of_some [] = refl
 bytes_of_some (b ∷ bs) = refl
 
 module _ (lists : Lists) where
-  -- a line and what it prints by
+  -- a line, and the entries that it prints by
   abbrev pub Prints : StateEntries → SeenLine → Type 0
   Prints own line = (os : List Origin) × LinePrints lists own line os
 
   pub prints_none : (own : StateEntries) (line : SeenLine) → bytes_in line.shown ≡ [] → Prints own line
   prints_none own line none = ([], record { by = by_none refl; shown = none })
 
-  -- the entries of a state from a place on put to use what they do in its list
+  -- the entries of a state from a place on have the same uses as in its list
   entries_use : (caller k : ℕ) (front es post : List VEntry) →
       state_list lists caller k ≡ (front ++ es) ++ post →
       origins_uses lists (map (at_state caller k) (range_with_len (length front) (length es)))
@@ -73,7 +73,7 @@ module _ (lists : Lists) where
       (ap (λ n. origins_uses lists (map (at_state caller k) (range_with_len n (length es)))) (sym len) ∙ rest
       ∙ ap (λ s. uses_from state_uses_at (state_step caller k) s es) next)
 
-  -- a line that shows what some entries of its own serve
+  -- a line that shows the bytes that some entries of its own serve
   pub prints_entries : (own : StateEntries) (line : SeenLine) (front es post : List VEntry) (out : List ℕ) →
       state_list lists own.caller own.state ≡ (front ++ es) ++ post → own.from ≤ length front →
       length front + length es ≤ own.from + own.count → line.shown ≡ bytes_or_none out →
@@ -92,7 +92,7 @@ module _ (lists : Lists) where
   abbrev pub IsFree : List Deed → Type 0
   IsFree deeds = (c p : ℕ) → is_rekeyed lists c p ≡ true → place_takes c p (last_place deeds) ≡ 0
 
-  -- so it is where the line has no mark of a read that is taken
+  -- this holds if the line has no mark of a read that is taken
   abbrev pub IsUntaken : SeenLine → Type 0
   IsUntaken line = (c p : ℕ) → is_rekeyed lists c p ≡ true → mark_takes (CpuLane c) p line.steps ≡ 0
 
@@ -136,7 +136,7 @@ module _ (lists : Lists) (named : VisitsServeNamed lists) where
   place_named BaseLane place free = base_place place (slice_get lists.base place) refl
   place_named (CpuLane c) place free = cpu_place c place (slice_get (cpu_list lists c) place) refl free
 
-  -- what a call serves, by names
+  -- the bytes that a call serves, by names
   served_named : (steps : List Step) → IsFree lists (deeds_of lists steps) →
       served_bytes (deeds_of lists steps) ≡ served_in lists (origins_uses lists (last_origin steps))
   served_named [] free = refl
@@ -146,7 +146,7 @@ module _ (lists : Lists) (named : VisitsServeNamed lists) where
   served_named (Look g ∷ next ∷ steps) free = served_named (next ∷ steps) free
   served_named (Marked mark ∷ next ∷ steps) free = served_named (next ∷ steps) free
 
-  -- a line that shows what its last visit serves
+  -- a line that shows the bytes that its last visit serves
   pub prints_visit : (own : StateEntries) (line : SeenLine) (deeds : List Deed) → deeds_of lists line.steps ≡ deeds →
       line.shown ≡ bytes_or_none (served_bytes deeds) → IsFree lists (deeds_of lists line.steps) → Prints lists own line
   prints_visit own line deeds is shown free = (
@@ -190,7 +190,7 @@ module _ (lists : Lists) (named : VisitsServeNamed lists) where
         (untaken_free lists line untaken)
   ]
 
-  -- and of an act inside a vread that is done
+  -- the line of an act inside a vread that is done
   act_prints : (own : StateEntries) (set : Setting) (act : InsideAct) (line : SeenLine) (m : LineMeaning) →
       deeds_of lists line.steps ≡ m.deeds → line.shown ≡ m.shown → IsUntaken lists line →
       ActMeans set act m → Prints lists own line

@@ -1,4 +1,4 @@
--- The lines of a lawful transcript print the bytes of named spans, and none of them twice.
+-- The lines of a lawful transcript print the bytes of named spans, and no byte twice.
 use Rattle.std.proofs.Common.{◌≡◌, ℕ, suc, ◌+◌, ◌≤◌, ◌<◌, Bool, true, false, List, [], ◌∷◌, ◌++◌, inl, inr, refl, sym, subst, ap, ◌∙◌, arith, Some, length, take, append_assoc, append-nil}
 use Rattle.std.specs.Prelude.{◌==◌, map, slice_get, if◌then◌else◌}
 use Rattle.std.specs.List.{AllByRecursion, list_any}
@@ -43,7 +43,7 @@ module _ (lists : Lists) (named : VisitsServeNamed lists) (caller : ℕ) where
   abbrev ShownOf : SeenLine → LineMeaning → Type 0
   ShownOf = ShownIs lists named
 
-  -- a call whose lines have no mark of a taken read but those that its own entries take
+  -- a call whose lines have no marks of taken reads except those that its own entries take
   abbrev IsQuiet : Call → CallMeaning → Type 0
   IsQuiet call m = (c p : ℕ) → is_rekeyed lists c p ≡ true → marks.call_marks (CpuLane c) p call ≤ takes c p m.entries
 
@@ -95,7 +95,7 @@ module _ (lists : Lists) (named : VisitsServeNamed lists) (caller : ℕ) where
   none_inside own (bound ∷ acts) [] none deeds = absurd deeds
   none_inside own (bound ∷ acts) (m ∷ ms) none deeds = cc
 
-  -- the lines of the acts inside it
+  -- the lines of the acts inside a vread
   inside_print : (own : StateEntries) (n flags : ℕ) (line : SeenLine) (acts : List BoundAct) (m : CallMeaning) →
       EachOfCall DeedsOf (vread_call n flags line acts) m → EachOfCall ShownOf (vread_call n flags line acts) m →
       VreadMeans n flags acts m →
@@ -148,7 +148,7 @@ module _ (lists : Lists) (named : VisitsServeNamed lists) (caller : ℕ) where
       let first = prints_none lists (entries_of_call caller before m) line (ap bytes_in (shown ∙ means.shown)) in
       (first.0 ∷ [], (first.1, tt))
 
-  -- a caller stays at one of its sixteen states
+  -- a caller's current state stays one of its sixteen
   stays : (version cpus : ℕ) (call : Call) (m : CallMeaning) → CallInRange version cpus call → Means call m →
       m.before.current < 16 → m.after.current < 16
   stays version cpus (alone event line) m range means below =
@@ -174,7 +174,7 @@ module _ (lists : Lists) (named : VisitsServeNamed lists) (caller : ℕ) where
       ap (λ es. own ++ es) (entries_append k xs ys)
       ∙ sym (append_assoc own (entries_of_state k xs) (entries_of_state k ys))
 
-  -- each vread behind calls that mean these ended so
+  -- each vread ended so, after calls with these meanings
   abbrev EndsBehind : List CallMeaning → List Call → List CallMeaning → Type 0
   EndsBehind before calls ms = (k j n flags : ℕ) (line : SeenLine) (acts : List BoundAct) (m : CallMeaning) → k < 16 →
       m.before.current ≡ k → slice_get calls j ≡ Some (vread_call n flags line acts) → slice_get ms j ≡ Some m →

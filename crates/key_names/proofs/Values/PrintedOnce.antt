@@ -1,4 +1,4 @@
--- No two entries that the lines of a transcript print by are one, and so no byte is printed twice.
+-- No two of the entries that the lines of a transcript print by are the same, so no byte is printed twice.
 use Rattle.std.proofs.Common.{◌≡◌, ℕ, zero, suc, ◌+◌, ◌≤◌, true, List, [], ◌∷◌, ◌++◌, inl, inr, refl, sym, subst, ap, arith, take}
 use Rattle.std.specs.Prelude.{◌==◌, ◌&&◌, slice_get}
 use Rattle.std.specs.List.{fold}
@@ -17,7 +17,7 @@ use Rattle.key_names.proofs.Uses.UseLists.{IsUsed-append_cases, Disjoint-append,
 use Rattle.key_names.proofs.Uses.BookUses.{own_once, own_uses, uses_of}
 use Rattle.key_names.proofs.Transcripts.TakenMarks.{hit, lane_takes}
 
--- what the entry at a place of a list puts to use is a part of what all of them do, and apart from the other parts
+-- the uses of the entry at a place are a part of those of the whole list, and share no byte with the other parts
 module _ {S E : Type 0} (uses_at : S → E → List Use) (step : S → E → S) where
   abbrev at_place : S → List E → ℕ → List Use
   at_place s es i = uses_or (uses_at (fold step s (take i es))) (slice_get es i)
@@ -49,14 +49,14 @@ module _ {S E : Type 0} (uses_at : S → E → List Use) (step : S → E → S) 
   one_place s (e ∷ es) (suc i) (suc j) k q d h m =
       ap suc (one_place (step s e) es i j k q (disjoint_parts (uses_at s e) (all_from (step s e) es) d).second h m)
 
--- whether two entries are one, as a number
+-- 1 if two entries are the same, else 0
 abbrev pub is_same : Origin → Origin → ℕ
 is_same (at_lane lane place) (at_lane other there) = lane_takes lane place other there
 is_same (at_lane lane place) (at_state caller state there) = 0
 is_same (at_state caller state place) (at_lane lane there) = 0
 is_same (at_state caller state place) (at_state c k i) = hit (c == caller && (k == state && i == place))
 
--- how often an entry is in a list
+-- the number of times that an entry is in a list
 abbrev pub times : Origin → List Origin → ℕ
 times o [] = 0
 times o (x ∷ xs) = is_same o x + times o xs
@@ -98,7 +98,7 @@ module _ (lists : Lists) (lanes : ForwardLawful lists) (states : LawfulStates li
       ((own_uses lists lanes states (holder o)).within k q (of_holder o k q h))
       ((own_uses lists lanes states (holder x)).within k q (of_holder x k q m))
 
-  -- two entries that put one byte to use are one
+  -- two entries that use the same byte are the same
   meet : (o x : Origin) (k : KeyName) (q : ℕ) → IsUsed (origin_uses lists o) k q →
       IsUsed (origin_uses lists x) k q → is_same o x ≡ 1
   meet (at_lane PoolLane place) x k q h m = absurd h
@@ -143,7 +143,7 @@ module _ (lists : Lists) (lanes : ForwardLawful lists) (states : LawfulStates li
   meet (at_state c s i) (at_lane (CpuLane d) j) k q h m =
       let e = one_holder (at_state c s i) (at_lane (CpuLane d) j) k q h m in cc
 
-  -- an entry that puts a byte of a list's to use is in the list
+  -- an entry that uses a byte of a list's uses is in the list
   found : (o : Origin) (xs : List Origin) (k : KeyName) (q : ℕ) → IsUsed (origin_uses lists o) k q →
       IsUsed (origins_uses lists xs) k q → 1 ≤ times o xs
   found o [] k q h m = absurd m
@@ -152,7 +152,7 @@ module _ (lists : Lists) (lanes : ForwardLawful lists) (states : LawfulStates li
     | inr there ↦ (let rest = found o xs k q h there in omega arith)
   ]
 
-  -- entries of which none is in a list twice are disjoint
+  -- if no entry is twice in a list, its uses are disjoint
   pub once_disjoint : (xs : List Origin) → ((o : Origin) → times o xs ≤ 1) → Disjoint (origins_uses lists xs)
   once_disjoint [] once = tt
   once_disjoint (x ∷ xs) once =

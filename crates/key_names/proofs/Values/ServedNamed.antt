@@ -1,4 +1,4 @@
--- What the visits of lawful lanes serve is what the names of their served spans tell.
+-- The visits of lawful lanes serve the bytes of their served spans, by names.
 use Rattle.std.proofs.Common.{◌≡◌, ℕ, zero, suc, ◌+◌, ◌*◌, ◌≤◌, Bool, true, false, List, [], ◌∷◌, ◌++◌, inl, inr, refl, sym, subst, ap, ◌∙◌, arith, Some, None, Option, take, nat_lt, append-nil}
 use Rattle.std.specs.Prelude.{slice_get, option_and_then, if◌then◌else◌}
 use Rattle.std.specs.List.{fold}
@@ -36,7 +36,7 @@ use Rattle.key_names.specs.ServedNamed.{cpu_place_uses, LawfulServesNamed}
 use Rattle.key_names.proofs.Values.Named.{cpu_key_at, cpu_key_named, every_front}
 use Rattle.key_names.proofs.Values.HeldBytes.{entry_behind, front_of}
 
--- what a read serves, by names
+-- the bytes that a read serves, by names
 module _ (lists : Lists) (key call : KeyName) (used : List ℕ) (is : value_of lists key ≡ used)
     (next : value_of lists call ≡ keystream used 32 32) where
   user_named : (n : ℕ) (b : Bool) →
@@ -53,7 +53,7 @@ module _ (lists : Lists) (key call : KeyName) (used : List ℕ) (is : value_of l
       ap (λ v. keystream v 32 n) (sym is) ∙ sym (append-nil (keystream (value_of lists key) 32 n))
   read_named false (User n) none = user_named n (nat_lt 32 n)
 
--- the place before an entry is its number
+-- the place in the state before an entry is the entry's number
 pub place_at : {S E : Type 0} (place : S → ℕ) (step : S → E → S) → ((s : S) (e : E) → place (step s e) ≡ suc (place s)) →
     (s : S) (xs : List E) (i : ℕ) (e : E) → slice_get xs i ≡ Some e → place (fold step s (take i xs)) ≡ place s + i
 place_at place step next s [] i e is = cc
@@ -63,7 +63,7 @@ place_at place step next s (x ∷ xs) (suc i) e is =
     place_at place step next (step s x) xs i e is in
     let q : place (step s x) ≡ suc (place s) = next s x in omega arith
 
--- past the empty phase the base has a key
+-- after the empty phase the base has a key
 abbrev BaseKeyed : BaseState → Type 0
 BaseKeyed s = (s.phase ≡ empty → ⊥) → HasName s.key
 
@@ -129,7 +129,7 @@ module _ (lists : Lists) (lawful : LawfulBase lists.pool lists.base) where
       read_named lists key.0 (Call BaseLane s.place) used value next false taken refl
       ∙ ap (λ o. served_in lists (named_uses o (λ key. read_uses false key (Call BaseLane s.place) taken))) (sym key.1)
 
-  -- each visit of the base serves what the names of its served spans tell
+  -- each visit of the base serves the bytes of its served spans, by names
   pub base_visit_named : (i : ℕ) (e : BaseEntry) → slice_get lists.base i ≡ Some e →
       (base_visit lists i e).serves ≡ served_in lists (base_place_uses lists i e)
   base_visit_named i (Draw o taken) is = drawn i o taken is
@@ -150,13 +150,13 @@ module _ (lists : Lists) (lawful : LawfulBase lists.pool lists.base) where
   base_visit_named i Stall is = refl
   base_visit_named i Unstall is = refl
 
--- a fill's key is the one that was in use at its place
+-- a fill's key is the key in use at its place
 module _ (lists : Lists) (c : ℕ) where
   record FillOk (f : Fill) : Type 0 where
     used_key : cpu_key_at lists c f.place ≡ f.key
     keyed : HasName f.key
 
-  -- a CPU that has a generation has a key, and each fill is of the key in use at its place
+  -- a CPU with a generation has a key, and each fill is of the key in use at its place
   record CpuOk (s : CpuState) : Type 0 where
     keyed : 1 ≤ s.generation → HasName s.key
     fills : (w : ℕ) (f : Fill) → s.fills w ≡ Some f → FillOk f
@@ -316,7 +316,7 @@ module _ (lists : Lists) (c : ℕ) where
         ∙ sym (append-nil (keystream (value_of lists key) (32 + width * f.count) width))
         ∙ ap (λ o. served_in lists (named_use served o (32 + width * f.count) width)) (sym good.keyed.1)
 
-    -- each visit of a CPU serves what the names of its served spans tell
+    -- each visit of a CPU serves the bytes of its served spans, by names
     pub cpu_visit_named : (k : ℕ) (e : CpuEntry) → slice_get es k ≡ Some e → is_rekeyed lists c k ≡ false →
         (cpu_visit lists c k e).serves ≡ served_in lists (cpu_place_uses lists c k e)
     cpu_visit_named k (Read look refill taken) is none = read_visit k look refill taken is none

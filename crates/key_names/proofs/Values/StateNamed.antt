@@ -1,4 +1,4 @@
--- The value that a vgetrandom state's entries leave in its key is the value of the key's name.
+-- The value of the key that a vgetrandom state's entries leave is the value of the key's name.
 use Rattle.std.proofs.Common.{◌≡◌, ℕ, suc, ◌+◌, List, [], ◌∷◌, ◌++◌, refl, sym, ap, ◌∙◌, arith, Some, None, Option, take}
 use Rattle.std.specs.List.{fold}
 use Rattle.std.proofs.lemmas.List.Sums.{fold-append}
@@ -12,7 +12,7 @@ use Rattle.key_names.specs.Book.{Lists, state_list}
 use Rattle.key_names.specs.KeyInUse.{zero_key, value_of, cpu_call_value, refill_value, refill_value_from, state_value_step, state_value_after}
 use Rattle.key_names.proofs.Values.Named.{every_front}
 
--- how many refills there are
+-- the number of refills
 refills_in : List VEntry → ℕ
 refills_in [] = 0
 refills_in (Rekey cpu place ∷ es) = refills_in es
@@ -35,7 +35,7 @@ module _ (lists : Lists) (caller state : ℕ) where
   refills_after s (Serve pos len ∷ es) = refills_after (state_step caller state s (Serve pos len)) es
   refills_after s (Wipe ∷ es) = refills_after (state_step caller state s Wipe) es
 
-  -- the value of a refill behind a front
+  -- the value that a refill keeps after a front
   refill_value_at : (v : List ℕ) (front : List VEntry) (from : ℕ) (rest : List VEntry) →
       refill_value_from lists v (refills_in front) ((front ++ Refill from ∷ []) ++ rest) ≡ refill_value
       (fold (state_value_step lists) v front) from

@@ -1,4 +1,4 @@
--- What a vread that its batch ended shows is what the names of the spans that its last attempt serves tell.
+-- A vread that its batch ended shows the bytes of the spans that its last attempt serves, by names.
 use Rattle.std.proofs.Common.{◌≡◌, ℕ, zero, suc, ◌<◌, ◌≤◌, Bool, true, false, List, [], ◌∷◌, ◌++◌, refl, sym, subst, ap, ◌∙◌, arith, length, take, append_assoc}
 use Rattle.std.specs.Prelude.{◌==◌, not, ⊤, if◌then◌else◌}
 use Rattle.std.specs.List.{fold}
@@ -52,7 +52,7 @@ module _ (lists : Lists) (caller k : ℕ) (below : k < 16) where
   abbrev Holds : Both → VgetrandomState → Type 0
   Holds = replay.Holds lists caller k
 
-  -- how a vread ended: with no bytes, with those that the last of its entries serve, or with a system call's answer
+  -- how a vread ended: without bytes, with those that its last entries serve, or with a system call's answer
   pub data VreadEnds (n flags : ℕ) (acts : List BoundAct) (x : Both) (m : CallMeaning) : Type 0 where
     showed_none : m.own.shown ≡ no_data → VreadEnds n flags acts x m
     showed_batch : (out : List ℕ) → m.own.shown ≡ bytes_or_none out → batch.LastServes lists caller k x m.entries out →
@@ -111,7 +111,7 @@ module _ (lists : Lists) (caller k : ℕ) (below : k < 16) where
       (λ no by. vgetrandom_ends x n flags acts m h there means.looks fronts by)
       means.ways
 
-  -- a vread of this state, behind entries that leave it so
+  -- a vread of this state ends so after these entries
   abbrev pub CallEnds : Both → Call → CallMeaning → Type 0
   CallEnds x (alone event line) m = ⊤
   CallEnds x (vread_call n flags line acts) m = m.before.current ≡ k → VreadEnds n flags acts x m
@@ -168,7 +168,7 @@ module _ (lists : Lists) (caller k : ℕ) (below : k < 16) where
   abbrev start : Both
   start = record { named = state_start; bytes = state_bytes_start }
 
-  -- behind each front of the state's list the names tell what the replay holds
+  -- after each front of the state's list the names match the replay
   pub front_tells : LawfulStateList (cpu_list lists) caller k (state_list lists caller k) → (pre post : List VEntry) →
       state_list lists caller k ≡ pre ++ post → batch.NamesTell lists caller k (after start pre)
   front_tells lawful pre post is =

@@ -1,4 +1,4 @@
--- What a vread shows that a system call ended: the bytes of the last visit behind its line.
+-- A vread that a system call ended shows the bytes of its line's last visit.
 use Rattle.std.proofs.Common.{◌≡◌, ℕ, ◌⊎◌, inl, inr, true, List, [], ◌∷◌, ◌++◌, refl, sym, subst, ap, ◌∙◌, append_assoc, append-nil, Option, Some, None}
 use Rattle.std.specs.Prelude.{◌==◌}
 use Rattle.key_names.specs.declared.errno.Errno.{Errno}
@@ -84,7 +84,7 @@ module _ (answer : SystemAnswer) where
       look.goes_on))
       is
 
-  -- its deeds stand last behind the line
+  -- the deeds of that call are the last of the line
   record ShowsAsked (deeds : List Deed) : Type 0 where
     before : List Deed
     call : List Deed
@@ -117,7 +117,7 @@ module _ (answer : SystemAnswer) where
       deeds_behind shows.call shows.rest deeds shows.deeds_are
       (shows_asked set before n flags shows.rest shows.goes_on)
 
-  -- what a line shows then: nothing, or what its last visit serves, and that visit is the answer's
+  -- the line then shows the bytes that its last visit serves, if any, and that visit is the answer's
   pub record AskedShown (deeds : List Deed) : Type 0 where
     pub shown : system_line_shown answer ≡ bytes_or_none (served_bytes deeds)
     pub place : (c p : ℕ) → place_takes c p (last_place deeds) ≡ answer_takes c p answer
@@ -145,7 +145,7 @@ module _ (answer : SystemAnswer) where
     place = λ c p. ap (place_takes c p) (last_visit before d ds) ∙ sym (ap (answer_takes c p) is);
   })
 
-  -- what a line shows whose last step of the host was a system call
+  -- the data of a line if the host's last step was a system call
   pub steps_shown : (set : Setting) (steps : List HostStep) (deeds : List Deed) → EndsAsked answer steps →
       Shows set steps deeds → ShowsOrNone deeds
   steps_shown set steps deeds e shows =

@@ -1,4 +1,4 @@
--- Attempts of vgetrandom, given step by step.
+-- Attempts of vgetrandom, step by step.
 use Rattle.std.proofs.Common.{◌≡◌, ℕ, Bool, true, false, Option, List, [], ◌∷◌, ◌++◌, refl, sym, subst}
 use Rattle.std.specs.Prelude.{◌==◌, MatchBool, if◌then◌else◌}
 use Rattle.key_names.specs.declared.point.Point.TheVariants.{Start, Written, Serve, End}
@@ -12,7 +12,7 @@ match_true A B b is a = subst (λ (x : Bool). MatchBool x A B) (sym is) a
 pub match_false : (A B : Type 0) (b : Bool) → b ≡ false → B → MatchBool b A B
 match_false A B b is h = subst (λ (x : Bool). MatchBool x A B) (sym is) h
 
--- what an attempt gives from Serve on, with wipes or none at Serve and at End
+-- the result of an attempt from Serve on, with or without wipes at Serve and at End
 abbrev pub served_attempt : ℕ → ℕ → ℕ → Bool → VgetrandomState → Attempt
 served_attempt n c end wiped s = record {
   out = copy_bytes s c n;
@@ -78,12 +78,12 @@ current_attempt n c published end at_start at_serve at_end s current = record {
   };
 }
 
--- the state once its new key was read
+-- the state after its new key was read
 abbrev pub keyed_state : ℕ → List ℕ → Bool → VgetrandomState → VgetrandomState
 keyed_state published key at_written s =
     record (state_left at_written (record s { generation = published })) { key = key; pos = 96 }
 
--- those of an attempt that reads a key
+-- the steps and the wipes of an attempt that reads a key
 abbrev pub keyed_steps : ℕ → List ℕ → Option CpuPlace → Bool → Bool → Bool → Bool → ℕ → List HostStep
 keyed_steps published key visit at_start at_written at_serve at_end end =
     publishes published ∷ at_point Start at_start ∷ at_point Written at_written

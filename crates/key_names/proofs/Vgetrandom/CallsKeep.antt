@@ -1,4 +1,4 @@
--- A call of vgetrandom leaves the list of its state in order, whatever the host does.
+-- A vgetrandom call leaves the list of its state in order, whatever the host does.
 use Rattle.std.proofs.Common.{◌≡◌, ℕ, zero, suc, ◌+◌, ◌-◌, ◌≤◌, Bool, true, false, List, [], ◌∷◌, ◌++◌, inr, refl, sym}
 use Rattle.std.proofs.Common.{subst, ap, arith, Some, None, Option}
 use Rattle.std.specs.Prelude.{◌==◌, MatchBool, if◌then◌else◌}
@@ -51,7 +51,7 @@ module _ (caller state : ℕ) where
       (es : List VEntry) → Keeps After t es → Keeps Also t es
   keeps_weaker = copies.keeps_weaker caller state
 
-  -- the entries of an attempt, and of a call, leave its state settled
+  -- after the entries of an attempt, and of a call, the state is settled
   abbrev pub AttemptKeeps : NamedState → Attempt → Type 0
   AttemptKeeps t attempt = Keeps (λ u. Settled u attempt.state) t attempt.entries
 
@@ -65,7 +65,7 @@ module _ (caller state : ℕ) where
       let P : Attempt → Type 0 = λ a. AttemptKeeps t a in
       subst P (sym is) (keeps_append (λ u. Settled u after.state) t es after.entries h)
 
-  -- a point, in a state of which Before holds
+  -- a point, in a state for which Before holds
   point_keeps : (Before : NamedState → VgetrandomState → Type 0) →
       ((t : NamedState) (s : VgetrandomState) → Before t s → MayStart t.expected) →
       ((t : NamedState) → Settled t wiped_state → Before t wiped_state) →
@@ -184,7 +184,7 @@ module _ (caller state : ℕ) where
       point_keeps Settled settled_start (λ u x. x) Start (FromStart n c is.published) t s is.rest attempt
       (λ u r rest after g x. start_keeps n c is.published some u r rest after g x) is.goes_on h
 
-  -- an outcome without entries, on a state that has this one's batch
+  -- an outcome without entries, and with this state
   none_keeps : (t : NamedState) (s : VgetrandomState) (outcome : Outcome) → outcome.entries ≡ [] →
       outcome.state ≡ s → Settled t s → OutcomeKeeps t outcome
   none_keeps t s outcome none same h =
@@ -203,7 +203,7 @@ module _ (caller state : ℕ) where
   settled_after : (t : NamedState) (s : VgetrandomState) → Settled t s → Settled t (state_after_call s)
   settled_after t s h = record { same_pos = h.same_pos; within = h.within; expects = h.expects; zeros = h.zeros }
 
-  -- an attempt and what follows it
+  -- an attempt and the rest of the call
   tried_keeps : (n flags : ℕ) (Outdated : ℕ → VgetrandomState → List HostStep → Outcome → Type 0)
       (Tried : List HostStep → Attempt → Type 0) →
       (t : NamedState) (steps : List HostStep) (outcome : Outcome) →
@@ -262,7 +262,7 @@ module _ (caller state : ℕ) where
       (record { same_pos = h.same_pos; within = h.within; expects = h.expects; zeros = h.zeros }))))
       from
 
-  -- a call of vgetrandom keeps the list of its state in order
+  -- a vgetrandom call keeps the list of its state in order
   pub call_keeps : (n flags : ℕ) (t : NamedState) (s : VgetrandomState) (steps : List HostStep) (outcome : Outcome) →
       IsCall n flags s steps outcome → Settled t s → OutcomeKeeps t outcome
   call_keeps n flags t s steps outcome is h =
@@ -272,7 +272,7 @@ module _ (caller state : ℕ) where
       (λ good look. published_keeps n flags look.published t s look.rest outcome look.goes_on h)
       is
 
-  -- and so does a wipe, and a copy with no call around it
+  -- so do a wipe, and a copy without a call
   pub wipe_keeps : (t : NamedState) (s : VgetrandomState) → Settled t s →
       Keeps (λ u. Settled u wiped_state) t (Wipe ∷ [])
   wipe_keeps t s h = record {
@@ -296,7 +296,7 @@ module _ (caller state : ℕ) where
   use_keeps t s (by_copy n) stands h = local_keeps t s n stands h
   use_keeps t s by_wipe stands h = wipe_keeps t s h
 
-  -- any uses, one after another, keep the list in order
+  -- any uses in a row keep the list in order
   pub uses_keep : (t : NamedState) (s : VgetrandomState) (uses : List StateUse) →
       LawfulFrom StateUseStands state_after_use s uses →
       Settled t s → Keeps (λ v. Settled v (fold state_after_use s uses)) t (entries_of_uses s uses)
@@ -308,7 +308,7 @@ module _ (caller state : ℕ) where
       (λ v. Keeps (λ w. Settled w (fold state_after_use s (u ∷ uses))) v (entries_of_uses (state_after_use s u) uses))
       (λ v x. uses_keep v (state_after_use s u) uses stands.1 x) t (entries_of_use s u) (use_keeps t s u stands.0 h))
 
--- a list in order is lawful where its rekeys take reads of 32 bytes
+-- a list in order is lawful if its rekeys take reads of 32 bytes
 lawful_by_reads : (cpus : ℕ → List CpuEntry) (caller state : ℕ) (t : NamedState) (es : List VEntry) →
     LawfulFrom MayFollow (state_step caller state) t es → AllByRecursion (TakesRead cpus) es →
     LawfulFrom (StateMayCome cpus) (state_step caller state) t es

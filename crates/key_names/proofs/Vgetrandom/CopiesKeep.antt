@@ -1,4 +1,4 @@
--- A copy out of a vgetrandom state leaves the list of the state in order, and its served bytes 0.
+-- A copy out of a vgetrandom state leaves the state's list in order, and its served bytes 0.
 use Rattle.std.proofs.Common.{◌≡◌, ℕ, zero, suc, ◌+◌, ◌-◌, ◌*◌, drop, ◌≤◌, Bool, true, false, List, [], ◌++◌, ◌⊎◌, inl}
 use Rattle.std.proofs.Common.{inr, refl, sym, subst, arith}
 use Rattle.std.specs.Prelude.{nat_le, if◌then◌else◌}
@@ -24,14 +24,14 @@ copy_keeps_generation s c n = go (has_left s n)
     go true = refl
     go false = refl
 
--- the state and the end of its list go together, and no entry asks for another
+-- the state matches the end of its list, and no entry is still missing
 pub record Settled (t : NamedState) (s : VgetrandomState) : Type 0 where
   pub same_pos : t.pos ≡ s.pos
   pub within : s.pos ≤ 96
   pub expects : t.expected ≡ anything
   pub zeros : StartsZero s.pos s.batch
 
--- or a key was read that has no batch yet
+-- the same, or a key was read that has no batch yet
 pub record Ready (t : NamedState) (s : VgetrandomState) : Type 0 where
   pub within : s.pos ≤ 96
   pub expects : ((t.expected ≡ anything) × (t.pos ≡ s.pos) × StartsZero s.pos s.batch)
@@ -55,7 +55,7 @@ module _ (caller state : ℕ) where
   abbrev step : NamedState → VEntry → NamedState
   step = state_step caller state
 
-  -- entries that may come one after another, and what they leave
+  -- entries that may come one after another, and the state after them
   pub record Keeps (After : NamedState → Type 0) (t : NamedState) (es : List VEntry) : Type 0 where
     pub lawful : LawfulFrom MayFollow (state_step caller state) t es
     pub after : After (fold (state_step caller state) t es)
@@ -72,7 +72,7 @@ module _ (caller state : ℕ) where
       Keeps After t es → Keeps Also t es
   keeps_weaker After Also weaker t es h = record { lawful = h.lawful; after = weaker _ h.after }
 
-  -- the entry of some bytes of the batch
+  -- the entry for some bytes of the batch
   pub serve_keeps : (t : NamedState) (s : VgetrandomState) (n : ℕ) → t.expected ≡ anything → t.pos ≡ s.pos →
       s.pos + n ≤ 96 →
       Keeps (λ u. (u.pos ≡ s.pos + n) × (u.expected ≡ anything)) t (serve_entry s.pos n)
@@ -86,7 +86,7 @@ module _ (caller state : ℕ) where
   from_zero : (r : ℕ) → suc r ≤ 96 → 0 + suc r ≤ 96
   from_zero r le = omega arith
 
-  -- the entries of blocks and of a new batch
+  -- the entries for blocks and a new batch
   refill_keeps : (t : NamedState) (c m r : ℕ) → MayStart t.expected → r ≤ 96 →
       Keeps (λ u. (u.pos ≡ r) × (u.expected ≡ anything)) t (refill_entries c m r)
   refill_keeps t c zero zero x fits = record { lawful = (may_refill t.expected (c + 0) x, tt); after = (refl, refl) }
@@ -112,7 +112,7 @@ module _ (caller state : ℕ) where
       fits : nat_le n (bytes_left s) ≡ true → s.pos + n ≤ 96
       fits is = let le : n ≤ 96 - s.pos = leb-true n (bytes_left s) is in let w = r.within in omega arith
 
-      -- a new key has no bytes left
+      -- with a new key the batch has no bytes left
       old : nat_le n (bytes_left s) ≡ true → (t.expected ≡ anything) × (t.pos ≡ s.pos) × StartsZero s.pos s.batch
       old is = elim r.expects [
         | inl batch ↦ batch
@@ -123,7 +123,7 @@ module _ (caller state : ℕ) where
       small : new_batch_bytes s n ≤ 96
       small = omega arith
 
-      -- what is left of the batch
+      -- the rest of the batch
       rest_keeps : Keeps (λ u. MayStart u.expected) t (serve_entry s.pos (bytes_left s))
       rest_keeps = elim r.expects [
         | inl batch ↦ keeps_weaker (λ u. (u.pos ≡ s.pos + bytes_left s) × (u.expected ≡ anything))

@@ -1,4 +1,4 @@
--- Each rekey of a call of vgetrandom takes a read of 32 bytes, where the host's system calls for a key do.
+-- Each rekey of a vgetrandom call takes a read of 32 bytes, if the host's system calls for a key do.
 use Rattle.std.proofs.Common.{◌≡◌, ℕ, zero, suc, Bool, true, false, Some, None, List, [], ◌∷◌, ◌++◌, refl, sym, subst}
 use Rattle.std.specs.Prelude.{⊤, ◌==◌, if◌then◌else◌}
 use Rattle.std.specs.List.{AllByRecursion}
@@ -20,13 +20,13 @@ use Rattle.key_names.specs.Vgetrandom.{state_after_call, AfterAttempt, AttemptAn
 use Rattle.key_names.proofs.Lists.Each.{each_append}
 use Rattle.key_names.proofs.Vgetrandom.CallsKeep.{match_cases}
 
--- a system call for a new key that read it gave the visit of a CPU that took 32 bytes
+-- a successful system call for a new key gives the visit of a CPU that took 32 bytes
 abbrev pub IsKeyRead : (ℕ → List CpuEntry) → SystemAnswer → Type 0
 IsKeyRead cpus (failed errno) = ⊤
 IsKeyRead cpus (read bytes None) = ⊥
 IsKeyRead cpus (read bytes (Some at)) = taken_at (cpus at.cpu) at.place ≡ Some (User 32)
 
--- each system call of 32 bytes with no flags is such a one
+-- this holds for each system call of 32 bytes without flags
 abbrev pub KeyReads : (ℕ → List CpuEntry) → List HostStep → Type 0
 KeyReads cpus [] = ⊤
 KeyReads cpus (publishes g ∷ steps) = KeyReads cpus steps

@@ -1,4 +1,4 @@
--- How often a read is taken as a key in a state's list: at most as often as the steps of its calls have it.
+-- The number of times that a state's list takes a read as a key: at most as often as its calls' steps have the read.
 use Rattle.std.proofs.Common.{◌≡◌, ℕ, zero, suc, ◌+◌, ◌≤◌, Bool, true, false, cond, List, [], ◌∷◌, ◌++◌, refl, ap, ◌∙◌, arith, Some, None, Option}
 use Rattle.std.specs.Prelude.{◌==◌, ◌&&◌, if◌then◌else◌}
 use Rattle.key_names.specs.declared.entries.VEntry.{VEntry}
@@ -21,7 +21,7 @@ module _ (c p : ℕ) where
   abbrev pub is_here : ℕ → ℕ → ℕ
   is_here cpu place = cond (cpu == c && place == p) 1 0
 
-  -- how many entries take the read at this place
+  -- the number of entries that take the read at this place
   abbrev pub takes : List VEntry → ℕ
   takes [] = 0
   takes (Rekey cpu place ∷ es) = is_here cpu place + takes es
@@ -47,7 +47,7 @@ module _ (c p : ℕ) where
   answer_takes (failed errno) = 0
   answer_takes (read bytes visit) = place_takes visit
 
-  -- how many system calls read at this place
+  -- the number of system calls that read at this place
   abbrev pub step_takes : List HostStep → ℕ
   step_takes [] = 0
   step_takes (publishes g ∷ steps) = step_takes steps
@@ -90,7 +90,7 @@ module _ (c p : ℕ) where
           takes_append (serve_entry s.pos (bytes_left s))
           (refill_entries from (whole_blocks s n) (new_batch_bytes s n)) ∙ omega arith
 
-  -- the entries of an attempt take no more than its steps have
+  -- the entries of an attempt take the read no more often than its steps have it
   pub record Bounded (steps : List HostStep) (attempt : Attempt) : Type 0 where
     pub is : takes attempt.entries ≤ step_takes steps
 
@@ -166,7 +166,7 @@ module _ (c p : ℕ) where
   ending_takes (by_batch out) = 0
   ending_takes (by_system answer) = answer_takes answer
 
-  -- nor do those of a call, its answer left out
+  -- the entries of a call take the read no more often than its steps have it, apart from the answer
   pub record OutcomeBounded (steps : List HostStep) (outcome : Outcome) : Type 0 where
     pub is : takes outcome.entries + ending_takes outcome.ending ≤ step_takes steps
 
@@ -250,7 +250,7 @@ module _ (c p : ℕ) where
       record { is = (let h = b.is in omega arith) })
       is
 
-  -- how many visits of this place stand behind steps
+  -- the number of visits of this place among deeds
   abbrev pub deed_takes : List Deed → ℕ
   deed_takes [] = 0
   deed_takes (looked g ∷ ds) = deed_takes ds
@@ -292,7 +292,7 @@ module _ (c p : ℕ) where
   answered_takes None ds = last_takes ds
   answered_takes (Some errno) ds = omega arith
 
-  -- the steps that a line shows have no more than stands behind it
+  -- the steps that a line shows have the read no more often than its deeds
   pub shown_takes : (set : Setting) (steps : List HostStep) (ds : List Deed) → Shows set steps ds →
       step_takes steps ≤ deed_takes ds
   shown_takes set [] ds shows = omega arith
@@ -310,7 +310,7 @@ module _ (c p : ℕ) where
       let rest : step_takes steps ≤ deed_takes shows.rest = shown_takes set steps shows.rest shows.goes_on in
       omega arith
 
-  -- so a call takes no more than stands behind its line without its answer
+  -- so a call takes the read no more often than the deeds of its line have it, apart from the answer
   pub call_takes : (set : Setting) (n flags : ℕ) (s : VgetrandomState) (steps : List HostStep) (outcome : Outcome)
       (ds : List Deed) →
       IsCall n flags s steps outcome → Shows set steps ds →

@@ -1,4 +1,4 @@
--- A vgetrandom state has the key, the batch and the position that its list of entries replays to.
+-- A vgetrandom state has the key, the batch and the position that a replay of its list gives.
 use Rattle.std.proofs.Common.{◌≡◌, ℕ, zero, suc, ◌+◌, ◌-◌, ◌*◌, ◌≤◌, Bool, true, false, List, [], ◌∷◌, ◌++◌, inl, inr, refl, sym, subst, ap, ◌∙◌, arith, Some, None, Option, take, drop, append-nil}
 use Rattle.std.specs.Prelude.{◌==◌, ⊤, if◌then◌else◌}
 use Rattle.std.specs.List.{fold}
@@ -25,7 +25,7 @@ use Rattle.key_names.specs.BatchCopy.{bytes_left, whole_blocks, new_batch_bytes,
 use Rattle.key_names.specs.Vgetrandom.{SystemAnswer, read, failed, HostStep, publishes, system_call, at_point, AttemptEnd, holds, outdated, not_keyed, Attempt, wipe_entry, AtPoint, AfterKeyRead, FromEnd, FromServe, FromWritten, FromStart, IsAttempt, Outcome, BySystem, ByNothing, AfterAttempt, AttemptAndRest, AfterBoth, state_after_call, SecondAttempt, FirstAttempt, FromPublished, FromLook, IsCall}
 use Rattle.key_names.proofs.Vgetrandom.CallsKeep.{match_cases, some_bytes}
 
--- bytes of which none are set to 0
+-- bytes with none of them set to 0
 no_zeros : (pos : ℕ) (bytes : List ℕ) → bytes ≡ with_zeros pos 0 bytes
 no_zeros pos bytes =
     let p : pos ≡ pos + 0 = omega arith in
@@ -35,13 +35,13 @@ no_zeros pos bytes =
 has_name : (o p : Option KeyName) → p ≡ o → HasName o → HasName p
 has_name o p is h = (h.0, is ∙ h.1)
 
--- a system call for a new key read what the visit of a CPU handed over
+-- a system call for a new key read the key that the visit of a CPU handed over
 abbrev pub KeyIs : Lists → SystemAnswer → Type 0
 KeyIs lists (failed errno) = ⊥
 KeyIs lists (read bytes None) = ⊥
 KeyIs lists (read bytes (Some at)) = bytes ≡ cpu_call_value lists at.cpu at.place
 
--- the generations that are published are not 0, and the keys are what CPUs handed over
+-- the published generations are not 0, and the keys are those that CPUs handed over
 abbrev pub Good : Lists → List HostStep → Type 0
 Good lists [] = ⊤
 Good lists (publishes g ∷ steps) = (1 ≤ g) × Good lists steps
@@ -55,7 +55,7 @@ good_append lists (at_point point wiped ∷ xs) ys h = good_append lists xs ys h
 good_append lists (system_call n flags answer ∷ xs) ys h = let m = good_append lists xs ys h.1 in ((h.0, m.0), m.1)
 
 module _ (lists : Lists) (caller k : ℕ) where
-  -- the names and the bytes of the state as entries leave them
+  -- the names and the bytes of the state after entries
   pub record Both : Type 0 where
     pub named : NamedState
     pub bytes : StateBytes
@@ -71,7 +71,7 @@ module _ (lists : Lists) (caller k : ℕ) where
     pub batch : x.bytes.batch ≡ s.batch
     pub pos : x.named.pos ≡ s.pos
 
-  -- and so is the key
+  -- the batch, the position and the key are those of the replay
   pub record Holds (x : Both) (s : VgetrandomState) : Type 0 where
     pub batch : x.bytes.batch ≡ s.batch
     pub pos : x.named.pos ≡ s.pos
@@ -84,7 +84,7 @@ module _ (lists : Lists) (caller k : ℕ) where
   pub wiped_holds : (x : Both) → Holds (step x Wipe) wiped_state
   wiped_holds x = record { batch = refl; pos = refl; key = refl; named = λ some. absurd (omega arith) }
 
-  -- what the entry of some bytes of the batch leaves
+  -- the state after the entry for some bytes of the batch
   pub record Served (x y : Both) (pos n : ℕ) : Type 0 where
     pub batch : y.bytes.batch ≡ with_zeros pos n x.bytes.batch
     pub key : y.bytes.key ≡ x.bytes.key
@@ -103,7 +103,7 @@ module _ (lists : Lists) (caller k : ℕ) where
   serve_after x pos (suc n) at =
       record { batch = refl; key = refl; pos_is = refl; name = refl; batch_name = refl }
 
-  -- what the entries of blocks and of a new batch leave
+  -- the state after the entries for blocks and a new batch
   pub record Refilled (x y : Both) (at r : ℕ) : Type 0 where
     pub batch : y.bytes.batch ≡ with_zeros 0 r (keystream x.bytes.key (64 * at) 96)
     pub key : y.bytes.key ≡ keystream x.bytes.key (64 * at + 96) 32
@@ -133,7 +133,7 @@ module _ (lists : Lists) (caller k : ℕ) where
       refilled u _ (c + suc m) r (serve_after (step u (Refill (c + suc m))) 0 r refl) in
       record { batch = h.batch; key = h.key; pos_is = h.pos_is; name = h.name; batch_name = h.batch_name }
 
-  -- a copy leaves what its entries replay to
+  -- a copy leaves the state that its entries replay to
   pub copy_holds : (x : Both) (s : VgetrandomState) (c n : ℕ) → 1 ≤ n → Holds x s →
       Holds (after x (copy_entries s c n)) (state_after_copy s c n)
   copy_holds x s c n some h = go (has_left s n) refl
@@ -176,7 +176,7 @@ module _ (lists : Lists) (caller k : ℕ) where
                 (w.name name, inr (has_name u.named.key (after u es).named.batch_key w.batch_name name));
           } in m)
 
-  -- what an attempt, and a call, leave
+  -- the state after an attempt, and after a call, is that of the replay
   abbrev pub AttemptHolds : Both → Attempt → Type 0
   AttemptHolds x attempt = Holds (after x attempt.entries) attempt.state
 
@@ -318,7 +318,7 @@ module _ (lists : Lists) (caller k : ℕ) where
       (λ u d v rest later g by b. system_holds n flags u (state_after_call v) rest later by (called_holds u v b))
       good second h
 
-  -- behind the first look, of a generation that is not 0
+  -- after a first look that found a generation, which is not 0
   pub first_holds : (n flags : ℕ) → 1 ≤ n → (x : Both) (s : VgetrandomState) (steps : List HostStep)
       (outcome : Outcome) → Good lists steps → FirstAttempt n flags s steps outcome → Holds x s →
       OutcomeHolds x outcome
@@ -343,7 +343,7 @@ module _ (lists : Lists) (caller k : ℕ) where
       (record { batch = h.batch; pos = h.pos; key = h.key; named = h.named }))))
       from
 
-  -- a call leaves a state that its list replays to, where behind a look of a generation all is good
+  -- a call leaves a state that its list replays to, if all steps after a look that found a generation are good
   abbrev pub GoodBehind : List HostStep → Type 0
   GoodBehind steps = (g : ℕ) (rest : List HostStep) → steps ≡ publishes g ∷ rest → 1 ≤ g → Good lists rest
 

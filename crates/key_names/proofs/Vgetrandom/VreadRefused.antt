@@ -1,4 +1,4 @@
--- What a vread's line cannot be.
+-- Lines that a vread cannot have.
 use Rattle.std.proofs.Common.{◌≡◌, ℕ, ◌≤◌, List, ◌∷◌, subst}
 use Rattle.key_names.specs.Calls.{BoundAct}
 use Rattle.key_names.specs.Deeds.{Deed, looked}

@@ -1,4 +1,4 @@
--- The first fault of a text that is no script, by its lines.
+-- The first fault of a text that is not a script's, line by line.
 use Rattle.std.specs.Prelude.{⊤, ◌<◌, ℕ, zero, suc, ◌+◌, ◌^◌, ◌==◌, ◌&&◌, ◌||◌, Bool, false, nat_lt, nat_le}
 use Rattle.std.specs.Prelude.{if◌then◌else◌, Option, Some, None, Result, Ok, Err, List, [], ◌∷◌, ◌++◌, codes, find}
 use Rattle.std.specs.Prelude.{fold, length, sum_by}
@@ -41,7 +41,7 @@ kind_number Unforked = 10
 kind_number TooMany = 11
 kind_number Unfinished = 12
 
--- the first of two steps that fails, or else the second's value
+-- the error of the first of two steps that fails, or else the value of the second
 infixl 10 ◌>>=◌
 abbrev pub ◌>>=◌ : {A B E : Type 0} → Result A E → (A → Result B E) → Result B E
 (Ok x) >>= f = f x
@@ -55,7 +55,7 @@ number_below limit field =
     let n = digits_value 10 field in
     if nat_lt n limit && bytes_eq (decimal n) field then Some n else None
 
--- the bytes that a field spells, if it spells the bytes that it decodes to
+-- the decoded bytes of a field, if the field is their spelling
 abbrev pub spelt_bytes : {E : Type 0} → List ℕ → Result (List ℕ) E → Option (List ℕ)
 spelt_bytes field (Ok bytes) = if bytes_eq (hex bytes) field then Some bytes else None
 spelt_bytes field (Err e) = None
@@ -79,7 +79,7 @@ hardware_words field = do
   words ← bytes field
   if length words == 32 then Ok words else Err BadHex
 
--- ---- the fields behind a word
+-- ---- the fields after a word
 
 abbrev pub no_field : List (List ℕ) → Result (List (List ℕ)) FaultKind
 no_field [] = Ok []
@@ -128,7 +128,7 @@ input_of fields = do
   value ← number 256 all.1.1
   Ok (Input word kind code value)
 
--- the point that a field is the number of
+-- the point with the number that a field spells
 abbrev pub point_of : List ℕ → Result Point FaultKind
 point_of field = do
   n ← number 5 field
@@ -146,7 +146,7 @@ vread_at point len = do
   n ← number 1048577 len
   Ok (Inside p (VreadAct n))
 
--- the act's word says how many fields there are
+-- the word of the act decides the number of fields
 abbrev pub inside_of : List (List ℕ) → Result Event FaultKind
 inside_of (point ∷ act ∷ []) =
     if bytes_eq act (codes "wipe") then act_at point Wipe
@@ -157,11 +157,11 @@ inside_of (point ∷ act ∷ len ∷ more) = do
   if bytes_eq act (codes "vread") then vread_at point field else Err UnknownWord
 inside_of _ = Err UnknownWord
 
--- what a version of scripts does not have is unknown there
+-- a version of scripts does not know the words that later versions added
 abbrev pub since : ℕ → ℕ → Result Event FaultKind → Result Event FaultKind
 since first version event = if nat_le first version then event else Err UnknownWord
 
--- the event of a word and the fields behind it, in a script of this version and number of CPUs
+-- the event of a word and the fields after it, in a script of this version and number of CPUs
 abbrev pub event_of : ℕ → ℕ → Word → List (List ℕ) → Result Event FaultKind
 event_of version cpus words.At fields = unary (number (2 ^ 40)) At fields
 event_of version cpus words.On fields = unary (number cpus) On fields
@@ -205,13 +205,13 @@ all_words =
 abbrev pub word_of : List ℕ → Option Word
 word_of field = find (λ word. bytes_eq (word_text word) field) all_words
 
--- what a line without fault says
+-- the content of a line without a fault
 pub data Said : Type 0 where
   SaysEvent : Event → Said
   SaysCaller : ℕ → Said
   SaysEnd : Said
 
--- what is said is in its range
+-- the content is in its range
 abbrev pub SaidInRange : ℕ → ℕ → Said → Type 0
 SaidInRange version cpus (SaysEvent event) = InRange version cpus event
 SaidInRange version cpus (SaysCaller c) = c < 64
@@ -231,7 +231,7 @@ said_by version cpus (first ∷ fields) =
 abbrev pub parts : ℕ → List ℕ → List (List ℕ)
 parts byte text = slice_split (λ b. b == byte) text
 
--- what a line says; of its faults kind 5 comes first, and then that of the leftmost bad field, 6 or 7
+-- the content of a line. Of its faults kind 5 comes first, and then that of the leftmost bad field, 6 or 7
 abbrev pub said : ℕ → ℕ → List ℕ → Result Said FaultKind
 said version cpus line = said_by version cpus (parts 32 line)
 
@@ -242,7 +242,7 @@ version_of line =
     else if bytes_eq line (codes "rngscript 3") then Ok 3
     else Err BadHead
 
--- a number of CPUs from 1 on
+-- the number of CPUs, from 1 on
 abbrev pub cpus_from : Option ℕ → Result ℕ FaultKind
 cpus_from None = Err BadCpus
 cpus_from (Some zero) = Err BadCpus
@@ -253,9 +253,9 @@ cpus_by version (first ∷ count ∷ []) =
     if bytes_eq first (codes "cpus") then cpus_from (number_below (most_cpus version + 1) count) else Err BadCpus
 cpus_by version _ = Err BadCpus
 
--- ---- a line behind others
+-- ---- a line after others
 
--- what stands before a line: the blocks that are done, and the events of the last one
+-- the script before a line: the finished blocks, and the events of the last block
 pub record Draft : Type 0 where
   pub version : ℕ
   pub cpus : ℕ
@@ -274,7 +274,7 @@ with_event d event = record d { events = d.events ++ event ∷ [] }
 abbrev pub with_block : Draft → Draft
 with_block d = record { version = d.version; cpus = d.cpus; done = blocks_of d; events = [] }
 
--- a fork of a number that is not above the caller's own, or that was forked
+-- a fork of a number that is not above the caller's own, or that was already forked
 abbrev pub is_bad_fork : Draft → Event → Bool
 is_bad_fork d (Fork child) = nat_le child (length d.done) || nat_lt 0 (times_forked (blocks_of d) child)
 is_bad_fork d _ = false
@@ -285,7 +285,7 @@ is_past_limits d event =
     || nat_lt 16777216 (sum_by (sum_by bytes_read) (blocks_of d) + bytes_read event)
     || nat_lt 8 (acts_after (fold acts_after 0 d.events) event)
 
--- an event that forks a number from n on
+-- an event that forks n or a higher number
 abbrev pub is_fork_from : ℕ → Event → Bool
 is_fork_from n (Fork child) = nat_le n child
 is_fork_from n _ = false
@@ -294,12 +294,12 @@ is_fork_from n _ = false
 abbrev pub has_orphan : Draft → Bool
 has_orphan d = list_any (list_any (is_fork_from (length (blocks_of d)))) (blocks_of d)
 
--- how the script goes on behind a line, or that it has ended
+-- how the script goes on after a line, or that it has ended
 pub data Next : Type 0 where
   GoesOn : Draft → Next
   Ends : Next
 
--- kinds 8 to 11
+-- the faults of kinds 8 to 11
 abbrev pub after : Draft → Said → Result Next FaultKind
 after d (SaysEvent event) =
     if is_bad_fork d event then Err BadFork
@@ -311,7 +311,7 @@ after d (SaysCaller c) =
     else Err BadCaller
 after d SaysEnd = if has_orphan d then Err Unforked else Ok Ends
 
--- how the script goes on behind this line
+-- how the script goes on after this line
 abbrev pub behind_line : Draft → List ℕ → Result Next FaultKind
 behind_line d line = said d.version d.cpus line >>= after d
 
@@ -329,7 +329,7 @@ at_line n (Err kind) = Err (record { line = n; kind = kind })
 abbrev pub is_unprintable : ℕ → Bool
 is_unprintable b = nat_lt b 0x20 || nat_lt 0x7e b
 
--- the first of the parts between line feeds, if it is a whole line; the last part has no line feed behind it
+-- the first of the parts between line feeds, if it is a whole line. The last part has no line feed after it
 abbrev pub line_of : List (List ℕ) → Result (List ℕ) FaultKind
 line_of [] = Err Unfinished
 line_of (tail ∷ []) = Err Unfinished
@@ -339,12 +339,12 @@ abbrev pub behind : List (List ℕ) → List (List ℕ)
 behind [] = []
 behind (line ∷ more) = more
 
--- behind the line end nothing stands
+-- no text may follow the line end
 abbrev pub nothing_behind : ℕ → List (List ℕ) → Result Next ScriptFault
 nothing_behind n ([] ∷ []) = Ok Ends
 nothing_behind n lines = at_line n (line_of lines >>= λ line. Err UnknownWord)
 
--- how the script goes on behind the first of these lines
+-- how the script goes on after the first of these lines
 abbrev pub behind_first : Draft → List (List ℕ) → Result Next FaultKind
 behind_first d lines = line_of lines >>= behind_line d
 
@@ -352,7 +352,7 @@ abbrev pub by_next : (Draft → Result Script ScriptFault) → Result Script Scr
 by_next on ended (GoesOn later) = on later
 by_next on ended Ends = ended
 
--- the script that goes on with these lines, n being the number of the first
+-- the script that goes on with these lines; n is the number of the first
 unfoldable pub script_from : Draft → ℕ → List (List ℕ) → Result Script ScriptFault
 script_from d n [] = Err (record { line = n; kind = Unfinished })
 script_from d n (line ∷ more) =
@@ -360,7 +360,7 @@ script_from d n (line ∷ more) =
     >>= by_next (λ later. script_from later (n + 1) more)
     (nothing_behind (n + 1) more >>= λ none. Ok (script_of_draft d))
 
--- what the first of the lines is as line 1, 2 and 3
+-- the first of the lines, read as line 1, 2 and 3
 abbrev pub version_in : List (List ℕ) → Result ℕ FaultKind
 version_in lines = line_of lines >>= version_of
 
@@ -389,9 +389,9 @@ fault_in (Err fault) = Some fault
 abbrev pub first_fault : List ℕ → Option ScriptFault
 first_fault text = fault_in (script_of text)
 
--- ---- a script in front of something else
+-- ---- a script followed by more text
 
--- the lines of which the first one `end` is the last; where no line is `end`, all lines
+-- the lines up to the first line `end`, or all lines if none is `end`
 abbrev pub front_lines : List (List ℕ) → List (List ℕ)
 front_lines [] = []
 front_lines (tail ∷ []) = tail ∷ []

@@ -1,4 +1,4 @@
--- The scripts, and the one text of each.
+-- Scripts, and the only text of each.
 use Rattle.std.specs.Prelude.{◌≡◌, ℕ, suc, ◌+◌, ◌<◌, ◌≤◌, ◌^◌, ◌==◌, ◌&&◌, Bool, false, nat_lt, if◌then◌else◌, ⊤, List}
 use Rattle.std.specs.Prelude.{[], ◌∷◌, ◌++◌, codes, count_by, length, map, sum_by}
 use Rattle.std.specs.Fmt.{decimal}
@@ -59,7 +59,7 @@ act_fields Wipe = codes "wipe" ∷ []
 act_fields (VreadAct len) = codes "vread" ∷ decimal len ∷ []
 act_fields ReseedAct = codes "reseed" ∷ []
 
--- the fields behind an event's word
+-- the fields after an event's word
 abbrev pub arguments : Event → List (List ℕ)
 arguments (At moment) = decimal moment ∷ []
 arguments (On cpu) = decimal cpu ∷ []
@@ -93,7 +93,7 @@ arguments Drop = []
 abbrev pub event_fields : Event → List (List ℕ)
 event_fields event = word_text (event_word event) ∷ arguments event
 
--- the lines of the callers' blocks, c being the number of the first
+-- the lines of the callers' blocks; c is the number of the first
 abbrev pub block_lines : ℕ → List (List Event) → List (List (List ℕ))
 block_lines c [] = []
 block_lines c (events ∷ callers) = (codes "caller" ∷ decimal c ∷ [])
@@ -110,7 +110,7 @@ script_text s = lined (map spaced (script_lines s))
 
 -- ---- which scripts there are
 
--- how many CPUs a script of a version has at most
+-- the most CPUs that a script of a version may have
 abbrev pub most_cpus : ℕ → ℕ
 most_cpus version = if nat_lt version 3 then 64 else 256
 
@@ -150,26 +150,26 @@ InRange version cpus Reseed = ⊤
 InRange version cpus Tick = ⊤
 InRange version cpus Drop = ⊤
 
--- an event that forks the number
+-- whether an event forks the number
 abbrev pub is_fork_of : ℕ → Event → Bool
 is_fork_of number (Fork child) = child == number
 is_fork_of number _ = false
 
--- how many events fork the number
+-- the number of events that fork the number
 abbrev pub times_forked : List (List Event) → ℕ → ℕ
 times_forked callers number = sum_by (count_by (is_fork_of number)) callers
 
--- an event of caller c, which may fork a number above its own
+-- an event of caller c; if it forks, the number is above c
 abbrev pub IsForkAbove : ℕ → Event → Type 0
 IsForkAbove c (Fork child) = c < child
 IsForkAbove c _ = ⊤
 
--- each caller forks numbers above its own, c being the number of the first
+-- each caller forks only numbers above its own; c is the number of the first
 abbrev pub ForksAbove : ℕ → List (List Event) → Type 0
 ForksAbove c [] = ⊤
 ForksAbove c (events ∷ callers) = AllByRecursion (IsForkAbove c) events × ForksAbove (suc c) callers
 
--- how many bytes an event reads
+-- the number of bytes that an event reads
 abbrev pub bytes_read : Event → ℕ
 bytes_read (Read len flags) = len
 bytes_read (Vread len flags) = len
@@ -202,13 +202,13 @@ bytes_read (Online cpu) = 0
 bytes_read (Vmfork word text) = 0
 bytes_read (State number) = 0
 
--- how many acts wait for a vread behind an event, where so many waited before it
+-- the number of acts that wait for a vread after an event, given the number before it
 abbrev pub acts_after : ℕ → Event → ℕ
 acts_after waiting (Inside point act) = waiting + 1
 acts_after waiting (Vread len flags) = 0
 acts_after waiting _ = waiting
 
--- at most 8 acts ever wait
+-- at most 8 acts wait at any time
 abbrev pub FewActs : ℕ → List Event → Type 0
 FewActs waiting [] = ⊤
 FewActs waiting (event ∷ events) = (acts_after waiting event ≤ 8) × FewActs (acts_after waiting event) events
@@ -218,7 +218,7 @@ pub record WellFormed (s : Script) : Type 0 where
   pub cpus : (1 ≤ s.cpus) × (s.cpus ≤ most_cpus s.version)
   pub callers : (1 ≤ length s.callers) × (length s.callers ≤ 64)
   pub ranges : AllByRecursion (AllByRecursion (InRange s.version s.cpus)) s.callers
-  -- each caller but the first is forked once, by one with a lower number, and nobody else is forked
+  -- each caller but the first is forked once, by a caller with a lower number, and no other number is forked
   pub forked : (c : ℕ) → times_forked s.callers c ≡ (if nat_lt 0 c && nat_lt c (length s.callers) then 1 else 0)
   pub above : ForksAbove 0 s.callers
   pub acts : AllByRecursion (FewActs 0) s.callers
@@ -226,7 +226,7 @@ pub record WellFormed (s : Script) : Type 0 where
   pub reads : sum_by (sum_by bytes_read) s.callers ≤ 16777216
   pub text : length (script_text s) ≤ 16777216
 
--- the text is that of the script
+-- the text is the script's, and the script is well formed
 pub record IsScript (s : Script) (text : List ℕ) : Type 0 where
   pub well_formed : WellFormed s
   pub spelt : text ≡ script_text s

@@ -1,4 +1,4 @@
--- How numbers, bytes, words, fields and lines are spelt, in a script and in a transcript. A number is its `decimal`.
+-- The spelling of numbers, bytes, words, fields and lines in a script and in a transcript. A number is its `decimal`.
 use Rattle.std.specs.Prelude.{◌≡◌, ℕ, nat_le, Bool, true, ◌&&◌, ◌||◌, List, [], ◌∷◌, ◌++◌, codes}
 use Rattle.std.specs.List.{AllByRecursion, flat_map, join_with_byte}
 use Rattle.hex.specs.Hex.{encode_lower}
@@ -8,7 +8,7 @@ use Rattle.key_names.specs.declared.events.Word.TheVariants.{Read, Vread, Kread,
 use Rattle.key_names.specs.declared.events.Word.TheVariants.{Int64, Reseed, Tick, Drop, Fork, Inside, Prepare, Online}
 use Rattle.key_names.specs.declared.events.Word.TheVariants.{Vmfork, State, End}
 
--- bytes in lower-case hexadecimal, and a dash for none
+-- bytes in lower-case hexadecimal, or a dash for no bytes
 abbrev pub hex : List ℕ → List ℕ
 hex [] = codes "-"
 hex (b ∷ bytes) = encode_lower (b ∷ bytes)
@@ -20,7 +20,7 @@ is_lower_digit c = (nat_le 48 c && nat_le c 57) || (nat_le 97 c && nat_le c 102)
 abbrev pub AllLower : List ℕ → Type 0
 AllLower text = AllByRecursion (λ c. is_lower_digit c ≡ true) text
 
--- the fields of a line, with one space between each two
+-- the fields of a line, with one space between two fields
 abbrev pub spaced : List (List ℕ) → List ℕ
 spaced fields = join_with_byte 32 fields
 

@@ -1,4 +1,5 @@
--- The text of a transcript: its one spelling, which texts are one, and the first faulty line of one that is not.
+-- The text of a transcript: its only spelling, which texts are transcripts, and the first faulty
+-- line of one that is not.
 use Rattle.std.specs.Prelude.{ℕ, suc, ◌+◌, ◌≡◌, ◌≢◌, ◌<◌, ◌≤◌, ◌^◌, ⊤, List, [], ◌∷◌, ◌++◌, map, length, codes, decimal}
 use Rattle.std.specs.List.{flat_map, AllByRecursion}
 use Rattle.hex.specs.Hex.{encode_lower, IsBytes}
@@ -79,7 +80,7 @@ abbrev pub StepFits : Step → Type 0
 StepFits (Look generation) = generation < 2 ^ 63
 StepFits (Visit mark) = MarkFits mark
 
--- a number stands only on the line of bits, and bytes only on the others
+-- only a line of bits shows a number, and only other lines show bytes
 abbrev pub ShownFits : Word → Shown → Type 0
 ShownFits word no_data = ⊤
 ShownFits word (bytes shown) = (word ≢ Bits) × (0 < length shown) × IsBytes shown
@@ -97,13 +98,13 @@ LastHasLines [] = ⊤
 LastHasLines (lines ∷ []) = 0 < length lines
 LastHasLines (lines ∷ next ∷ callers) = LastHasLines (next ∷ callers)
 
--- the lines of at most 64 callers, the last of whom has one
+-- the lines of at most 64 callers; the last caller, if any, has at least one line
 pub record TranscriptFits (callers : List (List SeenLine)) : Type 0 where
   pub few_callers : length callers ≤ 64
   pub last : LastHasLines callers
   pub lines : AllByRecursion (AllByRecursion LineFits) callers
 
--- each line has the number of its caller, and the first caller has this number
+-- each line has the number of its caller; first is the number of the first caller
 abbrev pub UnderOwnNumber : ℕ → List (List SeenLine) → Type 0
 UnderOwnNumber first [] = ⊤
 UnderOwnNumber first (lines ∷ callers) =
@@ -122,8 +123,8 @@ pub record BeginsTranscript (front : List (List ℕ)) : Type 0 where
   pub own : UnderOwnNumber 0 callers
   pub lines : front ++ rest ≡ transcript_lines callers
 
--- The text is no transcript's. The lines before the one with this number begin a transcript, and behind them
--- stands no whole line that goes on with one.
+-- The text is no transcript's. The lines before the one with this number begin a transcript, and no whole line
+-- after them continues one.
 pub record IsFirstFault (text : List ℕ) (number : ℕ) : Type 0 where
   pub front : List (List ℕ)
   pub rest : List ℕ

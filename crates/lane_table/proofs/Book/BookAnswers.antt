@@ -1,4 +1,5 @@
--- Where references forwards are answered, the lanes of the book are lawful, and where some are not yet, half finished.
+-- If all references ahead are answered, the lanes of the book are lawful; if some are not yet, they are half
+-- finished.
 use Rattle.std.proofs.Common.{◌≡◌, ℕ, ◌+◌, ◌<◌, inl, inr, List, length, sym, ap, ◌∙◌, subst, arith, Some}
 use Rattle.std.specs.Prelude.{slice_get, option_and_then}
 use mathlib.Core.Option.{some}
@@ -26,7 +27,7 @@ module _ (lanes : ℕ) (visits : ℕ → List Visit) (callers : StateLists) (ok 
   sides : SameHeldLane lanes (visits 0) (visits 1)
   sides = beside lanes visits callers ok
 
-  -- a visit that names an entry behind it answers that entry in the book
+  -- a visit that names an entry of its parent lane answers that entry in the book
   extraction_answered : (p i : ℕ) (y : Visit) → get_elem? (visits 1) i ≡ some y → behind_of y.entry ≡ Some p →
       ExtractionAnswered book p i
   extraction_answered p i y at names =
@@ -43,7 +44,7 @@ module _ (lanes : ℕ) (visits : ℕ → List Visit) (callers : StateLists) (ok 
       ap (λ es. option_and_then base_refill_of (slice_get es k)) (cpu_listed lanes visits callers c below)
       ∙ ap (option_and_then base_refill_of) v.stands ∙ sym (ap behind_of v.is) ∙ names
 
-  -- the visit of an extraction, and of a refill, that the book has
+  -- the visit of an extraction or a refill in the book
   pub record Ahead (lane behind place : ℕ) (from : List Visit) : Type 0 where
     pub visit : Visit
     pub stands : get_elem? from behind ≡ some visit

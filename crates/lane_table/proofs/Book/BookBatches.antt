@@ -1,4 +1,4 @@
--- The rest of a CPU's batch before each place is of the keystream of the key in use at its fill.
+-- The rest of a CPU's batch before each place is keystream of the key in use at its fill.
 use Rattle.std.proofs.Common.{◌≡◌, ℕ, suc, ◌+◌, ◌*◌, ◌/◌, ◌≤◌, ◌<◌, Bool, true, false, List, refl, sym, ap, ◌∙◌, subst, arith, Some, None, Option}
 use Rattle.std.specs.Prelude.{⊤, ◌==◌, not, ◌||◌, nat_le, if◌then◌else◌}
 use Rattle.std.proofs.lemmas.Bool.{eqb-true}
@@ -71,7 +71,7 @@ module _ (lists : Lists) (c width : ℕ) (some : 1 ≤ width) (within : width �
       one_served (fills width) bytes
       (λ fill filled. not_used_up look width fill (subst P same keeps ∙ ap (must_fill look width) filled)) rest
 
-  -- each entry that fits keeps it so
+  -- each entry that fits preserves it
   pub rest_next : (s : CpuState) (e : CpuEntry) (used bytes : List ℕ) → used ≡ cpu_used_at lists c s.place →
       CpuFits s e → RestOf (s.fills width) bytes →
       RestOf (fills_after s.place e (cpu_key_in_use e s.key) s.fills width)

@@ -1,4 +1,4 @@
--- A CPU's model before each place is what the entries before it mean: its generator, its fills but for their keys and
+-- A CPU's model before each place has the values of the entries before it: its generator, its fills without keys and
 -- places, the bytes of its batches, and its fast pool.
 use Rattle.std.proofs.Common.{◌≡◌, ℕ, suc, ◌+◌, ◌≤◌, ◌<◌, Bool, true, false, List, length, take, refl, sym, ap, ◌∙◌, subst, arith, Some, None, Option}
 use Rattle.std.specs.Prelude.{◌==◌, slice_get, if◌then◌else◌}
@@ -34,7 +34,7 @@ batch_pos_bare : (width : ℕ) (o : Option Fill) → batch_pos width (bare o) �
 batch_pos_bare width None = refl
 batch_pos_bare width (Some fill) = refl
 
--- a fill is as the list says but for its key and place, after each entry
+-- after each entry a fill equals the list's, except for its key and place
 module _ (place : ℕ) (key : Option KeyName) (f g : ℕ → Option Fill) (same : (w : ℕ) → f w ≡ bare (g w)) where
   filled : (w look : ℕ) (b : Bool) →
       (if b then Some (record { key = None; place = 0; count = 1; look = look }) else f w)
@@ -67,7 +67,7 @@ batch_bare w used o bytes (Dump now) = refl
 batch_bare w used o bytes Prepare = refl
 batch_bare w used o bytes Online = refl
 
--- a model beside what a front of the list means, which has this many entries
+-- a model and the values of a prefix of the list, with this many entries
 pub record CpuAlike (i : ℕ) (m : CpuModel) (s : CpuBytes) : Type 0 where
   pub at : s.named.place ≡ i
   pub cpu : m.cpu ≡ cpu_at s.named s.value
@@ -99,7 +99,7 @@ module _ (lists : Lists) (c : ℕ) where
         ∙ ap (λ bytes. batch_step w (cpu_value_in_use lists e s.value) (s.named.fills w) bytes e) (met.bytes w);
   }
 
--- what is handed to an entry of a CPU at a place is what the base's refill for this place hands over
+-- an entry of a CPU at a place receives the key that the base's refill for this place hands over
 pub record RefillHanded (lists : Lists) (c i : ℕ) (e : CpuEntry) (got : Handed) : Type 0 where
   pub handed : HandsRefill lists e (generator_of got)
   pub answers : (b : ℕ) → base_refill_of e ≡ Some b → refill_at lists.base b ≡ Some (c, i)
@@ -150,7 +150,7 @@ module _ (lanes c : ℕ) (lists : Lists) (xs : List Visit) (lane : CpuLane lanes
       ∙ ap (λ f. fast_step f v.entry) now
       ∙ sym (fold_next fast_step fast_start es i v.entry v.stands))
 
-  -- the same before each place in the words of the book
+  -- the same before each place, as the book has it
   pub state_before : (i : ℕ) → (bytes_before i).named ≡ cpu_after lists.base c (take i es)
   state_before i = bytes_named lists c cpu_bytes_start (take i es)
 

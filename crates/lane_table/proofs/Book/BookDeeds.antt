@@ -1,4 +1,4 @@
--- What stands in the book at the place of a visit is what the visit's maker met.
+-- The deed in the book at the place of a visit agrees with the model that the visit's maker met.
 use Rattle.std.proofs.Common.{◌≡◌, ℕ, ◌+◌, ◌≤◌, ◌<◌, true, false, List, length, take, refl, sym, ap, ◌∙◌, subst, arith, Some, None, Option}
 use Rattle.std.specs.Prelude.{slice_get}
 use Rattle.std.proofs.lemmas.Option.{slice_get_within}
@@ -34,7 +34,7 @@ use Rattle.lane_table.proofs.Book.BookLawful.{fits_before}
 use Rattle.lane_table.proofs.Book.BookReplays.{cpu_replays}
 use Rattle.lane_table.proofs.Book.BookWhole.{beside, cpu_lane_of}
 
--- a CPU's visit by the CPU's list alone
+-- a CPU's visit, from the CPU's list alone
 module _ (lanes c : ℕ) (lists : Lists) (xs : List Visit) (lane : CpuLane lanes c lists xs) where
   abbrev es : List CpuEntry
   es = entries cpu_entry xs
@@ -131,7 +131,7 @@ module _ (lanes : ℕ) (visits : ℕ → List Visit) (callers : StateLists) (ok 
         after = ap (λ s. pool_step s e) before;
       }
 
-  -- one of the base
+  -- a visit of the base
   pub base_deed : (i : ℕ) (x : Visit) (e : BaseEntry) → slice_get (visits 1) i ≡ Some x → x.entry ≡ Base e →
       BaseMet book i (replay (take i (visits 1))).base x.got e
   base_deed i x e at is =
@@ -152,7 +152,7 @@ module _ (lanes : ℕ) (visits : ℕ → List Visit) (callers : StateLists) (ok 
         serves = ap (λ key. base_serves key e) (sym (base_used lanes (visits 0) (visits 1) sides i x e at is));
       }
 
-  -- and one of a CPU
+  -- a visit of a CPU
   pub cpu_deed : (c i : ℕ) (x : Visit) (e : CpuEntry) → c + 2 < lanes → slice_get (visits (c + 2)) i ≡ Some x →
       x.entry ≡ Cpu e → IsIntOfBatch e → CpuMet book c i (replay (take i (visits (c + 2)))).cpu x.got e
   cpu_deed c i x e below =

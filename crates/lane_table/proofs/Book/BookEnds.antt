@@ -1,4 +1,4 @@
--- What a pass knows, and what the end of the table tells, in the words of the book.
+-- The knowledge of a pass, and the effect of the end of the table, as a book.
 use Rattle.std.proofs.Common.{◌≡◌, ℕ, ◌≤◌, ◌<◌, List, length, map, sym, ◌∙◌, arith}
 use Rattle.std.specs.List.{AllByRecursion, sum_by}
 use Rattle.key_names.specs.declared.names.Mark.{Mark}
@@ -15,7 +15,7 @@ use Rattle.lane_table.proofs.Lists.VisitLists.{begins_trans}
 use Rattle.lane_table.proofs.Book.BookAnswers.{half_finished, lawful_lanes}
 use Rattle.lane_table.proofs.Book.BookMarks.{MarksVisit, MarksPlace, visits_are, places_stand, all_made}
 
--- what goes on from a later view goes on from the earlier one
+-- lists that continue a later view continue the earlier one
 pub continues_before : (lanes : ℕ) (v w : View) (visits : ℕ → List Visit) → length w.lanes ≡ length v.lanes →
     Grows v w →
     Continues lanes w visits → Continues lanes v visits
@@ -26,7 +26,7 @@ continues_before lanes v w visits sized grows c = record {
   closed = c.closed;
 }
 
--- at any moment the lists that a pass knows are half finished lanes
+-- at any moment the known lists of a pass are half-finished lanes
 module _ (v : View) (callers : StateLists) (low : 2 ≤ length v.lanes) (ok : Consistent v) where
   pub known_lanes : ClosedLanes (length v.lanes) (known_of v)
   known_lanes = record { low = low; closed = ok.closed; lawful = ok.lawful }
@@ -34,7 +34,7 @@ module _ (v : View) (callers : StateLists) (low : 2 ≤ length v.lanes) (ok : Co
   pub known_half_finished : HalfFinishedLanes (book_lists (length v.lanes) (known_of v) callers)
   known_half_finished = half_finished (length v.lanes) (known_of v) callers known_lanes ok.half
 
--- at the end the lists are lawful lanes
+-- at the end they are lawful lanes
 module _ (v : View) (callers : StateLists) (low : 2 ≤ length v.lanes) (ended : Ended (length v.lanes) v) where
   abbrev lanes : ℕ
   lanes = length v.lanes
@@ -45,13 +45,13 @@ module _ (v : View) (callers : StateLists) (low : 2 ≤ length v.lanes) (ended :
   pub ended_lawful : LawfulLanes (book_lists lanes (known_of v) callers)
   ended_lawful = lawful_lanes lanes (known_of v) callers ended_lanes ended.answered
 
-  -- marks of visits that are as many as the table's end counts are the book's
+  -- if the number of marks of visits is the end's count, they are the book's visits
   pub ended_visits : (marks : List MarkBy) → AllByRecursion (MarksVisit lanes (known_of v)) marks →
       length marks ≡ sum_by made_in v.lanes → VisitsAre (book_of lanes (known_of v) callers) marks
   ended_visits marks all many =
       visits_are lanes (known_of v) callers ended_lanes marks all (many ∙ all_made v ended.made)
 
-  -- marks of a lane's visits whose places are those of the lane stand as they must
+  -- if marks of a lane's visits have the places of the lane, `PlacesStand` holds of them
   pub ended_places : (lane : ℕ) → lane < lanes → (marks : List Mark) →
       AllByRecursion (MarksPlace (known_of v lane)) marks → length marks ≡ (at lane v).made →
       ((place : ℕ) → times place (map (λ mark. mark.place) marks) ≡ times place (at lane v).places) → PlacesStand marks

@@ -77,7 +77,7 @@ base_kind = record { wrap = Base; of = base_entry; unwraps = λ e. refl; only = 
 abbrev pub cpu_kind : (c : ℕ) → Kind CpuEntry (c + 2)
 cpu_kind c = record { wrap = Cpu; of = cpu_entry; unwraps = λ e. refl; only = cpu_only c }
 
--- what stands at a place of a lawful lane
+-- the visit at a place of a lawful lane
 pub record VisitAt {E : Type 0} {lane : ℕ} (k : Kind E lane) (lanes : ℕ) (xs : List Visit) (i : ℕ)
     (x : Visit) : Type 0 where
   pub entry : E
@@ -85,7 +85,7 @@ pub record VisitAt {E : Type 0} {lane : ℕ} (k : Kind E lane) (lanes : ℕ) (xs
   pub stands : slice_get (entries k.of xs) i ≡ Some entry
   pub may : MayCome lanes lane (replay (take i xs)) x
 
--- and the visit that an entry of the book stands for
+-- the lane's visit for an entry of the book
 pub record MadeAt {E : Type 0} {lane : ℕ} (k : Kind E lane) (lanes : ℕ) (xs : List Visit) (i : ℕ) (e : E) : Type 0 where
   pub visit : Visit
   pub stands : slice_get xs i ≡ Some visit
@@ -95,7 +95,7 @@ pub record MadeAt {E : Type 0} {lane : ℕ} (k : Kind E lane) (lanes : ℕ) (xs 
   pub later : IsLater (replay (take i xs)).least (behind_of (k.wrap e))
   pub fits : Fits (replay (take i xs)) visit.got (k.wrap e)
 
--- and the one that a visit of the book is
+-- the lane's visit for a visit of the book
 pub record VisitedAt {E : Type 0} {lane : ℕ} (k : Kind E lane) (xs : List Visit) (i : ℕ)
     (v : of_book.Visit E) : Type 0 where
   pub visit : Visit
@@ -148,7 +148,7 @@ module _ {E : Type 0} {lane : ℕ} (k : Kind E lane) (lanes : ℕ) (xs : List Vi
         fits = subst (Fits (replay (take i xs)) x.0.got) wrapped v.may.fits;
       }
 
-  -- the visit that one of the book is
+  -- the lane's visit for a visit of the book
   pub visited_at : (i : ℕ) (v : of_book.Visit E) → slice_get (book_visits k.of xs) i ≡ Some v → VisitedAt k xs i v
   visited_at i v is =
       let in_book : i < length (book_visits k.of xs) = slice_get_within (book_visits k.of xs) i v is in
@@ -168,7 +168,7 @@ module _ {E : Type 0} {lane : ℕ} (k : Kind E lane) (lanes : ℕ) (xs : List Vi
         who = ap (λ (w : of_book.Visit E). w.who) same;
       }
 
--- what holds of the whole front of a list and of its entries holds of both
+-- a property of a list's full prefix and of its entries holds of both
 pub whole : {E : Type 0} {lane : ℕ} (k : Kind E lane) (lanes : ℕ) (xs : List Visit) → LawfulLane lanes lane xs →
     (P : List Visit → List E → Type 0) → P (take (length xs) xs) (take (length xs) (entries k.of xs)) →
     P xs (entries k.of xs)

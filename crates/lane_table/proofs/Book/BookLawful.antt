@@ -1,4 +1,4 @@
--- Lists that are each lawful by themselves, with references that agree, are lawful in the words of the book.
+-- Lists that are each lawful, with references that agree, are lawful as a book.
 use Rattle.std.proofs.Common.{◌≡◌, ℕ, ◌≤◌, ◌<◌, inl, inr, Bool, List, length, take, refl, sym, ap, ◌∙◌, subst, arith, Some, None, Option}
 use Rattle.std.specs.Prelude.{slice_get}
 use Rattle.std.proofs.lemmas.Option.{slice_get_within}
@@ -26,7 +26,7 @@ use Rattle.lane_table.proofs.Lists.Places.{fold_next, at_each_place, counted, la
 use Rattle.lane_table.proofs.Book.BookEntries.{VisitAt, MadeAt, lane_at, made_at, base_kind, cpu_kind}
 use Rattle.lane_table.proofs.Book.BookCpus.{CpuLane, CpuAlike, RefillHanded, cpu_met, state_before, bytes_before}
 
--- which entry fits a base does not depend on what its list counts beside the base
+-- the entries that fit a base do not depend on the other counts of its list
 base_fits : (s : BaseState) (value : List ℕ) (e : BaseEntry) → BaseFits (base_state (base_at s value)) e → BaseFits s e
 base_fits s value (Early None) fits = fits
 base_fits s value (Early (Some root)) fits = fits
@@ -46,7 +46,7 @@ root_stands : (pool : List PoolEntry) (s : BaseState) (o : Option ℕ) (least : 
 root_stands pool s None least same later named = tt
 root_stands pool s (Some place) least same later named = (omega arith, named place refl)
 
--- a base's list whose roots are extractions that name its places
+-- a base's list with roots that are extractions naming its places
 module _ (lanes : ℕ) (pool : List PoolEntry) (xs : List Visit) (lawful : LawfulLane lanes 1 xs)
     (value : (i : ℕ) → i ≤ length xs → (replay (take i xs)).base ≡ after_entries pool (take i (entries base_entry xs)))
     (rooted : (i place : ℕ) (x : Visit) (e : BaseEntry) → slice_get xs i ≡ Some x → x.entry ≡ Base e →
@@ -81,12 +81,12 @@ module _ (lanes : ℕ) (pool : List PoolEntry) (xs : List Visit) (lawful : Lawfu
   pub lawful_base : LawfulBase pool es
   lawful_base = lawful_by_places (BaseMayCome pool) base_step base_start es base_may
 
--- a fill without its key and place must be renewed where it must
+-- a fill without its key and place has to be renewed exactly when the full one has
 must_fill_bare : (look width : ℕ) (o : Option Fill) → must_fill look width (bare o) ≡ must_fill look width o
 must_fill_bare look width None = refl
 must_fill_bare look width (Some fill) = refl
 
--- an entry that fits a CPU's model fits what its list means
+-- an entry that fits a CPU's model fits the state of its list
 module _ (i : ℕ) (m : CpuModel) (s : CpuBytes) (met : CpuAlike i m s) where
   generation_met : m.cpu.generation ≡ s.named.generation
   generation_met = ap (λ (v : CpuValue). v.generation) met.cpu
@@ -122,7 +122,7 @@ module _ (i : ℕ) (m : CpuModel) (s : CpuBytes) (met : CpuAlike i m s) where
   cpu_fits Prepare h = h
   cpu_fits Online h = h
 
--- a refill that is named stands in the base's list, and its generation is at least the look
+-- a named refill is in the base's list, and its generation is at least the look
 refill_names : (lists : Lists) (c i look : ℕ) (refill : Option ℕ) (got : Handed) → Reaches refill look got →
     ((b : ℕ) → refill ≡ Some b →
     (refill_at lists.base b ≡ Some (c, i)) × (got.generation ≡ generation_at lists.base b)) →
@@ -146,7 +146,7 @@ module _ (lists : Lists) (c i : ℕ) (got : Handed) where
   refill_stands Prepare reached h = tt
   refill_stands Online reached h = tt
 
--- a CPU's list whose refills are those of the base
+-- a CPU's list with refills of the base
 module _ (lanes c : ℕ) (lists : Lists) (xs : List Visit) (lane : CpuLane lanes c lists xs) where
   abbrev cpu_es : List CpuEntry
   cpu_es = entries cpu_entry xs

@@ -1,5 +1,5 @@
--- The marks of visits against the book: each visit has its stamp and its maker there, at its place, and stamps rise
--- along a lane. For whoever shows that marks stand as a transcript wants them.
+-- The marks of visits against the book: each visit is there at its place, with its stamp and its maker, and stamps
+-- rise along a lane. For proofs that a transcript's marks are right.
 use Rattle.std.proofs.Common.{◌≡◌, ℕ, zero, suc, ◌+◌, ◌-◌, ◌≤◌, ◌<◌, cond, List, [], ◌∷◌, length, map, refl, sym, ap, subst, ◌∙◌, arith, Some}
 use Rattle.std.specs.Prelude.{◌==◌, count_by, slice_get, slice_index_or, option_and_then}
 use Rattle.std.specs.List.{AllByRecursion, sum_by, range_with_len}
@@ -29,11 +29,11 @@ use Rattle.lane_table.proofs.Book.BookWhole.{cpu_visits}
 abbrev pub stamp_of : Visit → ℕ × Who
 stamp_of x = (x.stamp, x.who)
 
--- how many visits some lanes have, from this one on
+-- the number of visits of this many lanes, from this one on
 abbrev pub visits_in : (ℕ → List Visit) → ℕ → ℕ → ℕ
 visits_in visits lane count = sum_by (λ lane. length (visits lane)) (range_with_len lane count)
 
--- a mark is that of a visit, and names its maker
+-- a mark is that of a visit, with the visit's maker
 abbrev pub MarksVisit : ℕ → (ℕ → List Visit) → MarkBy → Type 0
 MarksVisit lanes visits by =
     (x : Visit) × (index_of by.mark.lane < lanes)
@@ -81,7 +81,7 @@ module _ (lanes : ℕ) (visits : ℕ → List Visit) (callers : StateLists) (ok 
       ∙ (λ k. here k + rest k)
       ∙ sym (sum_by-cons (λ lane. length (visits lane)) (first + 2) (range_with_len ((first + 2) + 1) count))
 
-  -- the book has as many visits as the lanes
+  -- the book and the lanes have the same number of visits
   pub counted_visits : visit_count book ≡ visits_in visits 0 lanes
   counted_visits =
       let all : lanes ≡ suc (suc (lanes - 2)) = omega arith in
@@ -98,7 +98,7 @@ module _ (lanes : ℕ) (visits : ℕ → List Visit) (callers : StateLists) (ok 
       let sum : visit_count book ≡ visits_in visits 0 (suc (suc (lanes - 2))) = omega arith in
       sum ∙ ap (visits_in visits 0) (sym all)
 
-  -- marks of visits that are as many as the visits are the book's
+  -- if the number of marks of visits is the number of visits, they are the book's
   pub visits_are : (marks : List MarkBy) → AllByRecursion (MarksVisit lanes visits) marks →
       length marks ≡ visits_in visits 0 lanes → VisitsAre book marks
   visits_are marks all many = record {
@@ -108,7 +108,7 @@ module _ (lanes : ℕ) (visits : ℕ → List Visit) (callers : StateLists) (ok 
     no_others = many ∙ sym counted_visits;
   }
 
--- along a list whose stamps rise, a later visit has the higher stamp
+-- along a list with rising stamps, a later visit has the higher stamp
 rising_above : (first : ℕ) (xs : List Visit) (i : ℕ) (x : Visit) → Rising first xs → slice_get xs i ≡ Some x →
     first < x.stamp
 rising_above first [] i x rises at = cc
@@ -128,7 +128,7 @@ later_stamp first (z ∷ zs) (suc i) zero x y rises at there before = absurd (om
 later_stamp first (z ∷ zs) (suc i) (suc j) x y rises at there before =
     later_stamp z.stamp zs i j x y rises.1 at there (omega arith)
 
--- how often a place stands among marks
+-- how often a place is among marks
 pub times_of_marks : (place : ℕ) (marks : List Mark) →
     times place (map (λ mark. mark.place) marks) ≡ count_by (λ mark. mark.place == place) marks
 times_of_marks place [] = refl
@@ -138,7 +138,7 @@ times_of_marks place (m ∷ ms) =
     ∙ sym (sum_by-cons (λ mark. cond (mark.place == place) 1 0) m ms)
 
 module _ (xs : List Visit) where
-  -- a mark stands at the place of a visit, with its stamp
+  -- a mark has the place and the stamp of a visit
   abbrev pub MarksPlace : Mark → Type 0
   MarksPlace mark = (x : Visit) × (slice_get xs mark.place ≡ Some x) × (x.stamp ≡ mark.stamp)
 
@@ -153,7 +153,7 @@ module _ (xs : List Visit) where
       later_stamp first xs a.place b.place at.0 there.0 rises at.1 there.1 before in
       let here : at.0.stamp ≡ a.stamp = at.2 in let other : there.0.stamp ≡ b.stamp = there.2 in omega arith) all)
 
-  -- marks of a lane's visits, each place once, stand as they must
+  -- if marks of a lane's visits have each place once, `PlacesStand` holds of them
   pub places_stand : (first : ℕ) (marks : List Mark) → Rising first xs → AllByRecursion MarksPlace marks →
       length marks ≡ length xs →
       ((place : ℕ) → times place (map (λ mark. mark.place) marks) ≡ once_below place (length xs)) →
@@ -165,7 +165,7 @@ module _ (xs : List Visit) where
     rise = each_rises first rises marks marks all all;
   }
 
--- a pass that made as many visits of each lane as the lane has made them all
+-- a pass that made each lane's number of visits made them all
 sum_made : (xs : List LaneView) (count : ℕ → ℕ) (first : ℕ) →
     ((i : ℕ) → i < length xs → (slice_index_or xs i blank).made ≡ count (first + i)) →
     sum_by (λ a. a.made) xs ≡ sum_by count (range_with_len first (length xs))

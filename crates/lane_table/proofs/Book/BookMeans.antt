@@ -1,4 +1,4 @@
--- The lanes' models are what the book's lists mean, and visits hand on the values of the names that their places have.
+-- The lanes' models have the values of the book's lists, and each visit hands on the value of its place's name.
 use Rattle.std.proofs.Common.{◌≡◌, ℕ, ◌+◌, ◌≤◌, ◌<◌, List, length, take, sym, ap, ◌∙◌, subst, arith, Some, Option}
 use Rattle.std.specs.Prelude.{slice_get}
 use Rattle.key_names.specs.declared.entries.Taken.{Taken}

@@ -1,4 +1,4 @@
--- A CPU's model before each place, whole, in the words of the book.
+-- A CPU's whole model before each place, as the book has it.
 use Rattle.std.proofs.Common.{◌≡◌, ℕ, ◌≤◌, ◌<◌, List, length, take, replicate, refl, sym, ap, ◌∙◌, subst, arith, Some, Option}
 use Rattle.std.specs.Prelude.{slice_get}
 use Rattle.std.proofs.lemmas.Option.{slice_get_within}
@@ -39,7 +39,7 @@ module _ (lanes c : ℕ) (lists : Lists) (xs : List Visit) (lane : CpuLane lanes
       ap (cpu_value_at lists (cpu_value_after lists (take i es))) (sym is)
       ∙ ap (λ es. cpu_value_at lists (cpu_value_after lists (take i es)) (slice_get es i)) (sym lane.listed)
 
-  -- and as the model has it
+  -- the same from the model
   pub cpu_used_here : (i : ℕ) (x : Visit) (e : CpuEntry) → slice_get xs i ≡ Some x → x.entry ≡ Cpu e →
       cpu_used e x.got (model i).cpu ≡ cpu_used_at lists c i
   cpu_used_here i x e at is =

@@ -1,5 +1,5 @@
--- The visits of the pool and of the CPUs as the book has them, each with its maker, and the fast pool that a CPU's
--- visit met. For whoever shows that samples stand as they must.
+-- The visits of the pool and of the CPUs in the book, each with its maker, and the fast pool that a CPU's visit met.
+-- For proofs that a transcript's samples are right.
 use Rattle.std.proofs.Common.{◌≡◌, ℕ, ◌+◌, ◌≤◌, ◌<◌, inl, inr, List, [], length, take, sym, ap, ◌∙◌, arith, Some, None, Option}
 use Rattle.std.specs.Prelude.{slice_get}
 use Rattle.key_names.specs.declared.entries.PoolEntry.{PoolEntry}

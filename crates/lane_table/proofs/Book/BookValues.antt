@@ -1,5 +1,5 @@
--- In lists that are lawful and closed, the pool's and the base's model before each place is what the entries before it
--- mean, and what their visits hand on is the value of the name.
+-- In lists that are lawful and closed, the models of the pool and the base before each place have the values of the
+-- entries before it. Each of their visits hands on the value of its name.
 use Rattle.std.proofs.Common.{◌≡◌, ℕ, ◌≤◌, ◌<◌, List, length, take, refl, sym, ap, ◌∙◌, arith, Some}
 use Rattle.std.specs.Prelude.{slice_get, IsTrue}
 use Rattle.std.proofs.lemmas.Option.{slice_get_within}
@@ -22,7 +22,7 @@ use Rattle.lane_table.specs.BookLists.{entries, pool_entry, base_entry}
 use Rattle.lane_table.proofs.Lists.Places.{stands_at, element_at, take_next, fold_next, at_each_place}
 use Rattle.lane_table.proofs.Book.BookEntries.{VisitAt, lane_at, entered_at, pool_kind, base_kind}
 
--- the pool's list by itself
+-- the pool's list alone
 module _ (lanes : ℕ) (xs : List Visit) (lawful : LawfulLane lanes 0 xs) where
   pub pool_at : (i : ℕ) (x : Visit) → slice_get xs i ≡ Some x → VisitAt pool_kind lanes xs i x
   pool_at = lane_at pool_kind lanes xs lawful
@@ -42,7 +42,7 @@ module _ (lanes : ℕ) (xs : List Visit) (lawful : LawfulLane lanes 0 xs) where
   entry_gives s Bits = refl
   entry_gives s (Extract hw place) = refl
 
-  -- what a visit of the pool hands on is its root
+  -- a visit of the pool hands on its root
   pub pool_gave : (i : ℕ) (x : Visit) → slice_get xs i ≡ Some x → x.gave.key ≡ root_value (entries pool_entry xs) i
   pool_gave i x is =
       let within : i < length xs = slice_get_within xs i x is in
@@ -52,7 +52,7 @@ module _ (lanes : ℕ) (xs : List Visit) (lawful : LawfulLane lanes 0 xs) where
       ∙ entry_gives s.pool v.entry ∙ ap (λ t. root_given t (Some v.entry)) (pool_before i (omega arith))
       ∙ ap (root_given (pool_after (take i (entries pool_entry xs)))) (sym v.stands)
 
--- what an entry that erases hands on is a key of the erased one, and a refill comes with the generation
+-- an entry that erases hands on a key of the erased one, and a refill also the generation
 erasure_gives : (b : BaseValue) (got : Handed) (e : BaseEntry) → IsTrue (base_erases e) →
     (base_gives b got e).key ≡ keystream (key_in_use (root_of e) got.key b.key) 32 32
 erasure_gives b got (Draw root taken) h = refl
@@ -64,7 +64,7 @@ refill_gives : (b : BaseValue) (got : Handed) (e : BaseEntry) (named : ℕ × �
 refill_gives b got (Refill cpu place) named h = refl
 refill_gives b got _ named h = cc
 
--- the base's list beside the pool's
+-- the base's list and the pool's
 pub record SameHeldLane (lanes : ℕ) (behind xs : List Visit) : Type 0 where
   pub pool : LawfulLane lanes 0 behind
   pub base : LawfulLane lanes 1 xs
@@ -80,7 +80,7 @@ module _ (lanes : ℕ) (behind xs : List Visit) (ok : SameHeldLane lanes behind 
   pub base_visit_at : (i : ℕ) (x : Visit) → slice_get xs i ≡ Some x → VisitAt base_kind lanes xs i x
   base_visit_at = lane_at base_kind lanes xs ok.base
 
-  -- what is handed to an entry is the root that it names
+  -- an entry receives the root that it names
   pub root_handed : (i : ℕ) (x : Visit) (e : BaseEntry) → slice_get xs i ≡ Some x → x.entry ≡ Base e →
       HandsRoot pool e x.got.key
   root_handed i x e at is place names =
@@ -111,7 +111,7 @@ module _ (lanes : ℕ) (behind xs : List Visit) (ok : SameHeldLane lanes behind 
       ap (λ (b : BaseValue). key_in_use (root_of e) x.got.key b.key) (base_before i (omega arith))
       ∙ key_in_use-root pool (root_of e) x.got.key (base_value_after pool (take i es)) (root_handed i x e at is)
 
-  -- what a visit of the base hands on
+  -- the key that a visit of the base hands on
   gave_as : (i : ℕ) (x : Visit) (e : BaseEntry) → slice_get xs i ≡ Some x → x.entry ≡ Base e →
       x.gave ≡ base_gives (replay (take i xs)).base x.got e
   gave_as i x e at is =

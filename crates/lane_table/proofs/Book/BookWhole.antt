@@ -1,5 +1,5 @@
--- All lanes together: each CPU's list in the book, what is handed from lane to lane, and that closed and lawful lists
--- are lawful in the book so far as each lane looks backwards.
+-- All lanes together: each CPU's list in the book, and the keys from lane to lane. Lists that are closed and lawful
+-- are lawful as a book, as far as names of visits in parent lanes go.
 use Rattle.std.proofs.Common.{◌≡◌, ℕ, zero, suc, ◌+◌, ◌-◌, ◌≤◌, ◌<◌, inl, inr, cond, List, [], ◌∷◌, map, refl, sym, ap, ◌∙◌, subst, arith, Some, None, Option}
 use Rattle.std.specs.Prelude.{slice_get, option_and_then, IsTrue}
 use Rattle.std.proofs.lemmas.Bool.{ne_eqb}
@@ -28,11 +28,11 @@ use Rattle.lane_table.proofs.Book.BookValues.{SameHeldLane, pool_at, base_visit_
 use Rattle.lane_table.proofs.Book.BookCpus.{CpuLane}
 use Rattle.lane_table.proofs.Book.BookLawful.{lawful_base, lawful_cpu}
 
--- the lane behind a CPU is the base
+-- the parent lane of a CPU is the base
 pub parent_cpu : (c : ℕ) → parent (c + 2) ≡ 1
 parent_cpu c = ap (λ b. cond b 0 1) (ne_eqb (c + 2) 1 (λ e. omega arith))
 
--- a place that is named in a lane ahead, as the entry itself names it
+-- the place of a lane ahead, as the entry itself names it
 extracts : (e : PoolEntry) (lane place : ℕ) → ahead_of (Pool e) ≡ Some (lane, place) → base_place_of e ≡ Some place
 extracts (Extract hw base_place) lane place names =
     let p : ◌≡◌ {A = ℕ × ℕ} (1, base_place) (lane, place) = cc in ap (λ (n : ℕ × ℕ). Some n.1) p
@@ -95,7 +95,7 @@ module _ (lanes : ℕ) (visits : ℕ → List Visit) (callers : StateLists) (ok 
       let P : ℕ → Type 0 = λ behind. Pointed (c + 2) (visits behind) (visits (c + 2)) in
       subst P (parent_cpu c) (ok.closed (c + 2) (omega arith) below)
 
-  -- a root that is named is an extraction that names this place
+  -- a named root is an extraction that names this place
   rooted : (i place : ℕ) (x : Visit) (e : BaseEntry) → slice_get (visits 1) i ≡ Some x → x.entry ≡ Base e →
       root_of e ≡ Some place → extraction_at book.pool place ≡ Some i
   rooted i place x e at is names =
@@ -104,7 +104,7 @@ module _ (lanes : ℕ) (visits : ℕ → List Visit) (callers : StateLists) (ok 
       pool_at lanes (visits 0) pool_lawful place from.0 (stands_at (visits 0) place from.0 from.1) in
       ap (option_and_then base_place_of) v.stands ∙ extracts v.entry 1 i (sym (ap ahead_of v.is) ∙ from.2)
 
-  -- a refill that is named is one for this CPU and place
+  -- a named refill is one for this CPU and place
   named_refill : (c i b : ℕ) (x : Visit) (e : CpuEntry) → c + 2 < lanes → slice_get (visits (c + 2)) i ≡ Some x →
       x.entry ≡ Cpu e → base_refill_of e ≡ Some b →
       (refill_at book.base b ≡ Some (c, i)) × (generator_of x.got ≡ handed_at book b)

@@ -1,4 +1,4 @@
--- What a pass did by each call of the table, and by calls one after another.
+-- The steps of a pass in each call of the table, and in successive calls.
 use Rattle.std.proofs.Common.{◌≡◌, ◌≢◌, ℕ, suc, ◌+◌, ◌<◌, ◌≤◌, List, [], ◌∷◌, ◌++◌, Option, Some, None, length, sym, refl, ap, ◌∙◌, subst, arith, append_assoc, append-nil, length-append, Bool, true, false, cond, eqb, get_or}
 use mathlib.Core.Logic.{dite}
 use native.Mathlib.Decide.{ℕ_discrete}
@@ -21,7 +21,7 @@ use Rattle.lane_table.proofs.Rule.Floors.{floor_grown}
 use Rattle.lane_table.proofs.Rule.Sights.{sees_looked, sees_put, sees_append, sees_grown, stand_known}
 use Rattle.lane_table.proofs.Calls.HandLemmas.{names_none, names_one}
 
--- neither a look nor a visit
+-- calls with neither a look nor a visit
 pub went_idly : (caller event n : ℕ) (v w : View) → SameView v w → Grows v w → w.looks ≡ v.looks →
     w.stamps ≡ v.stamps → w.stamp ≡ v.stamp → 1 < length v.lanes → v.seen ≤ w.seen →
     ((lane : ℕ) → lane < length v.lanes → SameHistory lane v w) → Advances caller event n v w []
@@ -90,7 +90,7 @@ module _ (caller event n : ℕ) (m m' : Seated) (two : 1 < length m.0.lanes) whe
         stand = tt;
       }
 
--- where the one mark stands, and where it does not
+-- the places of a single mark, in its lane and in another
 places_here : (mark : Mark) (e : LaneEntry) → places_in (index_of mark.lane) (visited mark e ∷ []) ≡ mark.place ∷ []
 places_here mark e = by_test (eqb (index_of mark.lane) (index_of mark.lane)) (same (index_of mark.lane))
   where
@@ -108,7 +108,7 @@ places_elsewhere lane mark e ne = ap (λ (z : Bool). cond z (mark.place ∷ []) 
     differs : (i j : ℕ) → i ≢ j → eqb i j ≡ false
     differs i j other = grind arith
 
--- a visit leaves what was done at the other lanes as it was
+-- a visit does not change the history of the other lanes
 added_still : (lane : ℕ) (x : Visit) (m m' : Seated) → Added lane x m m' → (j : ℕ) → j < length m.0.lanes → j ≢ lane →
     SameHistory j m.0 m'.0
 added_still lane x m m' k j low ne = either (ahead_of x.entry) refl
@@ -229,7 +229,7 @@ pub climbs_append : (low mid high : ℕ) (xs ys : List ℕ) → Climbs low xs mi
 climbs_append low mid high [] ys h k = subst (λ (z : ℕ). Climbs z ys high) (sym h) k
 climbs_append low mid high (x ∷ xs) ys h k = (h.0, climbs_append x mid high xs ys h.1 k)
 
--- one after another
+-- successive calls
 pub went_then : (caller event n k : ℕ) (u v w : View) (xs ys : List MadeStep) → k ≡ n + length xs →
     Advances caller event n u v xs → Advances caller event k v w ys → Advances caller event n u w (xs ++ ys)
 went_then caller event n k u v w xs ys next a b = record {

@@ -1,4 +1,4 @@
--- What a pass has in its hands after each call of the table.
+-- The lanes that a pass holds after each call of the table.
 use Rattle.std.proofs.Common.{◌≡◌, ◌≢◌, ℕ, zero, suc, ◌+◌, ◌<◌, ◌≤◌, List, [], ◌∷◌, Option, Some, None, length, sym, refl, ap, ◌∙◌, subst, arith, get_or}
 use Rattle.std.proofs.lemmas.List.{get_or-replicate}
 use Rattle.std.proofs.Math.ListN.{get_or-map, length-replicate}
@@ -21,7 +21,7 @@ use Rattle.lane_table.specs.Calls.{view, slots, count_of, IsPassOf, IsSamePass, 
 use Rattle.lane_table.specs.Hands.{HeldLane, hand, IsInHand, NotIn, AllInHand, HoldsLanes}
 use Rattle.lane_table.proofs.Rule.Shares.{merged_at}
 
--- what is held as before is in the hands as before
+-- an unchanged held lane stays in the hands
 held_same : (v w : View) (h : HeldLane) → at h.lane w ≡ at h.lane v → SameView v w → IsInHand v h → IsInHand w h
 held_same v w h e same k = record {
   near = (let n = k.near in let s = same.sized in omega arith);
@@ -33,7 +33,7 @@ held_same v w h e same k = record {
   last = k.last ∙ (λ q. last_stamp (sym same.first q) (sym e q).known);
 }
 
--- so are all hands, where each other lane that is held is as before
+-- all hands stay if the other held lanes are unchanged
 all_same : (lane : ℕ) (v w : View) (hands : List HeldLane) →
     ((j u : ℕ) → j < length v.lanes → j ≢ lane → (at j v).stage ≡ Holding u → at j w ≡ at j v)
     → SameView v w → NotIn lane hands → AllInHand v hands → AllInHand w hands
@@ -44,7 +44,7 @@ all_same lane v w (h ∷ hands) keeps same not all = (
   all_same lane v w hands keeps same not.1 all.2,
 )
 
--- and where no lane changed but one, and maybe one more
+-- all hands stay if at most two other lanes changed
 all_but : (one two : ℕ) (v w : View) (hands : List HeldLane) → ((j : ℕ) → j ≢ one → j ≢ two → at j w ≡ at j v) →
     SameView v w → NotIn one hands → NotIn two hands → AllInHand v hands → AllInHand w hands
 all_but one two v w [] keeps same not₁ not₂ all = tt
@@ -54,7 +54,7 @@ all_but one two v w (h ∷ hands) keeps same not₁ not₂ all = (
   all_but one two v w hands keeps same not₁.1 not₂.1 all.2,
 )
 
--- no entry names two places
+-- an entry cannot both name a place ahead and name none
 pub names_none : (e : Option (ℕ × ℕ)) (l b : ℕ) → e ≡ None → e ≡ Some (l, b) → ⊥
 names_none e l b none some = let f : ◌≡◌ {A = Option (ℕ × ℕ)} None (Some (l, b)) = sym none ∙ some in cc f
 
@@ -123,7 +123,7 @@ has_looked t caller hands g p p' k is looked = let same : (j : ℕ) → at j (vi
       every same xs all.2,
     )
 
--- the lane that was taken last was visited, and its entry names none ahead
+-- a visit of the last taken lane, with an entry that names no place ahead
 pub has_put : (t : Lanes) (caller : ℕ) (h : HeldLane) (hands : List HeldLane) (x : Visit) (p p' : Pass) →
     ahead_of x.entry ≡ None → HoldsLanes t caller (h ∷ hands) p → IsSamePass t p p' →
     Added h.lane x p.seat.me p'.seat.me → HoldsLanes t caller hands p'
@@ -138,7 +138,7 @@ has_put t caller h hands x p p' none k is added = let others : (j : ℕ) → j �
           ∙ k.away j low (ne, no));
     }
 
--- its entry names the place of the lane that was taken before it
+-- a visit with an entry that names the place of the lane taken before it
 pub has_put_naming : (t : Lanes) (caller : ℕ) (h o : HeldLane) (hands : List HeldLane) (x : Visit) (b : ℕ)
     (p p' : Pass) → ahead_of x.entry ≡ Some (o.lane, b) → HoldsLanes t caller (h ∷ o ∷ hands) p → IsSamePass t p p' →
     Added h.lane x p.seat.me p'.seat.me
@@ -169,7 +169,7 @@ has_put_naming t caller h o hands x b p p' names k is added =
           ∙ k.away j low (ne, no));
     }
 
--- the generation was raised while the base alone is held
+-- a raise while only the base is held
 pub has_raised : (t : Lanes) (caller : ℕ) (h : HeldLane) (g : ℕ) (p p' : Pass) → h.lane ≡ 1 →
     HoldsLanes t caller (h ∷ []) p →
     IsSamePass t p p' → Raised g p.seat.me p'.seat.me → HoldsLanes t caller (record h { raised = 1 } ∷ []) p'
@@ -223,7 +223,7 @@ has_new t caller plan p is own e = let long : length (view p).lanes ≡ plan.cou
           ∙ ap (λ (a : LaneView). a.stage) (get_or-replicate plan.count j blank blank (let s = is.sized in omega arith));
     }
 
--- a pass with empty hands that another one was split off from
+-- a pass without held lanes, after another was split off from it
 pub has_halved : (t : Lanes) (caller : ℕ) (p p' : Pass) → HoldsLanes t caller [] p → IsSamePass t p p' →
     p'.seat.me ≡ (halved (view p), slots p) → HoldsLanes t caller [] p'
 has_halved t caller p p' k is e = record {
@@ -234,7 +234,7 @@ has_halved t caller p p' k is e = record {
   away = λ j low no. ap (λ (m : Seated). (at j m.0).stage) e ∙ k.away j low no;
 }
 
--- and that other one
+-- the pass that was split off
 pub has_child : (t : Lanes) (caller : ℕ) (v : View) (p : Pass) → IsPassOf t p → p.caller ≡ caller →
     p.seat.me ≡ (child v, []) → HoldsLanes t caller [] p
 has_child t caller v p is own e = record {
@@ -246,7 +246,7 @@ has_child t caller v p is own e = record {
       ∙ ap (λ (a : LaneView). a.stage) (get_or-map told v.lanes j blank);
 }
 
--- a pass with empty hands that took in another one
+-- a pass without held lanes, after it took in another
 pub has_joined : (t : Lanes) (caller : ℕ) (w : View) (p p' : Pass) → length (view p).lanes ≡ length w.lanes →
     HoldsLanes t caller [] p → IsSamePass t p p' → p'.seat.me ≡ (both_of (view p) w, slots p) →
     HoldsLanes t caller [] p'
@@ -259,13 +259,13 @@ has_joined t caller w p p' long k is e = record {
       ∙ ap (λ (a : LaneView). a.stage) (merged_at (view p).lanes w.lanes j long) ∙ k.away j low no;
 }
 
--- a view has nothing of a lane beyond the last
+-- a view has an empty part for each lane beyond the last
 beyond : (l : List LaneView) (j : ℕ) → length l ≤ j → get_or l j blank ≡ blank
 beyond [] j h = refl
 beyond (x ∷ xs) zero h = absurd (omega arith)
 beyond (x ∷ xs) (suc j) h = beyond xs j (omega arith)
 
--- with empty hands a pass is idle
+-- a pass without held lanes is idle
 pub idle_of : (t : Lanes) (caller : ℕ) (p : Pass) → HoldsLanes t caller [] p → IsIdle (view p)
 idle_of t caller p k j = dite (dec_le (j + 1) (count_of t)) (λ low. k.away j (omega arith) tt)
     (λ high. ap (λ (a : LaneView). a.stage) (beyond (view p).lanes j (let s = k.pass.sized in omega arith)))

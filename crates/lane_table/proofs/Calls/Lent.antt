@@ -1,4 +1,4 @@
--- A value that was lent, of a lane whose model is as it was.
+-- A value after a loan, of a lane with an unchanged model.
 use Rattle.std.proofs.Common.{◌≡◌, ℕ, sym}
 use Rattle.lane_table.specs.declared.values.LaneState.{LaneState}
 use Rattle.lane_table.specs.Meaning.{Model, ValueRepresents}

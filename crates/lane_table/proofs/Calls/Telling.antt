@@ -1,4 +1,4 @@
--- What the calls tell follows from what their steps tell.
+-- The effects of the calls follow from the effects of their steps.
 use Rattle.std.proofs.Common.{◌≡◌, ◌≢◌, ℕ, ◌+◌, ◌^◌, ◌<◌, ◌≤◌, zero, suc, List, [], ◌∷◌, ◌++◌, length-append, Option, Some, None, length, get_or, set, sym, refl, ap, ◌∙◌, subst, ⊎_elim, inr, arith}
 use Rattle.std.proofs.lemmas.List.{get_or-set_other, get_or-set_same, length-set}
 use mathlib.Core.Logic.{dite}
@@ -24,13 +24,13 @@ use Rattle.lane_table.proofs.Rule.Naming.{parent_below, parent_cpu, same_pair}
 use Rattle.lane_table.proofs.Rule.Serving.{length_learn, learn_at}
 use Rattle.lane_table.proofs.Rule.Restaging.{Restages, at_with, consistent_same, grows_same, to_here, to_there, to_known, to_long}
 
--- A lane that was taken
+-- A lane after a take
 
 same_value : (i : ℕ) (c d : Content) (xs ys : List (ℕ × Option Content)) → (i, Some c) ∷ xs ≡ (i, Some d) ∷ ys → c ≡ d
 same_value i c d xs ys e = let X : Type 0 = ℕ × Option Content in let p : X = (i, Some c) in let q : X = (i, Some d) in
     let h : p ≡ q = cc e in let k : Some c ≡ Some d = ap (λ (z : X). z.1) h in cc k
 
--- a ticket was drawn, its turn came, and the value was lifted out of its slot
+-- a ticket was drawn, its turn came, and the value was taken out of its slot
 module _ {i t : ℕ} {m m₁ m₂ m₃ : Seated} {c : Content} (near : i < length m.0.lanes) (r : Restages i m m₁)
     (got : Got i t m₁ m₂) (has : m₂.1 ≡ (i, Some c) ∷ rest m₂.1) (lifted : m₃ ≡ (m₂.0, (i, None) ∷ rest m₂.1)) where
   content_is : got.content ≡ c
@@ -68,7 +68,7 @@ module _ {i t : ℕ} {m m₁ m₂ m₃ : Seated} {c : Content} (near : i < lengt
   got_first : m₃.0.first ≡ m₁.0.first
   got_first = ap (λ (v : View). v.first) got_view
 
-  -- the last stamp that is known is the value's
+  -- the last known stamp is the value's
   pub got_stamp : c.stamp ≡ last_stamp m₃.0.first (known_of m₃.0 i)
   got_stamp = got_replays.stamp ∙ (λ q. last_stamp (sym got_first q) (sym got_known q))
 
@@ -148,7 +148,7 @@ module _ {i t : ℕ} {m m₁ m₂ m₃ : Seated} {c : Content} (near : i < lengt
     drawn = got_drawn drawn;
   }
 
-  -- it was given back at once
+  -- the lane was given back at once
   pub left_tried : (at i m.0).stage ≡ Away → m₁.0.drawn ≡ m.0.drawn + 1 → 2 ^ 62 ≤ c.stamp → (m₄ : Seated) →
       m₄ ≡ left i m₃ → Tried i m m₄
   left_tried away drawn late m₄ e = let w : View = with_at i (staged Away (at i m₃.0)) m₃.0 in let v₄ : m₄.0 ≡ w =
@@ -209,7 +209,7 @@ module _ {i t : ℕ} {m m₁ m₂ m₃ : Seated} {c : Content} (near : i < lengt
         );
       }
 
--- a pass whose turn came is still one of the table
+-- a pass is still one of the table after its turn came
 pub got_pass : {i t : ℕ} {m m' : Seated} → Got i t m m' → (lanes : Lanes) (p q : Pass) → IsPassOf lanes p →
     p.seat.me ≡ m → q.seat.me ≡ m' → q.seat.table_id ≡ p.seat.table_id → q.stamp ≡ p.stamp → q.caller ≡ p.caller →
     IsSamePass lanes p q
@@ -228,7 +228,7 @@ got_pass {i} {t} {m} {m'} got lanes p q h is is' table stamp caller = let v₀ :
       caller = caller;
     }
 
--- A visit that was made
+-- A view after a visit
 
 owing_other : (o : Option (ℕ × ℕ)) (place : ℕ) (u : View) (j : ℕ) → ((l b : ℕ) → o ≡ Some (l, b) → j ≢ l) →
     at j (owing o place u) ≡ at j u
@@ -240,7 +240,7 @@ owing_there : (place : ℕ) (u : View) (l b : ℕ) → l < length u.lanes →
     at l (owing (Some (l, b)) place u) ≡ record (at l u) { owes = Some place }
 owing_there place u l b low = get_or-set_same u.lanes l (record (at l u) { owes = Some place }) blank low
 
--- what is owed is said in the view's lanes alone
+-- an owed answer changes only the lanes of a view
 owing_rest : (o : Option (ℕ × ℕ)) (place : ℕ) (u : View) →
     owing o place u ≡ record u { lanes = (owing o place u).lanes }
 owing_rest None place u = refl
@@ -250,7 +250,7 @@ owing_long : (o : Option (ℕ × ℕ)) (place : ℕ) (u : View) → length (owin
 owing_long None place u = refl
 owing_long (Some z) place u = length-set u.lanes z.0 (record (at z.0 u) { owes = Some place })
 
--- what is owed changes nothing else
+-- an owed answer changes only `owes`
 owes_set : {X : Type 0} (f : LaneView → X) → ((a : LaneView) (o : Option ℕ) → f (record a { owes = o }) ≡ f a) →
     (l : List LaneView) (i j : ℕ) (o : Option ℕ)
     → f (get_or (set l i (record (get_or l i blank) { owes = o })) j blank) ≡ f (get_or l j blank)
@@ -323,7 +323,7 @@ added_is i x m m' near names later e consistent = let v : View = m.0 in let a = 
       drawn = ap (λ (z : View). z.drawn) view';
     }
 
--- and a pass that made a visit
+-- a pass is still one of the table after a visit
 pub after_pass : (i : ℕ) (x : Visit) (lanes : Lanes) (p q : Pass) → IsPassOf lanes p → view q ≡ after i x (view p) →
     q.seat.table_id ≡ p.seat.table_id → q.stamp ≡ x.stamp → q.caller ≡ p.caller → IsSamePass lanes p q
 after_pass i x lanes p q h e table stamp caller = let u =
@@ -341,7 +341,7 @@ after_pass i x lanes p q h e table stamp caller = let u =
       caller = caller;
     }
 
--- the value that goes home stands for the list with the visit
+-- the value put back represents the list with the visit
 pub replays_push : (i first : ℕ) (xs : List Visit) (x : Visit) (c : Content) →
     ValueRepresents i c.state (model_step (replay xs) x) → c.place ≡ length xs + 1 → c.stamp ≡ x.stamp →
     Replays i first (xs ++ x ∷ []) c

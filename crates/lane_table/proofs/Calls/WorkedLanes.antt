@@ -1,5 +1,5 @@
--- Worked lists: a reseed, a refill, and the read that it is for. They are closed and lawful, and each reference is
--- answered, so the laws of such lists speak of something.
+-- Worked lists: a reseed, a refill, and the read that needs it. They are closed and lawful, and each reference is
+-- answered, so the laws of such lists are not empty.
 use Rattle.std.proofs.Common.{◌≡◌, ℕ, zero, suc, ◌≤◌, ◌<◌, List, [], ◌∷◌, refl, sym, ap, ◌∙◌, arith, Some, None, Option, replicate}
 use mathlib.Core.Option.{some-injective, some-ne-none}
 use lib.ListN.{get_elem?}
@@ -65,7 +65,7 @@ cpu_lawful = (
   tt,
 )
 
--- what an entry at the first or the second place names
+-- the place that an entry at the first or the second place names
 names_place : (x y : Visit) (p q : ℕ) → x ≡ y → behind_of x.entry ≡ Some p → behind_of y.entry ≡ Some q → p ≡ q
 names_place x y p q same named names =
     let e : ◌≡◌ {A = Option ℕ} (Some p) (Some q) = sym named ∙ ap (λ (v : Visit). behind_of v.entry) same ∙ names in cc
@@ -115,7 +115,7 @@ answered_cpu (suc zero) b x at names =
     (read, ap (get_elem? (worked 2)) (sym (names_lane refill x 2 0 b same refl names)), refl)
 answered_cpu (suc (suc p)) b x at names = absurd (some-ne-none x (sym at))
 
--- what holds of each of the three lanes holds of all
+-- a property of each of the three lanes holds of all
 three : (P : ℕ → Type 0) → P 0 → P 1 → P 2 → (lane : ℕ) → lane < 3 → P lane
 three P pool base cpu zero below = pool
 three P pool base cpu (suc zero) below = base

@@ -1,4 +1,4 @@
--- What one more visit does to the model and the law of a lane, and what lawful lists tell of the generation.
+-- One more visit, in the model and the law of a lane, and the generation in lawful lists.
 use Rattle.std.proofs.Common.{◌≡◌, ℕ, zero, suc, ◌+◌, ◌<◌, ◌≤◌, true, false, List, [], ◌∷◌, ◌++◌, length, refl, sym, ap, subst, arith, Option, Some, None, le_refl}
 use Rattle.std.specs.List.{fold}
 use Rattle.std.proofs.lemmas.List.Sums.{sum_by-cons, fold-append}
@@ -44,7 +44,7 @@ lawful_begun n i xs ys b lawful = lawful_front (MayCome n i) model_step start_mo
 pub replay_push : (xs : List Visit) (x : Visit) → replay (xs ++ x ∷ []) ≡ model_step (replay xs) x
 replay_push xs x = fold-append model_step start_model xs (x ∷ [])
 
--- Places that are named behind
+-- Places of the parent lane that entries name
 
 least_step : (o : Option ℕ) (m n : ℕ) → m ≤ n → ((p : ℕ) → o ≡ Some p → p < n) → least_after o m ≤ n
 least_step None m n h k = h
@@ -57,7 +57,7 @@ least_fold [] s n h k = h
 least_fold (x ∷ xs) s n h k = least_fold xs (model_step s x) n
     (least_step (behind_of x.entry) s.least n h (λ p e. k 0 p x refl e)) (λ b p y e q. k (suc b) p y e q)
 
--- the next place of the lane behind was not named yet
+-- no entry has named the next place of the parent lane yet
 pub least_below : (l : ℕ) (behind here : List Visit) → Pointed l behind here → (replay here).least ≤ length behind
 least_below l behind here h = least_fold here start_model (length behind) (omega arith)
     (λ b p x e q. let t = h b p x e q in at_below behind p t.0 t.1)
@@ -83,7 +83,7 @@ generation_fold (x ∷ xs) s = let h = generation_fold xs (model_step s x) in le
 pub base_generation : (xs : List Visit) → (replay xs).base.generation ≡ raises xs
 base_generation xs = let h = generation_fold xs start_model in omega arith
 
--- what is handed on has no generation that the base has not had
+-- no generation is handed on that the base has not had
 pool_gave : (s : PoolState) (e : PoolEntry) → (pool_gives s e).generation ≡ 0
 pool_gave s (Mix text bits) = refl
 pool_gave s (Input word kind code value now) = refl
@@ -154,7 +154,7 @@ cpu_fold_below g [] s low k = low
 cpu_fold_below g (x ∷ xs) s low k = cpu_fold_below g xs (model_step s x)
     (cpu_step_below s x.entry x.got g low (λ p e. k 0 p x refl e)) (λ b p y e q. k (suc b) p y e q)
 
--- the generation of a CPU is one that the base has had
+-- the base has had each CPU's generation
 pub cpu_below : (n i : ℕ) (base cpu : List Visit) → LawfulLane n 1 base → Pointed i base cpu →
     (replay cpu).cpu.cpu.generation ≤ raises base
 cpu_below n i base cpu lawful h = cpu_fold_below (raises base) cpu start_model (omega arith)

@@ -1,4 +1,4 @@
--- Lists that are read by `get_elem?`, and sums over them.
+-- Lists by `get_elem?`, and sums over them.
 use Rattle.std.proofs.Common.{◌≡◌, ℕ, zero, suc, ◌+◌, ◌<◌, ◌≤◌, ◌≢◌, ◌⊎◌, List, [], ◌∷◌, ◌++◌, map, length, get_or, set, sym, refl, ap, ◌∙◌, subst, inl, inr, arith, ⊎_elim, Bool, true, false}
 use Rattle.std.specs.List.{sum_by}
 use Rattle.std.proofs.lemmas.List.Sums.{sum_by-set, sum_by-cons}
@@ -47,7 +47,7 @@ module _ {A : Type 0} (f : A → ℕ) where
   one_below (x ∷ xs) zero u e = let h = ap f (some-injective x u e) in omega (arith, sum_by-cons f x xs)
   one_below (x ∷ xs) (suc j) u e = let h = one_below xs j u e in omega (arith, sum_by-cons f x xs)
 
-  -- two elements weigh no more than all
+  -- two elements weigh at most as much as all
   pub two_below : (l : List A) (i j : ℕ) (v u : A) → j ≢ i → get_elem? l i ≡ some v → get_elem? l j ≡ some u →
       f v + f u ≤ sum_by f l
   two_below [] i j v u ne a b = absurd (some-ne-none v (sym a))
@@ -64,7 +64,7 @@ module _ {A : Type 0} (f : A → ℕ) where
   all_zero (x ∷ xs) h = let a = h 0 x refl in let b = all_zero xs (λ j u e. h (suc j) u e) in
       omega (arith, sum_by-cons f x xs)
 
-  -- where every other one weighs nothing, one weighs what all weigh
+  -- if all other elements weigh 0, one weighs as much as all
   pub only_one : (l : List A) (i : ℕ) (v : A) → get_elem? l i ≡ some v →
       ((j : ℕ) (u : A) → j ≢ i → get_elem? l j ≡ some u → f u ≡ 0) → sum_by f l ≡ f v
   only_one [] i v e h = absurd (some-ne-none v (sym e))

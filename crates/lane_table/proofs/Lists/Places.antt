@@ -1,4 +1,4 @@
--- Lists by their places: what holds before each place, and what a list keeps of another one place by place.
+-- Lists by their places: properties before each place, and lists that correspond place by place.
 use Rattle.std.proofs.Common.{◌≡◌, ℕ, zero, suc, ◌≤◌, ◌<◌, List, [], ◌∷◌, ◌++◌, length, take, refl, sym, ap, ◌∙◌, arith, Some, Option}
 use Rattle.std.specs.Prelude.{slice_get}
 use Rattle.std.specs.List.{fold, filter_map, cons_option}
@@ -7,7 +7,7 @@ use mathlib.Core.Option.{some, some-injective, some-ne-none}
 use lib.ListN.{get_elem?}
 use Rattle.key_names.specs.LawfulList.{LawfulFrom}
 
--- two ways to say what stands at a place
+-- two ways to name the element at a place
 pub stands_at : {A : Type 0} (xs : List A) (i : ℕ) (x : A) → get_elem? xs i ≡ some x → slice_get xs i ≡ Some x
 stands_at [] i x is = absurd (some-ne-none x (sym is))
 stands_at (y ∷ ys) zero x is = ap Some (some-injective y x is)
@@ -18,7 +18,7 @@ element_at [] i x is = cc
 element_at (y ∷ ys) zero x is = let same : y ≡ x = cc in ap some same
 element_at (y ∷ ys) (suc i) x is = element_at ys i x is
 
--- an element stands at each place below the length
+-- each place below the length has an element
 pub some_at : {A : Type 0} (xs : List A) (i : ℕ) → i < length xs → (x : A) × (slice_get xs i ≡ Some x)
 some_at [] i below = absurd (omega arith)
 some_at (x ∷ xs) zero below = (x, refl)
@@ -34,7 +34,7 @@ pub fold_next : {S E : Type 0} (step : S → E → S) (s : S) (es : List E) (i :
     fold step s (take (suc i) es) ≡ step (fold step s (take i es)) e
 fold_next step s es i e is = ap (fold step s) (take_next es i e is) ∙ fold-append step s (take i es) (e ∷ [])
 
--- what each element keeps holds before each place
+-- a property that each element preserves holds before each place
 pub at_each_place : {A : Type 0} (xs : List A) (P : ℕ → Type 0) → P 0 →
     ((i : ℕ) (x : A) → slice_get xs i ≡ Some x → P i → P (suc i)) →
     (i : ℕ) → i ≤ length xs → P i
@@ -42,20 +42,20 @@ at_each_place xs P start next zero within = start
 at_each_place xs P start next (suc i) within =
     let x = some_at xs i (omega arith) in next i x.0 x.1 (at_each_place xs P start next i (omega arith))
 
--- a place that is counted along a list
+-- a state that counts places
 pub counted : {S E : Type 0} (place : S → ℕ) (step : S → E → S) → ((s : S) (e : E) → place (step s e) ≡ suc (place s)) →
     (s : S) (es : List E) → place s ≡ 0 → (i : ℕ) → i ≤ length es → place (fold step s (take i es)) ≡ i
 counted place step next s es none = at_each_place es (λ i. place (fold step s (take i es)) ≡ i) none
     (λ i e is now. ap place (fold_next step s es i e is) ∙ next (fold step s (take i es)) e ∙ ap suc now)
 
--- a list each of whose entries may come where it stands is lawful
+-- a list is lawful if each entry may come at its place
 pub lawful_by_places : {S E : Type 0} (May : S → E → Type 0) (step : S → E → S) (s : S) (es : List E) →
     ((i : ℕ) (e : E) → slice_get es i ≡ Some e → May (fold step s (take i es)) e) → LawfulFrom May step s es
 lawful_by_places May step s [] may = tt
 lawful_by_places May step s (e ∷ es) may =
     (may 0 e refl, lawful_by_places May step (step s e) es (λ i. may (suc i)))
 
--- a list of which h gives something of each element
+-- a list with a value of h for each element
 module _ {A B : Type 0} (h : A → Option B) where
   abbrev pub GivesEach : List A → Type 0
   GivesEach xs = (i : ℕ) (x : A) → slice_get xs i ≡ Some x → (b : B) × (h x ≡ Some b)

@@ -1,4 +1,4 @@
--- Lists of visits: beginnings, stamps, places, and how often they raised the generation.
+-- Lists of visits: prefixes, stamps, places, and the number of raises.
 use Rattle.std.proofs.Common.{◌≡◌, ℕ, ◌+◌, ◌<◌, ◌≤◌, ◌⊎◌, List, [], ◌∷◌, ◌++◌, length, sym, refl, ap, ◌∙◌, subst, inl, inr, arith, append_assoc, append-nil, length-append, Option, Some, None, Bool, cond, eqb, ltb, ltb-true, ltb-false}
 use Rattle.std.proofs.lemmas.List.Sums.{sum_by-cons, sum_by-append, sum_by_push}
 use Rattle.std.proofs.lemmas.Bool.Decides.{nat_tests}
@@ -26,7 +26,7 @@ begins_length xs ys a = let e = ap length a.1 in omega (arith, length-append xs 
 pub begins_nil : (ys : List Visit) → Begins [] ys
 begins_nil ys = (ys, refl)
 
--- where lists with one more begin the log, that one does, and so do they
+-- if all lists with one more begin the log, that one does, and so do they
 pub with_both : (xs : List Visit) (lists : List (List Visit)) (log : List Visit) → AllBegin (with_list xs lists) log →
     Begins xs log × AllBegin lists log
 with_both [] lists log all = (begins_nil log, all)
@@ -35,7 +35,7 @@ with_both (x ∷ xs) lists log all = all
 pub begins_push : (xs : List Visit) (x : Visit) → Begins xs (xs ++ x ∷ [])
 begins_push xs x = (x ∷ [], refl)
 
--- a beginning that is as long is the whole
+-- a prefix of the same length is the whole
 pub begins_whole : (xs ys : List Visit) → Begins xs ys → length ys ≤ length xs → xs ≡ ys
 begins_whole xs ys (([], e)) h = sym (e ∙ append-nil xs)
 begins_whole xs ys ((z ∷ zs, e)) h = let n = ap length e in absurd (omega (arith, length-append xs (z ∷ zs)))
@@ -61,7 +61,7 @@ pub at_begun_back : (xs ys : List Visit) (p : ℕ) (y : Visit) → Begins xs ys 
     get_elem? xs p ≡ some y
 at_begun_back xs ys p y h lt e = sym (at_front xs h.0 p lt) ∙ ap (λ (l : List Visit). get_elem? l p) (sym h.1) ∙ e
 
--- the longer of two beginnings of one list
+-- the longer of two prefixes of one list
 module _ (xs ys log : List Visit) (h : Begins xs log) (k : Begins ys log) where
   abbrev lt : Bool
   lt = ltb (length xs) (length ys)
@@ -90,7 +90,7 @@ front_of (x ∷ xs) [] as' bs e le = absurd (omega arith)
 front_of (x ∷ xs) (y ∷ ys) as' bs e le = let t : xs ++ as' ≡ ys ++ bs = cc e in let h : x ≡ y = cc e in let f =
     front_of xs ys as' bs t (omega arith) in (f.0, λ k. sym h k ∷ f.1 k)
 
--- of two beginnings of one list the shorter begins the longer
+-- the shorter of two prefixes of one list begins the longer
 pub nested : (xs ys log : List Visit) → Begins xs log → Begins ys log → length xs ≤ length ys → Begins xs ys
 nested xs ys log h k le = front_of xs ys h.0 k.0 (sym h.1 ∙ k.1) le
 
@@ -134,7 +134,7 @@ placed_push ps xs x p = let s = sum_by_push (λ (y : ℕ). cond (eqb y p) 1 0) p
 pub none_below : (p : ℕ) → once_below p 0 ≡ 0
 none_below p = grind (arith, nat_tests)
 
--- what was heard
+-- the heard lists
 
 pub all_trans : (lists : List (List Visit)) (xs ys : List Visit) → AllBegin lists xs → Begins xs ys → AllBegin lists ys
 all_trans [] xs ys h k = tt

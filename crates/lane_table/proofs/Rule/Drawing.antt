@@ -1,4 +1,4 @@
--- The steps that draw a ticket, and those that read a lane's words: the rule is kept, and this is what they tell.
+-- The steps that draw a ticket or read a lane's words keep the rule, and have their effects.
 use Rattle.std.proofs.Common.{◌≡◌, ℕ, ◌+◌, ◌<◌, ◌≤◌, eqb, length, get_or, set, sym, refl, ap, ◌∙◌, subst, inl, inr, arith, le_refl}
 use Rattle.std.proofs.lemmas.List.{get_or-set_other, get_or-set_same}
 use mathlib.Core.Option.{none}
@@ -19,7 +19,7 @@ use Rattle.lane_table.proofs.Rule.Plain.{Plain}
 use Rattle.lane_table.proofs.Rule.Plain as plain
 
 module _ {first : ℕ} {s : St} {id : ℕ} {v : View} (h : Here first s id v) (i : ℕ) (near : i < length s.homes) where
-  -- who does not stand at the lane owes nothing there
+  -- a pass that is away from the lane owes no answer there
   pub away_owes_nothing : IsAway i v → OwesNothing i v
   away_owes_nothing away = plain.owes_nothing h i near
       (λ t hold. let g : Away ≡ Holding t = sym away ∙ hold in absurd (cc g))
@@ -33,7 +33,7 @@ module _ {first : ℕ} {s : St} {id : ℕ} {v : View} (h : Here first s id v) (i
   loaded_found : (at i v).loaded ≤ get_or s.words (ticket_word i) 0
   loaded_found = let a = loaded_below in let b = (h.rule.lane i near).ordered in omega arith
 
-  -- the ticket is drawn that the word has
+  -- a draw of the ticket in the word
   drawn : (n : ℕ) → IsAway i v → n ≤ get_or s.words (ticket_word i) 0
       → (let t : ℕ = get_or s.words (ticket_word i) 0 in
       WorldRule first record {
@@ -65,7 +65,7 @@ module _ {first : ℕ} {s : St} {id : ℕ} {v : View} (h : Here first s id v) (i
       (let r = plain.w_raised h i near p refl in omega arith) (let o = (h.rule.seen id v h.is).0 in omega arith)
       (plain.w_raised_ok h i near p refl)
 
-  -- the ticket word is found
+  -- a load of the ticket word
   finds_kept : (let k : ℕ = ticket_word i in let y : ℕ = get_or s.words k 0 in
       WorldRule first record {
         words = set s.words k y;
@@ -88,7 +88,7 @@ module _ {first : ℕ} {s : St} {id : ℕ} {v : View} (h : Here first s id v) (i
       (lane.recast (h.rule.lane i near) id (world.here h i) a' refl refl refl refl loaded_below (le_refl y) refl
       (world.begun h i near) (λ e. e)) refl refl
 
-  -- the serving word is loaded
+  -- a load of the serving word
   loads_kept : (let k : ℕ = serving_word i in let y : ℕ = get_or s.words k 0 in
       WorldRule first record {
         words = set s.words k y;

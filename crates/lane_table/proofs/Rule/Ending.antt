@@ -1,5 +1,5 @@
--- What the rule tells the pass that has the whole share, once it stands nowhere: it knows all, and made all. In a new
--- table it also drew nothing yet.
+-- A pass that has the whole share and is idle knows all lists and made all visits. In a new table it has drawn no
+-- ticket.
 use Rattle.std.proofs.Common.{◌≡◌, ℕ, zero, suc, ◌+◌, ◌*◌, ◌-◌, ◌^◌, ◌<◌, ◌≤◌, ◌≢◌, List, [], length, get_or, replicate, refl, sym, ap, ◌∙◌, subst, ⊎_elim, arith, Option, Some}
 use Rattle.std.proofs.Math.Nat.{mul-pos}
 use Rattle.std.proofs.lemmas.Nat.{pow-add, pow_pos}
@@ -44,7 +44,7 @@ module _ {first : ℕ} {s : St} {id : ℕ} {v : View} (h : Here first s id v) (s
       (pow_pos (top - u.halvings)) in absurd (omega (arith, none'))) in
       ap (λ (l : List LaneView). get_or l i blank) ((h.rule.views j u e).spent zero')
 
-  -- nobody stands at a lane
+  -- all passes are away from each lane
   all_away : (i j : ℕ) (u : View) → get_elem? s.views j ≡ some u → (at i u).stage ≡ Away
   all_away i j u e = dite (ℕ_discrete j id) (λ hit. ap (λ (z : View). (at i z).stage)
       (some-injective u v (sym e ∙ ap (λ (k : ℕ). get_elem? s.views k) hit ∙ h.is)) ∙ idle i)
@@ -56,7 +56,7 @@ module _ {first : ℕ} {s : St} {id : ℕ} {v : View} (h : Here first s id v) (s
         (λ j u ne e. ap (λ (a : LaneView). a.made) (others i j u ne e)))
         ∙ sym (sum_by-map (λ (a : LaneView). a.made) (at i) s.views) ∙ (h.rule.lane i near).made
 
-    -- the tickets that were drawn are its own, and none is out
+    -- it drew all tickets, and none is out
     pub numbers : (get_or s.words (ticket_word i) 0 ≡ first + (at i v).tickets)
         × (get_or s.words (serving_word i) 0 ≡ first + (at i v).tickets)
     numbers = let ok = h.rule.lane i near in
@@ -120,7 +120,7 @@ module _ {first : ℕ} {s : St} {id : ℕ} {v : View} (h : Here first s id v) (s
         placed = λ i p near. placed_all i near p;
       }
 
--- what a new table's pass has of a lane
+-- a new table's pass has a blank part for each lane
 blank_in : (n i : ℕ) → get_or (replicate n blank) i blank ≡ blank
 blank_in zero i = refl
 blank_in (suc n) zero = refl
@@ -141,7 +141,7 @@ module _ (first id : ℕ) (v : View) (words : List ℕ) (contents : List (Option
   abbrev h : Here first final.0 id v
   h = record { rule = final.1.0; is = final.1.1; share = some_share }
 
-  -- each value has come home
+  -- each value is at home
   pub stored : (i : ℕ) → i < length contents → (c : Content) × (get_elem? contents i ≡ some (Some c))
       × (c.place ≡ (at i v).made)
   stored i near = let long = final.3 in let e = ends h share idle i (omega arith) in

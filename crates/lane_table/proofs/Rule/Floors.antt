@@ -1,4 +1,4 @@
--- The generation that a view has seen never falls, and the core is ready where it is 1 or more.
+-- The generation that a view has seen never falls, and the core is ready if and only if it is at least 1.
 use Rattle.std.proofs.Common.{◌≡◌, ◌↔◌, ℕ, ◌<◌, ◌≤◌, List, [], ◌∷◌, Option, Some, None, length, sym, refl, ap, ◌∙◌, arith}
 use Rattle.std.specs.List.{fold}
 use Rattle.std.proofs.lemmas.List.Sums.{fold-append}
@@ -38,7 +38,7 @@ generation_begun xs ys b = let e = ap (λ (l : List Visit). (replay l).base.gene
 pub floor_grown : (v w : View) → 1 < length v.lanes → Grows v w → v.seen ≤ w.seen → floor v ≤ floor w
 floor_grown v w two grows seen = let g = generation_begun (known_of v 1) (known_of w 1) (grows 1 two) in omega arith
 
--- an entry that fits leaves the core ready exactly where it was reseeded
+-- after an entry that fits, the core is ready if and only if it was reseeded
 agrees_early : (b : BaseValue) → b.phase ≡ empty → Agrees b → early ≡ ready ↔ 1 ≤ b.generation
 agrees_early b is k = ((λ e. absurd (cc e)), (λ one. let e : empty ≡ ready = sym is ∙ k.1 one in absurd (cc e)))
 

@@ -1,4 +1,4 @@
--- A pass takes in another: the rule is kept.
+-- A join keeps the rule.
 use Rattle.std.proofs.Common.{◌≡◌, ℕ, ◌+◌, ◌<◌, ◌≤◌, ◌≢◌, List, [], ◌++◌, max, length, get_or, set, sym, refl, ap, ◌∙◌, subst, inl, ⊎_elim, arith}
 use Rattle.std.specs.Prelude.{All}
 use Rattle.std.proofs.lemmas.List.{map-set}
@@ -63,7 +63,7 @@ module _ {first : ℕ} {s : St} {id : ℕ} {v : View} (h : Here first s id v) (o
     not_holding : (j t : ℕ) → ¬ ((at j w).stage ≡ Holding t)
     not_holding j t hold = let g : Away ≡ Holding t = sym (idle j) ∙ hold in absurd (cc g)
 
-    -- each seat has its view of before, or the one, or the other's
+    -- each seat has its old view, or the joined one, or the blank one of the pass taken in
     cases : (P : View → Type 0) (j : ℕ) (u : View) → P b → ((z : View) → get_elem? s.views j ≡ some z → P z) → P nobody →
         get_elem? views' j ≡ some u → P u
     cases P j u both others none e = ⊎_elim (λ (t : (j ≡ other) × (nobody ≡ u)). subst P t.1 none)

@@ -1,4 +1,4 @@
--- References between two lanes, as lists and views grow.
+-- References between two lanes as lists and views grow.
 use Rattle.std.proofs.Common.{◌≡◌, ◌<◌, ◌≤◌, ◌≢◌, true, false, cond, eqb, eq-eqb, ne_eqb, List, [], ◌∷◌, ◌++◌, length, sym, ap, subst, ◌∙◌, inl, inr, ⊎_elim, arith, Option, Some, None, ℕ, suc}
 use mathlib.Core.Option.{some, some-ne-none}
 use mathlib.Core.Logic.{dite}
@@ -16,7 +16,7 @@ use Rattle.lane_table.specs.Steps.{longer}
 use Rattle.lane_table.proofs.Lists.Lists.{at_push, bool_cases}
 use Rattle.lane_table.proofs.Lists.VisitLists.{at_begun, at_begun_back, begins_length, longer_left, longer_right, longer_is}
 
--- the lane behind another one
+-- the parent lane of another one
 pub parent_below : (l : ℕ) → 1 ≤ l → parent l < l
 parent_below l h = bool_cases (eqb l 1) (λ b. cond b 0 1 < l) (λ e. omega arith)
     (λ e. let ne : l ≢ 1 = λ q. (let g : true ≡ false = sym (eq-eqb l 1 q) ∙ e in cc g) in omega arith)
@@ -70,7 +70,7 @@ module _ (l : ℕ) where
     subst (λ (q : List Visit). (replay q).least ≤ p) (sym (same o.0.0 o.0.1)) o.2,
   )
 
-  -- who does not hold the lane owes nothing
+  -- a pass that does not hold the lane owes no answer there
   pub owed_out : (a b : LaneView) (behind behind' : List Visit) → OwedAt l a behind →
       ((t : ℕ) → ¬ (a.stage ≡ Holding t)) → b.owes ≡ a.owes → OwedAt l b behind'
   owed_out a b behind behind' h out owes p e = let o = h p (sym owes ∙ e) in absurd (out o.0.0 o.0.1)
@@ -100,7 +100,7 @@ module _ (l : ℕ) where
       (t.0, at_longer here (x ∷ []) b t.0 t.1, t.2))
       (λ (t : (b ≡ length here) × Owes l p views). inl (x, at_last here x b (sym t.0), k p t.1)) (h p b y e n)
 
-  -- what a view knows of a reference that is pending
+  -- a pending reference, by the lists that a view knows
   pub half_known : (behind here xs ys : List Visit) (views : List View) → Pending l behind here views →
       Begins xs behind → Begins ys here → HalfAnswered l xs ys
   half_known behind here xs ys views h f g p b x e n = ⊎_elim

@@ -1,4 +1,4 @@
--- Each kind of step keeps the rule of one lane. That the value stands for the list is never looked into.
+-- Each kind of step keeps the rule of one lane. These proofs never unfold how the value represents the list.
 use Rattle.std.proofs.Common.{◌≡◌, ℕ, ◌+◌, ◌<◌, ◌≤◌, ◌≢◌, Bool, true, false, cond, eqb, eq-eqb, ne_eqb, List, [], ◌∷◌, ◌++◌, length, set, sym, refl, ap, ◌∙◌, subst, inl, inr, ⊎_elim, arith, Some, ltb, ltb-true}
 use Rattle.std.proofs.lemmas.List.Sums.{sum_by_push, sum_by-append}
 use mathlib.Core.Option.{some, none, some-injective}
@@ -16,7 +16,7 @@ use Rattle.lane_table.specs.Steps.{finding, waiting, holder, told, merged, longe
 use Rattle.lane_table.proofs.Lists.Lists.{at_below, sum_at_set}
 use Rattle.lane_table.proofs.Lists.VisitLists.{begins_trans, begins_length, begins_nil, begins_refl, longer_all, all_trans, all_heard}
 
--- one view's part of the column changes
+-- a column with one changed part
 passes_set : (P : ℕ → LaneView → Type 0) (col : List LaneView) (id : ℕ) (a' : LaneView) →
     ((j : ℕ) (a : LaneView) → j ≢ id → get_elem? col j ≡ some a → P j a) → P id a'
     → (j : ℕ) (a : LaneView) → get_elem? (set col id a') j ≡ some a → P j a
@@ -24,7 +24,7 @@ passes_set P col id a' others mine j a e =
     ⊎_elim (λ (t : (j ≡ id) × (a' ≡ a)). subst (λ (z : ℕ × LaneView). P z.0 z.1) (λ k. (sym t.0 k, t.1 k)) mine)
     (λ (t : (j ≢ id) × (get_elem? col j ≡ some a)). others j a t.0 t.1) (at_set col id j a' a e)
 
--- where some view's part is so, it still is where the one that changes stays so
+-- a property of some part survives a change that preserves it
 some_set : (P : LaneView → Type 0) (col : List LaneView) (id : ℕ) (a a' : LaneView) → get_elem? col id ≡ some a →
     (P a → P a')
     → (j : ℕ) × (b : LaneView) × (get_elem? col j ≡ some b) × P b →
@@ -60,7 +60,7 @@ module _ {lane first ticket serving : ℕ} {home : Home} {col : List LaneView} {
     known_stands known (Queued t) h k = k
     known_stands known (Holding t) h k = (k.0, k.1, k.2, h k.3, k.4)
 
-    -- a view learns, of the list or of the words, and stands as before
+    -- a view learns more of the list or of the words, in the same stage
     pub recast : (b : LaneView) → b.stage ≡ a.stage → b.made ≡ a.made → b.places ≡ a.places → b.tickets ≡ a.tickets →
         b.loaded ≤ serving → b.found ≤ ticket → b.heard ≡ a.heard → Begins b.known log → (a.known ≡ log → b.known ≡ log)
         → LaneOk lane first ticket serving home (set col id b) log owner
@@ -102,7 +102,7 @@ module _ {lane first ticket serving : ℕ} {home : Home} {col : List LaneView} {
     drawn_stands j known (Queued t) h = (h.0, omega arith, drawn_older t h.1 ∙ h.2)
     drawn_stands j known (Holding t) h = (h.0, omega arith, drawn_older t h.1 ∙ h.2, h.3, h.4)
 
-    -- a ticket is drawn
+    -- a draw of a ticket
     pub draws : (n : ℕ) → a.stage ≡ Away → n ≤ ticket →
         (owner' : ℕ → ℕ) × LaneOk lane first (ticket + 1) serving home
         (set col id (waiting ticket (finding n a))) log owner'
@@ -199,12 +199,12 @@ module _ {lane first ticket serving : ℕ} {home : Home} {col : List LaneView} {
         λ e. ne (sym h.2 ∙ ap owner (e ∙ sym is) ∙ own) in (omega arith, h.1, h.2)
     given_stands t j home' log' known (Holding u) is own ne h = absurd (ne (sym h.2 ∙ ap owner (h.0 ∙ sym is) ∙ own))
 
-    -- who holds the lane is served, and knows the whole list
+    -- the pass that holds the lane is served, and knows the whole list
     pub holds_turn : (t : ℕ) → a.stage ≡ Holding t →
         (t ≡ serving) × (t < ticket) × (owner t ≡ id) × (a.known ≡ log) × (home ≡ some none)
     holds_turn t hold = stands_here (Holding t) hold
 
-    -- the value goes home, and the next ticket is served
+    -- the value goes back, and the next ticket is served
     pub gives : (t : ℕ) (log' : List Visit) (c : Content) (a' : LaneView) → a.stage ≡ Holding t → Begins log log' →
         a'.stage ≡ Away → a'.known ≡ log' → a'.tickets ≡ a.tickets → a'.loaded ≡ a.loaded → a'.found ≡ a.found → a'.heard ≡ a.heard
         → a'.made + length log ≡ a.made + length log' →
@@ -242,7 +242,7 @@ module _ {lane first ticket serving : ℕ} {home : Home} {col : List LaneView} {
           rising = rises;
         }
 
-    -- a new view comes, which knows as much of the lane
+    -- a new view, with the same knowledge of the lane
     pub enters : LaneOk lane first ticket serving home (col ++ told a ∷ []) log owner
     enters = record {
       ordered = ok.ordered;
@@ -294,7 +294,7 @@ module _ {lane first ticket serving : ℕ} {home : Home} {col : List LaneView} {
         (id, m, here, longer_kept b.known begins (ap (λ (z : LaneView). z.known) (sym is) ∙ x.3)))
         (λ ne. (x.0, x.1, set_else col₁ other x.0 blank miss ∙ set_else col id x.0 m ne ∙ x.2, x.3)))
 
-    -- another view is taken in
+    -- the join of another view
     pub merges : (other : ℕ) (b : LaneView) → ¬ (other ≡ id) → get_elem? (set col id (merged a b)) other ≡ some b →
         b.stage ≡ Away → LaneOk lane first ticket serving home (set (set col id (merged a b)) other blank) log owner
     merges other b apart at' away = let m = merged a b in let col₁ = set col id m in

@@ -1,4 +1,4 @@
--- A step that changes a view's part of one lane, and nothing that references speak of.
+-- A step that changes a view's part of one lane, but no field that references use.
 use Rattle.std.proofs.Common.{inr, ◌≡◌, ℕ, ◌+◌, ◌<◌, ◌≤◌, ◌≢◌, ◌⊎◌, zero, suc, List, [], ◌∷◌, length, get_or, set, sym, refl, ap, ◌∙◌, subst, inl, ⊎_elim, arith, Option, Some, None}
 use Rattle.std.specs.Prelude.{All}
 use Rattle.std.proofs.lemmas.List.{get_or-set_other, get_or-set_same, set-get_or, length-set}
@@ -28,7 +28,7 @@ none_if : (o : Option ℕ) → ((p : ℕ) → o ≡ Some p → ⊥) → o ≡ No
 none_if None h = refl
 none_if (Some p) h = absurd (h p refl)
 
--- w is v with a' at the lane i, where as much is known and owed, and which does not leave what it owes
+-- w is v with a' at the lane i: the known list and the owed answer stay, and the stage changes only if it owes nothing
 pub record Plain (i : ℕ) (v w : View) (a' : LaneView) : Type 0 where
   pub lanes : w.lanes ≡ set v.lanes i a'
   pub known : a'.known ≡ known_of v i
@@ -45,7 +45,7 @@ set_self [] i d = refl
 set_self (x ∷ xs) zero d = refl
 set_self (x ∷ xs) (suc i) d = ap (λ (l : List _). x ∷ l) (set_self xs i d)
 
--- a view with what it has of a lane
+-- a view with its own part of a lane
 pub set_at : (i : ℕ) (v : View) → set v.lanes i (at i v) ≡ v.lanes
 set_at i v = set_self v.lanes i blank
 
@@ -56,7 +56,7 @@ module _ {first : ℕ} {s : St} {id : ℕ} {v : View} (h : Here first s id v) (i
   pub at_there : (a : LaneView) (j : ℕ) → j ≢ i → at j (with_at i a v) ≡ at j v
   at_there a j ne = get_or-set_other v.lanes i j a blank ne
 
-  -- who does not hold the lane owes nothing there
+  -- a pass that does not hold the lane owes no answer there
   pub owes_nothing : ((t : ℕ) → ¬ ((at i v).stage ≡ Holding t)) → OwesNothing i v
   owes_nothing away = (
     none_if (at i v).owes (λ p e. let o = (h.rule.views id v h.is).owed i near p e in away o.0.0 o.0.1),
@@ -107,7 +107,7 @@ module _ {first : ℕ} {s : St} {id : ℕ} {v : View} (h : Here first s id v) (i
     pub w_raised : a'.raised ≡ (at i v).raised → (at 1 w).raised ≡ (at 1 v).raised
     w_raised e = field (λ (a : LaneView). a.raised) e 1
 
-    -- where it is raised as before
+    -- the case of an unchanged raise
     pub w_raised_ok : a'.raised ≡ (at i v).raised → RaisedOk (at 1 w)
     w_raised_ok e = let was = (h.rule.seen id v h.is).1 in let keeps : (at 1 w).stage ≡ (at 1 v).stage →
         RaisedOk (at 1 w) = λ st. ⊎_elim (λ (z : (at 1 v).raised ≡ 0). inl (w_raised e ∙ z))
@@ -119,7 +119,7 @@ module _ {first : ℕ} {s : St} {id : ℕ} {v : View} (h : Here first s id v) (i
         (λ (none : OwesNothing i v). inl (w_raised e ∙ none.1 (sym one))) p.stage)
         (λ ne. keeps (ap (λ (a : LaneView). a.stage) (w_there 1 ne)))
 
-    -- the rule is kept where it is for the lane, and the generation rises with what is raised
+    -- the rule holds if the lane's does, and the generation rises with the raise
     pub plainly : {k y : ℕ} (homes' : List (maybe.Option (Option Content))) (owner' : ℕ → ℕ) → WordStep h i k y →
         length homes' ≡ length s.homes → ((j : ℕ) → j ≢ i → get_elem? homes' j ≡ get_elem? s.homes j)
         → LaneOk i first (get_or (set s.words k y) (ticket_word i) 0) (get_or (set s.words k y) (serving_word i) 0)
@@ -152,7 +152,7 @@ module _ {first : ℕ} {s : St} {id : ℕ} {v : View} (h : Here first s id v) (i
           raised = raised';
         }
 
-    -- a load keeps the rule where it is kept for the lane
+    -- a load keeps the rule if it keeps the lane's
     pub reads : (k : ℕ) → WordStep h i k (get_or s.words k 0)
         → LaneOk i first (get_or s.words (ticket_word i) 0) (get_or s.words (serving_word i) 0) (get_elem? s.homes i)
         (set (column i s.views) id a') (h.rule.logs i) (h.rule.owners i)
@@ -168,7 +168,7 @@ module _ {first : ℕ} {s : St} {id : ℕ} {v : View} (h : Here first s id v) (i
         (get_elem? s.homes i) (set (column i s.views) id a') (h.rule.logs i) (h.rule.owners i)) (sym e) ok)
         (let r = w_raised same in omega arith) (let o = (h.rule.seen id v h.is).0 in omega arith) (w_raised_ok same)
 
-  -- who is served at the base, and has not raised: nobody has
+  -- if the pass served at the base has not raised the generation, no pass has
   pub none_raised : (t : ℕ) → i ≡ 1 → t ≡ get_or s.words (serving_word 1) 0 → h.rule.owners 1 t ≡ id →
       (at 1 v).raised ≡ 0 → sum_by (λ (a : LaneView). a.raised) (column 1 s.views) ≡ 0
   none_raised t one now mine none' = all_zero (λ (a : LaneView). a.raised) (column 1 s.views) (λ j a e.

@@ -1,4 +1,4 @@
--- The stores of a serving word: the value goes home, with a visit or without.
+-- The stores of a serving word: the value goes back, with a visit or without.
 use Rattle.std.proofs.Common.{◌≤◌, ◌≡◌, ℕ, ◌+◌, ◌<◌, ◌≢◌, List, [], ◌∷◌, ◌++◌, length, get_or, set, sym, refl, ap, ◌∙◌, subst, inl, inr, ⊎_elim, arith, Option, Some, None, length-append}
 use Rattle.std.specs.Prelude.{All}
 use Rattle.std.proofs.lemmas.List.{get_or-set_other, get_or-set_same, length-set}
@@ -34,7 +34,7 @@ use Rattle.lane_table.proofs.Rule.Giving as giving
 some_is : (p q : ℕ) → Some p ≡ Some q → p ≡ q
 some_is p q e = cc e
 
--- a list of stamps that are at most the pass's, and one more that is above it
+-- stamps that are at most the pass's, and a later one above it
 stamped_push : (m n : ℕ) (stamps : List ℕ) → All (λ k. k ≤ m) stamps → m < n → All (λ k. k ≤ n) (stamps ++ n ∷ [])
 stamped_push m n stamps all above = All-append (λ k. k ≤ n) stamps (n ∷ [])
     (λ k d low. let a = all k d low in omega arith)
@@ -48,7 +48,7 @@ module _ {first : ℕ} {s : St} {id : ℕ} {v : View} (h : Here first s id v) (i
   abbrev homes' : Content → List (maybe.Option (Option Content))
   homes' c = set s.homes i (some (Some c))
 
-  -- the lane's words and slot once the value is home
+  -- the lane's words and slot after the value went back
   home_lane : (c : Content) (log' : List Visit) (a' : LaneView) →
       LaneOk i first (get_or s.words (ticket_word i) 0) (t + 1) (some (some (Some c))) (set (column i s.views) id a')
       log' (h.rule.owners i)
@@ -61,7 +61,7 @@ module _ {first : ℕ} {s : St} {id : ℕ} {v : View} (h : Here first s id v) (i
       let P : ℕ × ℕ × Home → Type 0 = λ z. LaneOk i first z.0 z.1 z.2 (set (column i s.views) id a') log'
       (h.rule.owners i) in subst P (λ q. (sym e₁ q, sym e₂ q, sym e₃ q)) ok
 
-  -- the slot that was taken last is the one that goes home
+  -- the slot taken last is the one that goes back
   laid : (held : List (ℕ × Option Content)) (c : Content) (w : View) → held ≡ (i, Some c) ∷ rest held →
       WorldRule first record { words = set s.words k (t + 1); homes = homes' c; views = set s.views id w }
       → WorldRule first (stepped s k (t + 1) id held w gives)
@@ -105,7 +105,7 @@ module _ {first : ℕ} {s : St} {id : ℕ} {v : View} (h : Here first s id v) (i
     abbrev own : View
     own = giving.own h i t near hold x enters
 
-    -- what the view w has after the visit, beside its own lane
+    -- the view w after the visit, in the other lanes too
     record Visits (w : View) : Type 0 where
       lanes : length w.lanes ≡ length v.lanes
       here : at i w ≡ visited x (at i v)
@@ -197,7 +197,7 @@ module _ {first : ℕ} {s : St} {id : ℕ} {v : View} (h : Here first s id v) (i
       stamps = (refl, refl);
     }
 
-    -- the entry names the place b of the lane d, which is held
+    -- the entry names the held place b of the lane d
     module _ (d b : ℕ) (ahead : ahead_of x.entry ≡ Some (d, b)) (held : NamesHeld i v d b) where
       abbrev place : ℕ
       place = length (known_of v i)
@@ -278,7 +278,7 @@ module _ {first : ℕ} {s : St} {id : ℕ} {v : View} (h : Here first s id v) (i
           (ap (λ (z : LaneView). z.owes) a) (λ _ _. ap (λ (z : LaneView). z.known) a)
           (subst (Begins (known_of own (parent l))) (sym (known_w (parent l))) (begins_refl (known_of own (parent l)))))
 
-      -- the reference that was just left
+      -- the new reference
       pending_d : Pending d (logs' (parent d)) (logs' d) (set s.views id w)
       pending_d = let logs = h.rule.logs in let views' = set s.views id w in
           let kept : (p : ℕ) → Owes d p s.views → Owes d p views' = λ p q. dite (ℕ_discrete q.0 id)

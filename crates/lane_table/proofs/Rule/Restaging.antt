@@ -1,4 +1,4 @@
--- Steps that change how a pass stands at a lane, and what it read there, and nothing else.
+-- Steps that change only a pass's stage at a lane, and the numbers that it read there.
 use Rattle.std.proofs.Common.{◌≡◌, ◌≢◌, ℕ, zero, suc, ◌<◌, List, [], ◌∷◌, length, get_or, set, sym, refl, ap, ◌∙◌, subst, inl, arith}
 use Rattle.std.proofs.lemmas.List.{get_or-set_other, get_or-set_same, length-set}
 use mathlib.Core.Logic.{dite}
@@ -22,7 +22,7 @@ set_twice [] i a b = refl
 set_twice (x ∷ xs) zero a b = refl
 set_twice (x ∷ xs) (suc i) a b = ap (λ (l : List _). x ∷ l) (set_twice xs i a b)
 
--- the lists that are known are the same
+-- the same known lists
 pub consistent_same : (v w : View) → length w.lanes ≡ length v.lanes → ((j : ℕ) → known_of w j ≡ known_of v j) →
     Consistent v → Consistent w
 consistent_same v w long same ok = let lists : known_of w ≡ known_of v = λ k j. same j k in
@@ -31,7 +31,7 @@ consistent_same v w long same ok = let lists : known_of w ≡ known_of v = λ k 
 pub grows_same : (v w : View) → ((j : ℕ) → known_of w j ≡ known_of v j) → Grows v w
 grows_same v w e j low = subst (Begins (known_of v j)) (sym (e j)) (begins_refl (known_of v j))
 
--- a view's part of the lane i is `to` from now on, where as much is known, owed and done
+-- a view's part of the lane i becomes `to`, with the same known list, owed answer and visits
 pub record Restages (i : ℕ) (m m' : Seated) : Type 0 where
   pub to : LaneView
   pub lanes : m'.0.lanes ≡ set m.0.lanes i to
@@ -191,7 +191,7 @@ restages_queued_found i t m = record {
   looks = refl;
 }
 
--- one after the other
+-- two such steps
 pub restages_both : {i : ℕ} {m m' m'' : Seated} → i < length m.0.lanes → Restages i m m' → Restages i m' m'' →
     Restages i m m''
 restages_both {i} {m} {m'} {m''} near r q = let here = to_here r near in record {
@@ -213,6 +213,6 @@ restages_both {i} {m} {m'} {m''} near r q = let here = to_here r near in record 
   looks = q.looks ∙ r.looks;
 }
 
--- the seat is as it was, but for an equation
+-- the same, up to an equation
 pub restages_to : {i : ℕ} {m m' m'' : Seated} → Restages i m m' → m'' ≡ m' → Restages i m m''
 restages_to {i} {m} r e = subst (Restages i m) (sym e) r

@@ -1,5 +1,5 @@
--- The load of a serving word by a pass that waits: where its ticket is served, it gets the lane, and learns what the
--- value carries.
+-- The load of a serving word by a pass that waits: if it finds its ticket, it gets the lane, and learns the lists
+-- that the value carries.
 use Rattle.std.proofs.Common.{◌≡◌, ℕ, zero, suc, ◌+◌, ◌<◌, ◌≤◌, ◌≢◌, List, [], ◌∷◌, length, get_or, set, sym, refl, ap, ◌∙◌, subst, inl, inr, ⊎_elim, arith, Some}
 use Rattle.std.proofs.lemmas.List.{get_or-set_other, get_or-set_same, set-get_or, length-set}
 use mathlib.Core.Option.{some, none}
@@ -36,7 +36,7 @@ learn_at lists k (a ∷ rest) zero h = let e : k + 0 ≡ k = omega arith in ap (
 learn_at lists k (a ∷ rest) (suc j) h = let e : suc k + j ≡ k + suc j = omega arith in
     learn_at lists (suc k) rest j (omega arith) ∙ ap (λ (m : ℕ). learn (lists m) (get_or rest j blank)) e
 
--- the view of who gets the lane i with the ticket t
+-- the view of the pass that gets the lane i with the ticket t
 module _ {first : ℕ} {s : St} {id : ℕ} {v : View} (h : Here first s id v) (i t : ℕ) (near : i < length s.homes)
     (waits : (at i v).stage ≡ Queued t) where
   abbrev log : List Visit
@@ -102,14 +102,14 @@ module _ {first : ℕ} {s : St} {id : ℕ} {v : View} (h : Here first s id v) (i
   got_consistent = world.consistent h h.rule.logs s.views got_view h.rule.lawful h.rule.pending
       (got_length ∙ (world.sized h).0) got_begins got_closed
 
-  -- who waits does not hold the lane
+  -- a pass that waits does not hold the lane
   waits_only : (u : ℕ) → ¬ ((at i v).stage ≡ Holding u)
   waits_only u hold = let g : Queued t ≡ Holding u = sym waits ∙ hold in absurd (cc g)
 
   got_free : OwesNothing i v
   got_free = plain.owes_nothing h i near waits_only
 
-  -- what is held is known whole already
+  -- the pass already knows the whole list of each lane that it holds
   got_whole : (j u : ℕ) → j < length s.homes → j ≢ i → (at j v).stage ≡ Holding u → known_of got_view j ≡ known_of v j
   got_whole j u below ne hold = let whole = (lane.holds_turn (h.rule.lane j below) id (world.here h j) u hold).3 in
       (got_recasts j below ne).whole whole ∙ sym whole
@@ -151,7 +151,7 @@ module _ {first : ℕ} {s : St} {id : ℕ} {v : View} (h : Here first s id v) (i
   waits_stands = subst (Stands (get_or s.words (ticket_word i) 0) (get_or s.words (serving_word i) 0) (h.rule.owners i)
       (get_elem? s.homes i) log id (known_of v i)) waits ((h.rule.lane i near).passes id (at i v) (world.here h i)).stands
 
-  -- nobody has raised where the base serves this ticket
+  -- while the base serves this ticket, no pass has raised
   got_seen : t ≡ get_or s.words (serving_word i) 0 → i ≡ 1 → v.seen ≤ raises log
   got_seen now one = let none = plain.none_raised h i near t one
       (now ∙ ap (λ (k : ℕ). get_or s.words (serving_word k) 0) one)
@@ -159,7 +159,7 @@ module _ {first : ℕ} {s : St} {id : ℕ} {v : View} (h : Here first s id v) (i
       let g = h.rule.generation in let o = (h.rule.seen id v h.is).0 in let e =
       ap (λ (k : ℕ). raises (h.rule.logs k)) one in omega arith
 
-  -- the rule once the slot went out
+  -- the rule after the slot went out
   got_rule : t ≡ get_or s.words (serving_word i) 0 →
       (c : Content) × (get_elem? s.homes i ≡ some (some (Some c))) × Replays i first log c
       × WorldRule first record {

@@ -1,4 +1,4 @@
--- What a pass sees of the generation, look after look and visit after visit.
+-- The generation that a pass sees, look after look and visit after visit.
 use Rattle.std.proofs.Common.{◌≡◌, ◌≢◌, ℕ, suc, ◌<◌, ◌≤◌, List, [], ◌∷◌, ◌++◌, length, take, sym, refl, ap, ◌∙◌, subst, arith, le_refl, length-append}
 use Rattle.std.specs.Prelude.{⊤}
 use Rattle.std.specs.List.{fold}
@@ -26,7 +26,7 @@ use Rattle.lane_table.proofs.Lists.LawfulLists.{base_generation, cpu_below}
 use Rattle.lane_table.proofs.Lists.Lists.{at_below}
 use Rattle.lane_table.proofs.Rule.Naming.{parent_cpu}
 
--- No lane has a generation that the base has not had
+-- Each lane's generation is one that the base has had
 
 kept : {A : Type 0} (f : Model → A) (n i : ℕ) →
     ((s : Model) (e : LaneEntry) (got : Handed) → IsOf i e → f (made_of s e got) ≡ f s) →
@@ -103,7 +103,7 @@ module _ (m m' : Seated) (two : 1 < length m.0.lanes) where
         le_refl (floor m'.0),
       )
 
--- One after another
+-- Successive calls
 
 pub sees_up : (w : View) (low high : ℕ) (made_steps : List MadeStep) → Sees w low made_steps high → low ≤ high
 sees_up w low high [] s = s
@@ -120,7 +120,7 @@ sees_append w low mid high (looked g ∷ xs) ys a b = (a.0, sees_append w g mid 
 sees_append w low mid high (visited mark e ∷ xs) ys a b =
     (a.0, a.1, a.2, sees_append w a.0 mid high xs ys a.3 b)
 
--- each visit stands in a lane and below the end of what is known of it
+-- each visit is in a lane's known list
 abbrev pub AllKnown : View → List MadeStep → Type 0
 AllKnown v [] = ⊤
 AllKnown v (looked g ∷ made_steps) = AllKnown v made_steps
@@ -137,7 +137,7 @@ stand_known v caller event n (visited mark e ∷ made_steps) k = (
   stand_known v caller event (suc n) made_steps k.1,
 )
 
--- it is seen as well when more is known
+-- it holds as well when more is known
 pub sees_grown : (v w : View) (low high : ℕ) (made_steps : List MadeStep) → Grows v w → AllKnown v made_steps →
     Sees v low made_steps high → Sees w low made_steps high
 sees_grown v w low high [] grows known s = s

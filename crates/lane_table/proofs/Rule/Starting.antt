@@ -1,4 +1,4 @@
--- A table that was just made meets the rule.
+-- A new table meets the rule.
 use Rattle.std.proofs.Common.{◌≡◌, ℕ, zero, suc, ◌+◌, ◌<◌, ◌≤◌, List, [], ◌∷◌, ◌++◌, length-append, map, length, get_or, set, replicate, sym, refl, ap, ◌∙◌, subst, inl, ⊎_elim, arith, Option, Some}
 use Rattle.std.specs.Prelude.{slice_get}
 use Rattle.std.proofs.lemmas.List.{length-set, length-map, get_or-replicate, get_or-set_same, get_or-set_other}

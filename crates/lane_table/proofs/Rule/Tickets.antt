@@ -1,4 +1,4 @@
--- Tickets that are one pass's each, and as many as the numbers they are from, are all of these numbers.
+-- Tickets in a range, as many as its numbers and each with one pass, are all of that range.
 use Rattle.std.proofs.Common.{◌≡◌, ◌≢◌, ◌⊎◌, ℕ, zero, suc, ◌+◌, ◌<◌, ◌≤◌, List, [], ◌∷◌, ◌++◌, length, set, sym, refl, ◌∙◌, subst, inl, inr, ⊎_elim, arith}
 use Rattle.std.specs.List.{sum_by}
 use Rattle.std.proofs.lemmas.List.Sums.{sum_by_push}
@@ -45,7 +45,7 @@ found_or_nobody t (x ∷ xs) = ⊎_elim (λ (h : HasTicket x.stage t). inl (0, x
     (λ (lacks : ¬ HasTicket x.stage t). ⊎_elim (λ (f : Found t xs). inl (suc f.0, f.1, f.2, f.3))
     (λ (none' : Nobody t xs). inr (nobody_more t x xs lacks none')) (found_or_nobody t xs)) (has_or_not x.stage t)
 
--- these tickets are from lo on, so many, and one each
+-- the tickets are in a range of n numbers from lo, one for each pass
 abbrev Within : ℕ → ℕ → List LaneView → Type 0
 Within n lo col = (j t : ℕ) (a : LaneView) → get_elem? col j ≡ some a → HasTicket a.stage t → (lo ≤ t) × (t < lo + n)
 

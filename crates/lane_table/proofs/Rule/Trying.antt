@@ -1,4 +1,4 @@
--- What `try_take` finds: the numbers that were read, and what is left where the lane was not got.
+-- The numbers that `try_take` reads, and the view if it does not get the lane.
 use Rattle.std.proofs.Common.{◌≡◌, ◌≢◌, ℕ, ◌+◌, ◌^◌, ◌<◌, ◌≤◌, length, ap, ◌∙◌, inl, inr, arith}
 use Rattle.lane_table.specs.declared.view.LaneView.{LaneView}
 use Rattle.lane_table.specs.WorldRule.{at}
@@ -28,7 +28,7 @@ module _ (i n k : ℕ) (m m₁ m₂ : Seated) (near : i < length m.0.lanes) (at�
   here₂ = ap (λ (z : Seated). at i z.0) at₂ ∙ to_here (restages_found i k m₁) near₁
       ∙ ap (λ (a : LaneView). record a { found = k }) here₁
 
-  -- the serving number that was loaded is no more than a ticket number that is found later
+  -- the loaded serving number is at most a ticket number found later
   pub loaded_below : (r : ℕ) → (at i m₁.0).loaded ≤ r → n ≤ r
   loaded_below r low = let e = ap (λ (a : LaneView). a.loaded) here₁ in omega arith
 

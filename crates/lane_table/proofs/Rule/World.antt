@@ -1,4 +1,4 @@
--- A step on one lane keeps the rule of the whole: every other lane's part of the view may only learn.
+-- A step on one lane keeps the rule of the whole: a view's part of any other lane may only learn.
 use Rattle.std.proofs.Common.{◌≡◌, ℕ, ◌+◌, ◌*◌, ◌-◌, ◌^◌, ◌<◌, ◌≤◌, ◌≢◌, cond, eqb, eq-eqb, ne_eqb, List, length, get_or, set, sym, refl, ap, ◌∙◌, subst, ⊎_elim, arith, Option}
 use Rattle.std.specs.Prelude.{All}
 use Rattle.std.proofs.lemmas.List.{get_or-set_other, set-get_or, length-set, map-set}
@@ -24,7 +24,7 @@ use Rattle.lane_table.proofs.Lists.LawfulLists.{lawful_begun}
 use Rattle.lane_table.proofs.Rule.Naming.{pending_views, half_known, parent_within}
 use Rattle.lane_table.proofs.Rule.OneLane as lane
 
--- f, but x at i
+-- f with x at i
 abbrev pub pick : {A : Type 0} → ℕ → A → (ℕ → A) → ℕ → A
 pick i x f j = cond (eqb j i) x (f j)
 
@@ -38,7 +38,7 @@ pub pick_same : {A : Type 0} (i j : ℕ) (f : ℕ → A) → pick i (f i) f j �
 pick_same i j f = dite (ℕ_discrete j i) (λ e. ap (λ (k : ℕ). pick i (f i) f k) e ∙ pick_here i (f i) f ∙ ap f (sym e))
     (λ ne. pick_else i j (f i) f ne)
 
--- what a view has of another lane may grow
+-- a view's part of another lane may grow
 pub record Recasts (log : List Visit) (a b : LaneView) : Type 0 where
   pub stage : b.stage ≡ a.stage
   pub made : b.made ≡ a.made
@@ -50,7 +50,7 @@ pub record Recasts (log : List Visit) (a b : LaneView) : Type 0 where
   pub begins : Begins b.known log
   pub whole : a.known ≡ log → b.known ≡ log
 
--- it does not
+-- an unchanged part
 pub same_at : (log : List Visit) (a b : LaneView) → b ≡ a → Begins a.known log → Recasts log a b
 same_at log a b e h = record {
   stage = ap (λ (x : LaneView). x.stage) e;
@@ -64,7 +64,7 @@ same_at log a b e h = record {
   whole = λ w. ap (λ (x : LaneView). x.known) e ∙ w;
 }
 
--- the seat of number id has the view v, under the rule
+-- seat number id has the view v, under the rule
 pub record Here (first : ℕ) (s : St) (id : ℕ) (v : View) : Type 0 where
   pub rule : WorldRule first s
   pub is : get_elem? s.views id ≡ some v
@@ -96,7 +96,7 @@ module _ {first : ℕ} {s : St} {id : ℕ} {v : View} (h : Here first s id v) wh
   pub begun : (j : ℕ) → j < count → Begins (known_of v j) (logs j)
   begun j below = ((h.rule.lane j below).passes id (at j v) (here j)).begins
 
-  -- a step that changes neither words, homes nor the view
+  -- a step that changes neither words nor homes nor the view
   pub stays : (k : ℕ) → WorldRule first record {
     words = set s.words k (get_or s.words k 0);
     homes = s.homes;
@@ -106,7 +106,7 @@ module _ {first : ℕ} {s : St} {id : ℕ} {v : View} (h : Here first s id v) wh
       let path : s ≡ record { words = set s.words k (get_or s.words k 0); homes = s.homes; views = set s.views id v } =
       λ i. record { words = sym p i; homes = s.homes; views = sym q i } in subst (WorldRule first) path h.rule
 
-  -- a view whose lists are beginnings is consistent where they are closed
+  -- a view of prefixes is consistent if its lists are closed
   pub consistent : (logs' : ℕ → List Visit) (views' : List View) (w : View) → LawfulLists count logs' →
       AllPending count logs' views' → length w.lanes ≡ count
       → ((j : ℕ) → j < count → Begins (known_of w j) (logs' j)) → Closed count (known_of w) → Consistent w
@@ -119,7 +119,7 @@ module _ {first : ℕ} {s : St} {id : ℕ} {v : View} (h : Here first s id v) wh
         (begins (parent l) (parent_within l count two)) (begins l low);
   }
 
-  -- as much is known as before
+  -- the same known lists
   pub consistent_as : (w : View) → ((j : ℕ) → known_of w j ≡ known_of v j) → length w.lanes ≡ length v.lanes →
       Consistent w
   consistent_as w same long = consistent logs s.views w h.rule.lawful h.rule.pending (long ∙ sized.0)
@@ -127,7 +127,7 @@ module _ {first : ℕ} {s : St} {id : ℕ} {v : View} (h : Here first s id v) wh
       (λ l lo hi. subst (λ (z : List Visit × List Visit). Pointed l z.0 z.1)
       (λ k. (sym (same (parent l)) k, sym (same l) k)) ((h.rule.views id v h.is).closed l lo hi))
 
-  -- who owes an answer owes it still
+  -- a view that owes an answer still owes it
   pub owes_kept : (l : ℕ) (w : View) → (at l w).owes ≡ (at l v).owes → (p : ℕ) → Owes l p s.views →
       Owes l p (set s.views id w)
   owes_kept l w same p o = dite (ℕ_discrete o.0 id)
@@ -140,13 +140,13 @@ module _ {first : ℕ} {s : St} {id : ℕ} {v : View} (h : Here first s id v) wh
       ))
       (λ ne. (o.0, o.1, set_else s.views id o.0 w ne ∙ o.2, o.3))
 
-  -- a word changes that is not one of another lane, and the generation does not fall
+  -- a changed word is not one of another lane, and the generation does not fall
   pub record WordStep (i k y : ℕ) : Type 0 where
     pub others : (j : ℕ) → j ≢ i → (ticket_word j ≢ k) × (serving_word j ≢ k)
     pub rises : get_or s.words 0 0 ≤ get_or (set s.words k y) 0 0
     pub small : get_or (set s.words k y) 0 0 < 2 ^ 63
 
-  -- the generation stays
+  -- the generation does not change
   pub unraised : (k y : ℕ) → ¬ (0 ≡ k) → get_or (set s.words k y) 0 0 ≡ get_or s.words 0 0
   unraised k y ne = get_or-set_other s.words k 0 y 0 ne
 
@@ -162,7 +162,7 @@ module _ {first : ℕ} {s : St} {id : ℕ} {v : View} (h : Here first s id v) wh
   serving_step i y = lane_step i (serving_word i) y (λ j ne. ((λ e. omega arith), (λ e. ne (omega arith))))
       (λ e. omega arith)
 
-  -- what a step on the lane i leaves
+  -- the state after a step on the lane i
   pub record Moved (i y k : ℕ) (w : View) (a' : LaneView) (homes' : List (maybe.Option (Option Content)))
       (log' : List Visit) (owner' : ℕ → ℕ) (lists' : ℕ → List Visit) : Type 0 where
     pub word : WordStep i k y
@@ -200,7 +200,7 @@ module _ {first : ℕ} {s : St} {id : ℕ} {v : View} (h : Here first s id v) wh
         closed = c.closed;
       }
 
-  -- a step that lets the lists be as they are
+  -- a step that does not change the lists
   pub carries_same : (i : ℕ) → i < count → Carries count (pick i (logs i) logs) i (h.rule.carried i)
   carries_same i near = let c = h.rule.carries i near in record {
     begins = λ m low. subst (Begins (h.rule.carried i m)) (sym (pick_same i m logs)) (c.begins m low);

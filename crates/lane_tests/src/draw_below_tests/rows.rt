@@ -1,5 +1,5 @@
-//! What the kernel answers for 1,000 bounds and lists of words, worked out by another program in exact integers.
-// Of each row the bound, the answer, and how many words were rejected before it.
+//! The kernel's results for 1,000 bounds and lists of words, computed by another program in exact integers.
+// In each row: the bound, the result, and how many words were rejected before it.
 pub(crate) const ROWS: [(u32, u32, u8); 1000] = [
     (0x00000000, 0x3c6ef35f, 0),
     (0x00000001, 0x00000000, 0),

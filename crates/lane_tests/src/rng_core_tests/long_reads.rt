@@ -1,4 +1,4 @@
-//! Reads of one caller while another one's long read of the same CPU goes on.
+//! Reads of one caller during another one's long read of the same CPU.
 ghost use Rattle.std.specs.Prelude.{◌<◌, ◌≤◌, ◌^◌, [], length, vec_len};
 ghost use Rattle.lane_table.specs.Hands.{HoldsLanes};
 
@@ -14,10 +14,10 @@ use std::test::Fail;
 use std::thread;
 use std::thread::Threads;
 
-// How many bytes the long read gets: it takes about a millisecond, and a short one less than a microsecond.
+// The length of the long read: it takes about a millisecond, and a short one less than a microsecond.
 const LONG: usize = 1 << 20;
 
-// As many short reads as this do not fit between a visit's end and the return of a call that has nothing left to do.
+// This many short reads do not fit between a visit's end and the return of a call that has no work left.
 const MANY: u64 = 64;
 
 const ROUNDS: u32 = 500;
@@ -35,7 +35,7 @@ fn last_place(trace: &Trace) -> u64 {
     place
 }
 
-// A read for the kernel on CPU 0: the place of its visit there.
+// A read for the kernel on CPU 0. Returns the place of its visit there.
 fn read<R: Wait>(rt: &R, lanes: &Lanes, pass: &mut Pass, caller: u32, buf: &mut [u8]) -> u64
     requires has { HoldsLanes lanes.now caller [] pass.old }
     requires cpu { 0 < lanes.now.cpus }
@@ -70,7 +70,7 @@ fn long_read<R: Wait>(
     place
 }
 
-// Short reads of caller 1 until the long one is over: the place of the last that was done before.
+// Short reads of caller 1 until the long one is over. Returns the place of the last one that ended before.
 fn short_reads<R: Wait>(rt: &R, lanes: &Lanes, mut pass: Pass, is_over: &AtomicBool) -> u64
     requires has { HoldsLanes lanes.now 1 [] pass }
     requires cpu { 0 < lanes.now.cpus }
@@ -87,7 +87,7 @@ fn short_reads<R: Wait>(rt: &R, lanes: &Lanes, mut pass: Pass, is_over: &AtomicB
     last
 }
 
-// How many short reads of another caller were done between the visit that a long read makes and its end.
+// The number of another caller's short reads between the visit of a long read and its end.
 fn reads_beside<R: Threads + Wait + Sync>(rt: &R, alloc: Global) -> Result<u64, AllocError> {
     let buf = vec![in alloc; 0; LONG]?;
     let (lanes, mut pass) = started(alloc, 1, 0)?;

@@ -18,7 +18,7 @@ use std::thread;
 use std::thread::Threads;
 use vdso_state::{Local, VState};
 
-// One call of the caller 0 that visits this lane alone. It is not made before the lane is held.
+// A call of caller 0 that visits only this lane. It starts after the lane is held.
 fn visit_of<R: Wait>(
     rt: &R,
     lanes: &Lanes,
@@ -48,7 +48,7 @@ fn visit_of<R: Wait>(
     Some(trace)
 }
 
-// Takes a lane, and holds on to it until another is queued for it. The answer is whether that came.
+// Takes a lane, and holds it until another pass is queued for it. Returns whether that happened.
 fn hold<R: Wait>(
     rt: &R,
     lanes: &Lanes,
@@ -68,7 +68,7 @@ fn hold<R: Wait>(
     queued
 }
 
-// A call of one thread while another has its lane: whether it was seen in the queue, and its trace.
+// A call of one thread while another holds its lane. Returns whether the call was seen in the queue, and its trace.
 fn waiting_call<R: Threads + Wait + Sync>(
     rt: &R,
     alloc: Global,
@@ -109,7 +109,7 @@ fn a_call_waits_for_a_lane_that_another_holds(rt: HostRuntime) -> Result<(), Fai
     Ok(())
 }
 
-// A read of 8 bytes out of a wiped state. Its trace is to be empty.
+// A read of 8 bytes out of a wiped state. Its trace must be empty.
 fn local_read(lanes: &Lanes, pass: &mut Pass) -> Option<Local>
     requires has { HoldsLanes lanes.now 1 [] pass.old }
     ensures has { HoldsLanes lanes.now 1 [] pass.new }
@@ -127,7 +127,7 @@ fn local_read(lanes: &Lanes, pass: &mut Pass) -> Option<Local>
     has_steps(&trace, &[]).then_some(local)
 }
 
-// A reseed by one pass, and local reads of another one while the base is held: before the raise and behind it.
+// A reseed by one pass, and local reads of another while the base is held: before the raise and after it.
 fn reads_around_a_raise<R: Wait>(
     rt: &R,
     lanes: &Lanes,

@@ -19,7 +19,7 @@ use Rattle.list_replay.proofs.Whole.{extractions_back, refills_back, base_may_co
 use Rattle.list_replay.proofs.replay_lists.Goals as goal
 use Rattle.list_replay.proofs.replay_lists.Goals.{else-extractions_answered-via-then-extractions_answered+else-refills_answered, else-extractions_answered-via-else-extractions_answered}
 
--- what is found of each lane
+-- the findings about each lane
 abbrev DumpsFound : Tables → Vec (Vec (Option Dump) Global) Global → Type 0
 DumpsFound told dumps = AllDue told × AllDumps (closed told) (map (λ lane. lane.items) dumps.items)
 

@@ -1,4 +1,4 @@
-//! Callers that begin: an entry of the base tells of the child, and its pass is split off.
+//! The fork of a caller: an entry of the base records the child, and its pass is split off.
 ghost use Rattle.rng_core.specs.Forks.{TellsOf, SplitsOff};
 ghost use Rattle.rng_core.specs.Sites.{IsIdle};
 
@@ -8,7 +8,7 @@ use key_names::{BaseEntry, LaneId};
 use lane_table::Pass;
 use std::sync::Wait;
 
-// One more caller runs.
+// Records one more running caller.
 fn tell<R: Wait>(rt: &R, site: &mut Site, child: u32)
     requires idle { IsIdle 1 site.old }
     ensures { TellsOf child site.old site.new }
@@ -18,8 +18,8 @@ fn tell<R: Wait>(rt: &R, site: &mut Site, child: u32)
     site.visit_base(base, BaseEntry::Fork { child });
 }
 
-/// The caller forks the caller `child`, which runs from now on. The answer is the child's pass, which knows what this
-/// one knows and has half of its share.
+/// Forks the caller `child`, which counts as running from now on. Returns the child's pass, which has this pass's
+/// knowledge and half of its share.
 pub fn fork<R: Wait>(rt: &R, site: &mut Site, child: u32) -> Pass
     requires idle { IsIdle 1 site.old }
     ensures { SplitsOff child result site.old site.new }

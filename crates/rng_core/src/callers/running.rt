@@ -1,4 +1,4 @@
-//! How many callers run: entries of the base that raise and lower the count.
+//! The number of running callers: entries of the base that raise and lower it.
 ghost use Rattle.std.specs.Prelude.{◌≤◌, ◌≡◌, ◌+◌, length};
 ghost use Rattle.key_names.specs.declared.entries.BaseEntry.TheVariants.{Stall, Unstall, End};
 ghost use Rattle.key_names.specs.Forms.{BaseOnly};
@@ -9,8 +9,8 @@ use crate::site::Site;
 use key_names::{BaseEntry, LaneId};
 use std::sync::Wait;
 
-/// Counts the caller as not running, in a visit of the base: it is about to run a child in its own thread. No kernel
-/// function does this.
+/// Counts the caller as not running, in a visit of the base, since it is about to run a child in its own thread. The
+/// kernel has no such function.
 pub fn stall<R: Wait>(rt: &R, site: &mut Site)
     requires idle { IsIdle 1 site.old }
     ensures does { Does 1 (BaseOnly Stall) site.old site.new }
@@ -21,7 +21,7 @@ pub fn stall<R: Wait>(rt: &R, site: &mut Site)
     site.visit_base(base, BaseEntry::Stall);
 }
 
-/// Counts it as running again, in a visit of the base.
+/// Counts the caller as running again, in a visit of the base.
 pub fn unstall<R: Wait>(rt: &R, site: &mut Site)
     requires idle { IsIdle 1 site.old }
     ensures does { Does 1 (BaseOnly Unstall) site.old site.new }
@@ -32,7 +32,7 @@ pub fn unstall<R: Wait>(rt: &R, site: &mut Site)
     site.visit_base(base, BaseEntry::Unstall);
 }
 
-/// The caller ends. All that its pass has seen of the generation is then in the base's list.
+/// Ends the caller. Then the base's list has every generation that the pass has seen.
 pub fn end<R: Wait>(rt: &R, site: &mut Site)
     requires idle { IsIdle 1 site.old }
     ensures does { Does 1 (BaseOnly End) site.old site.new }

@@ -10,7 +10,7 @@ use crate::site::Site;
 use key_names::{CpuEntry, LaneId};
 use std::sync::Wait;
 
-/// A CPU of the table is about to come online (`random_prepare_cpu`).
+/// Prepares a CPU of the table to come online (`random_prepare_cpu`).
 pub fn prepare<R: Wait>(rt: &R, site: &mut Site, cpu: u32)
     requires idle { IsIdle 1 site.old }
     requires cpu { cpu < site.old.lanes.now.cpus }
@@ -21,7 +21,7 @@ pub fn prepare<R: Wait>(rt: &R, site: &mut Site, cpu: u32)
     site.visit(held, CpuEntry::Prepare);
 }
 
-/// A CPU of the table came online (`random_online_cpu`).
+/// Brings a CPU of the table online (`random_online_cpu`).
 pub fn online<R: Wait>(rt: &R, site: &mut Site, cpu: u32)
     requires idle { IsIdle 1 site.old }
     requires cpu { cpu < site.old.lanes.now.cpus }

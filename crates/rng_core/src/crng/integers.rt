@@ -1,4 +1,4 @@
-//! Random integers, served out of a CPU's batches once the core is ready.
+//! Random integers, served out of a CPU's batches after the core is ready.
 ghost use Rattle.std.specs.Prelude.{◌≡◌, ◌≤◌, Bool, true, None, Some, length};
 ghost use Rattle.key_names.specs.declared.entries.CpuEntry.TheVariants.{Int};
 ghost use Rattle.key_names.specs.declared.events.Answer.TheVariants.{Ok as Done};
@@ -17,7 +17,7 @@ use key_names::{CpuEntry, Taken};
 use lane_table::Held;
 use std::sync::Wait;
 
-// An integer out of a batch that is not filled, or that the CPU's key of the generation that was found fills.
+// Serves an integer out of a batch that needs no fill, or that the CPU's own key, of the found generation, fills.
 fn serve(site: &mut Site, mut cpu: Held, look: u64, filled: bool, out: &mut [u8])
     requires holds { Holds (own_lane site.old) cpu site.old }
     requires fill { IsFill look (length out.old) filled site.old }
@@ -37,7 +37,7 @@ fn serve(site: &mut Site, mut cpu: Held, look: u64, filled: bool, out: &mut [u8]
     site.visit_cpu(cpu, entry);
 }
 
-// An integer out of a batch that a CPU fills which was refilled from the base.
+// Serves an integer out of a batch that the CPU fills with a key from the base.
 fn serve_refilled(site: &mut Site, mut cpu: Held, look: u64, base: &KeyHandoff, out: &mut [u8])
     requires holds { HoldsWith (Some base.now.place) 0 (own_lane site.old) cpu site.old }
     requires refill { IsRefill look base.now site.old }
@@ -58,7 +58,7 @@ fn serve_refilled(site: &mut Site, mut cpu: Held, look: u64, base: &KeyHandoff, 
     site.visit_cpu(cpu, entry);
 }
 
-// An integer out of a CPU's batch (`DEFINE_BATCHED_ENTROPY` once the core is ready).
+// Serves an integer out of a CPU's batch (`DEFINE_BATCHED_ENTROPY` after the core is ready).
 fn serve_batched<R: Wait>(rt: &R, site: &mut Site, out: &mut [u8])
     requires idle { IsIdle 3 site.old }
     requires cpu { IsOnCpu site.old }
@@ -79,8 +79,8 @@ fn serve_batched<R: Wait>(rt: &R, site: &mut Site, out: &mut [u8])
     serve_refilled(site, cpu, look, &base, out);
 }
 
-/// A random integer of 1, 2, 4 or 8 bytes, as many as `out` has (`get_random_u8` to `get_random_u64`). Before the core
-/// is ready it is a read of the kernel, and no batch is touched.
+/// Serves a random integer of 1, 2, 4 or 8 bytes, the length of `out` (`get_random_u8` to `get_random_u64`). Before
+/// the core is ready it is a read of the kernel, and uses no batch.
 pub fn int<R: Wait>(rt: &R, site: &mut Site, out: &mut [u8])
     requires idle { IsIdle 4 site.old }
     requires cpu { IsOnCpu site.old }

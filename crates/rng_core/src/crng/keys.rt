@@ -1,4 +1,4 @@
-//! Keys out of the lane behind one that is held: a root for the base, and a CPU's key.
+//! Keys from the parent of a held lane: a root of the pool for the base, and a key of the base for a CPU.
 ghost use Rattle.std.specs.Prelude.{◌≤◌};
 
 use crate::lane_values;
@@ -14,7 +14,7 @@ pub(crate) struct Root {
     pub(crate) place: u64,
 }
 
-/// What the base hands over to a CPU, and the place of that in the base's list.
+/// A key that the base hands over to a CPU, and the place of the refill in the base's list.
 #[derive(Clone, Copy)]
 pub(crate) struct KeyHandoff {
     pub(crate) key: [u8; 32],
@@ -26,7 +26,7 @@ impl Site<'_> {
     ghost use Rattle.lane_table.specs.Calls.{view};
     ghost use Rattle.rng_core.specs.Sites.{HasRoom, Holds, IsLow, Extracted, ExtractedRaising, Refilled, base_lane, own_lane};
 
-    /// Extracts a root for the base that is held (`extract_entropy`).
+    /// Extracts a root for the held base (`extract_entropy`).
     pub(crate) fn extract<R: Wait>(&mut self, rt: &R, base: &Held) -> Root
         requires holds { Holds base_lane base.now self.old }
         requires room { HasRoom 1 self.old }
@@ -43,7 +43,7 @@ impl Site<'_> {
         Root { key, place }
     }
 
-    /// Extracts a root for the base that is held, and raises the generation to that which a reseed with it makes.
+    /// Extracts a root for the held base, and raises the generation to that of the reseed.
     pub(crate) fn extract_raising<R: Wait>(&mut self, rt: &R, base: &Held) -> Root
         requires holds { Holds base_lane base.now self.old }
         requires room { HasRoom 1 self.old }
@@ -56,8 +56,7 @@ impl Site<'_> {
         root
     }
 
-    /// Takes a key from the base for the CPU that is held (`crng_make_state` where the CPU's generation is not the
-    /// base's).
+    /// Takes a key from the base for the held CPU (`crng_make_state` if the CPU's generation is not the base's).
     pub(crate) fn refill<R: Wait>(&mut self, rt: &R, cpu: &Held) -> KeyHandoff
         requires holds { Holds (own_lane self.old) cpu.now self.old }
         requires ready { 1 ≤ (view self.old.pass.now).seen }

@@ -1,5 +1,5 @@
-//! Reads of random bytes, from the base while the core is not ready and from a CPU afterwards. No lane is held while
-//! the bytes behind the first 32 are made.
+//! Reads of random bytes, from the base before the core is ready and from a CPU after that. They make the bytes
+//! after the first 32 without a lane.
 ghost use Rattle.std.specs.Prelude.{◌≡◌, ◌≢◌, ◌≤◌, None, Some, length};
 ghost use Rattle.key_names.specs.declared.entries.CpuEntry.TheVariants.{Read};
 ghost use Rattle.key_names.specs.BaseList.{empty, early, ready};
@@ -21,8 +21,8 @@ use key_names::{BaseEntry, CpuEntry, LaneId, Taken};
 use lane_table::Held;
 use std::sync::Wait;
 
-// A read from a base that was never seeded: it gets a root for this read alone (`crng_make_state` while `crng_init` is
-// `CRNG_EMPTY`).
+// Reads from a base that was never seeded: it gets a root for this read alone (`crng_make_state` while `crng_init`
+// is `CRNG_EMPTY`).
 fn draw_rooted<R: Wait>(
     rt: &R,
     site: &mut Site,
@@ -48,7 +48,7 @@ fn draw_rooted<R: Wait>(
     rest
 }
 
-// A read from a base that was seeded early (`crng_make_state` while `crng_init` is `CRNG_EARLY`).
+// Reads from a base that was seeded early (`crng_make_state` while `crng_init` is `CRNG_EARLY`).
 fn draw_early(site: &mut Site, mut base: Held, buf: &mut [u8], taken: Taken) -> Rest
     requires holds { Holds base_lane base site.old }
     requires seeded { (lane_of site.old base_lane).base.phase ≡ early }
@@ -63,7 +63,7 @@ fn draw_early(site: &mut Site, mut base: Held, buf: &mut [u8], taken: Taken) -> 
     rest
 }
 
-// A read from the base, which is held and not ready.
+// Reads from the held base before it is ready.
 fn draw<R: Wait>(rt: &R, site: &mut Site, base: Held, buf: &mut [u8], taken: Taken) -> Rest
     requires holds { Holds base_lane base site.old }
     requires unready { (lane_of site.old base_lane).base.phase ≢ ready }
@@ -80,7 +80,7 @@ fn draw<R: Wait>(rt: &R, site: &mut Site, base: Held, buf: &mut [u8], taken: Tak
     }
 }
 
-// A read from a CPU whose key is of the generation that was found.
+// Reads from a CPU with a key of the found generation.
 fn read_fresh(site: &mut Site, mut cpu: Held, look: u64, buf: &mut [u8], taken: Taken) -> Rest
     requires holds { Holds (own_lane site.old) cpu site.old }
     requires fresh { IsFresh look site.old }
@@ -100,7 +100,7 @@ fn read_fresh(site: &mut Site, mut cpu: Held, look: u64, buf: &mut [u8], taken: 
     rest
 }
 
-// A read from a CPU that was refilled from the base.
+// Reads from a CPU that was refilled from the base.
 fn read_refilled(
     site: &mut Site,
     mut cpu: Held,
@@ -127,7 +127,7 @@ fn read_refilled(
     rest
 }
 
-// A read from a CPU (`crng_make_state` once the core is ready), of which at most 32 bytes are made.
+// Begins a read from a CPU (`crng_make_state` after the core is ready), and makes at most 32 bytes.
 fn begin_cpu<R: Wait>(rt: &R, site: &mut Site, buf: &mut [u8], taken: Taken) -> Rest
     requires idle { IsIdle 3 site.old }
     requires cpu { IsOnCpu site.old }
@@ -145,7 +145,7 @@ fn begin_cpu<R: Wait>(rt: &R, site: &mut Site, buf: &mut [u8], taken: Taken) -> 
     read_refilled(site, cpu, look, &base, buf, taken)
 }
 
-// What follows the first look of a read, which found `look`, until at most 32 bytes are made.
+// Continues a read after its first look, which found `look`, and makes at most 32 bytes.
 fn begin_behind<R: Wait>(rt: &R, site: &mut Site, look: u64, buf: &mut [u8], taken: Taken) -> Rest
     requires idle { IsIdle 3 site.old }
     requires cpu { IsOnCpu site.old }
@@ -166,8 +166,8 @@ fn begin_behind<R: Wait>(rt: &R, site: &mut Site, look: u64, buf: &mut [u8], tak
     begin_cpu(rt, site, buf, taken)
 }
 
-/// A read from a CPU (`_get_random_bytes`, `get_random_bytes_user`). The bytes behind the first 32 are made with empty
-/// hands.
+/// Reads from a CPU (`_get_random_bytes`, `get_random_bytes_user`). It makes the bytes after the first 32 without a
+/// lane.
 pub(crate) fn read_cpu<R: Wait>(rt: &R, site: &mut Site, buf: &mut [u8], taken: Taken)
     requires idle { IsIdle 3 site.old }
     requires cpu { IsOnCpu site.old }
@@ -179,7 +179,7 @@ pub(crate) fn read_cpu<R: Wait>(rt: &R, site: &mut Site, buf: &mut [u8], taken: 
     rest.fill(buf);
 }
 
-/// What follows the first look of a read, which found `look`. The bytes behind the first 32 are made with empty hands.
+/// Continues a read after its first look, which found `look`. It makes the bytes after the first 32 without a lane.
 pub(crate) fn read_behind<R: Wait>(rt: &R, site: &mut Site, look: u64, buf: &mut [u8], taken: Taken)
     requires idle { IsIdle 3 site.old }
     requires cpu { IsOnCpu site.old }
@@ -191,7 +191,7 @@ pub(crate) fn read_behind<R: Wait>(rt: &R, site: &mut Site, look: u64, buf: &mut
     rest.fill(buf);
 }
 
-/// Random bytes for the kernel (`get_random_bytes`), at most 2^20. Where no byte is wanted nothing is done.
+/// Reads random bytes for the kernel (`get_random_bytes`), at most 2^20. A read of no bytes does nothing.
 pub fn kernel_read<R: Wait>(rt: &R, site: &mut Site, buf: &mut [u8])
     requires idle { IsIdle 4 site.old }
     requires cpu { IsOnCpu site.old }
@@ -206,8 +206,8 @@ pub fn kernel_read<R: Wait>(rt: &R, site: &mut Site, buf: &mut [u8])
     read_behind(rt, site, found, buf, taken);
 }
 
-/// A read of /dev/urandom (`urandom_read_iter`), which never waits, of at most 2^20 bytes. Where no byte is wanted nothing
-/// is done.
+/// Reads /dev/urandom (`urandom_read_iter`), at most 2^20 bytes. It never waits for readiness. A read of no bytes
+/// does nothing.
 pub fn urandom_file<R: Wait>(rt: &R, site: &mut Site, buf: &mut [u8])
     requires idle { IsIdle 4 site.old }
     requires cpu { IsOnCpu site.old }

@@ -1,5 +1,5 @@
 //! Reseeds of the base from the pool.
-ghost use Rattle.std.specs.Prelude.{◌≡◌, ◌<◌, ◌≤◌, ℕ, Some};
+ghost use Rattle.std.specs.Prelude.{◌≡◌, ◌<◌, ◌≤◌, ℕ, Some, IsOk};
 ghost use Rattle.key_names.specs.declared.entries.BaseEntry.TheVariants.{Reseed, Early as EarlyEntry, Tick as TickEntry};
 ghost use Rattle.key_names.specs.declared.events.Event.TheVariants.{Reseed as ReseedEvent, Tick as TickEvent};
 ghost use Rattle.key_names.specs.Forms.{Rooted, Cross};
@@ -10,7 +10,7 @@ ghost use Rattle.lane_table.specs.Calls.{view};
 ghost use Rattle.input_pool.specs.PoolStands.{crossing_of};
 ghost use Rattle.rng_core.specs.Causes.{ReseedCause};
 ghost use Rattle.rng_core.specs.Makes.{setting_of, result_answer, tick_result};
-ghost use Rattle.rng_core.specs.Sites.{IsIdle, IsTimely, HasRoom, Holds, IsLow, Does, Completes, lane_of, base_lane};
+ghost use Rattle.rng_core.specs.Sites.{IsIdle, IsTimely, HasRoom, Holds, IsLow, Does, Completes, lane_of, base_lane, seen_by};
 
 use crate::lane_values;
 use crate::site::Site;
@@ -20,11 +20,12 @@ use key_names::{BaseEntry, Errno, LaneId};
 use lane_table::Held;
 use std::sync::Wait;
 
-/// A root of the pool becomes the base's key, and the generation rises (`crng_reseed`).
+/// Makes a root of the pool the base's key, and raises the generation (`crng_reseed`).
 pub(crate) fn reseed_base<R: Wait>(rt: &R, site: &mut Site)
     requires idle { IsIdle 2 site.old }
     requires moment { IsTimely site.old }
-    ensures { Does 2 (Rooted (setting_of site.old.set) (λ r. Reseed r site.old.set.now)) site.old site.new }
+    ensures does { Does 2 (Rooted (setting_of site.old.set) (λ r. Reseed r site.old.set.now)) site.old site.new }
+    ensures rises { seen_by site.old < seen_by site.new }
 {
     let now = site.set.now;
     let mut base = site.enter(rt, LaneId::Base);
@@ -37,16 +38,19 @@ pub(crate) fn reseed_base<R: Wait>(rt: &R, site: &mut Site)
     site.visit_base(base, entry);
 }
 
-/// Reseeds the core by hand (`random_ioctl` of `RNDRESEEDCRNG`).
+/// Reseeds the core by hand (`random_ioctl` of `RNDRESEEDCRNG`). Then the generation is above each one that the
+/// caller had seen.
 ///
 /// # Errors
 ///
-/// `NoData` where the look finds that the core is not ready, and only then.
+/// `NoData` if and only if the look finds that the core is not ready. That never happens if the caller saw it ready
+/// before.
 pub fn reseed<R: Wait>(rt: &R, site: &mut Site) -> Result<(), Errno>
     requires idle { IsIdle 3 site.old }
     requires moment { IsTimely site.old }
     ensures does { Completes 3 ReseedEvent (result_answer result) no_data site.old site.new }
     ensures cause { ReseedCause result site.old site.new }
+    ensures rises { IsOk result → seen_by site.old < seen_by site.new }
 {
     if site.look() == 0 {
         return Err(Errno::NoData);
@@ -55,7 +59,7 @@ pub fn reseed<R: Wait>(rt: &R, site: &mut Site) -> Result<(), Errno>
     Ok(())
 }
 
-// The timer is due: a root is installed, and the timer set anew.
+// The timer is due: installs a root, and sets the timer again.
 fn fire<R: Wait>(rt: &R, site: &mut Site, mut base: Held)
     requires holds { Holds base_lane base site.old }
     requires due { IsDue (lane_of site.old base_lane).base.timer site.old.set.now }
@@ -74,8 +78,8 @@ fn fire<R: Wait>(rt: &R, site: &mut Site, mut base: Held)
     site.visit_base(base, entry);
 }
 
-/// The reseed timer's moment passes (the delayed work of `crng_reseed`). The answer is whether it was due, so that the
-/// base was reseeded.
+/// Checks the reseed timer at this moment (the delayed work of `crng_reseed`). Returns whether the timer was due and
+/// the base was reseeded.
 pub fn tick<R: Wait>(rt: &R, site: &mut Site) -> bool
     requires idle { IsIdle 2 site.old }
     requires moment { IsTimely site.old }
@@ -91,7 +95,7 @@ pub fn tick<R: Wait>(rt: &R, site: &mut Site) -> bool
     false
 }
 
-// A base that was never seeded gets a root (`crng_init` rises to `CRNG_EARLY`).
+// Gives a root to a base that was never seeded (`crng_init` rises to `CRNG_EARLY`).
 fn seed_early<R: Wait>(rt: &R, site: &mut Site, mut base: Held)
     requires holds { Holds base_lane base site.old }
     requires unseeded { (lane_of site.old base_lane).base.phase ≡ empty }
@@ -106,7 +110,7 @@ fn seed_early<R: Wait>(rt: &R, site: &mut Site, mut base: Held)
     site.visit_base(base, entry);
 }
 
-// Half of what readiness asks was gathered.
+// Handles a credit that reaches 128 bits, half of what readiness needs.
 fn cross_early<R: Wait>(rt: &R, site: &mut Site)
     requires idle { IsIdle 2 site.old }
     ensures { Does 2 (Cross (setting_of site.old.set) early) site.old site.new }
@@ -119,7 +123,7 @@ fn cross_early<R: Wait>(rt: &R, site: &mut Site)
     site.visit_base(base, BaseEntry::Early { root: None });
 }
 
-/// What follows a credit (`_credit_init_bits`).
+/// Handles the threshold that a credit crossed (`_credit_init_bits`).
 pub(crate) fn cross<R: Wait>(rt: &R, site: &mut Site, crossing: Crossing)
     requires idle { IsIdle 2 site.old }
     requires moment { IsTimely site.old }

@@ -1,4 +1,4 @@
-//! A read in two parts: at most 32 bytes are made while a lane is held, and the rest with empty hands.
+//! A read in two parts: at most 32 bytes are made while a lane is held, and the rest after that, without a lane.
 ghost use Rattle.std.specs.Prelude.{◌≡◌, ◌≤◌, ℕ, Some, None};
 ghost use Rattle.key_names.specs.declared.entries.BaseEntry.TheVariants.{Draw};
 ghost use Rattle.key_names.specs.declared.entries.CpuEntry.TheVariants.{Read};
@@ -18,10 +18,10 @@ use cpu_gen::Cpu;
 use key_names::Taken;
 use lane_table::LaneState;
 
-// The bytes that the block of an erasure has over, which are all that a read makes while it holds a lane.
+// The bytes that remain of an erasure's block: a read makes no more while it holds a lane.
 const MOST_UNDER_LANE: usize = 32;
 
-/// The rest of a read whose first bytes are made. It needs no lane: its key was erased where it was kept.
+/// The rest of a read after its first bytes. It needs no lane: its key was erased from the lane.
 #[derive(Drop)]
 pub(crate) struct Rest {
     pub(crate) made: usize,
@@ -29,7 +29,7 @@ pub(crate) struct Rest {
 }
 
 impl Rest {
-    /// Makes the bytes that are not made yet (what `_get_random_bytes` does behind `crng_make_state`).
+    /// Makes the remaining bytes (the work of `_get_random_bytes` after `crng_make_state`).
     pub(crate) fn fill(self, buf: &mut [u8])
         requires { IsBegun self buf.old }
         ensures { buf.new ≡ finished self buf.old }
@@ -77,7 +77,7 @@ fn front_of_base(base: &mut Base, buf: &mut [u8], taken: Taken) -> Rest
     Rest { made, key }
 }
 
-/// A read of the CPU's key.
+/// Reads from the CPU's key.
 pub(crate) fn read(state: &mut LaneState, buf: &mut [u8], taken: Taken) -> Rest
     requires stands { IsCpuValue state.old }
     requires asks { Asks taken buf.old }
@@ -90,7 +90,7 @@ pub(crate) fn read(state: &mut LaneState, buf: &mut [u8], taken: Taken) -> Rest
     with_cpu!(state, lane => front_of_cpu(&mut lane.cpu, buf, taken))
 }
 
-/// A read of the key that the base hands over.
+/// Reads from the key that the base hands over.
 pub(crate) fn read_refilled(
     state: &mut LaneState,
     key: [u8; 32],
@@ -112,7 +112,7 @@ pub(crate) fn read_refilled(
     })
 }
 
-/// A read that draws from the base's key.
+/// Reads from the base's key.
 pub(crate) fn draw(state: &mut LaneState, buf: &mut [u8], taken: Taken) -> Rest
     requires stands { (s : Model) × ValueRepresents 1 state.old s }
     requires asks { Asks taken buf.old }
@@ -125,7 +125,7 @@ pub(crate) fn draw(state: &mut LaneState, buf: &mut [u8], taken: Taken) -> Rest
     with_base!(state, lane => front_of_base(&mut lane.base, buf, taken))
 }
 
-/// A read that draws from a root.
+/// Reads from the base with a root.
 pub(crate) fn draw_rooted(
     state: &mut LaneState,
     root: [u8; 32],

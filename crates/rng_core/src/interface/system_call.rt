@@ -1,4 +1,4 @@
-//! The system call getrandom(2), and the waiting for readiness.
+//! The system call getrandom(2), and the wait for readiness.
 ghost use Rattle.std.specs.Prelude.{◌≡◌, ◌≤◌, ◌+◌, ◌==◌, ◌&&◌, ◌⊎◌, not, true, false, if◌then◌else◌, IsOk, length, []};
 ghost use Rattle.key_names.specs.declared.entries.BaseEntry.TheVariants.{Wait as WaitEntry, Resume, Interrupt};
 ghost use Rattle.key_names.specs.declared.events.Event.TheVariants.{Read, Dread};
@@ -19,7 +19,7 @@ use key_names::{BaseEntry, Errno, LaneId, Taken};
 use lane_table::Held;
 use std::sync::Wait;
 
-// The caller stops running.
+// Counts the caller as not running, since it waits.
 fn wait<R: Wait>(rt: &R, site: &mut Site)
     requires idle { IsIdle 1 site.old }
     ensures { Does 1 (BaseOnly WaitEntry) site.old site.new }
@@ -29,7 +29,7 @@ fn wait<R: Wait>(rt: &R, site: &mut Site)
     site.visit_base(base, BaseEntry::Wait);
 }
 
-// The caller runs again, since the core is ready.
+// Counts the caller as running again, since the core is ready.
 fn resume(site: &mut Site, mut base: Held)
     requires holds { Holds base_lane base site.old }
     requires ready { 1 ≤ (lane_of site.old base_lane).base.generation }
@@ -41,7 +41,7 @@ fn resume(site: &mut Site, mut base: Held)
     site.visit_base(base, BaseEntry::Resume);
 }
 
-// The caller runs again, since nobody runs who could make the core ready.
+// Counts the caller as running again, since no caller runs that could make the core ready.
 fn interrupt(site: &mut Site, mut base: Held)
     requires holds { Holds base_lane base site.old }
     requires unready { (lane_of site.old base_lane).base.generation ≡ 0 }
@@ -53,7 +53,7 @@ fn interrupt(site: &mut Site, mut base: Held)
     site.visit_base(base, BaseEntry::Interrupt);
 }
 
-// Takes the base again and again, until the core is ready or nobody runs (`wait_for_random_bytes`).
+// Takes the base again and again, until the core is ready or no caller runs (`wait_for_random_bytes`).
 fn wait_ready<R: Wait>(rt: &R, site: &mut Site) -> Result<(), Errno>
     requires idle { IsIdle 1 site.old }
     ensures { Waited result site.old site.new }
@@ -75,19 +75,20 @@ fn wait_ready<R: Wait>(rt: &R, site: &mut Site) -> Result<(), Errno>
     unreachable!()
 }
 
-// Whether a read that is to be ready waits, or fails.
+// Whether a read that needs a ready core has to wait or fail.
 fn must_wait(found: u64, flags: u32) -> bool
     ensures { result ≡ (found == 0 && not (is_insecure flags)) }
 {
     found == 0 && !is_insecure(flags)
 }
 
-/// Random bytes for a user, at most 2^20 (`getrandom(2)`, `SYSCALL_DEFINE3(getrandom)`).
+/// Reads random bytes for a user, at most 2^20 (`getrandom(2)`, `SYSCALL_DEFINE3(getrandom)`).
 ///
 /// # Errors
 ///
-/// `Invalid` where the flags are bad. Where the core is not ready and `GRND_INSECURE` is not set: `Again` with
-/// `GRND_NONBLOCK`, and `Interrupted` where nobody runs who could make it ready. The buffer is unspecified then.
+/// `Invalid` if the flags are bad. If the core is not ready and `GRND_INSECURE` is not set: `Again` with
+/// `GRND_NONBLOCK`, and `Interrupted` if no caller runs that could make it ready. After an error the buffer is
+/// unspecified.
 pub fn getrandom<R: Wait>(rt: &R, site: &mut Site, buf: &mut [u8], flags: u32) -> Result<(), Errno>
     requires idle { IsIdle (4 + waiting_at site.old) site.old }
     requires cpu { IsOnCpu site.old }
@@ -129,13 +130,13 @@ fn file_flags(nonblock: bool) -> u32
     if nonblock { GRND_NONBLOCK } else { 0 }
 }
 
-/// A read of /dev/random (`random_read_iter`), of at most 2^20 bytes, which waits for the core to be ready unless
-/// `nonblock` is set.
+/// Reads /dev/random (`random_read_iter`), at most 2^20 bytes. It waits for the core to be ready unless `nonblock`
+/// is set.
 ///
 /// # Errors
 ///
-/// Where the core is not ready: `Again` with `nonblock`, and `Interrupted` where nobody runs who could make it ready.
-/// The buffer is unspecified then.
+/// If the core is not ready: `Again` with `nonblock`, and `Interrupted` if no caller runs that could make it ready.
+/// After an error the buffer is unspecified.
 pub fn random_file<R: Wait>(
     rt: &R,
     site: &mut Site,

@@ -23,7 +23,7 @@ fn enter_own<R: Wait>(rt: &R, site: &mut Site) -> Held
     site.enter(rt, lane)
 }
 
-// A dump that is due: what the fast pool holds goes into the input pool (`mix_interrupt_randomness`).
+// Makes a dump that is due: the fast pool's content goes into the input pool (`mix_interrupt_randomness`).
 fn dump<R: Wait>(rt: &R, site: &mut Site)
     requires idle { IsIdle 4 site.old }
     requires cpu { IsOnCpu site.old }
@@ -37,8 +37,9 @@ fn dump<R: Wait>(rt: &R, site: &mut Site)
     add(rt, site, &dump.bytes, dump.bits);
 }
 
-/// An interrupt (`add_interrupt_randomness`): its sample and, exactly where this makes a dump due, the dump.
-// Within its callers by the hint: as a call it makes a run of interrupts slower by 2 to 5 %.
+/// Handles an interrupt (`add_interrupt_randomness`): takes its sample, and makes a dump if and only if the sample
+/// makes one due.
+// Inlined by the hint: as a call it makes a run of interrupts slower by 2 to 5 %.
 #[inline(always)]
 pub fn irq<R: Wait>(rt: &R, site: &mut Site, v1: u64, v2: u64)
     requires idle { IsIdle 5 site.old }

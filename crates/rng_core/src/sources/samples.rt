@@ -1,4 +1,4 @@
-//! Samples that are mixed into the pool, and what they are credited.
+//! Samples for the pool, and their credit.
 ghost use Rattle.std.specs.Prelude.{◌≡◌, ◌+◌, length};
 ghost use Rattle.key_names.specs.declared.events.Event.TheVariants.{Write as WriteEvent, Device as DeviceEvent, Add as AddEvent, Bits as BitsEvent, Input as InputEvent, Vmfork as VmforkEvent};
 ghost use Rattle.key_names.specs.declared.events.Answer.TheVariants.{Ok as Done};
@@ -11,7 +11,7 @@ use crate::site::Site;
 use key_names::{LaneId, PoolNote};
 use std::sync::Wait;
 
-/// Mixes bytes into the pool, and credits nothing for them (`write_pool_user`).
+/// Mixes bytes into the pool without credit (`write_pool_user`).
 pub fn mix<R: Wait>(rt: &R, site: &mut Site, text: &[u8])
     requires idle { IsIdle 1 site.old }
     ensures { Completes 1 (WriteEvent text.now) Done no_data site.old site.new }
@@ -45,8 +45,8 @@ pub fn add<R: Wait>(rt: &R, site: &mut Site, text: &[u8], bits: u32)
     cross(rt, site, crossing);
 }
 
-/// An event of an input device (`add_input_randomness`). A value that is the same as that of the last event changes
-/// nothing; any other is mixed in with the event's number, and credited by the timer while the pool is not full.
+/// Handles an event of an input device (`add_input_randomness`). A value equal to that of the last event changes
+/// nothing. Any other is mixed in with the event's number, and credited by the timer while the pool is not full.
 pub fn input<R: Wait>(rt: &R, site: &mut Site, word: u64, kind: u16, code: u16, value: u8)
     requires idle { IsIdle 3 site.old }
     requires moment { IsTimely site.old }
@@ -66,7 +66,7 @@ pub fn input<R: Wait>(rt: &R, site: &mut Site, word: u64, kind: u16, code: u16, 
     cross(rt, site, crossing);
 }
 
-/// How many bits the pool was credited (`RNDGETENTCNT`).
+/// Reads the bits credited to the pool (`RNDGETENTCNT`).
 pub fn bits<R: Wait>(rt: &R, site: &mut Site) -> u32
     requires idle { IsIdle 1 site.old }
     ensures { Completes 1 BitsEvent Done (count result) site.old site.new }
@@ -77,7 +77,7 @@ pub fn bits<R: Wait>(rt: &R, site: &mut Site) -> u32
     bits
 }
 
-/// A virtual machine was forked: its id is mixed in, and the core reseeded (`add_vmfork_randomness`).
+/// Handles a fork of the virtual machine: mixes in its id, and reseeds the core (`add_vmfork_randomness`).
 pub fn vmfork<R: Wait>(rt: &R, site: &mut Site, word: u64, text: &[u8])
     requires idle { IsIdle 4 site.old }
     requires moment { IsTimely site.old }

@@ -16,17 +16,17 @@ use crate::site::Site;
 use key_names::{Errno, InsideAct, Point, Trace};
 use std::sync::Wait;
 
-/// An act that waits for a point of a vgetrandom call, and what came of it.
+/// An act that waits for a point of a vgetrandom call, and its outcome.
 #[derive(Drop)]
 pub struct Bound {
-    /// Where it is done: at this point of the call's first attempt.
+    /// The point of the call's first attempt at which it runs.
     pub point: Point,
     pub act: InsideAct,
     /// The number of its event among the caller's.
     pub event: u32,
     /// Whether the call came to the point.
     pub done: bool,
-    /// What it answered, where it is done.
+    /// Its answer, once it is done.
     pub answer: Result<(), Errno>,
     /// Its own steps.
     pub trace: Trace,
@@ -48,7 +48,7 @@ impl Bound {
         }
     }
 
-    /// How many bytes the act reads.
+    /// The number of bytes that the act reads.
     pub fn wanted(&self) -> usize
         ensures { result ≡ wants self.now.act }
     {
@@ -68,7 +68,7 @@ fn is_wipe(act: InsideAct) -> bool
     }
 }
 
-// What an act does to the core; a wipe does nothing to it.
+// Performs an act's call of the core; a wipe has none.
 fn do_act<R: Wait>(rt: &R, site: &mut Site, act: InsideAct, out: &mut [u8]) -> Result<(), Errno>
     requires new { IsNew site.old }
     requires cpu { IsOnCpu site.old }
@@ -86,7 +86,7 @@ fn do_act<R: Wait>(rt: &R, site: &mut Site, act: InsideAct, out: &mut [u8]) -> R
     }
 }
 
-// Does an act in its own event, with its steps in its own trace.
+// Runs an act in its own event, with its steps in its own trace.
 fn run<R: Wait>(rt: &R, site: &mut Site, bound: &mut Bound, out: &mut [u8])
     requires idle { IsIdle 0 site.old }
     requires cpu { IsOnCpu site.old }
@@ -112,7 +112,7 @@ fn run<R: Wait>(rt: &R, site: &mut Site, bound: &mut Bound, out: &mut [u8])
     bound.done = true;
 }
 
-// Does an act at a point, where it is bound to it and was not done yet.
+// Runs an act at its point, unless it was done before.
 fn run_at<R: Wait>(rt: &R, site: &mut Site, point: Point, bound: &mut Bound, out: &mut [u8])
     requires idle { IsIdle 0 site.old }
     requires cpu { IsOnCpu site.old }
@@ -137,8 +137,8 @@ fn is_wiped_by(bound: &Bound, point: Point) -> bool
     bound.point.is(point) && is_wipe(bound.act)
 }
 
-/// Does the acts of a list that are bound to a point and were not done yet, one after another. The answer is whether
-/// one of the point wipes the state, done before or not.
+/// Runs the acts of a list that are bound to a point and not yet done, in order. Returns whether one of that point
+/// wipes the state, even if it was done before.
 pub(crate) fn run_acts<R: Wait>(
     rt: &R,
     site: &mut Site,

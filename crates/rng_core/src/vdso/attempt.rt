@@ -4,17 +4,17 @@ ghost use Rattle.rng_core.specs.Acting.{attempt_at, is_first};
 
 use key_names::Point;
 
-/// Which attempt of a call runs: acts are done in the first one alone.
+/// The current attempt of a call: acts run only in the first one.
 #[derive(Clone, Copy)]
 pub enum Attempt {
-    /// None has come to its first point yet.
+    /// The call has not reached its first point yet.
     Before,
     First,
     Later,
 }
 
 impl Attempt {
-    /// The attempt that runs at a point: one begins at each start.
+    /// The attempt at a point: each `Start` begins a new one.
     pub(crate) fn reach(self, point: Point) -> Attempt
         ensures { result ≡ attempt_at self point }
     {

@@ -1,4 +1,4 @@
-//! A host over a site, and what it does at each step of a call.
+//! A host over a site, and its steps in a call.
 ghost use Rattle.std.specs.Prelude.{◌≡◌, ◌<◌, ◌^◌};
 ghost use Rattle.key_names.specs.VgetrandomState.{state_left};
 ghost use Rattle.key_names.specs.VreadSteps.{published_by};
@@ -15,10 +15,10 @@ use std::sync::Wait;
 use vdso_state::{VHost, VState};
 
 impl<'a, R> LaneHost<'a, R> {
-    /// The host of one call, or of what is left of one, with 5 looks and 3 system calls.
+    /// The host of one call, or of the rest of one, with 5 looks and 3 system calls.
     ///
-    /// The site's trace has to be empty, each act not done yet and with an empty trace, and `out` as long as all reads
-    /// of the list, each at most 2^20 bytes.
+    /// The site's trace must be empty, and each act not yet done and with an empty trace. `out` must be as long as
+    /// all reads of the list together, each at most 2^20 bytes.
     pub fn over(
         rt: &'a R,
         site: Site<'a>,
@@ -43,7 +43,7 @@ impl<'a, R> LaneHost<'a, R> {
     }
 }
 
-/// What is published of a generation that was found: 0 where the core is not ready, and otherwise one more.
+/// The published form of a found generation: 0 if the core is not ready, and else one more.
 pub(crate) fn publish(found: u64) -> u64
     requires { found < 2 ^ 63 }
     ensures { result ≡ published_by found }

@@ -9,12 +9,12 @@ use crate::site::Site;
 use crate::vdso::acts::Bound;
 use crate::vdso::attempt::Attempt;
 
-/// A caller as the host of a vgetrandom call: looks and system calls of the caller go into the trace of its site, and
-/// the acts are done at its points, each with a trace of its own.
+/// A caller as the host of a vgetrandom call. The caller's looks and system calls go into the trace of its site.
+/// Acts run at their points, each with its own trace.
 ///
-/// An act is done where the call's first attempt comes to its point, in the order of the list. A read that is an act is
-/// `getrandom` without flags; its bytes stand in `out` behind those of the reads before it in the list. A wipe makes
-/// the state all zero. An act whose point is not reached is not done.
+/// An act runs if the call's first attempt reaches its point; acts of one point run in the order of the list. A read
+/// that is an act is `getrandom` without flags. Its bytes are in `out` after those of the reads before it in the
+/// list. A wipe makes the state all zero.
 #[derive(Drop)]
 pub struct LaneHost<'a, R> {
     pub(crate) rt: &'a R,

@@ -15,9 +15,9 @@ use key_names::{Errno, Step};
 use std::sync::Wait;
 use vdso_state::{Local, VEnd, VState, local, vgetrandom};
 
-/// Copies bytes of the batch over all of `buf` where the state's key is of the published generation, no call is inside
-/// and the batch has as many left. Else the state and `buf` stay as they were, as for no bytes and for bad flags, where
-/// it does not even look. It waits for nobody. A look whose value is not used is no step: the trace then stays as it
+/// Copies bytes of the batch over all of `buf` if the state's key is of the published generation, no call is inside,
+/// and the batch has enough bytes left. Else the state and `buf` stay as they were. With no bytes to read or with
+/// bad flags it does not even look. It never waits. A look without a copy is no step, and leaves the trace as it
 /// was.
 pub fn vread_local(site: &mut Site, st: &mut VState, buf: &mut [u8], flags: u32) -> Local
     requires { IsIdle 1 site.old }
@@ -37,7 +37,7 @@ pub fn vread_local(site: &mut Site, st: &mut VState, buf: &mut [u8], flags: u32)
     }
 }
 
-// The result of a call, whichever way it ended.
+// The result of a call, without the way it ended.
 fn done(ended: Result<VEnd, Errno>) -> Result<(), Errno>
     ensures { result ≡ done_of ended }
 {
@@ -47,7 +47,7 @@ fn done(ended: Result<VEnd, Errno>) -> Result<(), Errno>
     }
 }
 
-/// A call of vgetrandom on the host.
+/// Makes a call of vgetrandom on the host.
 pub(crate) fn call_host<R: Wait>(
     host: &mut LaneHost<'_, R>,
     st: &mut VState,
@@ -65,13 +65,13 @@ pub(crate) fn call_host<R: Wait>(
     done(ended)
 }
 
-/// Random bytes for a user, at most 2^20, out of the caller's vgetrandom state where that can serve them and by the
-/// system call otherwise (`vgetrandom`). The host has to be new and without acts, and the state's generation one that
-/// its caller has seen published.
+/// Reads random bytes for a user, at most 2^20: out of the caller's vgetrandom state if that can serve them, and
+/// else by the system call (`vgetrandom`). The host must be new and without acts, and the state's generation one
+/// that its caller has seen published.
 ///
 /// # Errors
 ///
-/// The error of the last system call. The buffer is unspecified then.
+/// The error of the last system call. After an error the buffer is unspecified.
 pub fn vread<R: Wait>(
     host: &mut LaneHost<'_, R>,
     st: &mut VState,
@@ -92,14 +92,14 @@ pub fn vread<R: Wait>(
     }
 }
 
-/// Random bytes for a user as [`vread`](vread) gives them, with the host's acts inside, at least one, so that no
+/// Reads random bytes for a user as [`vread`](vread) does, with at least one of the host's acts inside, so that no
 /// copy is tried before the call (`vgetrandom`).
 ///
-/// The host has to be new, and the state's generation one that its caller has seen published.
+/// The host must be new, and the state's generation one that its caller has seen published.
 ///
 /// # Errors
 ///
-/// The error of the last system call. The buffer is unspecified then.
+/// The error of the last system call. After an error the buffer is unspecified.
 pub fn vread_inside<R: Wait>(
     host: &mut LaneHost<'_, R>,
     st: &mut VState,

@@ -97,7 +97,7 @@ run_family-run_from-way-requires g t c κs within =
             (
               search rules,
               can_start c.args.shared.now.lanes.now c.args.shared.now.script.now c.args.set c.args.pass a c.open-caller.result.1 way
-                  c.requires c.starting-way.ensures.caller c.starting-way.ensures.rest.0 kids
+                  c.requires c.starting-way.ensures.caller c.starting-way.ensures.states c.starting-way.ensures.rest.0 kids
                   (ap (λ (p : Plot). p.sheet) opened) there,
             ),
           ),
@@ -109,7 +109,7 @@ pub run_family-returns : goal.run_family-returns
 run_family-returns g t c =
     let a = plot c.args.room in let opened = c.open-caller.ensures in let y = c.run_from-way.result in
     returned c.args.shared.now.lanes.now c.args.shared.now.script.now c.args.set c.args.pass a c.open-caller.result.1 c.starting-way.result
-    c.requires c.starting-way.ensures.caller c.starting-way.ensures.rest.0
+    c.requires c.starting-way.ensures.caller c.starting-way.ensures.states c.starting-way.ensures.rest.0
     (ap (λ ks. grove_of (map plot ks.items)) c.starting-way.ensures.rest.1 ∙ sym (ap (λ (p : Plot). p.kids) opened))
     (ap (λ (p : Plot). p.sheet) opened)
     (ap (slice_get c.args.shared.now.script.now.callers) (ap (λ (p : Plot). p.caller) opened) ∙ c.events-events.ensures)
@@ -117,7 +117,7 @@ run_family-returns g t c =
     (c.with.ensures ∙ ap (λ (n : ℕ). plot_by n y.sheet (map plot y.kids.items)) (sym (ap (λ (p : Plot). p.caller) opened)))
     c.run_from-way.ensures
 
--- ---- from where a caller is to its end
+-- ---- from a caller on its way to its end
 
 pub run_from-returns-in_default : goal.run_from-returns-in_default
 run_from-returns-in_default g t c =

@@ -1,16 +1,16 @@
 use Rattle.std.proofs.Common.{◌≡◌, subst}
 use Rattle.tool_ends.specs.Pairs.{most_input}
-use Rattle.tool_ends.proofs.Endings.{reads_end_after, rose_at_end, same_at_end}
+use Rattle.tool_ends.proofs.Endings.{counted_at_end, reads_end_after}
 use Rattle.key_audit.specs.Outcome.{AuditEnds, Calls}
 use Rattle.key_audit.proofs.audit.audit.Goals as goal
 
 pub returns-in-Some-clause-write_fault : goal.returns-in-Some-clause-write_fault
 returns-in-Some-clause-write_fault g c =
-    rose_at_end _ _ _ _ _ c.end_output.ensures.ended c.audit_input.ensures.not_counted c.audit_input.ensures.cut
+    (counted_at_end _ _ _ _ _ c.end_output.ensures.ended c.audit_input.ensures.counted).cut
 
 pub returns-in-Some-clause-no_write_fault : goal.returns-in-Some-clause-no_write_fault
 returns-in-Some-clause-no_write_fault g c =
-    same_at_end _ _ _ _ _ c.end_output.ensures.ended c.audit_input.ensures.not_counted
+    (counted_at_end _ _ _ _ _ c.end_output.ensures.ended c.audit_input.ensures.counted).not_counted
 
 pub returns-in-Some-clause-audited : goal.returns-in-Some-clause-audited
 returns-in-Some-clause-audited g c ask is =

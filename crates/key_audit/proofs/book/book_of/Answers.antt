@@ -1,7 +1,8 @@
-use Rattle.key_audit.proofs.Books.{kept_of_bare}
+use Rattle.key_audit.proofs.Books.{keeps_book}
 use Rattle.key_audit.proofs.book.book_of.Goals as goal
 
 pub returns : goal.returns
-returns c book ms lawful =
-    kept_of_bare c.args.script.now c.args.t.now book ms lawful c.book_of_lines.result
-    (rw (c.deref.ensures.value, c.in_ok-lines.ensures) at c.book_of_lines.ensures)
+returns c script t stand made =
+    keeps_book script t c.args.basis stand made c.in_ok-states.states c.in_ok-lines.lines c.in_ok-states.ensures.lists
+    (c.in_ok-states.ensures.cut script t stand.parts) (c.in_ok-states.ensures.ends script t stand.parts)
+    (c.in_ok-lines.ensures script t stand.parts)

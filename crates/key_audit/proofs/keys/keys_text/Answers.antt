@@ -6,7 +6,8 @@ use Rattle.key_audit.proofs.keys.keys_text.Goals as goal
 pub returns : goal.returns
 returns c t callers of ms keeps = record {
   moments = c.in_ok-moments.moments;
-  are_moments = kept_moments c.args.book.now t callers of ms keeps c.in_ok-moments.moments c.in_ok-moments.ensures;
+  are_moments = kept_moments c.args.book.now t callers of ms keeps c.in_ok-moments.moments c.in_ok-moments.ensures.marks
+      c.in_ok-moments.ensures.states;
   rows = c.in_ok-rows.rows.items;
   are = c.in_ok-rows.ensures.are t callers of ms keeps;
   ordered = c.in_ok-rows.ensures.ordered;

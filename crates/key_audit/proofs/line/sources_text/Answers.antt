@@ -11,7 +11,7 @@ use Rattle.key_audit.proofs.line.sources_text.Goals as goal
 pub returns : goal.returns
 returns c t callers of ms keeps =
     let moments = c.in_ok-moments.moments in
-    let are = kept_moments c.args.book.now t callers of ms keeps moments c.in_ok-moments.ensures in
+    let are = kept_moments c.args.book.now t callers of ms keeps moments c.in_ok-moments.ensures.marks c.in_ok-moments.ensures.states in
     let pool = c.args.book.now.lanes.pool.items in
     let script = c.args.script.now in
     let text = c.in_ok-text.text.items in

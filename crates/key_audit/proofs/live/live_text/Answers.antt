@@ -3,7 +3,7 @@ use Rattle.std.specs.List.{flat_map}
 use Rattle.key_rows.specs.declared.held.HeldKey.{HeldKey}
 use Rattle.key_rows.specs.declared.held.HeldRest.{HeldRest}
 use Rattle.key_rows.specs.declared.rows.Row.{Row}
-use Rattle.key_audit.specs.Live.{held_lines, live_keys, live_rests, lists_behind, name_at, rest_line}
+use Rattle.key_audit.specs.Live.{held_lines, live_keys, live_rests, lists_until, name_at, rest_line}
 use Rattle.key_audit.specs.Reach.{TellsReached}
 use Rattle.key_audit.proofs.KeptVisits.{kept_moments}
 use Rattle.key_audit.proofs.live.live_text.Goals as goal
@@ -15,10 +15,11 @@ in_turn start held rests out a b c none first second third =
 
 pub returns : goal.returns
 returns c t callers of ms keeps =
-    let are = kept_moments c.args.book.now t callers of ms keeps c.in_ok-moments.moments c.in_ok-moments.ensures in
-    let behind = lists_behind c.args.stamp callers of ms in
+    let are = kept_moments c.args.book.now t callers of ms keeps c.in_ok-moments.moments c.in_ok-moments.ensures.marks
+    c.in_ok-moments.ensures.states in
+    let behind = lists_until c.args.until callers of ms in
     let is = c.in_ok-held.ensures t callers of ms keeps are in
-    let rests : c.deref-5.result.now ≡ live_rests (lists_behind c.args.stamp callers of ms) =
+    let rests : c.deref-5.result.now ≡ live_rests (lists_until c.args.until callers of ms) =
     c.deref-5.ensures.value ∙ is.rests in
     record {
       moments = c.in_ok-moments.moments;

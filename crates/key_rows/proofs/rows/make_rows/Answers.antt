@@ -8,7 +8,7 @@ use Rattle.key_rows.specs.declared.rows.Row.{Row}
 use Rattle.key_rows.specs.Rows.{pieces_of, endings_of, all_pieces, IsRow}
 use Rattle.key_rows.proofs.rows.make_rows.Goals as goal
 
--- a row is one of pieces and endings that stand in another order, where those of each key do not
+-- a row stays one if pieces and endings are put in another order that keeps those of each key in theirs
 row_moves : (pieces pieces' : List Piece) (endings endings' : List Ending) →
     ((key : KeyName) → pieces_of key pieces' ≡ pieces_of key pieces) →
     ((key : KeyName) → endings_of key endings' ≡ endings_of key endings) →
@@ -21,7 +21,7 @@ row_moves pieces pieces' endings endings' same ends row h = record {
 
 pub returns-clause-rows : goal.returns-clause-rows
 returns-clause-rows c =
-    let told = c.args.told.now in
+    let told = c.args.told in
     All-weaker (IsRow _ _) (IsRow (all_pieces told) told.lives.endings.items)
     (row_moves (all_pieces told) _ told.lives.endings.items _
     (λ key. ap (pieces_of key) c.deref-3.ensures.value ∙ c.in_ok-pieces.ensures.same key)

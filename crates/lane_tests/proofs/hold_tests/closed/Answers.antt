@@ -6,11 +6,11 @@ use Rattle.lane_table.proofs.Calls.HandLemmas.{idle_of}
 use Rattle.caller_run.specs.Families.{SameShare}
 use Rattle.lane_tests.proofs.hold_tests.closed.Goals as goal
 
--- what has the whole share
+-- the view with the whole share
 abbrev whole : View
 whole = first_view (plan_of 0 0)
 
--- a quarter and the other quarter make a half
+-- two quarters make a half
 quarter_left : (h p : View) → p.share * 4 ≡ 2 ^ p.halvings → h.share ≡ 1 → h.halvings ≡ 1 → SameShare (halved h) p
 quarter_left h p is share halvings = ap (λ (z : ℕ). p.share * 2 ^ (z + 1)) halvings ∙ is
     ∙ (let y : ℕ = 2 ^ p.halvings in let e : y ≡ 1 * y = omega arith in e)
@@ -21,7 +21,7 @@ quarter_off h q one half share halvings = ap (λ (z : ℕ). q.share * 2 ^ (z + 1
     ∙ ap (λ (z : ℕ). z * 4) share ∙ ap (λ (z : ℕ). 1 * 2 ^ z) (sym halvings)
     ∙ ap (λ (z : ℕ). z * 2 ^ q.halvings) (sym one)
 
--- and two halves make the whole
+-- two halves make the whole
 half_left : (h p : View) → h.share ≡ 1 → h.halvings ≡ 1 → SameShare h p → SameShare (halved whole) p
 half_left h p one half same = ap (λ (z : ℕ). p.share * 2 ^ z) (sym half) ∙ same
     ∙ ap (λ (z : ℕ). z * 2 ^ p.halvings) one

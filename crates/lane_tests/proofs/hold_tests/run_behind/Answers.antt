@@ -4,7 +4,7 @@ use Rattle.lane_table.specs.Calls.{view}
 use Rattle.caller_run.specs.Families.{SameShare}
 use Rattle.lane_tests.proofs.hold_tests.run_behind.Goals as goal
 
--- as large a share as a quarter
+-- a share equal to a quarter
 quarter_still : (p w : View) → p.share ≡ 1 → p.halvings ≡ 2 → SameShare p w → w.share * 4 ≡ 2 ^ w.halvings
 quarter_still p w one two same = sym (ap (λ (z : ℕ). w.share * 2 ^ z) two) ∙ same
     ∙ ap (λ (z : ℕ). z * 2 ^ w.halvings) one

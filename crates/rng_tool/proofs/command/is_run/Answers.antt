@@ -12,7 +12,7 @@ one [] word some few is = absurd (omega arith)
 one (w ∷ []) word some few is = ap (λ v. string_bytes v ∷ []) (sym is)
 one (w ∷ v ∷ words) word some few is = absurd (omega arith)
 
--- the words are the one form just where the test of the word says so
+-- the words are the one form exactly if the test of the word is true
 both : (text bytes : List ℕ) (answer : Bool) (all : List (List ℕ)) → text ≡ bytes → all ≡ bytes ∷ [] →
     answer ≡ bytes_eq text (codes "run") →
     (IsTrue answer → all ≡ codes "run" ∷ []) × (all ≡ codes "run" ∷ [] → IsTrue answer)

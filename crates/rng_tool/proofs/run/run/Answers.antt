@@ -9,16 +9,16 @@ use Rattle.rng_tool.specs.VforkOutcome.{VforkEnds, VforkOf}
 use Rattle.rng_tool.specs.declared.command.Command.TheVariants.{Vfork as VforkCommand}
 use Rattle.rng_tool.proofs.Completes.{ends_completes, judge_completes, read_before, run_completes}
 use Rattle.tool_ends.specs.Pairs.{most_input, most_script}
-use Rattle.tool_ends.proofs.Endings.{ends_after, reads_end_after, rose_at_end, same_at_end}
+use Rattle.tool_ends.proofs.Endings.{counted_at_end, ends_after, reads_end_after}
 use Rattle.rng_tool.proofs.run.run.Goals as goal
 
 pub returns-in-Some-Run-clause-write_fault : goal.returns-in-Some-Run-clause-write_fault
 returns-in-Some-Run-clause-write_fault g c =
-    rose_at_end _ _ _ _ _ c.end_output.ensures.ended c.run_input.ensures.not_counted c.run_input.ensures.cut
+    (counted_at_end _ _ _ _ _ c.end_output.ensures.ended c.run_input.ensures.counted).cut
 
 pub returns-in-Some-Run-clause-no_write_fault : goal.returns-in-Some-Run-clause-no_write_fault
 returns-in-Some-Run-clause-no_write_fault g c =
-    same_at_end _ _ _ _ _ c.end_output.ensures.ended c.run_input.ensures.not_counted
+    (counted_at_end _ _ _ _ _ c.end_output.ensures.ended c.run_input.ensures.counted).not_counted
 
 pub returns-in-Some-Run-clause-ran : goal.returns-in-Some-Run-clause-ran
 returns-in-Some-Run-clause-ran g c is =
@@ -30,17 +30,16 @@ returns-in-Some-Run-clause-run_completes g c is unread unwritten =
     let ended = c.end_output.ensures.ended in
     run_completes _ _ _ c.end_output.result _
     (reads_end_after most_script CallsFor _ _ _ _ _ c.end_output.ensures.kept _ _ _ _ ended c.run_input.ensures.ends)
-    (λ fault. unread (c.run_input.ensures.read_fault (read_before _ _ _ _ ended fault)))
-    (λ fault. unwritten (rose_at_end _ _ _ _ _ ended c.run_input.ensures.not_counted
-    c.run_input.ensures.cut fault))
+    (λ fault. unread (c.run_input.ensures.read_counted.read_fault (read_before _ _ _ _ ended fault)))
+    (λ fault. unwritten ((counted_at_end _ _ _ _ _ ended c.run_input.ensures.counted).cut fault))
 
 pub returns-in-Some-Judge-clause-write_fault : goal.returns-in-Some-Judge-clause-write_fault
 returns-in-Some-Judge-clause-write_fault g c =
-    rose_at_end _ _ _ _ _ c.end_output-in-Some-Judge.ensures.ended c.judge_input.ensures.not_counted c.judge_input.ensures.cut
+    (counted_at_end _ _ _ _ _ c.end_output-in-Some-Judge.ensures.ended c.judge_input.ensures.counted).cut
 
 pub returns-in-Some-Judge-clause-no_write_fault : goal.returns-in-Some-Judge-clause-no_write_fault
 returns-in-Some-Judge-clause-no_write_fault g c =
-    same_at_end _ _ _ _ _ c.end_output-in-Some-Judge.ensures.ended c.judge_input.ensures.not_counted
+    (counted_at_end _ _ _ _ _ c.end_output-in-Some-Judge.ensures.ended c.judge_input.ensures.counted).not_counted
 
 pub returns-in-Some-Judge-clause-judged : goal.returns-in-Some-Judge-clause-judged
 returns-in-Some-Judge-clause-judged g c judge is =
@@ -58,17 +57,16 @@ returns-in-Some-Judge-clause-judge_completes g c judge is unread unwritten =
     judge_completes _ _ _ asked c.end_output-in-Some-Judge.result _
     (reads_end_after most_input (JudgeCalls asked) _ _ _ _ _ c.end_output-in-Some-Judge.ensures.kept _ _ _ _ ended
     c.judge_input.ensures.ends)
-    (λ fault. unread (c.judge_input.ensures.read_fault (read_before _ _ _ _ ended fault)))
-    (λ fault. unwritten (rose_at_end _ _ _ _ _ ended c.judge_input.ensures.not_counted
-    c.judge_input.ensures.cut fault))
+    (λ fault. unread (c.judge_input.ensures.read_counted.read_fault (read_before _ _ _ _ ended fault)))
+    (λ fault. unwritten ((counted_at_end _ _ _ _ _ ended c.judge_input.ensures.counted).cut fault))
 
 pub returns-in-Some-Load-clause-write_fault : goal.returns-in-Some-Load-clause-write_fault
 returns-in-Some-Load-clause-write_fault g c =
-    rose_at_end _ _ _ _ _ c.end_output-in-Some-Load.ensures.ended c.run_load.ensures.not_counted c.run_load.ensures.cut
+    (counted_at_end _ _ _ _ _ c.end_output-in-Some-Load.ensures.ended c.run_load.ensures.counted).cut
 
 pub returns-in-Some-Load-clause-no_write_fault : goal.returns-in-Some-Load-clause-no_write_fault
 returns-in-Some-Load-clause-no_write_fault g c =
-    same_at_end _ _ _ _ _ c.end_output-in-Some-Load.ensures.ended c.run_load.ensures.not_counted
+    (counted_at_end _ _ _ _ _ c.end_output-in-Some-Load.ensures.ended c.run_load.ensures.counted).not_counted
 
 pub returns-in-Some-Load-clause-loaded : goal.returns-in-Some-Load-clause-loaded
 returns-in-Some-Load-clause-loaded g c start callers events is =
@@ -85,16 +83,15 @@ returns-in-Some-Load-clause-load_completes g c start callers events is unwritten
     ends_completes (LoadOf load.start load.callers load.events) _ _ _
     (ends_after (LoadOf load.start load.callers load.events) _ _ _ c.end_output-in-Some-Load.ensures.kept _ _ _ _
     c.end_output-in-Some-Load.ensures.ended c.run_load.ensures.ends)
-    (λ fault. unwritten (rose_at_end _ _ _ _ _ c.end_output-in-Some-Load.ensures.ended c.run_load.ensures.not_counted
-    c.run_load.ensures.cut fault))
+    (λ fault. unwritten ((counted_at_end _ _ _ _ _ c.end_output-in-Some-Load.ensures.ended c.run_load.ensures.counted).cut fault))
 
 pub returns-in-Some-Draw-clause-write_fault : goal.returns-in-Some-Draw-clause-write_fault
 returns-in-Some-Draw-clause-write_fault g c =
-    rose_at_end _ _ _ _ _ c.end_output-in-Some-Draw.ensures.ended c.run_draw.ensures.not_counted c.run_draw.ensures.cut
+    (counted_at_end _ _ _ _ _ c.end_output-in-Some-Draw.ensures.ended c.run_draw.ensures.counted).cut
 
 pub returns-in-Some-Draw-clause-no_write_fault : goal.returns-in-Some-Draw-clause-no_write_fault
 returns-in-Some-Draw-clause-no_write_fault g c =
-    same_at_end _ _ _ _ _ c.end_output-in-Some-Draw.ensures.ended c.run_draw.ensures.not_counted
+    (counted_at_end _ _ _ _ _ c.end_output-in-Some-Draw.ensures.ended c.run_draw.ensures.counted).not_counted
 
 pub returns-in-Some-Draw-clause-drawn : goal.returns-in-Some-Draw-clause-drawn
 returns-in-Some-Draw-clause-drawn g c bound count is =
@@ -111,16 +108,15 @@ returns-in-Some-Draw-clause-draw_completes g c bound count is unwritten =
     ends_completes (DrawOf draw.bound draw.count) _ _ _
     (ends_after (DrawOf draw.bound draw.count) _ _ _ c.end_output-in-Some-Draw.ensures.kept _ _ _ _
     c.end_output-in-Some-Draw.ensures.ended c.run_draw.ensures.ends)
-    (λ fault. unwritten (rose_at_end _ _ _ _ _ c.end_output-in-Some-Draw.ensures.ended c.run_draw.ensures.not_counted
-    c.run_draw.ensures.cut fault))
+    (λ fault. unwritten ((counted_at_end _ _ _ _ _ c.end_output-in-Some-Draw.ensures.ended c.run_draw.ensures.counted).cut fault))
 
 pub returns-in-Some-Vfork-clause-write_fault : goal.returns-in-Some-Vfork-clause-write_fault
 returns-in-Some-Vfork-clause-write_fault g c =
-    rose_at_end _ _ _ _ _ c.end_output-in-Some-Vfork.ensures.ended c.run_vfork.ensures.not_counted c.run_vfork.ensures.cut
+    (counted_at_end _ _ _ _ _ c.end_output-in-Some-Vfork.ensures.ended c.run_vfork.ensures.counted).cut
 
 pub returns-in-Some-Vfork-clause-no_write_fault : goal.returns-in-Some-Vfork-clause-no_write_fault
 returns-in-Some-Vfork-clause-no_write_fault g c =
-    same_at_end _ _ _ _ _ c.end_output-in-Some-Vfork.ensures.ended c.run_vfork.ensures.not_counted
+    (counted_at_end _ _ _ _ _ c.end_output-in-Some-Vfork.ensures.ended c.run_vfork.ensures.counted).not_counted
 
 pub returns-in-Some-Vfork-clause-forked : goal.returns-in-Some-Vfork-clause-forked
 returns-in-Some-Vfork-clause-forked g c point attempt n is =
@@ -137,8 +133,7 @@ returns-in-Some-Vfork-clause-vfork_completes g c point attempt n is unwritten =
     ends_completes (VforkOf vfork.point vfork.attempt vfork.len) _ _ _
     (ends_after (VforkOf vfork.point vfork.attempt vfork.len) _ _ _ c.end_output-in-Some-Vfork.ensures.kept _ _ _ _
     c.end_output-in-Some-Vfork.ensures.ended c.run_vfork.ensures.ends)
-    (λ fault. unwritten (rose_at_end _ _ _ _ _ c.end_output-in-Some-Vfork.ensures.ended c.run_vfork.ensures.not_counted
-    c.run_vfork.ensures.cut fault))
+    (λ fault. unwritten ((counted_at_end _ _ _ _ _ c.end_output-in-Some-Vfork.ensures.ended c.run_vfork.ensures.counted).cut fault))
 
 pub returns-in-Some-Vfork-clause-usage : goal.returns-in-Some-Vfork-clause-usage
 returns-in-Some-Vfork-clause-usage g c =
@@ -154,11 +149,11 @@ returns-in-Some-Vfork-clause-usage g c =
 
 pub returns-in-Some-Feed-clause-write_fault : goal.returns-in-Some-Feed-clause-write_fault
 returns-in-Some-Feed-clause-write_fault g c =
-    rose_at_end _ _ _ _ _ c.end_output-in-Some-Feed.ensures.ended c.run_feed.ensures.not_counted c.run_feed.ensures.cut
+    (counted_at_end _ _ _ _ _ c.end_output-in-Some-Feed.ensures.ended c.run_feed.ensures.counted).cut
 
 pub returns-in-Some-Feed-clause-no_write_fault : goal.returns-in-Some-Feed-clause-no_write_fault
 returns-in-Some-Feed-clause-no_write_fault g c =
-    same_at_end _ _ _ _ _ c.end_output-in-Some-Feed.ensures.ended c.run_feed.ensures.not_counted
+    (counted_at_end _ _ _ _ _ c.end_output-in-Some-Feed.ensures.ended c.run_feed.ensures.counted).not_counted
 
 pub returns-in-Some-Feed-clause-fed : goal.returns-in-Some-Feed-clause-fed
 returns-in-Some-Feed-clause-fed g c start feeders samples is =
@@ -175,5 +170,4 @@ returns-in-Some-Feed-clause-feed_completes g c start feeders samples is unwritte
     ends_completes (FeedOf feed.start feed.feeders feed.samples) _ _ _
     (ends_after (FeedOf feed.start feed.feeders feed.samples) _ _ _ c.end_output-in-Some-Feed.ensures.kept _ _ _ _
     c.end_output-in-Some-Feed.ensures.ended c.run_feed.ensures.ends)
-    (λ fault. unwritten (rose_at_end _ _ _ _ _ c.end_output-in-Some-Feed.ensures.ended c.run_feed.ensures.not_counted
-    c.run_feed.ensures.cut fault))
+    (λ fault. unwritten ((counted_at_end _ _ _ _ _ c.end_output-in-Some-Feed.ensures.ended c.run_feed.ensures.counted).cut fault))

@@ -16,8 +16,8 @@ all_said-requires-clause-in_range g c =
     rw c.deref.ensures.value
     (in_range c.args.script.now (seen_callers c.args.lines.now) c.in-Stands.basis.parts stand.parts c.requires.well)
 
-pub returns-in_default : goal.returns-in_default
-returns-in_default g c =
+pub returns-in_default-clause-made : goal.returns-in_default-clause-made
+returns-in_default-clause-made g c =
     let t : List (List SeenLine) = seen_callers c.args.lines.now in
     let stand = rw c.in-Stands.is at c.in_ok-clause.ensures in
     let only = rw (c.in_default.is, c.deref.ensures.value, c.deref-2.ensures.value) at c.in_ok-callers.ensures.only in
@@ -35,8 +35,8 @@ all_may_follow-requires g c =
       above = forks_rise c.args.script.now (seen_callers c.args.lines.now) c.in-Stands.basis.parts parts c.requires.well;
     })
 
-pub returns : goal.returns
-returns g c =
+pub returns-clause-made : goal.returns-clause-made
+returns-clause-made g c =
     let t : List (List SeenLine) = seen_callers c.args.lines.now in
     let stand = rw c.in-Stands.is at c.in_ok-clause.ensures in
     let some = rw (c.in-Some.is, c.deref.ensures.value, c.deref-2.ensures.value) at c.in_ok-callers.ensures.some in
@@ -46,5 +46,8 @@ returns g c =
     let said = some c.args.script.now t stand.lists there keeps stand.lawful.lanes fill in
     let looks = rw (c.of-looks.ensures.lists, c.deref-3.ensures.value, stand.parts.calls) at c.in_ok-looks_stand.ensures in
     all_made c.args.script.now t c.in-Stands.basis stand (g.N.Note.IsNoted c.args.how.now)
-    (record { callers = c.in-Some.callers; looks_stand = c.in_ok-looks_stand.looks_stand }) said c.of-looks.result.reseeds
+    (record { callers = c.in-Some.callers; looks_stand = c.in_ok-looks_stand.looks_stand; basis = c.in-Stands.basis }) said c.of-looks.result.reseeds
     c.of-looks.ensures.reseeds looks
+
+pub returns-clause-basis : goal.returns-clause-basis
+returns-clause-basis g c = rw c.in-Stands.is at c.in_ok-clause.ensures

@@ -12,4 +12,4 @@ pub returns-clause-made : goal.returns-clause-made
 returns-clause-made g c =
     if_ok (IsRemade (g.N.Note.IsNoted c.args.how.now) c.args.script.now (map (map bare) c.args.t.now)) (IsRemade (g.N.Note.IsNoted c.args.how.now) c.args.script.now c.args.t.now)
     (remade_of_bare c.args.script.now c.args.t.now (g.N.Note.IsNoted c.args.how.now)) c.of_lines.result
-    (rw (c.deref.ensures.value, c.in_ok-lines.ensures) at c.of_lines.ensures)
+    (rw (c.deref.ensures.value, c.in_ok-lines.ensures) at c.of_lines.ensures.made)

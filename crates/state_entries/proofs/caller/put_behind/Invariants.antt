@@ -1,9 +1,8 @@
 use Rattle.std.proofs.Common.{◌≡◌, ◌++◌, drop}
-use Rattle.state_entries.specs.Entries.{call_entries}
-use Rattle.state_entries.specs.Stamped.{over, overs_in}
+use Rattle.state_entries.specs.Stamped.{left_by}
 use Rattle.state_entries.proofs.caller.put_behind.Given as goal
 
-abbrev pub invariant-loop-one : goal.invariant-loop-one
-invariant-loop-one l =
-    overs_in l.list.items ++ over l.done (call_entries (drop l.one-index l.left))
-    ≡ overs_in l.initial.list.items ++ over l.done (call_entries l.left)
+abbrev pub invariant-loop-entry : goal.invariant-loop-entry
+invariant-loop-entry l =
+    l.list.items ++ left_by l.call l.end (drop l.entry-index l.left)
+    ≡ l.initial.list.items ++ left_by l.call l.end l.left

@@ -1,11 +1,11 @@
 use Rattle.std.proofs.Common.{◌≡◌, ℕ, ◌++◌, drop}
 use Rattle.std.specs.Prelude.{slice_get, unwrap_or}
 use Rattle.line_orders.specs.Called.{seen_calls}
-use Rattle.state_entries.specs.Stamped.{all_lists_over, all_over}
+use Rattle.state_entries.specs.Stamped.{all_kept, all_over}
 use Rattle.state_entries.proofs.lists.all_lists.Given as goal
 
 abbrev pub invariant-loop-number : goal.invariant-loop-number
 invariant-loop-number l =
-    all_lists_over l.lists.items
+    all_kept l.lists.items
     ++ all_over (λ (c : ℕ). unwrap_or (slice_get l.starts c) 0) l.number (seen_calls (drop l.number l.callers))
     ≡ all_over (λ (c : ℕ). unwrap_or (slice_get l.starts c) 0) 0 (seen_calls l.callers)

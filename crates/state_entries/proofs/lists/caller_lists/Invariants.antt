@@ -1,11 +1,10 @@
 use Rattle.std.proofs.Common.{◌≡◌, map, drop}
-use Rattle.std.specs.List.{fold}
 use Rattle.line_orders.specs.Called.{seen_call}
-use Rattle.state_entries.specs.Stamped.{first_states, states_after}
+use Rattle.state_entries.specs.Stamped.{first_states, states_from}
 use Rattle.state_entries.proofs.lists.caller_lists.Given as goal
 
--- what is left of the calls leads from here to where all lead
-abbrev pub invariant-loop-call : goal.invariant-loop-call
-invariant-loop-call l =
-    fold states_after l.caller (map seen_call (drop l.call-index l.calls))
-    ≡ fold states_after (first_states l.stamp) (map seen_call l.calls)
+-- the calls that are left lead from the present states to the same end as all calls from the first states
+abbrev pub invariant-loop-number : goal.invariant-loop-number
+invariant-loop-number l =
+    states_from l.number l.caller (map seen_call (drop l.number l.calls))
+    ≡ states_from 0 (first_states l.stamp) (map seen_call l.calls)

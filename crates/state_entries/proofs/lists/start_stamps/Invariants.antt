@@ -6,7 +6,7 @@ use Rattle.line_orders.specs.Orders.{all_forks}
 use Rattle.state_entries.specs.Stamps.{start_stamp}
 use Rattle.state_entries.proofs.lists.start_stamps.Given as goal
 
--- each caller that was come by has its stamp
+-- each caller so far has its stamp
 abbrev pub invariant-loop-caller : goal.invariant-loop-caller
 invariant-loop-caller l = record {
   count : length l.starts.items ≡ l.caller;

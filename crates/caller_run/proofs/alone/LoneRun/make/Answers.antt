@@ -6,7 +6,7 @@ use Rattle.caller_run.proofs.Forks.Alone.{goes_on, once_called}
 use Rattle.caller_run.proofs.Planning.LogFills.{put_back}
 use Rattle.caller_run.proofs.alone.LoneRun.make.Goals as goal
 
--- the front of a list whose items were lent out
+-- the front of a list after its items were lent out
 front_back : (n most len : ℕ) (all items : List ℕ) → length all ≡ len → n ≡ most
     → take n (take len (all ++ drop (length all) items)) ≡ take most all
 front_back n most len all items long is =

@@ -14,7 +14,7 @@ pub returns-clause-run : goal.returns-clause-run
 returns-clause-run c =
     let made = c.in_ok-lanes in let t = made.lanes in let p = made.pass in let events = c.events-events.result.now in
     let plan = plan_of (c.cpus.result + 2) 0 in let seat = made.ensures.seat in
-    let served = vec_len c.in_ok-vec.field-0 in
+    let served = vec_len c.in_ok-vec.field-0 in let states = c.in_ok-states.states in
     let cpus = made.ensures.table.0 ∙ c.cpus.ensures in
     let once = recursion_from_All IsToldOnce events c.in-Some.ensures.once in
     let longest = recursion_from_All (λ event. most_shown event ≤ served) events
@@ -30,8 +30,8 @@ returns-clause-run c =
       first = starts_first plan p seat;
       whole = starts_whole plan p seat;
       goes = subst (λ (caller : Caller). GoesAlone t served (first_start p) events events caller [])
-          (sym (λ i. record { pass = p; set = c.first.ensures i; states = c.wiped.ensures i }))
+          (sym (λ i. record { pass = p; set = c.first.ensures i; states = states }))
           (starts_alone t c.args.script.now p events served
           (has_new t 0 plan p made.ensures.pass.0 made.ensures.pass.1 seat) c.requires cpus c.events-events.ensures longest
-          once);
+          once states c.in_ok-states.ensures);
     }

@@ -15,7 +15,7 @@ returns g c inside =
     record {
       can = λ rest can. record {
         goes = can_next call.self k.set k.has (k.states can.goes.states) c.go_on.ensures
-            (fills_call _ _ _ c.tell.ensures.lines c.tell.ensures.line_room c.requires.kind
+            (fills_call log.lines c.tell.new.lines _ c.tell.ensures.lines c.tell.ensures.line_room c.requires.kind
             (let b = c.tell.ensures.step_room in let few = c.tell.ensures.few_steps in omega arith)
             (let b = c.tell.ensures.byte_room in omega arith)
             can.goes.fresh can.goes.told) can.goes;

@@ -28,7 +28,7 @@ tell_acts-requires-clause-short g c =
     let many = can.few.0 in
     let long : length c.vread-said.new.into.inside.now ≡ all_wanted (asks_of c.deref.result.now) = search rules in omega arith
 
--- a list whose items were lent out is as long as it was
+-- a list is no longer than before after its items were lent out and came back
 back_long : (back items : List Bound) (n : ℕ) → length (take n (back ++ drop (length back) items)) ≤ n
 back_long back items n = omega (arith, length-take n (back ++ drop (length back) items))
 
@@ -49,7 +49,7 @@ tell-requires-clause-step_room g c =
 pub tell-requires-clause-steps : goal.tell-requires-clause-steps
 tell-requires-clause-steps g c = c.vread-said.ensures.read.steps_fit
 
--- what the caller did for its event
+-- the caller's read, for its event
 has_read : (g : _) (c : After-go_on g) → HasRead c.args.shared.now.lanes.now c.args.event.now c.args.self.now
     c.vread-said.new.self c.go_on.new.self
     c.args.log.now.lines c.tell.new.lines c.args.log.now.acts.items c.clear-2.new.self.items

@@ -6,7 +6,7 @@ use Rattle.key_names.specs.declared.point.Point.{Point}
 use Rattle.caller_run.specs.Kinds.{ForksNobody, IsCall}
 use Rattle.caller_run.proofs.caller.Caller.step.Goals as goal
 
--- what is no vread, no act and no fork is a call by itself
+-- an event that is no vread, no act and no fork is a call of the core
 is_call : (event : Event) → ForksNobody event → ((len flags : ℕ) → event ≡ Vread len flags → ⊥) →
     ((point : Point) (act : InsideAct) → event ≡ Inside point act → ⊥) → IsCall event
 is_call (Vread len flags) plain no_vread no_act = no_vread len flags refl

@@ -1,9 +1,12 @@
 use Rattle.std.proofs.Common.{◌≡◌, [], rules, refl, length, ◌<◌, ◌∙◌, sym, subst, ap, arith}
 use Rattle.std.proofs.lemmas.Bool.{eqb-true}
+use Rattle.key_names.specs.Meaning.{CallerState, current_state, with_state}
 use Rattle.lane_table.specs.Calls.{view}
+use Rattle.rng_core.specs.Makes.{setting_of}
 use Rattle.rng_core.specs.Acts.{all_wanted, asks_of, outcomes_of}
 use Rattle.rng_core.proofs.Hosting.{none_left}
-use Rattle.caller_run.specs.Calling.{StateRead}
+use Rattle.caller_run.specs.Calling.{StateRead, caller_at}
+use Rattle.caller_run.specs.declared.states.States.{States}
 use Rattle.caller_run.proofs.Events.OwnSites.{own_hands}
 use Rattle.caller_run.proofs.Events.StateReads.{lent_read, read_inside, current_is}
 use Rattle.caller_run.proofs.caller.Caller.vread.Goals as goal
@@ -25,7 +28,9 @@ returns-then-is_empty g c =
 
 pub returns : goal.returns
 returns g c =
-    let states = c.args.self.now.states in let stand = c.requires.can.states in let acts = c.args.acts.now in
+    let lent = c.deref_mut-states.result.now in let stand = c.requires.can.states in let acts = c.args.acts.now in
+    let same : lent ≡ c.args.self.now.states.value = c.deref_mut-states.ensures.value in
+    let at : States → CallerState = caller_at (setting_of c.args.self.now.set) in
     let told = c.vread_inside.ensures in let over = c.over-host.ensures in let next = c.vread_inside.new.host in
     let two : 1 < length (view c.args.self.now.pass).lanes =
     (let s = c.requires.can.ready.has.pass.sized in let f = c.args.lanes.now.few in omega arith) in
@@ -40,11 +45,13 @@ returns g c =
           (read_inside (record {
             has = rw over.site at (own_hands told.loans.site told.has);
             set = refl;
-            stands = refl;
+            stands = ap (λ (s : States). with_state (at s) c.vread_inside.new.st) same;
             published = told.current;
             new = c.requires.new;
-            current = current_is states.all states.current c.index-self-self.result
-                (let m = stand.many in let l = stand.current in omega arith);
+            current = current_is lent.all lent.current c.index-states-states.result
+                (let m = stand.many in let l = stand.current in let n = ap (λ (s : States). length s.all) same in
+                let k = ap (λ (s : States). s.current) same in omega arith)
+                ∙ ap (λ (s : States). current_state (at s)) same;
             answers = c.read.ensures.answer;
             shows = c.read.ensures.shows c.vread_inside.new.buf;
             bytes = c.read.ensures.bytes;

@@ -1,21 +1,29 @@
-use Rattle.std.proofs.Common.{[], rules, refl, arith}
+use Rattle.std.proofs.Common.{◌≡◌, [], rules, refl, ap, ◌∙◌, length, arith}
+use Rattle.key_names.specs.Meaning.{CallerState, current_state, with_state}
+use Rattle.rng_core.specs.Makes.{setting_of}
+use Rattle.caller_run.specs.Calling.{caller_at}
+use Rattle.caller_run.specs.declared.states.States.{States}
 use Rattle.caller_run.proofs.Events.OwnSites.{own_hands}
 use Rattle.caller_run.proofs.Events.StateReads.{lent_read, read_alone, current_is}
 use Rattle.caller_run.proofs.caller.Caller.vread_alone.Goals as goal
 
 pub returns : goal.returns
 returns g c =
-    let states = c.args.self.now.states in let stand = c.requires.states in
+    let lent = c.deref_mut-states.result.now in let stand = c.requires.states in
+    let same : lent ≡ c.args.self.now.states.value = c.deref_mut-states.ensures.value in
+    let at : States → CallerState = caller_at (setting_of c.args.self.now.set) in
     let told = c.vread.ensures in let over = c.over-host.ensures in
     lent_read (search rules) (search rules) refl
     (read_alone (record {
       has = rw over.site at (own_hands told.loans.site told.has);
       set = refl;
-      stands = refl;
+      stands = ap (λ (s : States). with_state (at s) c.vread.new.st) same;
       published = told.current;
       new = c.requires.new;
-      current = current_is states.all states.current c.index-self-self.result
-          (let m = stand.many in let l = stand.current in omega arith);
+      current = current_is lent.all lent.current c.index-states-states.result
+          (let m = stand.many in let l = stand.current in let n = ap (λ (s : States). length s.all) same in
+          let k = ap (λ (s : States). s.current) same in omega arith)
+          ∙ ap (λ (s : States). current_state (at s)) same;
       answers = c.read.ensures.answer;
       shows = c.read.ensures.shows c.vread.new.buf;
       bytes = c.read.ensures.bytes;

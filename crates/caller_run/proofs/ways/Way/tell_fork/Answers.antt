@@ -22,4 +22,4 @@ returns-clause-gone c begun events rest kids m u from low gone =
     (kids ++ kid_of m c.args.child u ∷ []))
     (sym (c.tell.ensures.lines
     ∙ (λ i. w.sheet.log.lines.lines ++ line_of (from.set i) ForkWord [] (c.only-done.ensures i) c.args.trace.now ∷ [])))
-    (gone_fork w.caller u c.args.trace.now gone from.set from.states c.go_on.ensures low from.took)
+    (gone_fork w.caller c.go_on.new.self u c.args.trace.now gone from.set from.states c.go_on.ensures low from.took)

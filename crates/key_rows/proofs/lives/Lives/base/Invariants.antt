@@ -10,7 +10,7 @@ use Rattle.key_rows.proofs.Along.{IsTold}
 use Rattle.key_rows.proofs.Stands.{StandsAt}
 use Rattle.key_rows.proofs.lives.Lives.base.Given as goal
 
--- what the entries before a place tell is added, and the key is that before it
+-- the results of the entries before a place were added, and the key is that before the place
 pub record BaseSoFar (es : List BaseEntry) (place : ℕ) (old now : Lives) (key : Option KeyName) : Type 0 where
   pub births : IsTold base_births_at base_step base_start es place old.births.items now.births.items
   pub endings : IsTold base_endings_at base_step base_start es place old.endings.items now.endings.items

@@ -12,7 +12,7 @@ use Rattle.key_rows.proofs.Along.{IsTold}
 use Rattle.key_rows.proofs.Stands.{StandsAt}
 use Rattle.key_rows.proofs.lives.Lives.cpu.Given as goal
 
--- what the entries before a place tell is added, and key and fills are those before it
+-- the results of the entries before a place were added, and the key and the fills are those before the place
 pub record CpuSoFar (base : List BaseEntry) (c : ℕ) (es : List CpuEntry) (place : ℕ) (old now : Lives) (keys : CpuKeys) :
     Type 0 where
   pub births : IsTold (cpu_births_at c) (cpu_step base c) cpu_start es place old.births.items now.births.items

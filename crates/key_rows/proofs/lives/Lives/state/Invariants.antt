@@ -10,7 +10,7 @@ use Rattle.key_rows.proofs.Along.{IsTold}
 use Rattle.key_rows.proofs.Stands.{StandsAt}
 use Rattle.key_rows.proofs.lives.Lives.state.Given as goal
 
--- what the entries before a place tell is added, and keys and batch are those before it
+-- the results of the entries before a place were added, and the keys and the batch are those before the place
 pub record StateSoFar (of : StateOf) (es : List VEntry) (place : ℕ) (old now : Lives) (batch : StateBatch) : Type 0 where
   pub births : IsTold (state_births_at of) (state_step of.caller of.state) state_start es place
       old.births.items now.births.items

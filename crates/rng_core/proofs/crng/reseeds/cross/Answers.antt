@@ -20,4 +20,4 @@ returns-in-Early g c = let s = c.args.site.now in
 pub returns-in-Ready : goal.returns-in-Ready
 returns-in-Ready g c = let s = c.args.site.now in
     subst (λ (z : Crossing). Does 2 (Cross (setting_of s.set) (crossing_of z)) s c.reseed_base.new.site)
-    (sym c.in-Ready.is) c.reseed_base.ensures
+    (sym c.in-Ready.is) c.reseed_base.ensures.does

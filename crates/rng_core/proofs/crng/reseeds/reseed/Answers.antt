@@ -15,4 +15,8 @@ pub returns-clause-does : goal.returns-clause-does
 returns-clause-does g c = does_map 3 _ _ (λ deeds h. reseed_ready (setting_of c.args.site.now.set) c.look.result deeds h.rest
     (let n = c.if-look-eq0.false in omega arith) h.deeds_are h.holds)
     (does_found (λ set. Rooted (setting_of set) (λ (r : ℕ). Reseed r set.now)) 2 c.look.result _ _ _
-    c.look.ensures.looked c.reseed_base.ensures)
+    c.look.ensures.looked c.reseed_base.ensures.does)
+
+pub returns-clause-rises : goal.returns-clause-rises
+returns-clause-rises g c = λ ok. let k = c.look.ensures.looked in let a = k.above in let b = k.known in
+    let d = c.reseed_base.ensures.rises in omega arith

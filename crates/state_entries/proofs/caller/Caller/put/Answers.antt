@@ -1,14 +1,14 @@
 use Rattle.std.proofs.Common.{◌++◌, List, ap, ◌∙◌, arith}
 use Rattle.std.specs.Prelude.{slice_set}
-use Rattle.state_entries.specs.Entries.{call_entries}
-use Rattle.state_entries.specs.Stamped.{Over, over, States, current_list}
+use Rattle.state_entries.specs.declared.entry.StateEntry.{StateEntry}
+use Rattle.state_entries.specs.Stamped.{States, current_list, left_by}
 use Rattle.state_entries.proofs.Over.{list_put}
 use Rattle.state_entries.proofs.caller.Caller.put.Goals as goal
 
 pub returns : goal.returns
 returns c =
-    let more : List Over = over c.args.done (call_entries c.args.left.now) in
-    ap (λ (lists : List (List Over)). record {
+    let more : List StateEntry = left_by c.args.call c.args.end c.args.left.now in
+    ap (λ (lists : List (List StateEntry)). record {
       outlines = record { each = c.self.inside.outlines.items; current = c.self.inside.current };
       lists = lists;
       stamp = c.self.inside.stamp;

@@ -1,12 +1,12 @@
 use Rattle.std.proofs.Common.{◌≡◌, ◌-◌, ◌≤◌, [], length, replicate}
 use Rattle.state_entries.specs.Outline.{wiped_outline}
-use Rattle.state_entries.specs.Stamped.{lists_over}
+use Rattle.state_entries.specs.Stamped.{kept_lists}
 use Rattle.state_entries.proofs.caller.Caller.start.Given as goal
 
 abbrev pub invariant-loop-alloc : goal.invariant-loop-alloc
 invariant-loop-alloc l =
     (length l.lists.items ≤ 16) × (l.outlines.items ≡ replicate (length l.lists.items) wiped_outline)
-    × (lists_over l.lists.items ≡ replicate (length l.lists.items) [])
+    × (kept_lists l.lists.items ≡ replicate (length l.lists.items) [])
 
 abbrev pub decreases-loop-alloc : goal.decreases-loop-alloc
 decreases-loop-alloc l = 16 - length l.lists.items

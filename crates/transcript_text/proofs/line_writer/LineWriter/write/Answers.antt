@@ -10,7 +10,7 @@ use Rattle.transcript_text.proofs.Places.{head_put}
 use Rattle.transcript_text.proofs.PuttingOn.{breaks_off, piece_put}
 use Rattle.transcript_text.proofs.line_writer.LineWriter.write.Goals as goal
 
--- a piece is made of what is left, and the rest is still to come
+-- a piece of the data is made, and the rest is still to come
 more_shown : (left piece rest : List ℕ) → piece ++ rest ≡ left → left ++ codes "\n" ≡ piece ++ (rest ++ codes "\n")
 more_shown left piece rest part = ap (λ text. text ++ codes "\n") (sym part) ∙ append_assoc piece rest (codes "\n")
 

@@ -1,6 +1,6 @@
-use Rattle.std.proofs.Common.{length, refl}
+use Rattle.std.proofs.Common.{length, refl, inr}
 use Rattle.rng_core.proofs.Makings.{did_floor}
-use Rattle.rng_core.proofs.Hosting.{published_more, answer_by, is_answer, visit_of, system_called}
+use Rattle.rng_core.proofs.Hosting.{published_more, answer_by, is_answer, is_read, visit_of, system_called}
 use Rattle.rng_core.proofs.vdso.hosting.LaneHostVHost.getrandom.Goals as goal
 
 pub returns-clause-answers : goal.returns-clause-answers
@@ -13,6 +13,8 @@ returns-clause-answers g c = let k = c.getrandom.ensures.does.did in (
         same = c.getrandom.ensures.does.same.set;
         did = system_called _ (length c.args.buf.now) c.args.flags c.getrandom.result
             c.getrandom.new.buf _ _ k;
+        served = λ good ready. is_read c.getrandom.result c.getrandom.new.buf (visit_of k.made_steps)
+            (c.getrandom.ensures.served good (inr ready));
       };
       begins = c.getrandom.ensures.begins.begins;
       acts = record { attempt = refl; asks = refl; outcomes = refl };

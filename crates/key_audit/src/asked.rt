@@ -1,0 +1,78 @@
+//! Whether a transcript has the stamp or the line of a command.
+ghost use Rattle.std.specs.Prelude.{◌≡◌, List, map};
+ghost use Rattle.std.specs.List.{list_any};
+ghost use Rattle.std.specs.Option.{is_some};
+ghost use Rattle.key_names.specs.Book.{Book, list_at};
+ghost use Rattle.key_names.specs.Calls.{Call};
+ghost use Rattle.key_names.specs.Meaning.{CallMeaning};
+ghost use Rattle.key_names.specs.SeenLine.{SeenLine};
+ghost use Rattle.line_orders.specs.Marks.{seen_mark};
+ghost use Rattle.state_entries.specs.LineEnds.{lines_in};
+ghost use Rattle.key_audit.specs.Asked.{is_there, line_end as told_end, line_in, missing_text, stamps_reach};
+ghost use Rattle.key_audit.specs.Kept.{KeepsBook};
+
+use crate::ask::Ask;
+use crate::book::KeptBook;
+use key_rows::moments::Line;
+use line_orders::marks::MarkOf;
+use state_entries::LineEnd;
+
+// The first line of an event.
+fn line_in(lines: &[LineEnd], event: u32) -> Option<LineEnd>
+    ensures { result ≡ line_in event lines.now }
+{
+    for line in lines {
+        if line.event == event {
+            return Some(*line);
+        }
+    }
+    None
+}
+
+/// A line with its call, if it exists.
+pub(crate) fn line_end(lines: &[Vec<LineEnd>], line: Line) -> Option<LineEnd>
+    ensures { result ≡ line_in line.event (list_at (lines_in lines.now) line.caller) }
+{
+    match lines.get(line.caller as usize) {
+        Some(list) => line_in(list, line.event),
+        None => None,
+    }
+}
+
+// Whether a stamp is not above those of all visits.
+fn has_stamp(marks: &[MarkOf], stamp: u64) -> bool
+    ensures { result ≡ stamps_reach stamp marks.now }
+{
+    marks.iter().any(|of| stamp <= of.mark.stamp)
+}
+
+// Whether a line exists.
+fn has_line(line: Line, book: &KeptBook) -> bool
+    ensures { (t : List (List SeenLine)) (callers : List (List Call)) (of : Book) (ms : List (List CallMeaning)) →
+        KeepsBook book.now t callers of ms → result ≡ is_some (told_end callers line) }
+{
+    line_end(&book.lines, line).is_some()
+}
+
+/// Whether the transcript has the stamp or the line of the command.
+pub(crate) fn is_there(ask: Ask, book: &KeptBook) -> bool
+    ensures { (t : List (List SeenLine)) (callers : List (List Call)) (of : Book) (ms : List (List CallMeaning)) →
+        KeepsBook book.now t callers of ms → result ≡ is_there ask callers t }
+{
+    match ask {
+        Ask::Keys => true,
+        Ask::Live(stamp) => has_stamp(&book.marks, stamp),
+        Ask::LiveAfter(line) => has_line(line, book),
+        Ask::Line(line) => has_line(line, book),
+    }
+}
+
+/// The output if it does not.
+pub(crate) fn missing_text(ask: Ask) -> &'static str
+    ensures { result.now ≡ missing_text ask }
+{
+    match ask {
+        Ask::Live(_) => "no stamp\n",
+        Ask::Keys | Ask::LiveAfter(_) | Ask::Line(_) => "no line\n",
+    }
+}

@@ -1,0 +1,80 @@
+//! A source that is read piece by piece, up to a limit. Each piece is fed to a reader of the text.
+ghost use Rattle.std.specs.Prelude.{◌≡◌, ◌+◌, ◌<◌, ◌≤◌, ◌^◌, ◌++◌, [], ℕ, List, length, IfErr, IfOk, OnOk};
+ghost use Rattle.event_script.specs.Feeding.{HasFed};
+ghost use Rattle.io_edges.specs.Faults.{Rose};
+ghost use Rattle.tool_ends.specs.Fed.{GivesNoText, GivesText};
+
+use crate::maker::NoMaker;
+use crate::pair::NotRead;
+use event_script::Reader;
+use io_edges::Source;
+use std::alloc::{AllocError, Global};
+
+/// The bytes of one piece.
+const PIECE: usize = 64 * 1024;
+
+/// A reader that a text is fed to. The text is compared with a maker's transcript.
+pub(crate) trait Fed<M> {
+    ghost use Rattle.std.specs.Prelude.{List, ℕ};
+
+    /// It was fed this text.
+    ghost was_fed: { M → List ℕ → Self → Type 0 };
+
+    /// One more piece of the text.
+    ///
+    /// # Errors
+    ///
+    /// `AllocError` if there is no memory for it.
+    fn feed_piece(&mut self, alloc: Global, maker: &M, piece: &[u8]) -> Result<(), AllocError>
+        requires { (text : List ℕ) × was_fed maker.now text self.old × (length text + length piece.now ≤ 2 ^ 31) }
+        ensures { OnOk result ((text : List ℕ) → was_fed maker.now text self.old
+            → was_fed maker.now (text ++ piece.now) self.new) };
+}
+
+impl Fed<NoMaker> for Reader {
+    ghost was_fed = { λ _ text reader. HasFed text reader };
+
+    fn feed_piece(
+        &mut self,
+        alloc: Global,
+        _maker: &NoMaker,
+        piece: &[u8],
+    ) -> Result<(), AllocError> {
+        self.feed(alloc, piece)
+    }
+}
+
+/// Feeds the text that a source gives, to its end or to one byte after the limit, and returns the number of its bytes.
+///
+/// # Errors
+///
+/// `ReadFault` or `NoMemory`. The bytes that were taken are lost.
+pub(crate) fn feed_to_limit<S: Source, M, F: Fed<M>>(
+    alloc: Global,
+    source: &mut S,
+    limit: usize,
+    maker: &M,
+    fed: &mut F,
+) -> Result<usize, NotRead>
+    requires new { F.was_fed maker.now [] fed.old }
+    requires small { limit < 2 ^ 31 }
+    ensures read { IfOk result (GivesText limit (S.left source.old) (S.left source.new)
+        (λ text. F.was_fed maker.now text fed.new)) }
+    ensures not_read { IfErr result (GivesNoText limit (S.left source.old) (S.left source.new)) }
+    ensures read_fault { IfErr result (λ why. why ≡ NotRead.ReadFault → Rose (S.faults source.old) (S.faults source.new)) }
+    ensures no_fault { IfErr result (λ why. (why ≡ NotRead.ReadFault → ⊥) → S.faults source.new ≡ S.faults source.old) }
+    ensures not_counted { OnOk result (S.faults source.new ≡ S.faults source.old) }
+{
+    let mut piece = [0; PIECE];
+    let mut taken = 0;
+    while taken <= limit {
+        let most = PIECE.min(limit + 1 - taken);
+        let count = source.take(&mut piece[..most])?;
+        if count == 0 {
+            return Ok(taken);
+        }
+        fed.feed_piece(alloc, maker, &piece[..count])?;
+        taken += count;
+    }
+    Ok(taken)
+}

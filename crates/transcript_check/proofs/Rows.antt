@@ -1,0 +1,25 @@
+-- The first of some inferred rows are in the same ranges as all of them.
+use Rattle.std.proofs.Common.{◌≡◌, ◌<◌, ◌^◌, List, [], length, map, sym, subst, ◌∙◌, arith}
+use Rattle.std.specs.Prelude.{All}
+use Rattle.std.specs.Global.{Vec}
+use Rattle.std.proofs.lemmas.List.{length-map, get_or-map}
+use Rattle.std.proofs.lemmas.List.Elements.{All-get_or}
+use Rattle.list_replay.specs.Tables.{CpuIsWide}
+use Rattle.list_replay.specs.declared.told.ToldCpu.{ToldCpu}
+use Rattle.transcript_check.specs.Rows.{AreWide}
+
+abbrev pub items : Vec ToldCpu → List ToldCpu
+items lane = lane.items
+
+abbrev pub Wide : List ToldCpu → Type 0
+Wide = All (λ (t : ToldCpu). CpuIsWide t.entry)
+
+pub wide_of : (lanes : List (Vec ToldCpu)) → All Wide (map items lanes) → AreWide lanes
+wide_of lanes all = λ k d low.
+    let long : length (map items lanes) ≡ length lanes = length-map lanes items in
+    subst Wide (get_or-map items lanes k d [] low) (All-get_or Wide (map items lanes) k [] (omega arith) all)
+
+pub few_of : (lanes cut : List (Vec ToldCpu)) → length cut ≡ length lanes → length (map items lanes) < 2 ^ 32 →
+    length (map items cut) < 2 ^ 32
+few_of lanes cut same few =
+    subst (λ n. n < 2 ^ 32) (sym (length-map cut items ∙ same ∙ sym (length-map lanes items))) few

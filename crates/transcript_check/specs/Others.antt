@@ -1,0 +1,35 @@
+-- A line of a transcript that differs from the result of its steps.
+use Rattle.std.specs.Prelude.{ℕ, ◌≡◌, ◌≢◌, Some, List, slice_get, map}
+use Rattle.key_names.specs.Book.{list_at}
+use Rattle.key_names.specs.IsTranscript.{IsTranscript}
+use Rattle.key_names.specs.SameSteps.{SameSteps, bare}
+use Rattle.key_names.specs.SeenLine.{SeenLine}
+use Rattle.key_names.specs.Texts.ScriptGrammar.{Script}
+use Rattle.caller_answers.specs.declared.said.Said.{Said}
+use Rattle.caller_answers.specs.Said.{itself}
+use Rattle.serial_replay.specs.declared.remake.Made.{Made}
+use Rattle.serial_replay.specs.Remade.{AllMade, made_by}
+
+-- the line differs from the result with its number
+pub record IsOther (IsSaid : SeenLine → Said → Type 0) (notes : List Said) (line : SeenLine) : Type 0 where
+  pub one : Said
+  pub said : slice_get notes line.event ≡ Some one
+  pub other : IsSaid line one → ⊥
+
+-- the caller has a line with this number, and it differs from its result
+pub record IsOtherAt (IsSaid : SeenLine → Said → Type 0) (notes : List Said) (lines : List SeenLine) (number : ℕ) : Type 0 where
+  pub line : SeenLine
+  pub there : slice_get lines number ≡ Some line
+  pub is : IsOther IsSaid notes line
+
+-- this line of this caller differs from the result of the transcript's steps
+pub record HasOther (IsSaid : SeenLine → Said → Type 0) (script : Script) (t : List (List SeenLine))
+    (caller number : ℕ) : Type 0 where
+  pub made : Made Said
+  pub says : AllMade itself script (map (map bare) t) made
+  pub other : IsOtherAt IsSaid (list_at (made_by made) caller) (list_at t caller) number
+
+-- no lawful transcript with the same steps has this line
+abbrev pub IsReplacedIn : Script → List (List SeenLine) → ℕ → ℕ → Type 0
+IsReplacedIn script t caller number = (u : List (List SeenLine)) → SameSteps t u → IsTranscript script u →
+    slice_get (list_at t caller) number ≢ slice_get (list_at u caller) number

@@ -1,0 +1,248 @@
+//! The first line that has a step which may not follow the earlier steps of its caller.
+
+ghost use Rattle.std.specs.Prelude.{◌≤◌, length};
+
+use crate::place::{Expected, Place};
+use event_script::Script;
+use key_names::{Event, LaneId, Mark, Point, Step};
+use line_orders::bare::BareLine;
+use list_replay::Lists;
+use std::alloc::{AllocError, Global};
+
+/// The value that is carried along a caller's steps, and compared with each of them.
+#[derive(Clone, Copy)]
+pub(crate) enum Carried<'a> {
+    /// The stamp of its last visit.
+    Stamp,
+    /// The greatest generation that it has seen. `reseeds` is the number of the base's reseeds.
+    Seen { lists: &'a Lists, reseeds: u64 },
+}
+
+// The generation that a visit left; a visit of the pool has none.
+fn left_by(lists: &Lists, mark: Mark) -> Option<u64> {
+    let place = mark.place as usize;
+    match mark.lane {
+        LaneId::Pool => None,
+        LaneId::Base => Some(lists.base.get(place)?.generation),
+        LaneId::Cpu(cpu) => Some(lists.cpus.get(cpu as usize)?.get(place)?.generation),
+    }
+}
+
+impl Carried<'_> {
+    // The step that was expected instead of one that may not follow.
+    fn expected(&self, carried: Option<u64>, step: Step) -> Option<Expected> {
+        match (*self, step) {
+            (Carried::Stamp, Step::Visit(mark)) => {
+                let last = carried?;
+                if last < mark.stamp {
+                    None
+                } else {
+                    Some(Expected::StampAbove(last))
+                }
+            }
+            (Carried::Seen { reseeds, .. }, Step::Look(found)) => {
+                let least = carried.unwrap_or(0);
+                let most = reseeds;
+                if least <= found && found <= most {
+                    None
+                } else {
+                    Some(Expected::Look { least, most })
+                }
+            }
+            _ => None,
+        }
+    }
+
+    fn after(&self, carried: Option<u64>, step: Step) -> Option<u64> {
+        let found = match (*self, step) {
+            (Carried::Stamp, Step::Visit(mark)) => return Some(mark.stamp),
+            (Carried::Stamp, Step::Look(_)) => return carried,
+            (Carried::Seen { .. }, Step::Look(found)) => Some(found),
+            (Carried::Seen { lists, .. }, Step::Visit(mark)) => left_by(lists, mark),
+        };
+        match found {
+            Some(found) => Some(carried.unwrap_or(0).max(found)),
+            None => carried,
+        }
+    }
+}
+
+/// How far a caller has come.
+#[derive(Drop)]
+struct Course<'a> {
+    how: Carried<'a>,
+    caller: u32,
+    carried: Option<u64>,
+    found: Option<Place>,
+}
+
+impl Course<'_> {
+    // Goes along some steps of a line.
+    fn go(&mut self, line: usize, steps: &[Step]) {
+        for step in steps {
+            if self.found.is_none() {
+                if let Some(expected) = self.how.expected(self.carried, *step) {
+                    self.found = Some(Place {
+                        caller: self.caller,
+                        line,
+                        expected,
+                    });
+                }
+            }
+            self.carried = self.how.after(self.carried, *step);
+        }
+    }
+
+    fn go_at(&mut self, point: Point, acts: &[Act], lines: &[BareLine<'_>]) {
+        for act in acts {
+            if act.point.is(point) {
+                if let Some(line) = lines.get(act.line) {
+                    self.go(act.line, line.steps);
+                }
+            }
+        }
+    }
+
+    // Goes along a `vread` with the acts inside it.
+    fn go_vread(&mut self, number: usize, steps: &[Step], acts: &[Act], lines: &[BareLine<'_>]) {
+        let (looks, behind) = steps.split_at(steps.len().min(2));
+        let (rekey, rest) = behind.split_at(rekey_end(behind));
+        self.go(number, looks);
+        self.go_at(Point::Start, acts, lines);
+        self.go_at(Point::Written, acts, lines);
+        self.go(number, rekey);
+        self.go_at(Point::Serve, acts, lines);
+        self.go_at(Point::End, acts, lines);
+        self.go(number, rest);
+    }
+}
+
+/// An act that waits for a `vread`: its point, and the number of its line.
+#[derive(Clone, Copy)]
+struct Act {
+    point: Point,
+    line: usize,
+}
+
+fn is_visit(step: Step) -> bool {
+    matches!(step, Step::Visit(_))
+}
+
+// How many of a `vread`'s steps from the third on come before its points `Serve` and `End`.
+fn rekey_end(steps: &[Step]) -> usize
+    ensures { result ≤ length steps.now }
+{
+    for (number, step) in steps.iter().enumerate() {
+        if number >= 2 && !is_visit(*step) {
+            return if number > 2 { number } else { 0 };
+        }
+    }
+    if steps.len() > 2 { steps.len() } else { 0 }
+}
+
+// How many steps there are up to and including the first visit.
+fn first_visit_end(steps: &[Step]) -> usize
+    ensures { result ≤ length steps.now }
+{
+    for (number, step) in steps.iter().enumerate() {
+        if is_visit(*step) {
+            return number + 1;
+        }
+    }
+    steps.len()
+}
+
+// How many events there are up to and including the last `vread`.
+fn vreads_end(events: &[Event]) -> usize {
+    let mut end = 0;
+    for (number, event) in events.iter().enumerate() {
+        if let Event::Vread { .. } = event {
+            end = number + 1;
+        }
+    }
+    end
+}
+
+/// The value that a child begins with.
+#[derive(Clone, Copy)]
+struct Start {
+    child: u32,
+    carried: Option<u64>,
+}
+
+fn start_of(starts: &[Start], caller: u32) -> Option<u64> {
+    for start in starts {
+        if start.child == caller {
+            return start.carried;
+        }
+    }
+    None
+}
+
+// Goes along the lines of a caller, and notes the values that the children that it forks begin with.
+fn go_along(
+    alloc: Global,
+    course: &mut Course<'_>,
+    events: &[Event],
+    lines: &[BareLine<'_>],
+    starts: &mut Vec<Start>,
+) -> Result<(), AllocError> {
+    let end = vreads_end(events);
+    let mut acts = Vec::new(alloc);
+    for (number, line) in lines.iter().enumerate() {
+        match events.get(number) {
+            Some(Event::Inside { point, .. }) if number < end => acts.push(Act {
+                point: *point,
+                line: number,
+            })?,
+            Some(Event::Vread { .. }) => {
+                course.go_vread(number, line.steps, &acts, lines);
+                acts.clear();
+            }
+            Some(Event::Fork { child }) => {
+                let (before, rest) = line.steps.split_at(first_visit_end(line.steps));
+                course.go(number, before);
+                starts.push(Start {
+                    child: *child,
+                    carried: course.carried,
+                })?;
+                course.go(number, rest);
+            }
+            _ => course.go(number, line.steps),
+        }
+    }
+    Ok(())
+}
+
+/// The first line of a caller, of those of the first such caller, that has a step which may not follow the value that
+/// is carried to it (tested). Each caller has its lines.
+pub(crate) fn first_off_course(
+    alloc: Global,
+    script: &Script,
+    callers: &[Vec<BareLine<'_>>],
+    how: Carried<'_>,
+) -> Result<Option<Place>, AllocError> {
+    let mut starts = Vec::new(alloc);
+    for caller in 0..script.callers() {
+        let Some(lines) = callers.get(caller as usize) else {
+            return Ok(None);
+        };
+        let mut course = Course {
+            how,
+            caller,
+            carried: start_of(&starts, caller),
+            found: None,
+        };
+        go_along(
+            alloc,
+            &mut course,
+            script.events(caller),
+            lines,
+            &mut starts,
+        )?;
+        if course.found.is_some() {
+            return Ok(course.found);
+        }
+    }
+    Ok(None)
+}

@@ -1,0 +1,92 @@
+//! The failing line of a transcript.
+ghost use Rattle.std.specs.Prelude.{◌≡◌, IfOk, IfSome};
+ghost use Rattle.key_names.specs.Texts.ScriptGrammar.{WellFormed};
+ghost use Rattle.serial_replay.specs.Agreement.{SameAnswer, SameShown};
+ghost use Rattle.transcript_check.specs.Others.{HasOther};
+
+use crate::compare::{Answers, Data};
+use crate::courses::{Carried, first_off_course};
+use crate::other_events::first_other_event;
+use crate::other_forms::first_other_form;
+use crate::other_lines::first_other;
+use crate::place::Place;
+use crate::uncounted::first_uncounted;
+use event_script::Script;
+use line_orders::bare::BareLine;
+use line_orders::clause::Clause;
+use line_orders::seen::bare_callers;
+use serial_replay::lists::{Found, find_lists};
+use std::alloc::{AllocError, Global};
+use transcript_text::Transcript;
+
+// The first line with a visit out of the count, or with a stamp that does not rise.
+fn first_other_mark(
+    alloc: Global,
+    script: &Script,
+    lines: &[Vec<BareLine<'_>>],
+) -> Result<Option<Place>, AllocError> {
+    match first_uncounted(alloc, lines)? {
+        Some(place) => Ok(Some(place)),
+        None => first_off_course(alloc, script, lines, Carried::Stamp),
+    }
+}
+
+// The first line with a look that is too low or too high.
+fn first_other_look(
+    alloc: Global,
+    script: &Script,
+    lines: &[Vec<BareLine<'_>>],
+) -> Result<Option<Place>, AllocError>
+    requires { WellFormed script.now }
+{
+    let basis = match find_lists(alloc, script, lines)? {
+        Found::Stands(basis) => basis,
+        Found::No(_) => return Ok(None),
+    };
+    let lists = &basis.lists;
+    let reseeds = match lists.base.last() {
+        Some(kept) => kept.generation,
+        None => 0,
+    };
+    first_off_course(alloc, script, lines, Carried::Seen { lists, reseeds })
+}
+
+/// The first failing line of a transcript for a script, if this clause is the first that fails, with the value that was
+/// expected there.
+///
+/// - Lines: the first line that is not the one of its event, or that is missing.
+/// - Marks: the first line that has a visit at another place than its number in the lane by stamps; without one, the
+///   first line with a stamp that does not rise along its caller's steps.
+/// - Forms: the first line that visits an absent CPU; without one, the line of the first visit, by stamps, with steps
+///   that fit no entry of its lane there; without one, the first line with steps that are no form.
+/// - Answers and data: the first line with another answer, or with other data, than its steps give.
+/// - Looks: the first line with a look below the generation that its caller had seen, or above all reseeds.
+///
+/// The contract is only about answers and data. That the line is the first, and the lines for other clauses, are
+/// tested.
+///
+/// # Errors
+///
+/// `AllocError` if there is no memory for it.
+pub fn first_failing_line(
+    alloc: Global,
+    script: &Script,
+    t: &Transcript,
+    clause: Clause,
+) -> Result<Option<Place>, AllocError>
+    ensures answer { clause ≡ Clause.Answers → IfOk result (λ o. IfSome o (λ p.
+        HasOther SameAnswer script.now t.now p.caller p.line)) }
+    ensures data { clause ≡ Clause.Data → IfOk result (λ o. IfSome o (λ p.
+        HasOther SameShown script.now t.now p.caller p.line)) }
+{
+    // Its contract gives the facts that hold of every script.
+    let _version = script.version();
+    match clause {
+        Clause::Lines => Ok(first_other_event(script, &bare_callers(alloc, t)?)),
+        Clause::Marks => first_other_mark(alloc, script, &bare_callers(alloc, t)?),
+        Clause::Forms => first_other_form(alloc, script, &bare_callers(alloc, t)?),
+        Clause::Answers => first_other(alloc, script, t, &Answers),
+        Clause::Data => first_other(alloc, script, t, &Data),
+        Clause::Looks => first_other_look(alloc, script, &bare_callers(alloc, t)?),
+    }
+}

@@ -1,0 +1,169 @@
+//! The first line with steps that are no form of its event, in one book with all others.
+ghost use Rattle.std.specs.Prelude.{◌≡◌, map};
+ghost use Rattle.std.specs.List.{AllByRecursion};
+ghost use Rattle.key_names.specs.Texts.ScriptGrammar.{WellFormed};
+ghost use Rattle.line_orders.specs.Called.{seen_call, seen_calls};
+ghost use Rattle.caller_answers.specs.Said.{CallInRange};
+
+use crate::other_entries::first_other_entry;
+use crate::place::{Expected, Place};
+use caller_answers::calls::caller_said;
+use caller_answers::said::Whole;
+use event_script::Script;
+use key_names::{LaneId, Step};
+use line_forms::setting::Setting;
+use line_orders::bare::BareLine;
+use line_orders::begin::{Begun, begin};
+use line_orders::called::Called;
+use line_orders::settings::all_settings;
+use list_replay::{Lists, replay_lists};
+use std::alloc::{AllocError, Global};
+use told_entries::gather::gather;
+
+fn has_absent(cpus: u32, steps: &[Step]) -> bool {
+    for step in steps {
+        if let Step::Visit(mark) = step {
+            if let LaneId::Cpu(cpu) = mark.lane {
+                if cpu >= cpus {
+                    return true;
+                }
+            }
+        }
+    }
+    false
+}
+
+// The first line that visits a CPU which the script does not have.
+fn first_absent(cpus: u32, callers: &[Vec<BareLine<'_>>]) -> Option<Place> {
+    for lines in callers {
+        for (line, bare) in lines.iter().enumerate() {
+            if has_absent(cpus, bare.steps) {
+                return Some(Place {
+                    caller: bare.caller,
+                    line,
+                    expected: Expected::CpuBelow(cpus),
+                });
+            }
+        }
+    }
+    None
+}
+
+// Whether the steps of these calls are forms. The answers and data that follow from them are dropped, and the number of
+// their caller does not matter.
+fn are_forms(
+    alloc: Global,
+    calls: &[Called<'_>],
+    settings: &[Setting],
+    lists: &Lists,
+) -> Result<bool, AllocError>
+    requires { AllByRecursion CallInRange (map seen_call calls.now) }
+{
+    let said = caller_said(alloc, calls, settings, lists, &Whole, 0)?;
+    Ok(said.is_some())
+}
+
+// How many of a caller's first calls have steps that are forms: with one more call they have not. Bisection finds it.
+fn most_forms(
+    alloc: Global,
+    calls: &[Called<'_>],
+    settings: &[Setting],
+    lists: &Lists,
+) -> Result<usize, AllocError>
+    requires { AllByRecursion CallInRange (map seen_call calls.now) }
+{
+    let mut least = 0;
+    let mut most = calls.len();
+    while most - least > 1 {
+        let middle = least + (most - least) / 2;
+        if are_forms(alloc, &calls[..middle], settings, lists)? {
+            least = middle;
+        } else {
+            most = middle;
+        }
+    }
+    Ok(least)
+}
+
+// The line of a call. For a `vread` with acts inside it, it is that of the `vread`.
+fn line_of<'a>(call: &Called<'a>) -> BareLine<'a> {
+    match call {
+        Called::Alone { line, .. } | Called::Vread { line, .. } | Called::Ending(line) => *line,
+        Called::Unbound(act) => act.line,
+    }
+}
+
+// The first line of a caller with steps that are no form.
+fn first_of_caller(
+    alloc: Global,
+    calls: &[Called<'_>],
+    settings: &[Setting],
+    lists: &Lists,
+) -> Result<Option<Place>, AllocError>
+    requires { AllByRecursion CallInRange (map seen_call calls.now) }
+{
+    if are_forms(alloc, calls, settings, lists)? {
+        return Ok(None);
+    }
+    let count = most_forms(alloc, calls, settings, lists)?;
+    let Some(call) = calls.get(count) else {
+        return Ok(None);
+    };
+    let line = line_of(call);
+    Ok(Some(Place {
+        caller: line.caller,
+        line: line.event as usize,
+        expected: Expected::Steps,
+    }))
+}
+
+fn first_of_all(
+    alloc: Global,
+    callers: &[Vec<Called<'_>>],
+    settings: &[Vec<Setting>],
+    lists: &Lists,
+) -> Result<Option<Place>, AllocError>
+    requires { AllByRecursion (AllByRecursion CallInRange) (seen_calls callers.now) }
+{
+    for (caller, calls) in callers.iter().enumerate() {
+        let Some(found) = settings.get(caller) else {
+            return Ok(None);
+        };
+        let place = first_of_caller(alloc, calls, found, lists)?;
+        if place.is_some() {
+            return Ok(place);
+        }
+    }
+    Ok(None)
+}
+
+/// The first line that visits an absent CPU; or else the one of the first visit with steps that fit no entry of its
+/// lane there; or else the first with steps that are no form (tested). Lines and marks hold.
+///
+/// # Errors
+///
+/// `AllocError` if there is no memory for it.
+pub(crate) fn first_other_form(
+    alloc: Global,
+    script: &Script,
+    lines: &[Vec<BareLine<'_>>],
+) -> Result<Option<Place>, AllocError>
+    requires { WellFormed script.now }
+{
+    let place = first_absent(script.cpus(), lines);
+    if place.is_some() {
+        return Ok(place);
+    }
+    let parts = match begin(alloc, script, lines)? {
+        Begun::Stands(parts) => parts,
+        Begun::No(_) => return Ok(None),
+    };
+    let settings = all_settings(alloc, &parts.calls, &parts.forks)?;
+    let Some(told) = gather(alloc, script, &parts, &settings)? else {
+        return Ok(None);
+    };
+    match replay_lists(alloc, &told)? {
+        Some(lists) => first_of_all(alloc, &parts.calls, &settings, &lists),
+        None => first_other_entry(alloc, &told, lines),
+    }
+}

@@ -1,0 +1,140 @@
+//! The first line that has another answer, or other data, than its steps give.
+ghost use Rattle.std.specs.Prelude.{◌≡◌, ◌↔◌, IsTrue, IfOk, IfSome, length};
+ghost use Rattle.key_names.specs.Book.{list_at};
+ghost use Rattle.key_names.specs.SeenLine.{SeenLine};
+ghost use Rattle.caller_answers.specs.declared.said.Said.{Said as SaidOfLine};
+ghost use Rattle.serial_replay.specs.Agreement.{SameAnswer, SameShown};
+ghost use Rattle.serial_replay.specs.Remade.{said_lists};
+ghost use Rattle.transcript_text.specs.Views.{seen};
+ghost use Rattle.transcript_check.specs.Others.{HasOther, IsOther, IsOtherAt};
+
+use crate::compare::{Answers, Data, compared};
+use crate::place::{Expected, Place};
+use caller_answers::said::{Said, Shows, Whole};
+use event_script::Script;
+use serial_replay::remake::{Remade, remake};
+use std::alloc::{AllocError, Global};
+use transcript_text::{CallerLines, LineView, Transcript};
+
+/// A part of a line that its steps decide.
+pub(crate) trait SaidPart {
+    /// The part of the line agrees with the result of its steps.
+    ghost IsSaid: { Self → SeenLine → SaidOfLine → Type 0 };
+
+    fn is_said(&self, line: LineView<'_>, said: &Said) -> bool
+        ensures { IsTrue result ↔ IsSaid self.now (seen line.entry) said.now };
+
+    /// The expected part of the line.
+    fn expected(&self, alloc: Global, said: &Said) -> Result<Expected, AllocError>;
+}
+
+impl SaidPart for Answers {
+    ghost IsSaid = { λ _ line said. SameAnswer line said };
+
+    fn is_said(&self, line: LineView<'_>, said: &Said) -> bool {
+        compared(line, said).answer
+    }
+
+    fn expected(&self, _alloc: Global, said: &Said) -> Result<Expected, AllocError> {
+        Ok(Expected::Answer(said.answer))
+    }
+}
+
+impl SaidPart for Data {
+    ghost IsSaid = { λ _ line said. SameShown line said };
+
+    fn is_said(&self, line: LineView<'_>, said: &Said) -> bool {
+        compared(line, said).shown
+    }
+
+    fn expected(&self, alloc: Global, said: &Said) -> Result<Expected, AllocError> {
+        match &said.shows {
+            Shows::Nothing => Ok(Expected::NoData),
+            Shows::Count(number) => Ok(Expected::Count(*number)),
+            Shows::Served(served) => {
+                let mut bytes = Vec::new(alloc);
+                served.put(&mut bytes)?;
+                Ok(Expected::Bytes(bytes))
+            }
+        }
+    }
+}
+
+fn is_other<P: SaidPart>(part: &P, line: LineView<'_>, said: &[Said]) -> bool
+    ensures { IsTrue result → IsOther (P.IsSaid part.now) said.now (seen line.entry) }
+{
+    match said.get(line.event as usize) {
+        Some(one) => !part.is_said(line, one),
+        None => false,
+    }
+}
+
+// The first line of a caller that differs from the result with its number.
+fn first_of_caller<P: SaidPart>(part: &P, lines: &CallerLines, said: &[Said]) -> Option<usize>
+    ensures { IfSome result (IsOtherAt (P.IsSaid part.now) said.now lines.now.lines) }
+{
+    for number in 0..lines.len() {
+        if is_other(part, lines.line(number), said) {
+            return Some(number);
+        }
+    }
+    None
+}
+
+// The expected part of a caller's line of this number.
+fn expected_of<P: SaidPart>(
+    alloc: Global,
+    part: &P,
+    line: LineView<'_>,
+    said: &[Said],
+) -> Result<Expected, AllocError> {
+    match said.get(line.event as usize) {
+        Some(one) => part.expected(alloc, one),
+        None => Ok(Expected::NoLine),
+    }
+}
+
+fn first_of_all<P: SaidPart>(
+    alloc: Global,
+    part: &P,
+    t: &Transcript,
+    said: &[Vec<Said>],
+) -> Result<Option<Place>, AllocError>
+    requires { length said.now ≡ length t.now }
+    ensures { IfOk result (λ o. IfSome o (λ p. IsOtherAt (P.IsSaid part.now) (list_at (said_lists said.now) p.caller)
+        (list_at t.now p.caller) p.line)) }
+{
+    for caller in 0..t.callers() {
+        let lines = t.caller(caller);
+        let said = &said[caller as usize];
+        if let Some(line) = first_of_caller(part, lines, said) {
+            let expected = expected_of(alloc, part, lines.line(line), said)?;
+            return Ok(Some(Place {
+                caller,
+                line,
+                expected,
+            }));
+        }
+    }
+    Ok(None)
+}
+
+/// The first line that has another answer than its steps give, or other data. There is none if lines, marks or forms
+/// fail. That no line before it differs is tested.
+///
+/// # Errors
+///
+/// `AllocError` if there is no memory for it.
+pub(crate) fn first_other<P: SaidPart>(
+    alloc: Global,
+    script: &Script,
+    t: &Transcript,
+    part: &P,
+) -> Result<Option<Place>, AllocError>
+    ensures { IfOk result (λ o. IfSome o (λ p. HasOther (P.IsSaid part.now) script.now t.now p.caller p.line)) }
+{
+    match remake(alloc, script, t, &Whole)? {
+        Remade::Made(made) => first_of_all(alloc, part, t, &made.callers),
+        Remade::No(_) => Ok(None),
+    }
+}

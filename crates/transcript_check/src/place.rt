@@ -1,0 +1,48 @@
+//! The failing line of a transcript, and the expected one.
+
+use key_names::{Answer, Mark, Word};
+
+/// The expected part of a line, or the line that was expected.
+#[derive(Drop)]
+pub enum Expected {
+    /// The line of this event.
+    Event {
+        caller: u32,
+        event: usize,
+        word: Word,
+    },
+    /// No line: the script has no such event.
+    NoLine,
+    /// A visit at this place, instead of the one that the line has; the stamp is the visit's own.
+    Place(Mark),
+    /// A visit with a stamp above this one.
+    StampAbove(u64),
+    /// A CPU below this number.
+    CpuBelow(u32),
+    /// Another entry at this visit: the line's steps fit none of its lane there.
+    Entry(Mark),
+    /// Other steps.
+    Steps,
+    /// This answer.
+    Answer(Answer),
+    /// No data.
+    NoData,
+    /// This number of bits.
+    Count(u32),
+    /// These bytes.
+    Bytes(Vec<u8>),
+    /// A look that finds from `least` to `most`.
+    Look {
+        least: u64,
+        most: u64,
+    },
+}
+
+/// A line of a transcript that fails, with the part or the line that was expected.
+#[derive(Drop)]
+pub struct Place {
+    pub caller: u32,
+    /// The number of the line among those of the caller, from 0. It is their count if a line is missing after the last.
+    pub line: usize,
+    pub expected: Expected,
+}

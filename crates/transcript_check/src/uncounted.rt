@@ -1,0 +1,102 @@
+//! The first line that has a visit at another place than its number in the lane.
+
+use crate::place::{Expected, Place};
+use key_names::{LaneId, Mark, Step};
+use line_orders::bare::BareLine;
+use std::alloc::{AllocError, Global};
+
+/// A visit, and its line.
+#[derive(Clone, Copy)]
+pub(crate) struct VisitOf {
+    pub(crate) mark: Mark,
+    pub(crate) caller: u32,
+    pub(crate) line: usize,
+}
+
+// The pool, the base, and then the CPUs.
+fn lane_rank(lane: LaneId) -> u64 {
+    match lane {
+        LaneId::Pool => 0,
+        LaneId::Base => 1,
+        LaneId::Cpu(cpu) => 2 + u64::from(cpu),
+    }
+}
+
+fn push_visits(visits: &mut Vec<VisitOf>, lines: &[BareLine<'_>]) -> Result<(), AllocError> {
+    for (line, bare) in lines.iter().enumerate() {
+        for step in bare.steps {
+            if let Step::Visit(mark) = step {
+                visits.push(VisitOf {
+                    mark: *mark,
+                    caller: bare.caller,
+                    line,
+                })?;
+            }
+        }
+    }
+    Ok(())
+}
+
+/// All visits, as the lines have them.
+pub(crate) fn all_visits(
+    alloc: Global,
+    callers: &[Vec<BareLine<'_>>],
+) -> Result<Vec<VisitOf>, AllocError> {
+    let mut visits = Vec::new(alloc);
+    for lines in callers {
+        push_visits(&mut visits, lines)?;
+    }
+    Ok(visits)
+}
+
+// The expected visit after another in its lane, or as its lane's first.
+fn expected_behind(last: Option<Mark>, place: u64, mark: Mark) -> Option<Expected> {
+    if let Some(last) = last {
+        if mark.stamp <= last.stamp {
+            return Some(Expected::StampAbove(last.stamp));
+        }
+    }
+    if mark.place == place {
+        None
+    } else {
+        Some(Expected::Place(Mark { place, ..mark }))
+    }
+}
+
+fn is_before(visit: VisitOf, found: &Option<Place>) -> bool {
+    match found {
+        Some(place) => (visit.caller, visit.line) < (place.caller, place.line),
+        None => true,
+    }
+}
+
+/// The first line that has a visit at another place than its number by stamps in the lane, or with the stamp of another
+/// visit of the lane (tested).
+pub(crate) fn first_uncounted(
+    alloc: Global,
+    callers: &[Vec<BareLine<'_>>],
+) -> Result<Option<Place>, AllocError> {
+    let mut visits = all_visits(alloc, callers)?;
+    visits.sort_by_key(|visit| (lane_rank(visit.mark.lane), visit.mark.stamp))?;
+    let mut found = None;
+    let mut last: Option<Mark> = None;
+    let mut place: u64 = 0;
+    for visit in &visits {
+        last = last.filter(|mark| mark.lane == visit.mark.lane);
+        place = match last {
+            Some(_) => place.saturating_add(1),
+            None => 0,
+        };
+        if let Some(expected) = expected_behind(last, place, visit.mark) {
+            if is_before(*visit, &found) {
+                found = Some(Place {
+                    caller: visit.caller,
+                    line: visit.line,
+                    expected,
+                });
+            }
+        }
+        last = Some(visit.mark);
+    }
+    Ok(found)
+}

@@ -1,0 +1,441 @@
+"""Makes events of the calls of vgetrandom that vdso_places.py noted. A part of convert.py.
+
+A call through the vDSO becomes one `vread`. The system calls that it makes, for a key or for all its bytes, are found by
+the stack and the instruction that they were made at. What another part of the program does inside a call is an act of it,
+or an event of its own if the locks were taken in an order that an act cannot show. A state is told by the memory that it
+lies in, and is another one when it is found full of zeros. So a child of fork has states of its own.
+
+A call whose first attempt did not hold, and which acts cannot show, is told by its second attempt alone: the counter of
+blocks goes on from one attempt to the next, so the call's bytes are the last ones of a longer read on a wiped state. The
+record has the counter. The same holds for a call that goes on in a child, after a fork inside it.
+
+What cannot be told is counted, by reason, in `notes`. Values play no part.
+"""
+
+from kernel_calls import Answer, Event, Reader
+
+SIZE, PAGE, VDSO = 144, 4096, 8192  # bytes of a state, of a page, and of the vDSO's code at most
+BATCH, BLOCK, KEY, KEY_AT = 96, 64, 32, 96
+BATCH_BLOCKS = 2  # of a batch and the key after it
+STATES = 16  # of a script's caller
+ACTS = 8  # of one call
+LONGEST = 1 << 20  # bytes of one read of a script
+FRAME = 512  # a system call's stack pointer lies at most so far below that of its call
+EAGAIN, EINVAL = -11, -22
+NONBLOCK, RANDOM, INSECURE = 1, 2, 4
+READY = -1  # a look at any generation of a ready core
+COPY = "not told: a child's copy of the answer that its parent got"
+# The point of an act by how far the call is: entered, looked, asks for a key, has one, copies; and 6, its attempt holds.
+# 5 is a second attempt, or before it, and 7 after one that does not hold: there are no acts.
+POINTS = {0: 1, 1: 1, 2: 2, 3: 3, 4: 4, 6: 4}
+
+
+class Attempt:
+    """One of the at most two attempts of a call."""
+
+    def __init__(self, stop=None):
+        self.looked = None if stop is None else stop["published"] - 1  # None: it began in the parent of its process
+        self.needs_key = stop is not None and stop["generation"] != stop["published"]
+        self.key = None  # the event of the read of its key
+        self.blocks = {}  # of the block counter, how many blocks were made from there
+        self.found = None  # the generation that its last look found
+        self.holds = False
+        self.wiped = None  # the point at which the state was wiped
+
+    def before(self):
+        """The blocks that the attempts before this one made."""
+        return min(self.blocks, default=0)
+
+
+class UserCall(Event):
+    """A call of vgetrandom. It is told once all of it was seen."""
+
+    def __init__(self, stop, where, is_child, now):
+        super().__init__("vread")
+        self.stop, self.where, self.is_child = stop, where, is_child
+        self.begun = now  # where in the record it begins, or begins with its state
+        self.is_told = False
+        self.point = 0
+        self.attempts = []
+        self.asked = None  # the stop at which a system call for all bytes began
+        self.system = None  # and its event
+        self.inside = []  # what happened in the first attempt, as pairs of a point and a call or a reseed
+        self.later = []  # what happened in the second
+        self.is_inside = False  # whether it was made inside another call on the same state, which was marked
+        self.is_mixed = False  # whether another one inside it took the state, or it took that of another one
+        self.result = None
+        self.memory = None
+
+    def note_inside(self, what):
+        if self.point in (5, 7):
+            self.later.append(what)
+        else:
+            self.inside.append((POINTS[self.point], what))
+
+    def blocks_of(self, is_wiped):
+        """The blocks that its first attempt makes, with the state's batch, or with that of a wiped state."""
+        left = BATCH if is_wiped else 0 if self.attempts[0].needs_key else BATCH - self.stop.get("pos", 0)
+        rest = max(self.stop["count"] - left, 0)
+        return rest // BLOCK + BATCH_BLOCKS if rest else 0
+
+
+class UserReader(Reader):
+    """Goes through the stops of a record, and makes events of the kernel's steps and of the calls in user memory."""
+
+    def __init__(self, is_cut=False):
+        super().__init__()
+        self.is_cut = is_cut  # whether a state that takes a new key is told as another one
+        self.notes = {}
+        self.calls = []  # all, in the order of their beginnings
+        self.open = {}  # by memory and stack pointer
+        self.ended = set()
+        self.eras = {}  # of a memory, how many programs ran in it
+        self.vdsos = set()
+        self.memories = {}  # of a state's place, the number of what it holds, or None if that is not known
+        self.count = 0  # of such numbers
+        self.lanes = []  # the events that took the base or a CPU, in the order of the record
+        self.places = {}  # of each of them, its places in that list
+
+    def note(self, what):
+        self.notes[what] = self.notes.get(what, 0) + 1
+
+    # Calls in user memory
+
+    def at_vdso(self, stop):
+        self.vdsos.add(stop["at"])
+        self.eras[stop["mm"]] = self.eras.get(stop["mm"], 0) + 1
+        for key in [key for key in self.open if key[0] == stop["mm"]]:
+            del self.open[key]
+
+    def where(self, stop):
+        return stop["mm"], self.eras.get(stop["mm"], 0), stop["state"]
+
+    def begin(self, stop, is_child=False):
+        call = UserCall(stop, self.where(stop), is_child, self.now)
+        self.calls.append(call)
+        self.open[stop["mm"], stop["pointer"]] = call
+        self.ended.discard((stop["mm"], stop["pointer"]))
+        self.order.take(f"call {len(self.calls)}", call)  # its place, if it takes no lock
+        return call
+
+    def at_venter(self, stop):
+        key = stop["mm"], stop["pointer"]
+        old = self.open.pop(key, None)
+        if old is not None and not old.attempts and old.stop["count"] == stop["count"] and old.stop["state"] == stop["state"]:
+            self.open[key] = old  # met twice
+            return
+        if stop["size"] != SIZE or stop["state"] % PAGE + SIZE > PAGE:
+            asks = stop["size"] == 2**64 - 1 and not stop["count"]
+            self.note("asked for the size of a state" if asks else "no state: its system call is told as a read")
+            self.ended.add(key)
+            return
+        around = [it for it in self.open.values() if it.where == self.where(stop)]
+        thread = stop["who"][2]
+        is_first = not any(it.stop.get("who", (0, 0, None))[2] == thread for it in self.open.values())
+        call = self.begin(stop)
+        if is_first:
+            self.order.take(f"thread {thread}", call)
+        if around and stop.get("mark"):
+            call.is_inside = True
+            around[-1].note_inside(call)
+        elif around and 1 <= around[-1].point <= 5:  # else the other one has not begun with the state, or is through with it
+            call.is_mixed = around[-1].is_mixed = True
+
+    def call_of(self, stop):
+        """The call of a stop. If it is not known, it began in the parent of its process."""
+        key = stop["mm"], stop["pointer"]
+        if key in self.open:
+            return self.open[key]
+        call = self.begin(stop, is_child=True)
+        if stop["stop"] != "vlook":
+            call.attempts.append(Attempt())
+        return call
+
+    def at_vlook(self, stop):
+        call = self.call_of(stop)
+        if call.attempts and call.attempts[-1].found is None and call.attempts[-1].looked is not None:
+            if not call.attempts[-1].needs_key and not stop["generation"]:
+                call.attempts[-1].wiped, call.attempts[-1].needs_key = 1, True
+            return  # met twice
+        if not call.attempts:
+            call.begun = self.now
+            self.order.take(f"state {call.where}", call)
+        call.attempts.append(Attempt(stop))
+        call.point = 5 if stop["second"] or len(call.attempts) > 1 else 1
+
+    def advance(self, stop, point, wiped):
+        """The call, and its attempt. A state that has generation 0 now was wiped, at this point or at an earlier one."""
+        call = self.call_of(stop)
+        attempt = call.attempts[-1]
+        if call.point < 5:
+            if not stop["generation"] and attempt.wiped is None and not call.is_child:
+                attempt.wiped = wiped
+            call.point = max(call.point, point)
+        return call, attempt
+
+    def at_vkey(self, stop):
+        _, attempt = self.advance(stop, 2, 2)
+        if not attempt.needs_key:
+            attempt.wiped, attempt.needs_key = 1, True
+
+    def at_vnew(self, stop):
+        self.advance(stop, 3, 2)
+
+    def at_vserve(self, stop):
+        self.advance(stop, 3, 3)
+
+    def at_vblocks(self, stop):
+        _, attempt = self.advance(stop, 4, 4)
+        attempt.blocks[stop["counter"]] = stop["blocks"]
+
+    def at_vend(self, stop):
+        call, attempt = self.advance(stop, 4, 4)
+        attempt.found, attempt.holds = stop["published"] - 1, stop["generation"] == stop["published"]
+        call.point = 6 if attempt.holds else 7 if stop["second"] else 5
+
+    def at_vleave(self, stop):
+        key = stop["mm"], stop["pointer"]
+        call = self.open.pop(key, None)
+        if call is None:
+            if key not in self.ended:
+                self.note(COPY)
+            return
+        self.ended.add(key)
+        call.result = stop["result"]
+        call.answer = Answer(stop["value"], stop.get("who"), function="vgetrandom")
+        call.answer.digest = stop.get("digest")
+        if call.system is not None and 0 < call.result < call.stop["count"]:  # a signal cut the system call short
+            call.system.word = f"read {call.result} {call.stop['flags']}"
+            call.system.answer.value = (call.system.answer.value or "")[: 2 * call.result]
+        if call.is_child:
+            call.stop = dict(call.stop, count=stop["result"], flags=stop["flags"], wiped=True)
+
+    # The kernel's part
+
+    def user_call(self, stop):
+        """The open call that a system call was made in."""
+        if "sp" not in stop or not any(vdso <= stop["ip"] < vdso + VDSO for vdso in self.vdsos):
+            return None
+        found = [(pointer - stop["sp"], pointer) for mm, pointer in self.open if mm == stop["mm"] and 0 <= pointer - stop["sp"] < FRAME]
+        return self.open[stop["mm"], min(found)[1]] if found else None
+
+    def at_enter(self, stop):
+        super().at_enter(stop)
+        if stop["call"] == "getrandom":
+            call = self.user_call(stop)
+            if call is not None and not self.is_for_key(call, stop):
+                call.asked = stop
+
+    def is_for_key(self, call, stop):
+        return stop["wanted"] == KEY and stop["buffer"] == call.where[2] + KEY_AT
+
+    def event_of(self, stop, calls):
+        event = super().event_of(stop, calls)
+        if stop["call"] == "uread":
+            self.own(event, calls[-1].stop)
+        return event
+
+    def at_answer(self, stop):
+        source = self.stacks.get(stop["stack"], [None])[-1]
+        super().at_answer(stop)
+        if source is not None and source.name == "getrandom":
+            self.own(self.events[-1], source.stop)
+
+    def own(self, event, source):
+        """A user's read is a part of the call that made it, or stands in the order of its thread."""
+        call = self.user_call(source) if "ip" in source else None
+        if call is None:
+            if "who" in source and not any(it.stop.get("who", (0, 0, None))[2] == source["who"][2] for it in self.open.values()):
+                event.thread = f"thread {source['who'][2]}"
+        elif self.is_for_key(call, source):
+            call.attempts[-1].key = event
+        else:
+            call.system = event
+
+    def at_leave(self, stop):
+        super().at_leave(stop)
+        if stop["call"] == "uread":
+            for call in self.open.values():
+                if call.point == 2 and call.attempts[-1].key is not None and call.attempts[-1].key.is_over:
+                    call.point = 3
+
+    def at_install(self, stop):
+        super().at_install(stop)
+        event = self.stacks[stop["stack"]][-1].event
+        for call in self.open.values():
+            if 1 <= call.point <= 5:
+                call.note_inside(event)
+
+    # How the calls are told
+
+    def tell(self):
+        """Makes an event of each call that a script can show."""
+        self.lanes = [event for lock, event in self.order.taken if lock == "base" or lock.startswith("cpu")]
+        for place, event in enumerate(self.lanes):
+            self.places.setdefault(event, []).append(place)
+        for call in sorted(self.calls, key=lambda it: it.begun):
+            self.tell_call(call)
+
+    def fresh(self, where):
+        self.count += 1
+        self.memories[where] = self.count
+        return self.count
+
+    def tell_call(self, call):
+        if call.is_mixed:
+            self.leave_out(call, "not told: one inside another on a state that had been wiped")
+        elif call.result is None:
+            self.leave_out(call, "not told: its end was not seen")
+        elif not call.attempts:
+            self.tell_without_attempt(call)
+        elif call.stop["flags"] & (RANDOM | INSECURE) == RANDOM | INSECURE:
+            self.leave_out(call, "not told: flags that are chosen otherwise")
+        elif not call.attempts[-1].holds:
+            is_copy = call.is_child and call.attempts[-1].found is None
+            self.leave_out(call, COPY if is_copy else "told as the reads that it made: no attempt held")
+        else:
+            self.tell_attempts(call)
+
+    def leave_out(self, call, why):
+        self.note(why)
+        self.memories[call.where] = None
+
+    def tell_without_attempt(self, call):
+        """Nothing was served from the state, and it is as it was."""
+        call.memory = self.memories.get(call.where)
+        flags, count = call.stop["flags"], call.stop["count"]
+        call.word = f"vread {count} {flags}"
+        if call.part_of is not None:
+            return
+        if call.is_inside:
+            self.note("inside another one, told as a read")
+        elif call.result == EINVAL:
+            call.is_told = True
+        elif call.asked is None and not count:
+            call.is_told = True
+            self.order.looks.append((call, READY))
+        elif call.system is not None and ("draw" in call.system.steps or call.result == EAGAIN):
+            call.is_told, call.system.part_of = True, call
+            call.hardware = call.system.hardware
+            self.order.looks.append((call, 0))
+        else:
+            is_early = call.asked is not None and call.asked.get("early")
+            self.note("told as the read that it made" + (": the core was not ready when it began" if is_early else ""))
+
+    def tell_attempts(self, call):
+        first = call.attempts[0]
+        if not call.is_child:
+            if first.needs_key and (call.stop["wiped"] or self.is_cut):
+                self.fresh(call.where)
+            if self.memories.get(call.where) is None:
+                if not first.needs_key:
+                    self.leave_out(call, "not told: what its state holds is not known")
+                    return
+                self.fresh(call.where)
+        why = self.why_not_whole(call)
+        if not why:
+            self.tell_as(call, call.attempts, 0)
+        elif not call.attempts[-1].needs_key or call.attempts[-1].looked is None:
+            self.leave_out(call, "not told: its second attempt went on with a state that another call had renewed")
+        elif call.stop["count"] + BLOCK * call.attempts[-1].before() > LONGEST:
+            self.leave_out(call, "not told: a longer read would be too long")
+        else:
+            self.note(f"told as the end of a longer read: {why}")
+            self.fresh(call.where)
+            call.acts, call.hardware = [], None
+            self.tell_as(call, call.attempts[-1:], BLOCK * call.attempts[-1].before())
+
+    def tell_as(self, call, attempts, before):
+        call.is_told, call.memory = True, self.memories[call.where]
+        call.word = f"vread {call.stop['count'] + before} {call.stop['flags']}"
+        call.answer.before = before
+        for attempt in attempts:
+            self.order.looks += [(call, attempt.looked), (call, attempt.found)]
+            if attempt.key is not None:
+                attempt.key.part_of = call
+                call.cpu = attempt.key.cpu
+        self.note(f"told with {len(attempts)} attempt{'s' * (len(attempts) > 1)}" if not before else "told as the end of a longer read")
+
+    def why_not_whole(self, call):
+        """Why the call is not told with all its attempts, or None; then it has its acts."""
+        attempts, first = call.attempts, call.attempts[0]
+        keys = [it.key for it in attempts if it.key is not None]
+        reseeds = [it for it in call.inside if not isinstance(it[1], UserCall)] if len(attempts) > 1 else []
+        if call.is_child:
+            return "it goes on in a child"
+        if len({it.cpu for it in keys}) > 1:
+            return "its keys are of two CPUs"
+        if len(attempts) > 1:
+            if any(not isinstance(it, UserCall) for it in call.later) or len(reseeds) > 1:
+                return "several reseeds, or one elsewhere"
+            if len(reseeds) + (first.wiped is not None) != 1:
+                return "its first attempt failed for another reason"
+            if reseeds and (reseeds[0][1].word != "reseed" or reseeds[0][1].part_of is not None):
+                return "the reseed is another event's"
+            if first.wiped == 4 and attempts[1].before() == call.blocks_of(True) != call.blocks_of(False):
+                first.wiped = 3  # before it copied from the batch
+            if attempts[1].before() != call.blocks_of(first.wiped == 3):
+                return "it was wiped between two points"
+        elif first.wiped not in (None, 1):
+            return "it was wiped and holds"
+        if not self.is_alone([*keys, *[it for _, it in reseeds]]):
+            return "another event's steps are between its own"
+        self.add_acts(call, keys, reseeds)
+        return None
+
+    def add_acts(self, call, keys, reseeds):
+        own, acts = [*keys, *[it for _, it in reseeds]], []
+        if call.attempts[0].wiped is not None:
+            acts.append((call.attempts[0].wiped, "wipe", None))
+        for point, it in call.inside:
+            if (point, it) in reseeds:
+                it.part_of, call.hardware = call, it.hardware
+                acts.append((point, "reseed", None))
+            elif isinstance(it, UserCall) and it.system is not None and it.stop["flags"] == 0 and len(acts) + len(reseeds) < ACTS:
+                if self.is_alone([*own, it.system]):
+                    own.append(it.system)
+                    it.part_of = it.system.part_of = call
+                    acts.append((point, f"vread {it.stop['count']}", it.answer))
+        call.acts = sorted(acts, key=lambda it: it[0])
+        for point, word, _ in acts:
+            self.note(f"told inside: {word.split(' ')[0]} at point {point}")
+
+    def is_alone(self, own):
+        """Whether no other event has a step of the base or a CPU between the first and the last step of these."""
+        places = sorted(place for event in own for place in self.places.get(event, []))
+        return not places or all(self.lanes[place] in own for place in range(places[0], places[-1] + 1))
+
+    def forget(self, call):
+        """Tells the call no more: its reads of keys are events of their own."""
+        call.is_told = False
+        for attempt in call.attempts:
+            if attempt.key is not None and attempt.key.part_of is call:
+                attempt.key.part_of = None
+        for _, it in call.inside:
+            if it.part_of is call:
+                it.part_of = None
+                if isinstance(it, UserCall):
+                    it.system.part_of = None
+        self.order.looks = [it for it in self.order.looks if it[0] is not call]
+
+
+def number_states(events):
+    """Gives each state one of the numbers of a script's caller, from its first use to its last; those that got none."""
+    last = {event.memory: place for place, event in enumerate(events) if isinstance(event, UserCall)}
+    numbers, used, current, without = {}, set(), 0, set()
+    for place, event in enumerate(events):
+        if not isinstance(event, UserCall) or event.memory is None or event.memory in without:
+            continue
+        event.setting, is_new = [], event.memory not in numbers
+        if is_new:
+            numbers = {it: number for it, number in numbers.items() if last[it] >= place}
+            free = sorted(set(range(STATES)) - set(numbers.values()), key=lambda it: (it in used, it != current, it))
+            if not free:
+                without.add(event.memory)
+                continue
+            numbers[event.memory] = free[0]
+        number = numbers[event.memory]
+        event.setting = [f"state {number}"] * (number != current) + ["drop"] * (is_new and number in used)
+        used.add(number)
+        current = number
+    return without, bool(used - {0})

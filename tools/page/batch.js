@@ -1,0 +1,79 @@
+"use strict";
+// Bytes drawn as strips: the stream of a key that ends at a moment, and the batches of a vgetrandom state.
+
+function strip(title, cells) {
+  return make("div", { class: "strip" }, make("p", { class: "quiet" }, title), make("div", { class: "cells" }, cells));
+}
+
+// A cell is as wide as its bytes, within bounds. Words say what its pattern says.
+function cell(kind, length, hue, range, fate, more) {
+  return make("div", { class: `cell ${kind}`, grow: Math.max(14, Math.min(length, 96)), hue },
+    make("span", {}, make("span", { class: "mono" }, range), " ", fate), make("small", { class: "mono" }, more || ""));
+}
+
+// The bytes of a line that are these bytes of a key.
+function shownBytes(model, key, use) {
+  const line = use.kind === ">" && model.byId.get(use.what);
+  if (!line) return "";
+  let at = 0;
+  for (const part of line.parts) {
+    if (part.key === key.index && part.from === use.from) return cut(line.data.slice(at * 2, (at + part.length) * 2), 26);
+    at += part.length;
+  }
+  return "handed to nobody";
+}
+
+function streamCell(model, key, use) {
+  const next = model.byName.get(use.what), range = `${use.from}–${use.end}`;
+  if (use.kind === "=") return cell("key-cell", use.length, hueOf(next), range, fateOf(model, key, use), "never shown");
+  if (use.kind === "batch") return cell("given", 96, null, range, "a batch, served piece by piece");
+  if (use.kind === ">") return cell("given", use.length, null, range, `line ${use.what}`, shownBytes(model, key, use));
+  return cell("unused", use.length, null, range, fateOf(model, key, use), "never shown");
+}
+
+// The whole stream of a key up to its last use; the bytes between have none.
+function streamOf(model, key) {
+  const cells = [];
+  let end = 0;
+  for (const use of piecesOf(key)) {
+    if (use.from > end) cells.push(cell("unused", 20, null, `${end}–${use.from}`, "no use", "never shown"));
+    cells.push(streamCell(model, key, use));
+    end = use.end;
+  }
+  return strip(["The stream that ChaCha20 makes of ", keyName(model, key.name), ", from its first byte on:"], cells);
+}
+
+function streamsAt(model, at) {
+  const ended = (model.goneAt.get(at) || []).filter(key => key.uses.length && key.to <= model.moments.length);
+  return ended.sort((one, other) => (one.holder === "call") - (other.holder === "call")).map(key => streamOf(model, key));
+}
+
+// ---- Batches -------------------------------------------------------------------------------------------------------
+
+function pieceCell(model, batch, piece, at, isOver) {
+  const range = `${piece.from - batch.start}–${piece.end - batch.start}`;
+  if (piece.kind === ">" && piece.at < at) return cell("zeros", piece.length, null, range, `served on line ${piece.what}`, "now zeros");
+  if (piece.kind === ">" && piece.at === at) return cell("given", piece.length, null, range, `served now, line ${piece.what}`, shownBytes(model, batch.key, piece));
+  if (isOver) return cell("zeros", piece.length, null, range, "given up", "erased, never served");
+  return cell("left", piece.length, hueOf(batch.key), range, "not served yet", "in memory");
+}
+
+// What is left and comes to no call by now is one cell.
+function cellsOf(model, batch, at, isOver) {
+  const isUsed = piece => piece.kind === ">" && piece.at <= at, used = batch.pieces.filter(isUsed);
+  const from = used.reduce((most, piece) => Math.max(most, piece.end), batch.start);
+  const rest = from < batch.end ? [{ kind: "?", from, end: batch.end, length: batch.end - from }] : [];
+  return [...used, ...rest].map(piece => pieceCell(model, batch, piece, at, isOver));
+}
+
+// The batch of the state that a moment is about, after that moment.
+function batchAt(model, batches, at) {
+  const moment = model.moments[at - 1];
+  if (!moment || !moment.state) return null;
+  const all = batches.get(`v${moment.state}`) || [], title = `The batch of vDSO state ${moment.state}: `;
+  const over = moment.kind === "wipe" && all.find(batch => batch.to === at);
+  const batch = over || all.filter(it => it.from <= at && at < it.to).pop();
+  if (!batch) return make("p", { class: "quiet" }, title, "empty.");
+  return strip([title, `bytes ${batch.start} to ${batch.end} of `, keyName(model, batch.key.name), over ? ", erased by the wipe" : ""],
+    cellsOf(model, batch, at, Boolean(over)));
+}

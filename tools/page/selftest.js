@@ -1,0 +1,42 @@
+"use strict";
+// The page's own test, at the address #test. It runs each example, or each case that a gate has put beside the page's data,
+// and ends with one line: how many answers are right, and a sum of all of them. The same page has the same sum everywhere.
+
+const program = (name, words, text) => ask({ ask: "program", program: name, words, text });
+
+// A sum of texts (FNV-1a, 32 bits). It tells answers that differ by accident, and is no hash against anybody.
+function addTo(sum, text) {
+  for (let at = 0; at < text.length; at++) sum = Math.imul(sum ^ text.charCodeAt(at), 16777619);
+  return sum >>> 0;
+}
+
+// What is asked of a case, what came, and what had to come if that is known. A fork's places may be others at each run.
+async function answersTo({ script, transcript, keys, live, verdict }) {
+  if (verdict) return [["verdict", (await program("rng", ["check"], script + transcript)).out, `${verdict}\n`]];
+  const ran = (await program("rng", ["run"], script)).out, isAlone = !/^fork /m.test(script), pair = script + (transcript || ran);
+  const stamps = live ? Object.keys(live) : [...new Set(ran.match(/(?<=@)[0-9]+/g) || [])].slice(0, 12);
+  const lives = await Promise.all(stamps.map(stamp => program("key_audit", ["live", stamp], pair)));
+  return [
+    ["run", ran, isAlone ? transcript : undefined],
+    ["check of the run", (await program("rng", ["check"], script + ran)).out, "yes\n"],
+    ["check", (await program("rng", ["check"], pair)).out, "yes\n"],
+    ["keys", (await program("key_audit", ["keys"], pair)).out, keys],
+    ...lives.map((answer, at) => [`live ${stamps[at]}`, answer.out, live && live[stamps[at]]]),
+  ];
+}
+
+async function selfTest() {
+  const given = $("test-data"), cases = given ? JSON.parse(given.textContent) : data.examples.filter(it => it.script);
+  let same = 0, sum = 2166136261;
+  const differs = [];
+  for (const one of cases) {
+    for (const [what, found, wanted] of await answersTo(one)) {
+      sum = addTo(sum, found);
+      if (wanted === undefined || found === wanted) same++;
+      else differs.push(`${what} of ${one.name}`);
+    }
+    say("share-says", `self test: ${same} answers …`);
+  }
+  say("share-says", make("span", { id: "self-test" }, `self test: cases=${cases.length} same=${same} differs=${differs.length} sum=${sum.toString(16)} `,
+    differs.slice(0, 10).join("; ")));
+}
