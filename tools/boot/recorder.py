@@ -87,7 +87,7 @@ def register(name):
 
 
 def memory(address, count):
-    return bytes(gdb.selected_inferior().read_memory(address, count))
+    return bytes(gdb.selected_inferior().read_memory(address, count)) if count else b""  # gdb 16 refuses a count of 0
 
 
 def number(address, size=8):
@@ -155,7 +155,7 @@ class Code:
 
     def frame(self):
         """How far the return address lies above the stack pointer, once the function has its frame."""
-        size, tracer = 0, f"0x{self.symbols.address('__fentry__'):x}"
+        size, tracer = 0, f"0x{self.symbols.addresses.get('__fentry__', 0):x}"  # a kernel built without tracing has none
         for _, text in self.lines:
             less = re.match(r"sub +\$0x([0-9a-f]+),%rsp", text)
             if re.match(rf"(?!call +{tracer}\b)(j|call|ret)", text):

@@ -57,6 +57,15 @@ class Places(unittest.TestCase):
         lines[26], lines[27], lines[29] = "cmpb   $0x0,-0x54(%rbp)", "je     29", "movb   $0x1,-0x54(%rbp)"
         self.assertEqual(listing(lines).places()[2], (-0x54, 1, 0, False))
 
+    def test_other_compilers(self):
+        """One puts an instruction between the flags and the call for a key, and fills the room up to ChaCha."""
+        moved = {"jne    26": "jne    27", "jne    29": "jne    30", "call   30": "call   33"}
+        lines = [moved.get(line, line) for line in LISTING]
+        lines[22:22] = ["mov    %r14,%rdi"]
+        lines[31:] = ["nop", "nop", "endbr64", "movups (%rsi),%xmm6"]
+        offsets = listing(lines).places()[0]
+        self.assertEqual([int(f"{it:x}") for stop in ("vkey", "vnew", "vblocks") for it in offsets[stop]], [23, 25, 9, 11])
+
     def test_missing_or_double_places_are_refused(self):
         for place in (1, 2, 6, 12, 14, 15, 21, 22, 24, 26, 27, 29):
             with self.subTest(LISTING[place]), self.assertRaises(LookupError):

@@ -24,6 +24,7 @@ import re
 STATE = 144  # bytes of a state
 KEY, GENERATION, POSITION, MARK = 96, 128, 136, 137  # in a state
 PAGE = 4096
+ALIGNED = 16  # functions begin at a multiple of it
 DYNAMIC, STRINGS, SYMBOLS = 2, 5, 6  # of ELF: a header's kind, and words of the dynamic section
 LONGEST_CALL = 1 << 20  # bytes of an answer that are read
 LONGEST = 64  # bytes of an answer that are kept; of a longer one a digest of all is noted
@@ -58,7 +59,8 @@ class Listing:
         look = only(self.numbers(rf"cmp +{GENERATION:#x}\(%\w+\),%rax"), "of a first look")
         state = re.search(r"\(%(\w+)\)", text_of[look]).group(1)
         # For a key the system call has no flags, and the position goes behind the batch then.
-        key = only([it for it in self.numbers(r"syscall") if re.match(r"xor +%edx,%edx", text_of[it - 1])], "of a call for a key")
+        key = only([it for it in self.numbers(r"syscall") if any(re.match(r"xor +%edx,%edx", text) for text in text_of[it - 4 : it])],
+                   "of a call for a key")
         new = only(self.numbers(rf"movb +\$0x60,{POSITION:#x}\(%{state}\)", key, 6), "behind a key")
         last = only(self.numbers(rf"mov +{GENERATION:#x}\(%{state}\),%rdx"), "of a last look")
         end = only(self.numbers(r"cmp +%rax,%rdx", last, 4), "of a last comparison")
@@ -121,7 +123,7 @@ class Vgetrandom:
         start, length = self.number(symbol + 8), self.number(symbol + 16)
         architecture = self.machine.gdb.selected_frame().architecture()
         lines = []
-        for it in architecture.disassemble(image + start, image + start + length + 4):  # and ChaCha's first instruction
+        for it in architecture.disassemble(image + start, image + start + length + ALIGNED + 4):  # and where ChaCha begins
             text = re.sub(r"\s*(#.*|<.*>)?$", "", it["asm"])
             text = re.sub(r"0x([0-9a-f]{16})\b", lambda found: f"{int(found.group(1), 16) - image:x}", text)
             lines.append((it["addr"] - image, text))
