@@ -12,7 +12,7 @@ events=65536
 samples=$((bytes / 64))
 interrupts=1000000
 visits=20000000
-loops=$(built bench_words)
+loops=$(built bench)
 program=$(built rng_tool)
 room=$(mktemp -d)
 trap 'rm -rf "$room"' EXIT

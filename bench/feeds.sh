@@ -3,7 +3,7 @@
 #   same    `rng feed 0 16 10000` 200 times, beside BENCH_LOOPS busy loops, or twice as many as there are processors: it ends
 #           non-zero where a run writes another line, fails, or has 20 MB resident
 #   speed   160,000 samples of 16 feeders through the queue, and the same by one caller without it, in turn
-# Other builds of the programs are run where BENCH_RNG and BENCH_FEEDS name them, and BENCH_TIMES says how often. What
+# Other builds of the programs are run if BENCH_RNG and BENCH_PROGRAM name them, and BENCH_TIMES says how often. What
 # BENCH_UNDER says stands before each program that `speed` measures: `chrt --rr 1`, as root, keeps the machine's other work
 # away.
 set -eu
@@ -52,7 +52,7 @@ once() {
 
 # What it takes to start and to end a program is taken off.
 speed() {
-    program=${BENCH_FEEDS:-$(built bench_feeds)}
+    program=${BENCH_PROGRAM:-$(built bench)}
     times=${BENCH_TIMES:-15}
     for _ in $(seq "$times"); do
         for run in 'feeds 10000' 'irqs 10000' 'irqs 1'; do

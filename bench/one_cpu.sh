@@ -4,7 +4,7 @@
 #   reads    instructions of one read, of few bytes and of 1 MiB, for the kernel and for a user
 #   load     instructions of an event in the mix of a load
 #   eight    seconds of 8 callers that each read 1 MiB again and again on CPU 0, beside one caller that makes all of them
-# No text is written in any of it. Another build of the program is measured where BENCH_CALLERS names it, and what
+# No text is written in any of it. Another build of the program is measured if BENCH_PROGRAM names it, and what
 # BENCH_UNDER says stands before each run that is timed, as in bench/threads.sh.
 set -eu
 cd "$(dirname "$0")/.."
@@ -14,7 +14,7 @@ trap 'rm -rf "$room"' EXIT
 times=15
 turns=10
 
-loops=${BENCH_CALLERS:-$(built bench_callers)}
+loops=${BENCH_PROGRAM:-$(built bench)}
 
 # script NUMBER TURN: one caller on a ready core makes so many events, as the awk function turn(j) in TURN prints them.
 script() {

@@ -6,7 +6,7 @@
 #            count beside one (plain_threads.c)
 #   thread   a scope in which one thread is started and joined
 #   visit    an uncontended visit of a CPU, and a lock of a `Mutex`
-# Other builds of the programs are measured where BENCH_RNG, BENCH_CALLERS and BENCH_WORDS name them. What BENCH_UNDER
+# Other builds of the programs are measured if BENCH_RNG and BENCH_PROGRAM name them. What BENCH_UNDER
 # says stands before each measured program: `chrt --rr 1`, as root, keeps the machine's other work out of the way.
 set -eu
 cd "$(dirname "$0")/.."
@@ -120,7 +120,7 @@ told() {
 }
 
 speed() {
-    loops=${BENCH_CALLERS:-$(built bench_callers)}
+    loops=${BENCH_PROGRAM:-$(built bench)}
     kreads 1 1 >"$room/eight"
     kreads 1 8 >"$room/apart"
     kreads 0 1 >"$room/one"
@@ -147,12 +147,12 @@ plain_threads() {
 }
 
 thread() {
-    loops=${BENCH_CALLERS:-$(built bench_callers)}
+    loops=${BENCH_PROGRAM:-$(built bench)}
     awk -v all="$(beyond "$loops" threads 20000)" 'BEGIN { printf "%-60s %9.1f us\n", "a scope, a thread and its join", all / 2e7 }'
 }
 
 visit() {
-    loops=${BENCH_WORDS:-$(built bench_words)}
+    loops=${BENCH_PROGRAM:-$(built bench)}
     awk -v taken="$(beyond "$loops" visits 10000000)" -v locked="$(beyond "$loops" locks 10000000)" 'BEGIN {
         printf "%-60s %9.1f ns\n", "lane: taken, an interrupt mixed, and put", taken / 1e7
         printf "%-60s %9.1f ns\n", "Mutex: locked, and unlocked", locked / 1e7

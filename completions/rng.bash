@@ -15,9 +15,9 @@ _rng() {
     if [[ $first = audit && $at -eq 2 ]]; then
         mapfile -t COMPREPLY < <(compgen -W 'keys live line --help' -- "$word")
     elif [[ $at -eq 1 && ${COMP_WORDS[1]} = try ]]; then
-        mapfile -t COMPREPLY < <(compgen -W 'run check load vfork draw feed replay' -- "$word")
+        mapfile -t COMPREPLY < <(compgen -W 'run live check load vfork draw feed replay' -- "$word")
     elif [[ $at -eq 1 ]]; then
-        mapfile -t COMPREPLY < <(compgen -W 'run check load vfork draw feed replay audit try clean fetch prove --help --version' -- "$word")
+        mapfile -t COMPREPLY < <(compgen -W 'run live check load vfork draw feed replay audit try clean fetch prove --help --version' -- "$word")
     elif [[ $word = -* && $first = @(run|replay|audit) ]]; then
         mapfile -t COMPREPLY < <(compgen -W '--json --help' -- "$word")
     elif [[ $first = fetch ]]; then

@@ -1,7 +1,7 @@
 #!/usr/bin/env python3
-"""Makes the rows of the program `vectors`, and the answers that they must get, without any of the crates.
+"""Makes the rows of the program `test_vectors`, and the answers that they must get, without any of the crates.
 
-    tools/vectors.py             compares both with crates/vectors/stdin and stdout; the status is 1 if they differ
+    tools/vectors.py             compares both with crates/test_vectors/stdin and stdout; the status is 1 if they differ
     tools/vectors.py --write     writes both files
 
 Hashes are those of Python's hashlib. Keystream, pool, samples and reseeds are those of replay.py, which was written from
@@ -15,7 +15,7 @@ import sys
 import replay
 
 HERE = os.path.dirname(os.path.abspath(__file__))
-FOLDER = os.path.join(os.path.dirname(HERE), 'crates/vectors')
+FOLDER = os.path.join(os.path.dirname(HERE), 'crates/test_vectors')
 ZERO = bytes(32)
 COUNTING = bytes(range(32))
 

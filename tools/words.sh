@@ -1,5 +1,5 @@
 # What the words of ./rng ask for, and what is wrong with them. Read by ./rng, which sets top, usage and say, for all words
-# but run, check and replay alone.
+# but run, live, check and replay alone.
 # shellcheck shell=sh
 
 self=./rng
@@ -90,6 +90,7 @@ read_words() {
         shift
         take_files "$words" "$@"
         ;;
+    live) [ $# -eq 1 ] || refuse 'live takes no files and no other words: it reads standard input' ;;
     load)
         numbers load 3 'START CALLERS EVENTS' "$@"
         number START "$2" 0 4294967295

@@ -90,10 +90,10 @@ def is_first_of_process(requests, at):
 
 
 def points_of(requests, most):
-    """The numbers of the requests that are tried, from 1: all, or the first of each kind and process and some between."""
+    """The numbers of the reads that are tried, from 1: all, or the first of each kind and process and some between."""
     count = len(requests)
     if count <= most:
-        return list(range(1, count + 1))
+        return [at for at, it in enumerate(requests, 1) if it.is_read]
     firsts, seen = [1, count], set()
     for at, it in enumerate(requests):
         kind = (it.word, it.asked, it.flags)
@@ -103,7 +103,7 @@ def points_of(requests, most):
     chosen = sorted(set(firsts))[:most]
     left = most - len(chosen)
     spread = {1 + (count - 1) * it // max(1, left) for it in range(left)}
-    return sorted(spread.union(chosen))
+    return sorted(at for at in spread.union(chosen) if requests[at - 1].is_read)
 
 
 def names_at(requests, point):

@@ -1,6 +1,8 @@
 """Checks of rng-under, with programs of this folder and with those of the system. Prints a line for each, and ends
 non-zero where one fails. What this machine does not have or does not allow is skipped, and said."""
 
+import errno
+import fcntl
 import os
 import shutil
 import signal
@@ -28,8 +30,8 @@ def skip(name, why):
     print(f"skipped {name}: {why}", flush=True)
 
 
-def run(words, given=b"", **more):
-    ran = subprocess.run(words, input=given, stdout=subprocess.PIPE, stderr=subprocess.PIPE, timeout=120, check=False,
+def run(words, given=b"", timeout=120, **more):
+    ran = subprocess.run(words, input=given, stdout=subprocess.PIPE, stderr=subprocess.PIPE, timeout=timeout, check=False,
                          **more)
     return ran.returncode, ran.stdout.decode(errors="replace"), ran.stderr.decode(errors="replace")
 
@@ -53,8 +55,9 @@ def compile_one(name, source, *options):
 
 def check_sources():
     for name, source, *options in (
-            ("shim.so", "shim.c opens.c draws.c", "-fPIC", "-shared", "-ldl"),
-            ("still.so", "still.c", "-fPIC", "-shared", "-ldl"), ("supervisor", "supervisor.c draws.c"),
+            ("server", "server.c session.c mailbox.c"), ("supervisor", "supervisor.c mailbox.c"),
+            ("shim.so", "shim.c opens.c mailbox.c", "-fPIC", "-shared", "-ldl"),
+            ("still.so", "still.c", "-fPIC", "-shared", "-ldl"),
             ("caller", "callers/caller.c"), ("zeroed", "callers/zeroed.c")):
         status, out, err = compile_one(name, source, *options)
         tell(f"{source} compiles without a warning", out + err if status else "")
@@ -77,30 +80,57 @@ def ways():
 
 # ---- Records -----------------------------------------------------------------------------------------------------
 
-def record_of(path):
+def records_of(path):
+    """The records of a file, each a script and its transcript."""
     with open(path) as file:
-        script, _, transcript = file.read().partition("\nend\n")
-    return script + "\nend\n", transcript
+        pieces = file.read().split("rngscript 3\n")
+    for piece in pieces[1:]:
+        script, _, transcript = piece.partition("\nend\n")
+        yield "rngscript 3\n" + script + "\nend\n", transcript
+
+
+def events_of(path):
+    """Each event of a file's records, and the fields of its line."""
+    for script, transcript in records_of(path):
+        yield from zip(script.split("\n")[3:-2], (line.split(" ") for line in transcript.split("\n")[1:]))
+
+
+def problem_of_seams(path):
+    """Each record after the first begins with the bytes that the one before it ends with."""
+    left = None
+    for script, transcript in records_of(path):
+        taken = [line.split(" ")[1] for line in script.split("\n") if line.startswith("add ")][:1]
+        if left and taken != left:
+            return f"a record ends with {left}, and the next begins with {taken}"
+        left = [line.split(" ")[4] for line in transcript.split("\n") if " kread " in line][-1:]
+    return ""
+
+
+def problem_of_check(path):
+    """The records, confirmed by the program."""
+    for script, transcript in records_of(path):
+        status, out, err = run([RNG, "check"], (script + transcript).encode())
+        if status or out != "yes\n":
+            return "rng check says " + out + err
+    return problem_of_seams(path)
 
 
 def problem_of_record(path):
-    """The record, confirmed by the program and by the second implementation."""
-    script, transcript = record_of(path)
-    status, out, err = run([RNG, "run"], script.encode())
-    if status or out != transcript:
-        return "rng run writes another transcript" + err
-    status, out, err = run([sys.executable, "-B", os.path.join(TOP, "tools/replay.py")], script.encode())
-    if out != transcript:
-        return "tools/replay.py writes another transcript" + err
-    status, out, err = run([RNG, "check"], (script + transcript).encode())
-    return "" if status == 2 or out == "yes\n" else "rng check says " + out + err
+    """The records, confirmed by the program and by the second implementation."""
+    for script, transcript in records_of(path):
+        status, out, err = run([RNG, "run"], script.encode())
+        if status or out != transcript:
+            return "rng run writes another transcript" + err
+        status, out, err = run([sys.executable, "-B", os.path.join(TOP, "tools/replay.py")], script.encode())
+        if out != transcript:
+            return "tools/replay.py writes another transcript" + err
+    return problem_of_check(path)
 
 
 def mixed_of(path):
     """What the caller's way `mixed` prints, where it was given the bytes of the record."""
-    script, transcript = record_of(path)
     lines, total = [], 0
-    for event, its in zip(script.split("\n")[3:], [line.split(" ") for line in transcript.split("\n")[1:]]):
+    for event, its in events_of(path):
         if event.startswith("read "):
             got = b"" if its[4] == "-" else bytes.fromhex(its[4])
             for one in got:
@@ -111,9 +141,7 @@ def mixed_of(path):
 
 def drawn(path):
     """Of each request of a record its answer and its bytes, but for the eight bytes that malloc asks for itself."""
-    script, transcript = record_of(path)
-    pairs = zip(script.split("\n")[3:], [line.split(" ") for line in transcript.split("\n")[1:]])
-    return [(its[2], its[4]) for event, its in pairs
+    return [(its[2], its[4]) for event, its in events_of(path)
             if event.split(" ")[0] in ("read", "dread", "uread") and event != "read 8 1"]
 
 
@@ -134,7 +162,7 @@ def shown(out):
 def check_errnos(name, words, caller):
     for state, wanted in (("ready", READY), ("empty", EMPTY), ("early", EMPTY), ("late", LATE)):
         path = os.path.join(ROOM, "record")
-        # Behind a static or supervised program's own requests the late core would be ready too soon.
+        # After a static or supervised program's own requests the late core would be ready too soon.
         late = prologue("wait 3" if name == "preloaded" else "wait 4", "add 616263 256")
         status, out, err = under(*words, "--prologue", late if state == "late" else state, "--record", path, caller,
                                  "errnos")
@@ -219,7 +247,7 @@ def check_python():
     blocked = "import os; print(len(os.getrandom(8)))"
     ran = under("--prologue", prologue("wait 30", "credit 256"), "--record", path, sys.executable, "-I", "-c", blocked)
     is_well = ran == (0, "8\n", "") and ("EINTR", "-") in drawn(path)
-    tell("Python: goes on behind EINTR", problem_of_record(path) if is_well else str(ran))
+    tell("Python: goes on after EINTR", problem_of_record(path) if is_well else str(ran))
 
 
 def check_prologue():
@@ -230,6 +258,7 @@ def check_prologue():
     problem = problem_of_record(path) if ran[0] == 0 and lengths[-4:-1] != [] and 5 in lengths and 7 in lengths else str(ran)
     tell("short reads of a file, a reseed and another CPU between", problem)
     for lines, where in ((["add 00 256", "", "nonsense"], "line 3"), (["wait"], "line 1"), (["fork 1"], "as a whole"),
+                         (["cpus 1", "inside 1 wipe"], "line 2"),
                          (["credit 07"], "line 1"), (["short 0"], "line 1")):
         status, out, err = under("--prologue", prologue(*lines), "true")
         tell(f"a prologue is refused: {lines[-1]}", "" if (status, out) == (125, "") and where in err else err)
@@ -259,6 +288,19 @@ def is_there(number):
         return False
 
 
+def processes_with(text):
+    """The processes that have a text in their environment."""
+    found = []
+    for number in filter(str.isdecimal, os.listdir("/proc")):
+        try:
+            with open(f"/proc/{number}/environ", "rb") as file:
+                if text.encode() in file.read():
+                    found.append(int(number))
+        except OSError:
+            pass  # it has ended, or is another user's
+    return found
+
+
 def check_left_behind(name, words):
     """What a program left is waited for, until a signal says not to: one is enough. What was traced cannot go on then."""
     left = "sleep 1234.5 </dev/null >/dev/null 2>&1 & echo $!; exit 3"
@@ -281,21 +323,137 @@ def check_left_behind(name, words):
 
 def check_limits(name, words, caller):
     status, _, err = under(*words, "--prologue", "empty", "--most", "50", caller, "retry")
-    tell(f"{name}: ended behind 50 requests", "" if status == 125 and "behind 50 requests" in err else f"{status} {err}")
-    status, _, err = under(*words, caller, "many", "17", "1048576")
-    tell(f"{name}: ended where the script is full", "" if status == 125 and "is full" in err else f"{status} {err}")
+    tell(f"{name}: ended after 50 requests", "" if status == 125 and "after 50 requests" in err else f"{status} {err}")
 
 
-def check_growth(name, words, caller):
-    """How many runs it took is the same on each machine; what they took is only told."""
-    for count, most in ((1, 4), (100, 6), (1000, 7), (10000, 9)):
-        status, _, err = under(*words, "--stats", caller, "many", str(count), "100")
-        told = [line for line in err.splitlines() if "each" in line or "runs" in line]
-        runs = int(err.split(" runs of rng")[0].split(" ")[-1]) if status == 0 else 0
-        tell(f"{name}: {', '.join(told)}", "" if 0 < runs <= most else f"status {status}, {runs} runs")
+def count_of(stats, word):
+    """The number before a word of what --stats says."""
+    return int(stats.split(f" {word}")[0].split(" ")[-1]) if f" {word}" in stats else 0
 
 
-def check_windows():
+def check_speed(name, words, caller):
+    """What requests take is only told, since it is the machine's; the bounds are for a machine that is as busy as can be."""
+    for count, size, most in ((1, 100, 9000), (10000, 16, 50), (1000, 4096, 100), (15, 1 << 20, 9000)):
+        began = time.monotonic()
+        status, _, err = under(*words, "--stats", caller, "many", str(count), str(size))
+        spent = time.monotonic() - began
+        each = float(err.split(" ms each")[0].split(" ")[-1]) if status == 0 else most
+        tell(f"{name}: {count} requests of {size} bytes, {each:.4f} ms each, {spent:.2f} s in all",
+             "" if each < most and count_of(err, "records") == 1 else f"status {status}, {err}")
+
+
+# ---- Records that are cut -------------------------------------------------------------------------------------------
+
+def cut(events, size=1 << 24, text=1 << 24):
+    """An environment in which a record has less room."""
+    return dict(os.environ, RNG_UNDER_LIMITS=f"{events} {size} {text}")
+
+
+def check_cuts(name, words, caller):
+    """The program sees the same answers over cut records, and each record is confirmed, with the seams between them."""
+    path = os.path.join(ROOM, "record")
+    for state in ("ready", "early", "empty", "late"):
+        whole = under(*words, "--prologue", state, caller, "errnos")
+        ran = under(*words, "--prologue", state, "--stats", "--record", path, caller, "errnos", env=cut(10))
+        answers = [[it[0] for it in shown(one[1])] for one in (whole, ran)]
+        problem = "" if ran[0] == 0 and answers[0] == answers[1] else f"{ran}, not {answers[0]}"
+        if count_of(ran[2], "records") < 2 or ran[2].count("\n") != 1:
+            problem = problem or ran[2]
+        tell(f"{name}: errnos over cut records, {state}", problem or problem_of_record(path))
+    for what, limits in (("events", cut(700)), ("bytes", cut(65536, 9000)), ("text", cut(65536, 1 << 24, 6000))):
+        ran = under(*words, "--stats", "--record", path, caller, "many", "1000", "16", env=limits)
+        problem = "" if ran[0] == 0 and count_of(ran[2], "records") == 2 else str(ran)
+        tell(f"{name}: {what} of a record run out", problem or problem_of_record(path))
+
+
+def check_many_records():
+    """One program, many records. The full number takes longer: the variable below has it."""
+    path, asked = os.path.join(ROOM, "record"), os.path.join(ROOM, "asked")
+    count = int(os.environ.get("UNDER_REQUESTS", "20000"))
+    ran = under("--stats", "--record", path, "--asked", asked, CALLER, "many", str(count), "16", env=cut(3000))
+    with open(asked) as file:
+        is_whole = sum(line.endswith(" read 16 0 16\n") for line in file) == count
+    problem = "" if ran[0] == 0 and count_of(ran[2], "records") == -(-count // 2995) else f"{ran[0]} {ran[2]}"
+    if not is_whole:
+        problem = problem or "requests are missing from the list"
+    if len({its[4] for event, its in events_of(path) if event == "read 16 0"}) != count:
+        problem = problem or "bytes were served twice"
+    tell(f"{count} requests over records of 3,000 events", problem or problem_of_check(path))
+    ran = under("--stats", "--record", path, CALLER, "many", "17", "1048576")
+    problem = "" if ran[0] == 0 and count_of(ran[2], "records") == 2 else str(ran)
+    tell("17 MiB, more than a script has", problem or problem_of_check(path))
+    ran = under(CALLER, "many", "2", "300", env=cut(20, 300))
+    tell("a request that no record has room for", "" if ran[0] == 125 and "more room than a record" in ran[2] else str(ran))
+
+
+# ---- Writes and control ---------------------------------------------------------------------------------------------
+
+WRITTEN = ["write 3132333435363738", "write 39", "write 6162636465", "write 73747265616d"]
+HANDED = b"the bytes that are handed in".ljust(32, b"\0").hex()
+REFUSED = "RNDADDTOENTCNT EPERM\n" * 2 + "RNDADDENTROPY EPERM\n" * 3
+
+
+def may_control():
+    """Whether the kernel lets this user control the device: an argument without a number is looked at later."""
+    with open("/dev/random", "rb") as file:
+        try:
+            fcntl.ioctl(file, 0x40045201, 0)
+        except OSError as fault:
+            return fault.errno == errno.EFAULT
+    return False
+
+
+def controls_wanted(is_ready, may):
+    """What the caller's way `controls` prints, and its events."""
+    first, second = (256, 256) if is_ready else (0, 213)
+    head = f"RNDGETENTCNT 0\n{first}\n"
+    tail = "unknown EINVAL\nanother file's ENOTTY\n"
+    if not may:
+        rest = f"RNDGETENTCNT 0\n{first}\nRNDADDENTROPY EPERM\nRNDRESEEDCRNG EPERM\nRNDZAPENTCNT EPERM\nRNDCLEARPOOL EPERM\n"
+        return f"{head}RNDRESEEDCRNG EPERM\n{REFUSED}{rest}{tail}", ["bits", "bits"]
+    middle = ("RNDADDTOENTCNT 0\nRNDADDTOENTCNT EINVAL\nRNDADDENTROPY EINVAL\nRNDADDENTROPY 0\nRNDADDENTROPY 0\n"
+              f"RNDGETENTCNT 0\n{second}\nRNDADDENTROPY 0\nRNDRESEEDCRNG 0\nRNDZAPENTCNT 0\nRNDCLEARPOOL 0\n")
+    events = ["bits", "reseed", "credit 5", "credit 8", f"add {HANDED} 200", "bits", f"add {HANDED} 200", "reseed"]
+    return f"{head}RNDRESEEDCRNG {'0' if is_ready else 'ENODATA'}\n{middle}{tail}", events
+
+
+def check_controls(name, words, caller):
+    path = os.path.join(ROOM, "record")
+    ways_to_run = [("", [], may_control())]
+    if not os.geteuid() and shutil.which("setpriv") and name != "static":  # setpriv is not static
+        ways_to_run.append((" without rights", ["setpriv", "--reuid", "65534", "--clear-groups"], False))
+    for who, before, may in ways_to_run:
+        for state in ("empty", "ready"):
+            wanted, events = controls_wanted(state == "ready", may)
+            ran = under(*words, "--prologue", state, "--record", path, *before, caller, "controls")
+            got = [event for event, _ in events_of(path)][0 if state == "empty" else 1:]
+            got = [event for event in got if event != "read 8 1"]  # malloc's
+            problem = "" if ran == (0, wanted, "") and got == events else f"{ran}, not {wanted!r}, and {got}"
+            tell(f"{name}: ioctls of the devices, {state}{who}", problem or problem_of_record(path))
+
+
+def check_writes(name, words, caller):
+    path = os.path.join(ROOM, "record")
+    ran = under(*words, "--record", path, caller, "writes")
+    lines = ran[1].splitlines()
+    wanted = ["write 8 3132333435363738", "pwrite 1 39", "writev 5 6162636465", "nothing 0", "closed -1 EBADF", "fclose 0"]
+    events = [event for event, _ in events_of(path) if event.startswith("write ")]
+    is_well = ran[0] == 0 and lines[1:-1] == wanted and events == WRITTEN
+    tell(f"{name}: writes to the devices", problem_of_record(path) if is_well else f"{ran} {events}")
+    code = ("printf abc | dd of=/dev/urandom bs=3 2>/dev/null; printf def >/dev/random; env printf ghi >/dev/urandom\n"
+            "head -c 8 /dev/urandom | od -An -tx1")
+    ran = under(*words, "--record", path, "sh", "-c", code)
+    events = [event for event, _ in events_of(path) if event.startswith("write ")]
+    other = under(*words, "sh", "-c", code.replace("abc", "abd"))
+    is_well = ran[0] == 0 and events == ["write 616263", "write 646566", "write 676869"]
+    problem = problem_of_record(path) if is_well else f"{ran} {events}"
+    tell(f"{name}: a shell's writes to the devices", problem or ("" if other[0] == 0 and other[1] == ran[1] else str(other)))
+    long = "import os; f = os.open('/dev/urandom', os.O_WRONLY); print(os.write(f, bytes(3 << 20)))"
+    ran = under(*words, "--record", path, sys.executable, "-I", "-c", long)
+    tell(f"{name}: a long write is cut at 1 MiB", problem_of_check(path) if ran[:2] == (0, "1048576\n") else str(ran))
+
+
+def check_prologue_between():
     """Lengths of all kinds, while the prologue goes on: no request is lost, and none is served twice."""
     path = os.path.join(ROOM, "record")
     steps = [f"wait {it}" for it in (1, 2, 3, 58, 64, 1, 200, 1)]
@@ -320,16 +478,32 @@ def check_unserved():
     tell("from a folder with a space in its name", "" if ran[:2] == under(CALLER, "retry")[:2] else str(ran))
 
 
-def check_wrong_bytes():
-    """A program that tells other bytes when it is asked ahead is found out, by the record."""
-    fake = os.path.join(ROOM, "fake")
-    with open(fake, "w") as file:
-        line = r"s/^\(0[.][0-9]* uread ok [^ ]* \)"
-        file.write(f"""#!/bin/sh\n'{RNG}' "$@" | sed '{line}[0-7]/\\18/; t; {line}[89a-f]/\\10/'\n""")
-    os.chmod(fake, 0o755)
-    status, _, err = under(CALLER, "forks", env=dict(os.environ, RNG=fake))
-    is_well = status == 125 and "not what was served" in err
-    tell("wrong bytes are found out", "" if is_well else f"status {status}, {err}")
+def fake_core(name, script, environment=os.environ):
+    """A program that is asked instead of rng. The script does what `rng live` does; all else is done by rng itself."""
+    path = os.path.join(ROOM, name)
+    with open(path, "w") as file:
+        file.write(f"#!/bin/sh\nrng='{RNG}'\n[ \"$1\" = live ] || exec \"$rng\" \"$@\"\n{script}\n")
+    os.chmod(path, 0o755)
+    return dict(environment, RNG=path)
+
+
+def check_wrong_cores():
+    """A core that serves wrong bytes, ends, or writes no line of its event is found out."""
+    line = r"s/^\(0[.][0-9]* read ok [^ ]* \)"
+    swap = f"{line}[0-7]/\\18/; t; {line}[89a-f]/\\10/"
+    for name, script, wanted in (
+            ("wrong bytes", f""""$rng" live | sed -u '{swap}'""", "does not confirm"),
+            ("an end", """sed -u 5q | "$rng" live""", "fake live "),
+            ("another event's line", """"$rng" live | sed -u 's/^0.2 /0.3 /'""", "its line"),
+            ("no session", "exit 2", "live ended with status 2")):
+        status, _, err = under(CALLER, "forks", env=fake_core("fake", script))
+        tell(f"a core with {name} is found out", "" if status == 125 and wanted in err else f"status {status}, {err}")
+    script = """"$rng" live | sed -u 's/kread ok \\([^ ]*\\) ./kread ok \\1 0/'"""
+    status, _, err = under(CALLER, "many", "40", "16", env=fake_core("fake", script, cut(20)))
+    tell("a wrong seed is found out", "" if status == 125 and "does not confirm" in err else f"status {status}, {err}")
+    status, _, err = under("--prologue", "empty", CALLER, "retry", env=fake_core("fake", script, cut(20)))
+    is_well = status == 125 and "does not confirm" in err
+    tell("a program that asks for ever ends if a record is not confirmed", "" if is_well else f"status {status}, {err}")
 
 
 def check_page():
@@ -352,7 +526,10 @@ def main():
         check_errnos(name, words, caller)
         check_calls(name, words, caller)
         check_limits(name, words, caller)
-        check_growth(name, words, caller)
+        check_speed(name, words, caller)
+        check_cuts(name, words, caller)
+        check_controls(name, words, caller)
+        check_writes(name, words, caller)
     for name, words, _ in all_ways[:2]:
         check_programs(name, words)
         check_statuses(name, words)
@@ -360,8 +537,9 @@ def main():
     check_python()
     check_prologue()
     check_faulty()
-    check_wrong_bytes()
-    check_windows()
+    check_wrong_cores()
+    check_prologue_between()
+    check_many_records()
     check_unserved()
     check_page()
     if len(all_ways) > 1:

@@ -48,7 +48,7 @@ def check_open_modes(name, words):
 # ---- Daemons --------------------------------------------------------------------------------------------------------
 
 def check_daemons(name, words):
-    """The front is asked after each step, since the prologue has something due every hundred requests."""
+    """The prologue has something due every hundred requests."""
     path = os.path.join(ROOM, "record")
     steps = prologue("add 616263 256", *["wait 100", "reseed"] * 11)
     ran = under(*words, "--prologue", steps, "--record", path, EDGES, "daemon")
@@ -90,11 +90,13 @@ def check_kill(name, words):
     left = int(began.stdout.readline())
     with open(f"/proc/{left}/stat") as file:
         first = int(file.read().split(") ")[-1].split()[1])
+    count = len(checks.processes_with(above))
     began.kill()
     began.wait()
-    is_ended = wait_until(lambda: not is_there(left) and not is_there(first))
-    tell(f"{name}: killed, it leaves no process", "" if is_ended else f"{left} or {first} goes on")
-    for one in (left, first):
+    is_ended = wait_until(lambda: not is_there(left) and not is_there(first) and not checks.processes_with(above))
+    problem = "" if is_ended and count > 4 else f"{left}, {first} or {checks.processes_with(above)} of {count} go on"
+    tell(f"{name}: killed, it leaves no process", problem)
+    for one in (left, first, *checks.processes_with(above)):
         if is_there(one):
             os.kill(one, signal.SIGKILL)
     before = os.listdir(above)
@@ -123,6 +125,60 @@ def check_nothing_asked(name, words):
     tell(f"{name}: a run in which nothing was asked says so", "" if is_told else f"{status} {err}")
 
 
+def check_killed_server(name, words):
+    """If the server or the core is killed, programs that ask end, and the cause is told."""
+    for at, said in ((0, "server"), (1, "live was ended by signal 9")):
+        above = folder(f"server{name}{at}")
+        began = subprocess.Popen([UNDER, *words, "--prologue", "empty", CALLER, "retry"], stdout=subprocess.DEVNULL,
+                                 stderr=subprocess.PIPE, env=dict(os.environ, TMPDIR=above))
+        is_there_all = wait_until(lambda: len(found(above)) == 2, 100)
+        os.kill(found(above)[at] if is_there_all else began.pid, signal.SIGKILL)
+        try:
+            _, err = began.communicate(timeout=60)
+        except subprocess.TimeoutExpired:
+            began.kill()
+            err = b"no end"
+        left = checks.processes_with(above)
+        is_well = began.returncode == 125 and said in err.decode() and not left and not os.listdir(above)
+        tell(f"{name}: the {'core' if at else 'server'} is killed", "" if is_well else f"{began.returncode} {err} {left}")
+
+
+def found(above):
+    """The server of a run, and its core."""
+    these = [(number, command_of(number)) for number in checks.processes_with(above)]
+    servers = [number for number, words in these if words[0].endswith("/server")]
+    return servers + [number for number, words in these if words[-1:] == ["live"]]
+
+
+def command_of(number):
+    try:
+        with open(f"/proc/{number}/cmdline", encoding="utf-8", errors="replace") as file:
+            return file.read().rstrip("\0").split("\0")
+    except OSError:
+        return [""]
+
+
+def check_killed_clients(name, words):
+    """80 processes are killed while they ask. No other waits for ever, and the record is confirmed."""
+    path, asked = os.path.join(ROOM, "record"), os.path.join(ROOM, "asked")
+    ran = under(*words, "--record", path, "--asked", asked, EDGES, "kill", "80", "30000", timeout=600)
+    with open(asked) as file:
+        count = sum(1 for _ in file)
+    is_well = ran == (0, "all were killed\n", "") and count > 30000
+    tell(f"{name}: 80 processes are killed amid {count} requests", checks.problem_of_check(path) if is_well else str(ran))
+
+
+def check_room_runs_out():
+    """Of the folder of a run, while the program asks: the program ends, and the cause is told."""
+    room = folder("small")
+    code = f"mount -t tmpfs -o size=3m none {room} || exit 77; TMPDIR={room} exec '{UNDER}' '{CALLER}' many 60000 64"
+    ran = run(["unshare", "-m", "sh", "-c", code]) if shutil.which("unshare") and not os.geteuid() else (77, "", "")
+    if ran[0] in (1, 77):
+        return skip("a temporary folder that gets full", "no file system can be mounted")
+    is_well = ran[:2] == (125, "") and "No space left" in ran[2] and "TMPDIR" in ran[2]
+    return tell("a temporary folder that gets full", "" if is_well else str(ran))
+
+
 def check_orphans(name, words):
     code = ("for it in 1 2 3 4 5 6 7 8; do (true &); done; tries=0\n"
             "while sleep 0.2; [ $tries -lt 20 ]; do tries=$((tries + 1))\n"
@@ -147,6 +203,7 @@ def refused(name, words, said, **more):
 def check_refusals():
     refused("an unknown option", ["--nonsense"], ["--nonsense", "usage: "])
     refused("no number", ["--most", "many"], ["--most"])
+    refused("no limits", [], ["RNG_UNDER_LIMITS", "three numbers"], env=dict(os.environ, RNG_UNDER_LIMITS="many"))
     refused("no request at all", ["--most", "0"], ["--most"])
     refused("an unknown prologue", ["--prologue", "nonesuch"], ["no prologue nonesuch", "early, empty, late, ready"])
     refused("a prologue that is a folder", ["--prologue", ROOM], [ROOM])
@@ -171,7 +228,7 @@ def limit_files():
 def check_full_folder():
     """A temporary folder without room: nothing is started, and no signal ends the command."""
     room = folder("full")
-    code = f"mount -t tmpfs -o size=2m none {room} || exit 77; TMPDIR={room} exec '{UNDER}' echo started"
+    code = f"mount -t tmpfs -o size=1m none {room} || exit 77; TMPDIR={room} exec '{UNDER}' echo started"
     ran = run(["unshare", "-m", "sh", "-c", code]) if shutil.which("unshare") and not os.geteuid() else (77, "", "")
     if ran[0] in (1, 77):
         return skip("a temporary folder without room", "no file system can be mounted")
@@ -201,7 +258,8 @@ def check_modes():
     out, own = os.path.join(tools, "out"), os.path.join(tools, "rng-under")
     problem = ""
     for step in ("compiled by a user with an open umask", "found open to others"):
-        ran = run(["sh", "-c", 'umask 0; exec "$@"', "sh", own, CALLER, "retry"], env=dict(os.environ, RNG=checks.RNG))
+        ran = run(["sh", "-c", 'umask 0; exec "$@"', "sh", own, CALLER, "retry"], timeout=600,
+                  env=dict(os.environ, RNG=checks.RNG))
         modes = {name: os.stat(os.path.join(out, name)).st_mode & 0o777 for name in [".", *os.listdir(out)]}
         if ran[0] or "shim.so" not in modes or any(mode & 0o022 for mode in modes.values()):
             problem = problem or f"{step}: {ran} {modes}"
@@ -223,12 +281,15 @@ def main():
         check_open_modes(name, words)
         check_daemons(name, words)
         check_kill(name, words)
+        check_killed_server(name, words)
+        check_killed_clients(name, words)
         check_orphans(name, words)
         check_nothing_asked(name, words)
     check_left_root(can_trace=len(ways) > 1)
     check_others_folder()
     check_refusals()
     check_full_folder()
+    check_room_runs_out()
     check_seeds_and_folders()
     check_modes()
     print(f"edges of programs on the core: {len(checks.FAILED)} failed")

@@ -131,6 +131,11 @@ def check_many():
         points = json.loads(file.readline())["tried"]
     is_well = points[0] == 1 and points[-1] == 300 and 12 <= len(points) <= 24 and "requests tried: 1, " in out
     tell("sweep: many requests are sampled", "" if is_well and status == 0 else f"{status} {points} {err}")
+    status, out, err = sweep("--only", "reseed:*", "--json", path, CALLER, "writes")
+    with open(path, encoding="utf-8") as file:
+        points = json.loads(file.readline())["tried"]
+    is_well = status == 0 and points == [1, 6]
+    tell("sweep: of reads and writes only reads are tried", "" if is_well else f"{status} {points} {err}")
     status, out, err = sweep("--only", "fork:*", CALLER, "forks")
     is_well = status == 0 and out.count("\nfork:") == 4
     tell("sweep: a case for each process that asks", "" if is_well else f"{status} {out} {err}")
@@ -153,15 +158,7 @@ def check_refusals():
 
 def left_behind():
     """Files in the temporary folder, and processes that were started from there."""
-    left = os.listdir(TEMPORARY)
-    for number in filter(str.isdecimal, os.listdir("/proc")):
-        try:
-            with open(f"/proc/{number}/environ", "rb") as file:
-                if TEMPORARY.encode() in file.read():
-                    left.append(f"process {number}")
-        except OSError:
-            pass
-    return left
+    return os.listdir(TEMPORARY) + [f"process {number}" for number in checks.processes_with(TEMPORARY)]
 
 
 def start_sweep(*words):

@@ -18,6 +18,9 @@ SHOWN = 400
 GRND_NONBLOCK, GRND_INSECURE = 1, 4
 FLAGS = ((1, "GRND_NONBLOCK"), (2, "GRND_RANDOM"), (4, "GRND_INSECURE"))
 DEVICES = {"dread": "/dev/random", "uread": "/dev/urandom"}
+READS = ("read", *DEVICES)
+CONTROLS = {"write": "write to a device", "add": "RNDADDENTROPY", "credit": "RNDADDTOENTCNT", "bits": "RNDGETENTCNT",
+            "reseed": "RNDRESEEDCRNG"}
 
 
 def some(count, word):
@@ -30,13 +33,15 @@ class Request:
     def __init__(self, line, unready):
         event, who, self.word, asked, flags, self.answer = line.split()
         self.process = who.partition(".")[0]
-        self.asked, self.flags, self.is_fault = int(asked), int(flags), event == "-"
-        self.served = int(self.answer) if self.answer.isdecimal() else 0
+        self.flags, self.is_fault = int(flags), event == "-"
+        self.is_read = self.word in READS
+        self.asked = int(asked) if self.is_read else 0
+        self.served = int(self.answer) if self.is_read and self.answer.isdecimal() else 0
         self.is_unready = event in unready
 
     def waits(self):
         """Whether it would wait for a core that is not ready."""
-        return self.word != "uread" and not self.flags & (GRND_NONBLOCK | GRND_INSECURE)
+        return self.is_read and self.word != "uread" and not self.flags & (GRND_NONBLOCK | GRND_INSECURE)
 
     def is_interrupted_wait(self):
         return self.waits() and self.answer == "EINTR" and not self.is_fault
@@ -50,6 +55,8 @@ class Request:
         return self.is_fault or self.is_unready or self.served < self.asked
 
     def told(self):
+        if not self.is_read:
+            return f"{CONTROLS[self.word]}: {self.answer}"
         if self.word in DEVICES:
             call = f"read of {DEVICES[self.word]}" + (", O_NONBLOCK" if self.flags else "")
         else:
@@ -139,7 +146,7 @@ class Run:
                 path = os.path.relpath(os.path.join(folder, name), self.folder)
                 out += b"%s:\n%s" % (path.encode(errors="replace"), self.read(path))
         self.shown, self.digest, self.is_silent = out[:SHOWN], hashlib.sha256(out).digest(), not out.strip()
-        unready = {fields[0] for fields in self.transcript() if fields[3].startswith("~0") and fields[2] == "ok"}
+        unready = {fields[0] for fields in self.transcript() if fields[2:3] == ["ok"] and fields[3].startswith("~0")}
         asked = [it for it in self.read("asked").decode(errors="replace").splitlines() if len(it.split()) == 6]
         self.requests = [Request(line, unready) for line in asked]
         self.served = sum(it.served for it in self.requests)
@@ -147,8 +154,12 @@ class Run:
         shutil.rmtree(self.folder, ignore_errors=True)
 
     def transcript(self):
-        _, _, text = self.read("record").decode(errors="replace").partition("\nrngtranscript 1\n")
-        return [fields for fields in (line.split(" ") for line in text.splitlines()) if len(fields) == 5]
+        """The fields of each line, where the first is as in the list of requests."""
+        texts = self.read("record").decode(errors="replace").split("\nrngtranscript 1\n")[1:]
+        for number, text in enumerate(texts, 1):
+            record = f"{number}:" if number > 1 else ""
+            for line in text.partition("\nend\n")[0].splitlines():
+                yield [record + line.split(" ")[0], *line.split(" ")[1:]]
 
     def own_fault(self):
         """What rng-under itself said where it failed or ended the program, or nothing."""

@@ -87,7 +87,7 @@ def by_its_end(run):
     if run.is_hung:
         return HANGS, f"no end within {run.program.seconds} s, after {len(run.requests)} requests"
     own = run.own_fault()
-    if own and (len(run.requests) >= run.most or "full" in own):
+    if own and len(run.requests) >= run.most:
         if waits(run):
             return WELL, "it waits: each wait was interrupted, and it waited again"
         return ASKS_ON, f"it asked {len(run.requests)} times, without an end"
@@ -208,7 +208,7 @@ def tried(program):
     for is_still in (True, False):
         runs = yield [program.run(cases.READY_CASE, seed, is_still, 65535) for seed in (*SEEDS, SEEDS[0])]
         end = worse([by_its_end(it) for it in runs])
-        if not end and runs[0].requests:
+        if not end and any(it.is_read for it in runs[0].requests):
             return Base(*runs), ""
     if not end:
         return None, "it asked for no random byte" + ("" if program.ways else "; --supervise may see more")

@@ -3,9 +3,9 @@ use Rattle.std.specs.Prelude.{ℕ, Bool, true, Option, Some, None, List, if◌th
 use Rattle.key_names.specs.declared.entries.BaseEntry.{BaseEntry}
 use Rattle.key_names.specs.declared.entries.BaseEntry.TheVariants.{Early as EarlyEntry, Reseed, Tick}
 use Rattle.key_names.specs.declared.entries.PoolEntry.{PoolEntry}
-use Rattle.key_names.specs.Keystream.{keystream}
-use Rattle.key_names.specs.BaseList.{Phase, BaseState, empty, early, ready, root_of, base_erases, reseeds_at, phase_after, generation_after, timer_after, early_boot_after, running_after, base_after}
-use Rattle.key_names.specs.KeyInUse.{zero_key, base_value_after}
+use Rattle.key_names.specs.Kernel.Keystream.{keystream}
+use Rattle.key_names.specs.Lanes.BaseList.{Phase, BaseState, empty, early, ready, root_of, base_erases, reseeds_at, phase_after, generation_after, timer_after, early_boot_after, running_after, base_after}
+use Rattle.key_names.specs.Keys.KeyInUse.{zero_key, base_value_after}
 use Rattle.base_gen.specs.declared.phase.Phase.{Phase as PhaseOfCode}
 use Rattle.base_gen.specs.declared.phase.Phase.TheVariants.{Empty, Early, Ready}
 
@@ -21,7 +21,7 @@ pub record BaseValue : Type 0 where
   pub generation : ℕ
   -- the moment at which the reseed timer is due, in milliseconds
   pub timer : Option ℕ
-  -- the system is young: no interval was taken from the 120th second on
+  -- the system is young: no reseed at 120 seconds or later has computed an interval
   pub early_boot : Bool
   -- how many callers run
   pub running : ℕ
@@ -49,7 +49,7 @@ after_entry e root b = record {
   running = running_after e b.running;
 }
 
--- the calls that install a root, as their entries. The root's place in the pool's list changes nothing, so they use 0
+-- a call that installs a root acts as its entry. The root's place in the pool's list does not matter, so it is 0 here
 abbrev pub seeded_early : List ℕ → BaseValue → BaseValue
 seeded_early root b = after_entry (EarlyEntry (Some 0)) root b
 
@@ -59,7 +59,7 @@ reseeded now root b = after_entry (Reseed 0 now) root b
 abbrev pub fired : ℕ → List ℕ → BaseValue → BaseValue
 fired now root b = after_entry (Tick now (Some 0)) root b
 
--- the base whose list is in this state, with this value of its key
+-- the base after a list that leaves this state, with this value of its key
 abbrev pub base_at : BaseState → List ℕ → BaseValue
 base_at s value = record {
   key = value;

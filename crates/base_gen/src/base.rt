@@ -1,8 +1,8 @@
 //! The base key and the state that the kernel keeps with it.
 
 ghost use Rattle.std.specs.Prelude.{◌≡◌, ◌↔◌, ◌+◌, ◌^◌, ◌<◌, ◌≤◌, Some, length, IsTrue};
-ghost use Rattle.key_names.specs.Keystream.{keystream};
-ghost use Rattle.key_names.specs.BaseList.{ready, IsDue, interval, early_boot_after, one_more, one_less};
+ghost use Rattle.key_names.specs.Kernel.Keystream.{keystream};
+ghost use Rattle.key_names.specs.Lanes.BaseList.{ready, IsDue, interval, early_boot_after, one_more, one_less};
 ghost use Rattle.base_gen.specs.BaseValue.{phase_of, start, erased, seeded_early, reseeded, fired};
 
 use crate::phase::Phase;
@@ -66,7 +66,7 @@ impl Base {
         self.generation
     }
 
-    /// How many callers run. It is for callers of this crate alone; the core uses [`Base::idle`].
+    /// How many callers run. It is for callers that use this crate without the lanes; the core uses [`Base::idle`].
     pub fn running(&self) -> u32
         ensures { result ≡ self.now.running }
     {
@@ -150,8 +150,8 @@ impl Base {
         now + reseed_interval(&mut self.early_boot, now)
     }
 
-    /// Erases the key (`crng_fast_key_erasure`). Writes the first bytes that the rest of its block has, at most 32, to
-    /// `out`, and returns the old key from block 1 on.
+    /// Erases the key (`crng_fast_key_erasure`). Fills `out`, at most 32 bytes, from the rest of the erased block, and
+    /// returns the old key from block 1 on.
     pub fn draw(&mut self, out: &mut [u8]) -> Detached
         requires { length out.old ≤ 32 }
         ensures state { self.new ≡ erased self.old }

@@ -1,10 +1,10 @@
 -- Facts for callers of the hash.
 use Rattle.std.proofs.Common.{◌≡◌, ℕ, List, [], ◌++◌, length, replicate, Some, sym, ◌∙◌, arith, length-append}
 use Rattle.std.proofs.lemmas.List.{append-nil}
-use Rattle.key_names.specs.Blake2s.{inner_count, start_words}
+use Rattle.key_names.specs.Kernel.Blake2s.{inner_count, start_words}
 use Rattle.blake2s_core.specs.Hash.{Stands}
 
--- the hash of no bytes under a key
+-- a new hash under a key matches the key and no bytes
 pub Stands_keyed : (key words : List ℕ) (count : ℕ) (rest : List ℕ) → length key ≡ 32 → words ≡ start_words 32
     → count ≡ 0 → rest ≡ key ++ replicate 32 0
     → Stands (record { words = words; rest = rest; count = count }) (Some key) []

@@ -5,10 +5,10 @@ use Rattle.std.proofs.lemmas.List.{take-replicate}
 use Rattle.std.proofs.lemmas.List.Sums.{fold-append}
 use Rattle.std.proofs.Math.Seq.{take-append-add}
 use Rattle.byteorder.specs.Endian.{little_bytes}
-use Rattle.key_names.specs.Blake2s.{blake2s, block_bytes, compressed, inner_blocks, inner_count, key_len, last_block, message, start_words}
+use Rattle.key_names.specs.Kernel.Blake2s.{blake2s, block_bytes, compressed, inner_blocks, inner_count, key_len, last_block, message, start_words}
 use Rattle.blake2s_core.specs.Hash.{Hash, Stands}
 
--- bytes padded to a block
+-- bytes padded with zeros to a block are the block of these bytes
 padded : (rest : List ℕ) (used : ℕ) → used ≡ length rest → used ≤ 64
     → rest ++ replicate (64 - used) 0 ≡ take 64 (rest ++ replicate 64 0)
 padded rest used len fits =
@@ -17,7 +17,7 @@ padded rest used len fits =
     ∙ sym (take-append-add rest (replicate 64 0) (64 - used))
     ∙ ap (λ (n : ℕ). take n (rest ++ replicate 64 0)) all
 
--- the words after the last block, as bytes
+-- the words after the last block, as bytes, are the hash of the text
 pub Stands-blake2s : (hash : Hash) (key : Option (List ℕ)) (text block words : List ℕ) (used : ℕ)
     → Stands hash key text → used ≡ length hash.rest → used ≤ 64 → block ≡ hash.rest ++ replicate (64 - used) 0
     → words ≡ compressed hash.words (record { bytes = block; count = (hash.count + used) % 2 ^ 64; is_last = true })

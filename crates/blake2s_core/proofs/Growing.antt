@@ -4,7 +4,7 @@ use Rattle.std.specs.Simd.{first_chunks}
 use Rattle.std.proofs.lemmas.List.{append_assoc, take-append-le, drop-append-le, take_all, get_or-take, drop_at, drop-drop}
 use Rattle.std.proofs.lemmas.List.FromFn.{fill_by_all, get_or-map-range_with_len, length-map-range_with_len, map-range_with_len_more}
 use Rattle.std.proofs.lemmas.List.Sums.{fold-append}
-use Rattle.key_names.specs.Blake2s.{Block, block_bytes, compressed, inner_block, inner_blocks, inner_count, key_len, message, start_words}
+use Rattle.key_names.specs.Kernel.Blake2s.{Block, block_bytes, compressed, inner_block, inner_blocks, inner_count, key_len, message, start_words}
 use Rattle.key_names.proofs.Lists.Chunks.{get_or-first_chunks}
 use Rattle.blake2s_core.specs.Hash.{Hash, IsAfter, Stands}
 
@@ -16,7 +16,7 @@ pub block_bytes_whole : (bytes : List ℕ) (i : ℕ) → 64 * i + 64 ≤ length 
 block_bytes_whole bytes i fits =
     take-append-le 64 (drop (64 * i) bytes) (replicate 64 0) (omega (arith, length-drop (64 * i) bytes))
 
--- such a block stays when the message grows
+-- a block that lies wholly within the message stays when the message grows
 pub block_bytes-append : (bytes more : List ℕ) (i : ℕ) → 64 * i + 64 ≤ length bytes
     → block_bytes (bytes ++ more) i ≡ block_bytes bytes i
 block_bytes-append bytes more i fits =
@@ -25,7 +25,7 @@ block_bytes-append bytes more i fits =
     ∙ take-append-le 64 (drop (64 * i) bytes) more (omega (arith, length-drop (64 * i) bytes))
     ∙ sym (block_bytes_whole bytes i fits)
 
--- the first n blocks stay too
+-- the first n blocks stay when the message grows
 pub inner_blocks-append : (bytes more : List ℕ) (n : ℕ) → 64 * n ≤ length bytes
     → inner_blocks (bytes ++ more) n ≡ inner_blocks bytes n
 inner_blocks-append bytes more n fits =
@@ -44,7 +44,7 @@ IsAfter-append words count start bytes more n fits after = record {
   counted = after.counted;
 }
 
--- one block more
+-- after one more block, the words and the count are those after n + 1 blocks
 pub IsAfter_more : (words : List ℕ) (count : ℕ) (start bytes block : List ℕ) (n : ℕ)
     → IsAfter words count start bytes n → block ≡ block_bytes bytes n
     → IsAfter (compressed words (record { bytes = block; count = (count + 64) % 2 ^ 64; is_last = false }))
@@ -63,7 +63,7 @@ pub record IsTail (bytes : List ℕ) (n : ℕ) (tail : List ℕ) : Type 0 where
   pub dropped : drop (64 * n) bytes ≡ tail
   pub counted : length bytes ≡ 64 * n + length tail
 
--- the bytes after k more blocks
+-- without its first k blocks, the tail after n blocks is the tail after n + k blocks
 IsTail-drop : (bytes tail : List ℕ) (n k : ℕ) → IsTail bytes n tail → drop (64 * k) tail ≡ drop (64 * (n + k)) bytes
 IsTail-drop bytes tail n k is_tail =
     let place : 64 * n + 64 * k ≡ 64 * (n + k) = omega arith in
@@ -91,14 +91,14 @@ module _ (hash : Hash) (key : Option (List ℕ)) (text : List ℕ) (stands : Sta
   length-rest : length hash.rest ≡ length (message key text) - 64 * inner_count (message key text)
   length-rest = ap length stands.last ∙ length-drop (64 * inner_count (message key text)) (message key text)
 
-  -- the kept bytes, with bytes that follow the text
+  -- the kept bytes, and the bytes that follow the text, are the rest of the longer message
   rest-append : (more : List ℕ)
       → hash.rest ++ more ≡ drop (64 * inner_count (message key text)) (message key text ++ more)
   rest-append more =
       let m = message key text in
       ap (λ (r : List ℕ). r ++ more) stands.last ∙ sym (drop-append-le (64 * inner_count m) m more (omega arith))
 
-  -- bytes that still fit into the last block
+  -- if more bytes still fit into the last block, they are kept after the others
   pub Stands_short : (more rest : List ℕ) → length hash.rest + length more ≤ 64 → rest ≡ hash.rest ++ more
       → Stands (record hash { rest = rest }) key (text ++ more)
   Stands_short more rest fits grown =
@@ -111,7 +111,7 @@ module _ (hash : Hash) (key : Option (List ℕ)) (text : List ℕ) (stands : Sta
         last = rw (message-append key text more, same) (grown ∙ rest-append more);
       }
 
-  -- the blocks so far are also blocks of the longer message
+  -- the words after the blocks hashed so far are also those of the longer message
   pub Stands-IsAfter : (more : List ℕ)
       → IsAfter hash.words hash.count (start_words (key_len key)) (message key (text ++ more))
       (inner_count (message key text))
@@ -140,7 +140,7 @@ module _ (hash : Hash) (key : Option (List ℕ)) (text : List ℕ) (stands : Sta
         rw message_cut
         (rest-append head ∙ sym all ∙ sym (block_bytes_whole front n fits) ∙ sym (block_bytes-append front tail n fits))
 
-    -- the tail comes after it
+    -- the tail comes after the filled block
     pub tail_of_message : IsTail (message key (text ++ more)) (inner_count (message key text) + 1) tail
     tail_of_message =
         let front = message key text ++ head in

@@ -5,18 +5,18 @@ use Rattle.std.proofs.lemmas.List.{get_or-drop, drop_all, append-nil}
 use Rattle.std.proofs.lemmas.List.FromFn.{fill_by_all}
 use borrow.Rule.Slice.PartMut.{put_mid, post_of}
 use Rattle.byteorder.specs.Endian.{IsRead, little_number}
-use Rattle.key_names.specs.Blake2s.{u32_at}
+use Rattle.key_names.specs.Kernel.Blake2s.{u32_at}
 
--- a list by its places
+-- a list has the elements at its places
 pub by_places : (v : List ℕ) (n : ℕ) → length v ≡ n → v ≡ map (slice_index v) (range_with_len 0 n)
 by_places v n len = fill_by_all (slice_index v) v n 0 len (λ k below. refl)
 
--- a number of four bytes, in both spellings
+-- two ways to read a word of four bytes give the same number
 little_number-u32_at : (bytes : List ℕ) (k : ℕ) → little_number 4 (drop (4 * k) bytes) ≡ u32_at bytes k
 unfolding u32_at
 little_number-u32_at bytes k = simp (get_or-drop, add-zero) (omega arith)
 
--- words that are read from bytes
+-- words that were read from bytes are the bytes' words, one after another
 pub read_words : (bytes words : List ℕ) (n : ℕ) → length words ≡ n → IsRead little_number 4 bytes words
     → words ≡ map (u32_at bytes) (range_with_len 0 n)
 read_words bytes words n len read =

@@ -1,15 +1,15 @@
 -- The state of a hash of a key and a text before the last block is hashed.
 use Rattle.std.specs.Prelude.{◌≡◌, ℕ, ◌*◌, ◌%◌, ◌^◌, Option, List, drop}
 use Rattle.std.specs.List.{fold}
-use Rattle.key_names.specs.Blake2s.{compressed, inner_blocks, inner_count, key_len, message, start_words}
+use Rattle.key_names.specs.Kernel.Blake2s.{compressed, inner_blocks, inner_count, key_len, message, start_words}
 
--- the hash words, the bytes that are in no block so far, and the number of bytes in the blocks so far
+-- the hash words, the bytes that are in no hashed block yet, and the number of bytes in the hashed blocks
 pub record Hash : Type 0 where
   pub words : List ℕ
   pub rest : List ℕ
   pub count : ℕ
 
--- the hash words and the count after the first n blocks of a message, each with more bytes after it
+-- the hash words and the count after the first n blocks of a message; more bytes follow each of these blocks
 pub record IsAfter (words : List ℕ) (count : ℕ) (start bytes : List ℕ) (n : ℕ) : Type 0 where
   pub hashed : words ≡ fold compressed start (inner_blocks bytes n)
   pub counted : count ≡ 64 * n % 2 ^ 64

@@ -1,7 +1,7 @@
 // The compression function F (RFC 7693, section 3.2).
 
 ghost use Rattle.std.specs.Prelude.{◌≡◌, ℕ, length};
-ghost use Rattle.key_names.specs.Blake2s.{Block, compressed, folded, message_words, mixed, round, rounds, start_vector};
+ghost use Rattle.key_names.specs.Kernel.Blake2s.{Block, compressed, folded, message_words, mixed, round, rounds, start_vector};
 
 use byteorder::{ByteOrder, LittleEndian};
 

@@ -1,7 +1,7 @@
 // The hash over a text in pieces (RFC 7693, section 3.3).
 
 ghost use Rattle.std.specs.Prelude.{◌≡◌, ℕ, ◌+◌, ◌%◌, ◌^◌, ◌<◌, ◌≤◌, ◌++◌, true, Option, Some, None, List, [], length, take, get_or, MatchOption};
-ghost use Rattle.key_names.specs.Blake2s.{blake2s, block_bytes, compressed, start_words};
+ghost use Rattle.key_names.specs.Kernel.Blake2s.{blake2s, block_bytes, compressed, start_words};
 ghost use Rattle.blake2s_core.specs.Hash.{Hash, IsAfter, Stands};
 
 use crate::compress::{IV, compress};

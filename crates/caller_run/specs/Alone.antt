@@ -1,10 +1,10 @@
--- The run of the only caller of a script, line by line. No line is kept.
-use Rattle.std.specs.Prelude.{◌≡◌, ℕ, ◌+◌, ◌*◌, ◌≤◌, ◌^◌, Bool, true, false, ⊤, Some, List, [], ◌∷◌, length, take, slice_get, sum_by, vec_len}
+-- The run of the only caller of a script, event by event. No line is kept.
+use Rattle.std.specs.Prelude.{◌≡◌, ℕ, ◌+◌, ◌*◌, ◌≤◌, ◌^◌, ⊤, Some, List, [], ◌∷◌, ◌++◌, length, take, slice_get, sum_by, vec_len}
 use Rattle.std.specs.List.{AllByRecursion}
 use Rattle.key_names.specs.declared.events.Event.{Event}
 use Rattle.key_names.specs.declared.events.Event.TheVariants.{Vread, Inside, Fork}
 use Rattle.key_names.specs.declared.names.Step.{Step}
-use Rattle.key_names.specs.SeenLine.{SeenLine}
+use Rattle.key_names.specs.Transcripts.SeenLine.{SeenLine}
 use Rattle.key_names.specs.Texts.ScriptGrammar.{Script, WellFormed}
 use Rattle.key_names.specs.Texts.TranscriptGrammar.{StepFits}
 use Rattle.lane_table.specs.declared.lanes.Lanes.{Lanes}
@@ -62,8 +62,8 @@ pub record GoesAlone (t : Lanes) (served : ℕ) (begun : Start) (events rest : L
 abbrev pub first_start : Pass → Start
 first_start p = record { caller = 0; set = setting_of (first_setting 0); view = view p }
 
--- a run of the script's only caller that goes on
-pub record IsGoing (script : Script) (run : LoneRun) (lines : List SeenLine) : Type 0 where
+-- the script's only caller has made these lines, and goes on with the rest of its events
+pub record IsGoing (script : Script) (rest : List Event) (run : LoneRun) (lines : List SeenLine) : Type 0 where
   pub well : WellFormed script
   pub cpus : run.lanes.cpus ≡ script.cpus
   pub alone : length script.callers ≡ 1
@@ -74,19 +74,25 @@ pub record IsGoing (script : Script) (run : LoneRun) (lines : List SeenLine) : T
   pub pass : Pass
   pub first : IsFirst (view pass)
   pub whole : (view pass).share ≡ 2 ^ (view pass).halvings
-  pub goes : GoesAlone run.lanes (vec_len run.served) (first_start pass) events run.rest.now run.caller lines
+  pub goes : GoesAlone run.lanes (vec_len run.served) (first_start pass) events rest run.caller lines
+
+-- the caller has made these events, whatever comes after them: the run goes on for each script of one caller that begins
+-- with them
+abbrev pub HasMade : ℕ → List Event → LoneRun → List SeenLine → Type 0
+HasMade cpus made run lines =
+    (script : Script) (rest : List Event) → WellFormed script → IsToldByOne script → script.cpus ≡ cpus
+    → script.callers ≡ (made ++ rest) ∷ [] → IsGoing script rest run lines
+
+-- before its first event the run goes on for each script of one caller, if no line shows more bytes than the longest
+abbrev pub HasRoom : ℕ → ℕ → LoneRun → Type 0
+HasRoom cpus longest run =
+    (script : Script) (events : List Event) → WellFormed script → script.cpus ≡ cpus → length script.callers ≡ 1
+    → slice_get script.callers 0 ≡ Some events → AllByRecursion IsToldOnce events
+    → AllByRecursion (λ event. most_shown event ≤ longest) events → IsGoing script events run []
 
 -- the lines are a lawful transcript of the script
 abbrev pub IsLawful : Script → List SeenLine → Type 0
 IsLawful script lines = (w : View) × LawfulRuns script (lines ∷ []) w
-
-abbrev pub Stands : Bool → Script → LoneRun → List SeenLine → Type 0
-Stands true script run lines = IsLawful script lines
-Stands false script run lines = IsGoing script run lines
-
--- these are the run's lines so far; once the run is over, they are a lawful transcript
-abbrev pub HasTold : Script → LoneRun → List SeenLine → Type 0
-HasTold script run lines = Stands run.is_over script run lines
 
 -- the line that was made last
 abbrev pub last_line : LoneRun → SeenLine
@@ -104,11 +110,3 @@ pub record HasLine (run : LoneRun) : Type 0 where
   pub steps_fit : AllByRecursion StepFits run.trace
   pub shows : ShowsFit run.told.word run.told.said.shows
   pub within : run.told.shown ≤ vec_len run.served
-
--- how many lines are still to be made
-abbrev pub lines_left : LoneRun → ℕ
-lines_left run = left_of run.is_over
-  where
-    left_of : Bool → ℕ
-    left_of true = 0
-    left_of false = length run.rest.now + 1

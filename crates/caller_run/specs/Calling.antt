@@ -6,14 +6,14 @@ use Rattle.key_names.specs.declared.entries.BaseEntry.TheVariants.{End}
 use Rattle.key_names.specs.declared.events.Answer.{Answer}
 use Rattle.key_names.specs.declared.events.Word.TheVariants.{Vread as VreadWord}
 use Rattle.key_names.specs.declared.names.Step.{Step}
-use Rattle.key_names.specs.Calls.{Setting as CallSetting, vread_call}
-use Rattle.key_names.specs.Forms.{BaseOnly}
-use Rattle.key_names.specs.Meaning.{CallerState, with_state}
+use Rattle.key_names.specs.Callers.Calls.{Setting as CallSetting, vread_call}
+use Rattle.key_names.specs.Callers.Forms.{BaseOnly}
+use Rattle.key_names.specs.Callers.Meaning.{CallerState, with_state}
 use Rattle.key_names.specs.Texts.ScriptGrammar.{event_word}
-use Rattle.key_names.specs.SeenLine.{Shown}
+use Rattle.key_names.specs.Transcripts.SeenLine.{Shown}
 use Rattle.key_names.specs.Texts.TranscriptGrammar.{StepFits}
-use Rattle.key_names.specs.VgetrandomState.{VgetrandomState}
-use Rattle.key_names.specs.VreadSteps.{published_by}
+use Rattle.key_names.specs.Kernel.VgetrandomState.{VgetrandomState}
+use Rattle.key_names.specs.Callers.VreadSteps.{published_by}
 use Rattle.lane_table.specs.declared.lanes.Lanes.{Lanes}
 use Rattle.lane_table.specs.Calls.{view}
 use Rattle.lane_table.specs.Hands.{HoldsLanes, model}
@@ -46,7 +46,7 @@ pub record Seen (found : ℕ) (s : CallerState) : Type 0 where
   pub current : s.current < 16
   pub published : AllByRecursion (λ st. st.generation ≤ published_by found) s.states
 
--- the same of a caller, with the generation that its pass has seen
+-- `Seen` holds for the caller's states, with the generation that its pass has seen
 abbrev pub StatesStand : Caller → Type 0
 StatesStand c = Seen (floor (view c.pass)) (stand c)
 

@@ -1,22 +1,22 @@
 -- The effects of one call of a caller's script, and of several calls one after another.
 use Rattle.std.specs.Prelude.{◌≡◌, ℕ, List, [], ◌∷◌, ◌++◌, map}
 use Rattle.std.specs.List.{AllByRecursion}
-use Rattle.key_names.specs.Book.{Lists}
-use Rattle.key_names.specs.Calls.{Call, alone, vread_call, unbound, ending}
-use Rattle.key_names.specs.Deeds.{deeds_of}
-use Rattle.key_names.specs.FastPool.{FastPool}
+use Rattle.key_names.specs.Lanes.Book.{Lists}
+use Rattle.key_names.specs.Callers.Calls.{Call, alone, vread_call, unbound, ending}
+use Rattle.key_names.specs.Callers.Deeds.{deeds_of}
+use Rattle.key_names.specs.Kernel.FastPool.{FastPool}
 use Rattle.caller_run.specs.Items.{call_items, calls_items}
-use Rattle.key_names.specs.IsTranscript.{EachOfCall, EachLine, CallsMean}
-use Rattle.key_names.specs.Meaning.{CallerState, CallMeaning, Means}
-use Rattle.key_names.specs.SeenLine.{SeenLine}
-use Rattle.key_names.specs.StatesReplayed.{caller_end}
+use Rattle.key_names.specs.Transcripts.IsTranscript.{EachOfCall, EachLine, CallsMean}
+use Rattle.key_names.specs.Callers.Meaning.{CallerState, CallMeaning, Means}
+use Rattle.key_names.specs.Transcripts.SeenLine.{SeenLine}
+use Rattle.key_names.specs.Transcripts.StatesReplayed.{caller_end}
 use Rattle.lane_table.specs.declared.view.Visit.{Visit}
 use Rattle.lane_table.specs.declared.view.View.{View}
 use Rattle.lane_table.specs.BookLists.{StateLists, book_lists}
 use Rattle.lane_table.specs.BookLaws.{Continues}
 use Rattle.caller_run.specs.NumberedSteps.{NumberedStep, items_of}
 use Rattle.caller_run.specs.Ran.{RanBy}
-use Rattle.key_names.specs.LineSamples.{SamplesStand}
+use Rattle.key_names.specs.Callers.LineSamples.{SamplesStand}
 use Rattle.rng_core.specs.SampleDeeds.{fast_in}
 
 -- the lines of a call in the order of the script: those of the acts inside it, and then its own
@@ -40,8 +40,8 @@ pub record CallMeant (lists : Lists) (s : CallerState) (call : Call) (t : Caller
 abbrev pub CallSamples : (ℕ → ℕ → FastPool) → Lists → Call → Type 0
 CallSamples fast lists call = AllByRecursion (λ line. SamplesStand fast (deeds_of lists line.steps)) (lines_in_order call)
 
--- from v to w, and from s to t, the caller made this call. Its meaning holds in all final lists that begin with what
--- the pass has seen
+-- from v to w, and from s to t, the caller made this call. Its meaning holds in all final lists that continue those
+-- that the pass has seen
 pub record CallDoneBy (caller splits : ℕ) (v w : View) (s t : CallerState) (call : Call) : Type 0 where
   pub numbered_steps : List NumberedStep
   pub ran : RanBy caller splits v w numbered_steps
@@ -51,11 +51,11 @@ pub record CallDoneBy (caller splits : ℕ) (v w : View) (s t : CallerState) (ca
   pub samples : (lanes : ℕ) (visits : ℕ → List Visit) (callers : StateLists) → Continues lanes w visits →
       CallSamples (fast_in visits) (book_lists lanes visits callers) call
 
--- the same of a call that forks no caller
+-- from v to w, and from s to t, the caller made this call, which forks no caller
 abbrev pub CallDone : ℕ → View → View → CallerState → CallerState → Call → Type 0
 CallDone caller v w s t call = CallDoneBy caller 0 v w s t call
 
--- the same of several calls
+-- meanings of several calls that lead from one state of the caller to another, and agree with the calls' lines
 pub record CallsMeant (lists : Lists) (s : CallerState) (calls : List Call) (t : CallerState) : Type 0 where
   pub meanings : List CallMeaning
   pub means : CallsMean s calls meanings

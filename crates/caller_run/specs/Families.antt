@@ -11,7 +11,7 @@ use Rattle.lane_table.specs.WorldRule.{AllBegin, Begins, at, known_of}
 use Rattle.caller_run.specs.Laws.{Run, HasRun, IsOneOf, marked}
 use Rattle.caller_run.specs.Standing.{Start}
 
--- these lists of visits begin with all that a pass has seen, and with all that the passes that it took in had seen
+-- each lane's visits begin with those that the pass has seen, and with those of each pass that it took in
 pub record Hears (visits : ℕ → List Visit) (v : View) : Type 0 where
   pub known : (lane : ℕ) → lane < length v.lanes → Begins (known_of v lane) (visits lane)
   pub heard : (lane : ℕ) → lane < length v.lanes → AllBegin (at lane v).heard (visits lane)
@@ -44,7 +44,7 @@ pub record Joined (v w : View) (runs : List Run) : Type 0 where
   pub made : (lane : LaneId) → index_of lane < length v.lanes →
       (at (index_of lane) w).made ≡ (at (index_of lane) v).made + sum_by (marked_by (λ p. 1) lane) runs
 
--- the same share of the table, counted across splits
+-- both views have the same share of the table, however often it was halved
 abbrev pub SameShare : View → View → Type 0
 SameShare v w = w.share * 2 ^ v.halvings ≡ v.share * 2 ^ w.halvings
 

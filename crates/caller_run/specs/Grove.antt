@@ -1,6 +1,6 @@
 -- The rooms of callers as data: the sheet of each caller, followed by those of its children and then by the next.
 use Rattle.std.specs.Prelude.{ℕ, List, [], ◌∷◌, ◌++◌}
-use Rattle.key_names.specs.SeenLine.{SeenLine}
+use Rattle.key_names.specs.Transcripts.SeenLine.{SeenLine}
 use Rattle.caller_run.specs.declared.rooms.Sheet.{Sheet}
 use Rattle.caller_run.specs.Forest.{Forest, no_more, more}
 
@@ -18,7 +18,7 @@ pub record Plot : Type 0 where
 abbrev pub plant : Plot → Grove → Grove
 plant p f = planted p.caller p.sheet p.kids f
 
--- each of these rooms in turn, in front of those so far
+-- each room of a list in turn, put in front of the others
 abbrev pub seeded : Grove → List Plot → Grove
 seeded f [] = f
 seeded f (p ∷ ps) = seeded (plant p f) ps
@@ -37,6 +37,6 @@ abbrev pub told_in : Grove → List (ℕ × List SeenLine)
 told_in cleared = []
 told_in (planted c s ks rest) = (c, s.log.lines.lines) ∷ (told_in ks ++ told_in rest)
 
--- the same of one room
+-- the lines of the callers of one room, each with its number
 abbrev pub told_by : Plot → List (ℕ × List SeenLine)
 told_by p = (p.caller, p.sheet.log.lines.lines) ∷ told_in p.kids

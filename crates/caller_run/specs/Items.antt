@@ -6,10 +6,10 @@ use Rattle.std.specs.List.{flat_map}
 use Rattle.key_names.specs.declared.names.Step.{Step}
 use Rattle.key_names.specs.declared.point.Point.{Point}
 use Rattle.key_names.specs.declared.point.Point.TheVariants.{Start, Written, Serve, End}
-use Rattle.key_names.specs.Calls.{Call, alone, vread_call, unbound, ending, BoundAct}
-use Rattle.key_names.specs.History.{is_mark}
-use Rattle.key_names.specs.Points.{is_same_point}
-use Rattle.key_names.specs.SeenLine.{SeenLine}
+use Rattle.key_names.specs.Callers.Calls.{Call, alone, vread_call, unbound, ending, BoundAct}
+use Rattle.key_names.specs.Callers.History.{is_mark}
+use Rattle.key_names.specs.Kernel.Points.{is_same_point}
+use Rattle.key_names.specs.Transcripts.SeenLine.{SeenLine}
 
 -- a step, with the number of its event and its own number among the steps of that event's line
 pub record Item : Type 0 where

@@ -45,7 +45,7 @@ IsInteger Int32 = ⊤
 IsInteger Int64 = ⊤
 IsInteger _ = ⊥
 
--- each is one call of the core
+-- the event is no vread, no fork and no act, so it makes at most one call of the core
 abbrev pub IsCall : Event → Type 0
 IsCall (Vread len flags) = ⊥
 IsCall (Fork child) = ⊥

@@ -4,11 +4,11 @@ use Rattle.std.specs.Prelude.{◌≡◌, ◌⊎◌, ℕ, ◌+◌, ◌<◌, ◌�
 use Rattle.std.specs.List.{AllByRecursion, sum_by}
 use Rattle.key_names.specs.declared.events.Event.{Event}
 use Rattle.key_names.specs.declared.names.LaneId.{LaneId}
-use Rattle.key_names.specs.Calls.{first_setting}
+use Rattle.key_names.specs.Callers.Calls.{first_setting}
 use Rattle.key_names.specs.Texts.ScriptGrammar.{Script, WellFormed}
-use Rattle.key_names.specs.SeenLine.{SeenLine}
-use Rattle.key_names.specs.Meaning.{CallMeaning}
-use Rattle.key_names.specs.IsTranscript.{EachCaller, all_marks, lane_marks, state_lists, IsTranscriptBy}
+use Rattle.key_names.specs.Transcripts.SeenLine.{SeenLine}
+use Rattle.key_names.specs.Callers.Meaning.{CallMeaning}
+use Rattle.key_names.specs.Transcripts.IsTranscript.{EachCaller, all_marks, lane_marks, state_lists, IsTranscriptBy}
 use Rattle.lane_table.specs.declared.view.View.{View}
 use Rattle.lane_table.specs.LaneNumbers.{index_of}
 use Rattle.lane_table.specs.Meaning.{replay}
@@ -36,7 +36,7 @@ abbrev pub IsOneOf : {X : Type 0} → X → List X → Type 0
 IsOneOf x [] = ⊥
 IsOneOf x (y ∷ ys) = (y ≡ x) ⊎ IsOneOf x ys
 
--- caller 0 started with the first setting, and each other caller at a fork of one of the runs
+-- caller 0 started with the first setting, and each other caller started at a fork of one of the runs
 pub record Began (runs : List Run) (r : Run) : Type 0 where
   pub how : ((r.begun.caller ≡ 0) × (r.begun.set ≡ first_setting))
       ⊎ ((p : Run) × IsOneOf p runs × IsOneOf r.begun p.kids)

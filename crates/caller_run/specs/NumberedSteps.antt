@@ -9,7 +9,7 @@ pub record NumberedStep : Type 0 where
   pub number : ℕ
   pub made_step : MadeStep
 
--- those of one event; n is the number of the first
+-- the looks and visits of one event; n is the number of the first
 abbrev pub numbered_steps_from : ℕ → ℕ → List MadeStep → List NumberedStep
 numbered_steps_from event n [] = []
 numbered_steps_from event n (made_step ∷ made_steps) =
@@ -21,7 +21,7 @@ made_step_of d = d.made_step
 abbrev pub made_steps_of : List NumberedStep → List MadeStep
 made_steps_of numbered_steps = map made_step_of numbered_steps
 
--- the same in the form of a caller's order
+-- a look or a visit in the form of a caller's order
 abbrev pub item_of : NumberedStep → Item
 item_of d = record { event = d.event; number = d.number; step = step_of d.made_step }
 

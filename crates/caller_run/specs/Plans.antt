@@ -2,9 +2,9 @@
 use Rattle.std.specs.Prelude.{◌≡◌, ℕ, ◌<◌, List, [], ◌∷◌, length, map, slice_set}
 use Rattle.std.specs.List.{AllByRecursion}
 use Rattle.key_names.specs.declared.events.Event.{Event}
-use Rattle.key_names.specs.Book.{list_at}
+use Rattle.key_names.specs.Lanes.Book.{list_at}
 use Rattle.key_names.specs.Texts.ScriptGrammar.{Script}
-use Rattle.key_names.specs.SeenLine.{SeenLine}
+use Rattle.key_names.specs.Transcripts.SeenLine.{SeenLine}
 use Rattle.transcript_text.specs.Gathered.{Gathered}
 use Rattle.caller_run.specs.declared.plans.Plan.{Plan}
 use Rattle.caller_run.specs.Forest.{forks}
@@ -19,7 +19,7 @@ pub record IsNewRoom (callers : List (List Event)) (c : ℕ) (a : Plot) : Type 0
   pub new : IsNewSheet a.sheet (list_at callers a.caller)
   pub ready : ArePrepared callers a.kids (forks (list_at callers a.caller))
 
--- the same, with a slot for each caller
+-- new sheets of all callers, and a slot for each
 pub record IsPlanned (script : Script) (a : Plot) (slots : List Gathered) : Type 0 where
   pub root : IsNewRoom script.callers 0 a
   pub slots' : length slots ≡ length script.callers
@@ -37,6 +37,6 @@ abbrev pub put_in : List (List SeenLine) → List (ℕ × List SeenLine) → Lis
 put_in t [] = t
 put_in t (x ∷ xs) = put_in (slice_set t x.0 x.1) xs
 
--- each of these has a slot
+-- each of these callers has a slot
 abbrev pub HaveSlots : ℕ → List (ℕ × List SeenLine) → Type 0
 HaveSlots n told = AllByRecursion (λ x. x.0 < n) told

@@ -8,7 +8,7 @@ use Rattle.caller_run.specs.Grove.{Plot, grove_of}
 abbrev pub plot_by : ℕ → Sheet → List Plot → Plot
 plot_by c sheet kids = record { caller = c; sheet = sheet; kids = grove_of kids }
 
--- the same of a room with its children in this form
+-- a room as data, if its children are data already
 abbrev pub plot_step : Room-F Plot → Plot
 plot_step a = plot_by a.caller a.sheet a.kids.items
 

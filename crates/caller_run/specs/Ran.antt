@@ -35,6 +35,6 @@ pub record RanBy (caller splits : ℕ) (v w : View) (numbered_steps : List Numbe
   pub sees : Sees w (floor v) (made_steps_of numbered_steps) (floor w)
   pub stood : AllByRecursion (Stood w caller) numbered_steps
 
--- the same, without a fork
+-- from v to w the pass of this caller made exactly these steps, and was not split
 abbrev pub Ran : ℕ → View → View → List NumberedStep → Type 0
 Ran caller v w numbered_steps = RanBy caller 0 v w numbered_steps

@@ -6,7 +6,7 @@ use Rattle.key_names.specs.declared.events.Word.{Word}
 use Rattle.key_names.specs.declared.events.Word.TheVariants.{Bits}
 use Rattle.key_names.specs.declared.names.Step.{Step}
 use Rattle.key_names.specs.Texts.ScriptGrammar.{bytes_read}
-use Rattle.key_names.specs.SeenLine.{Shown, no_data, count, bytes_or_none, SeenLine}
+use Rattle.key_names.specs.Transcripts.SeenLine.{Shown, no_data, count, bytes_or_none, SeenLine}
 use Rattle.rng_core.specs.declared.setting.Setting.{Setting}
 use Rattle.caller_run.specs.declared.reply.Shows.{Shows}
 use Rattle.caller_run.specs.declared.reply.Shows.TheVariants.{Nothing, Served, Count}

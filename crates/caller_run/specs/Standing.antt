@@ -4,12 +4,12 @@ use Rattle.std.specs.List.{AllByRecursion, fold}
 use Rattle.key_names.specs.declared.events.Event.{Event}
 use Rattle.key_names.specs.declared.events.Event.TheVariants.{Inside, Fork}
 use Rattle.key_names.specs.declared.events.Word.TheVariants.{Inside as InsideWord}
-use Rattle.key_names.specs.Calls.{Call, alone, Setting as CallSetting, setting_after_call, has_vread, calls_of}
-use Rattle.key_names.specs.History.{calls_steps, through_visit}
-use Rattle.key_names.specs.IsTranscript.{LineIs, LinesFit}
-use Rattle.key_names.specs.Meaning.{CallerState, caller_start}
+use Rattle.key_names.specs.Callers.Calls.{Call, alone, Setting as CallSetting, setting_after_call, has_vread, calls_of}
+use Rattle.key_names.specs.Callers.History.{calls_steps, through_visit}
+use Rattle.key_names.specs.Transcripts.IsTranscript.{LineIs, LinesFit}
+use Rattle.key_names.specs.Callers.Meaning.{CallerState, caller_start}
 use Rattle.key_names.specs.Texts.ScriptGrammar.{InRange, FewActs}
-use Rattle.key_names.specs.SeenLine.{SeenLine}
+use Rattle.key_names.specs.Transcripts.SeenLine.{SeenLine}
 use Rattle.lane_table.specs.declared.lanes.Lanes.{Lanes}
 use Rattle.lane_table.specs.declared.view.View.{View}
 use Rattle.lane_table.specs.Calls.{view}
@@ -72,14 +72,14 @@ pub record Start : Type 0 where
   pub set : CallSetting
   pub view : View
 
--- a caller that began so, and has the view w now, forked this child by one of these calls
+-- a caller that began as `begun`, and has the view w now, forked this child by one of these calls
 pub record Forked (begun : Start) (w : View) (calls : List Call) (child : Start) : Type 0 where
   pub before : List Call
   pub line : SeenLine
   pub after : List Call
   pub calls_are : calls ≡ before ++ alone (Fork child.caller) line ∷ after
   pub above : begun.caller < child.caller
-  -- the steps of its pass up to and including the visit of the fork, and its view after them
+  -- the steps of the caller's pass up to the fork's visit, which is included, and its view after them
   pub splits : ℕ
   pub middle : View
   pub numbered_steps : List NumberedStep
@@ -106,12 +106,12 @@ pub record HasAdvanced (begun : Start) (events rest : List Event) (c : Caller) (
       → LinesFit begun.caller 0 events (lines ++ more)
   pub idle : AllByRecursion (HasLine begun.caller lines) asks
 
--- the same, with the lines and the acts of a log
+-- as `HasAdvanced`, with the lines and the acts of a log
 abbrev pub HasLogged : Start → List Event → List Event → Caller → Log → List Start → Type 0
 HasLogged begun events rest c log kids = HasAdvanced begun events rest c log.lines.lines (waiting_in log) kids
 
--- c made this event and is d now, and its log grew. `served` bytes can be served at once, and `inside` bytes read
--- inside a vread
+-- c made this event and is d now, and its log grew. `served` bytes can be served at once, and `inside` bytes can be
+-- read inside a vread
 pub record MadeEvent (t : Lanes) (served inside : ℕ) (event : Event) (c : Caller) (log : Log) (d : Caller) (after : Log)
     : Type 0 where
   pub can : (rest : List Event) → CanAdvance t c log served inside (event ∷ rest) → CanAdvance t d after served inside rest

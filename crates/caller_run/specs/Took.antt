@@ -4,9 +4,9 @@ use Rattle.key_names.specs.declared.events.Event.TheVariants.{Fork}
 use Rattle.key_names.specs.declared.names.Mark.{Mark}
 use Rattle.key_names.specs.declared.names.Step.{Step}
 use Rattle.key_names.specs.declared.names.Step.TheVariants.{Visit as Marked}
-use Rattle.key_names.specs.Calls as calls
-use Rattle.key_names.specs.Deeds.{deeds_of}
-use Rattle.key_names.specs.Forms.{Form}
+use Rattle.key_names.specs.Callers.Calls as calls
+use Rattle.key_names.specs.Callers.Deeds.{deeds_of}
+use Rattle.key_names.specs.Callers.Forms.{Form}
 use Rattle.lane_table.specs.declared.view.Visit.{Visit}
 use Rattle.lane_table.specs.declared.view.View.{View}
 use Rattle.lane_table.specs.BookLists.{StateLists, book_lists}

@@ -3,8 +3,8 @@ use Rattle.std.specs.Prelude.{◌≡◌, ◌<◌, false, ⊤, List, [], ◌∷�
 use Rattle.std.specs.List.{AllByRecursion}
 use Rattle.key_names.specs.declared.events.Event.{Event}
 use Rattle.key_names.specs.declared.events.Event.TheVariants.{Vread, Inside}
-use Rattle.key_names.specs.Calls.{Call, BoundAct, has_vread, calls_from, calls_of}
-use Rattle.key_names.specs.SeenLine.{SeenLine}
+use Rattle.key_names.specs.Callers.Calls.{Call, BoundAct, has_vread, calls_from, calls_of}
+use Rattle.key_names.specs.Transcripts.SeenLine.{SeenLine}
 use Rattle.rng_core.specs.Acts.{Ask, ActOutcome}
 use Rattle.rng_core.specs.InsideMakes.{act_line}
 use Rattle.rng_core.specs.declared.setting.Setting.{Setting}

@@ -6,10 +6,10 @@ use Rattle.key_names.specs.declared.events.Event.{Event}
 use Rattle.key_names.specs.declared.events.Event.TheVariants.{Fork}
 use Rattle.key_names.specs.declared.names.Step.{Step}
 use Rattle.key_names.specs.declared.entries.BaseEntry.TheVariants.{Stall, Unstall}
-use Rattle.key_names.specs.Book.{list_at}
-use Rattle.key_names.specs.Forms.{BaseOnly}
+use Rattle.key_names.specs.Lanes.Book.{list_at}
+use Rattle.key_names.specs.Callers.Forms.{BaseOnly}
 use Rattle.key_names.specs.Texts.ScriptGrammar.{Script, WellFormed, IsForkAbove}
-use Rattle.key_names.specs.SeenLine.{SeenLine}
+use Rattle.key_names.specs.Transcripts.SeenLine.{SeenLine}
 use Rattle.key_names.specs.Texts.TranscriptGrammar.{StepFits}
 use Rattle.lane_table.specs.declared.lanes.Lanes.{Lanes}
 use Rattle.lane_table.specs.declared.lanes.Pass.{Pass}
@@ -174,7 +174,7 @@ pub record Returned (t : Lanes) (script : Script) (begun : Start) (a : Plot) (q 
   pub caller : b.caller ≡ a.caller
   pub shape : tree b.kids ≡ tree a.kids
 
--- a caller that began so went from the view v to its end, and is y after its joins
+-- a caller that began as `begun` went from the view v to its end, and is y after its joins
 pub record WentFrom (script : Script) (begun : Start) (events : List Event) (kids : List Start) (v : View) (y : Way)
     : Type 0 where
   pub own : y.caller.set.caller ≡ begun.caller
@@ -199,7 +199,7 @@ pub record WentOn (t : Lanes) (script : Script) (rest : List Event) (x y : Way) 
   pub goes : (begun : Start) (events : List Event) (kids : List Start) → AreAbove begun.caller rest →
       GoneIn begun events rest x.caller x kids → WentFrom script begun events kids (view x.caller.pass) y
 
--- the same from a fork on; u is the view after its first visit
+-- as `WentFrom`, from a fork on; u is the view after the fork's visit
 pub record Past (script : Script) (begun : Start) (events : List Event) (kids : List Start) (u : View) (kid : Start)
     (y : Way) : Type 0 where
   pub behind : View

@@ -9,7 +9,7 @@ ghost use Rattle.caller_run.specs.Kinds.{ForksNobody, IsCall};
 ghost use Rattle.caller_run.specs.Standing.{Start, CanAdvance, HasLogged, MadeEvent, RunEnded};
 ghost use Rattle.caller_run.specs.Ways.{AtFork};
 
-use crate::logs::{Log, most_shown};
+use crate::logs::Log;
 use crate::reply::Reply;
 use crate::shared::Shared;
 use crate::states::States;
@@ -28,7 +28,7 @@ pub(crate) struct Caller {
 }
 
 impl Caller {
-    // An event that is one call of the core.
+    // Makes an event that is one call of the core.
     fn make<R: Wait>(
         &mut self,
         rt: &R,
@@ -43,15 +43,14 @@ impl Caller {
             → MadeEvent lanes.now (length served.old) inside event.now self.old log.old self.new log.new }
     {
         let trace = &mut *log.trace;
-        trace.clear();
-        let served = &mut served[..most_shown(event) as usize];
-        let said = self.call(rt, lanes, trace, served, event);
-        self.tell(&mut log.lines, event.word(), said, trace, served);
+        let told = self.call_once(rt, lanes, trace, served, event);
+        let shown = &served[..told.shown];
+        self.tell(&mut log.lines, told.word, told.said, trace, shown);
         self.go_on(event);
     }
 
-    /// One event that forks no caller. Its call serves at the front of `served`, and the acts inside a `vread` read to
-    /// the front of `inside`.
+    /// Makes one event that forks no caller. Its call serves at the front of `served`, and the acts inside a `vread`
+    /// read to the front of `inside`.
     pub(crate) fn step<R: Wait, G>(
         &mut self,
         shared: &Shared<'_, R, G>,
@@ -73,7 +72,7 @@ impl Caller {
         }
     }
 
-    /// The visit of a fork, and the child's pass.
+    /// Makes the visit of a fork, and returns the child's pass.
     pub(crate) fn fork<R: Wait>(
         &mut self,
         rt: &R,
@@ -97,7 +96,7 @@ impl Caller {
         fork(rt, &mut site, child)
     }
 
-    // The caller's last visit.
+    // Makes the caller's last visit.
     pub(crate) fn leave<R: Wait>(&mut self, rt: &R, lanes: &Lanes, trace: &mut Trace)
         requires has { HoldsLanes lanes.now self.old.set.caller [] self.old.pass }
         requires new { trace.old ≡ [] }
@@ -112,7 +111,7 @@ impl Caller {
         end(rt, &mut site);
     }
 
-    /// The caller's last visit, and its line.
+    /// Makes the caller's last visit, and its line.
     pub(crate) fn finish<R: Wait>(&mut self, rt: &R, lanes: &Lanes, log: &mut Log)
         requires can { (served : ℕ) × (inside : ℕ) × CanAdvance lanes.now self.old log.old served inside [] }
         ensures has { HoldsLanes lanes.now self.new.set.caller [] self.new.pass }

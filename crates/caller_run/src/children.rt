@@ -12,7 +12,8 @@ use std::thread::{Promise, PromisedHandle, Scope, SpawnError};
 /// How many bytes of stack a caller needs for its own events.
 const OWN_STACK: usize = 128 * 1024;
 
-/// How many more bytes it needs for each caller that it forks, since forks nest, and for each that runs in its thread.
+/// How many more bytes a caller needs for each caller that it forks, since forks nest, and for each that runs in its
+/// thread.
 const FORK_STACK: usize = 16 * 1024;
 
 /// The bytes of stack for the thread of this caller: enough for it and for all callers of higher numbers, since it can

@@ -5,7 +5,7 @@
 //! after its own last visit. All memory of a run is taken first, as a [`Plan`]. Only threads come later; their stacks
 //! have the size that their callers' forks need.
 //!
-//! The only caller of a script can also be run line by line ([`LoneRun`]); then no line is kept.
+//! The only caller of a script can also be handed its events one by one ([`LoneRun`]); then no line is kept.
 //!
 //! However the callers' calls interleave, the lines are a lawful transcript of the script, with the book of the lanes'
 //! lists ([`laws`]). This is promised of each run that ends. It is not promised that a run ends, nor that two callers
@@ -32,6 +32,7 @@ mod run;
 mod settings;
 mod shared;
 mod states;
+mod told;
 mod vreads;
 mod ways;
 

@@ -41,7 +41,7 @@ impl Caller {
         }
     }
 
-    /// One more line, of the caller's current event.
+    /// Adds a line for the caller's current event.
     pub(crate) fn tell(
         &self,
         lines: &mut CallerLines,

@@ -21,7 +21,8 @@ const MOST_ACTS: usize = 8;
 pub(crate) struct Log {
     pub(crate) lines: CallerLines,
     pub(crate) acts: Vec<Bound>,
-    // One for all events, since a new one is cleared byte by byte. In a box, since a log is moved with each fork.
+    // All events share one trace, since a new one is cleared byte by byte. It is in a box, since a log is moved with
+    // each fork.
     pub(crate) trace: Box<Trace>,
 }
 

@@ -33,7 +33,7 @@ pub fn run_on_new_table<R: Threads + Wait + Sync, G: Gate>(
     run_new(rt, alloc, script, gate, Children::InThreads)
 }
 
-/// The bytes that a thread's start takes apart from its stack, and those by which its stack may be rounded up.
+/// The bytes that a thread's start takes apart from the thread's stack, and those by which the stack may be rounded up.
 const THREAD_BYTES: usize = 256 * 1024;
 
 // Fails if there is no memory for the first caller's stack (tested). A stack that cannot grow ends the program by a
@@ -44,7 +44,7 @@ fn need_stack(alloc: Global, script: &Script) -> Result<(), AllocError> {
     Ok(())
 }
 
-/// The same; `children` is where the children run.
+/// Does the work of [`run_on_new_table`]; `children` is where the children run.
 ///
 /// # Errors
 ///

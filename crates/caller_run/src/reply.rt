@@ -1,8 +1,8 @@
 //! The reply of a call: the answer and the data of its line.
 ghost use Rattle.std.specs.Prelude.{◌≡◌, ◌≤◌, ℕ, List, length, if◌then◌else◌};
 ghost use Rattle.key_names.specs.declared.events.Answer.TheVariants.{Unused};
-ghost use Rattle.key_names.specs.SeenLine.{bytes_or_none, no_data};
-ghost use Rattle.key_names.specs.VreadSteps.{answer_of_errno};
+ghost use Rattle.key_names.specs.Transcripts.SeenLine.{bytes_or_none, no_data};
+ghost use Rattle.key_names.specs.Callers.VreadSteps.{answer_of_errno};
 ghost use Rattle.rng_core.specs.Makes.{result_answer, tick_result, given};
 ghost use Rattle.caller_run.specs.Says.{shown_by, IsNoCount};
 
@@ -36,7 +36,7 @@ fn answer_of(errno: Errno) -> Answer
 }
 
 impl Reply {
-    /// An answer without data.
+    /// A reply with an answer and no data.
     pub(crate) fn only(answer: Answer) -> Reply
         ensures { result ≡ record { answer = answer; shows = Shows.Nothing } }
     {
@@ -46,7 +46,23 @@ impl Reply {
         }
     }
 
-    /// The call was done, and its line shows this.
+    /// The reply after a call that returns nothing.
+    #[inline(always)]
+    pub(crate) fn after(_called: ()) -> Reply
+        ensures { result ≡ record { answer = Answer.Ok; shows = Shows.Nothing } }
+    {
+        Reply::only(Answer::Ok)
+    }
+
+    /// The reply after a call that fills its buffer.
+    #[inline(always)]
+    pub(crate) fn served(_called: ()) -> Reply
+        ensures { result ≡ record { answer = Answer.Ok; shows = Shows.Served } }
+    {
+        Reply::done(Shows::Served)
+    }
+
+    /// The reply of a call that was done, with the data of its line.
     pub(crate) fn done(shows: Shows) -> Reply
         ensures { result ≡ record { answer = Answer.Ok; shows = shows } }
     {
@@ -56,7 +72,7 @@ impl Reply {
         }
     }
 
-    /// A call that may fail, and has no data.
+    /// The reply of a call that may fail and has no data.
     pub(crate) fn tried(ended: Result<(), Errno>) -> Reply
         ensures { result ≡ record { answer = result_answer ended; shows = Shows.Nothing } }
     {
@@ -66,7 +82,7 @@ impl Reply {
         }
     }
 
-    /// A read that may fail.
+    /// The reply of a read that may fail.
     pub(crate) fn read(ended: Result<(), Errno>) -> Reply
         ensures answer { result.answer ≡ result_answer ended }
         ensures shows { (served : List ℕ) → shown_by served result.shows ≡ bytes_or_none (given ended served) }
@@ -78,7 +94,7 @@ impl Reply {
         }
     }
 
-    /// An act inside a vread. It is not done if the call does not come to its point.
+    /// The reply of an act inside a vread. The act is not done if the call does not come to its point.
     pub(crate) fn of_act(done: bool, ended: Result<(), Errno>) -> Reply
         ensures answer { result.answer ≡ (if done then result_answer ended else Unused) }
         ensures shows { (served : List ℕ) → shown_by served result.shows
@@ -104,7 +120,7 @@ impl Reply {
         }
     }
 
-    /// A tick of the reseed timer, which fired or did not.
+    /// The reply of a tick of the reseed timer, which fired or did not.
     pub(crate) fn ticked(fired: bool) -> Reply
         ensures { result ≡ record { answer = tick_result fired; shows = Shows.Nothing } }
     {

@@ -167,9 +167,9 @@ fn run_from<R: Threads + Wait + Sync, G: Gate>(
     way
 }
 
-// Runs a script's first caller, and all that it forks, in a further thread. Its stack has the size that they need,
-// whatever the stack of the program's first thread is, and is taken before any of them starts. If no thread can be
-// made, they run here.
+// Runs a script's first caller, and all that it forks, in a further thread. The stack of that thread has the size that
+// the callers need, whatever the stack of the program's first thread is. It is taken before any caller starts. If no
+// thread can be made, the callers run here.
 fn run_first<R: Threads + Wait + Sync, G: Gate>(
     shared: &Shared<'_, R, G>,
     pass: Pass,
@@ -254,7 +254,7 @@ pub fn run_all<R: Threads + Wait + Sync, G: Gate>(
     run_plan(&shared, pass, plan)
 }
 
-/// The same, over the callers' shared values.
+/// Does the work of `run_all` over the callers' shared values.
 pub(crate) fn run_plan<R: Threads + Wait + Sync, G: Gate>(
     shared: &Shared<'_, R, G>,
     pass: Pass,

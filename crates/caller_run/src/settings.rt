@@ -1,7 +1,7 @@
 //! A caller's setting, and the number of its event.
 ghost use Rattle.std.specs.Prelude.{◌≡◌, ◌<◌, ◌^◌, ◌+◌, ◌-◌};
-ghost use Rattle.key_names.specs.Calls.{setting_after};
-ghost use Rattle.key_names.specs.Meaning.{caller_after};
+ghost use Rattle.key_names.specs.Callers.Calls.{setting_after};
+ghost use Rattle.key_names.specs.Callers.Meaning.{caller_after};
 ghost use Rattle.rng_core.specs.Makes.{setting_of};
 ghost use Rattle.caller_run.specs.Calling.{stand};
 
@@ -25,7 +25,7 @@ fn set_by(set: &mut Setting, event: &Event)
 }
 
 impl Caller {
-    /// The caller goes on after an event.
+    /// Moves the caller on after an event.
     pub(crate) fn go_on(&mut self, event: &Event)
         requires number { self.old.set.event < 2 ^ 32 - 1 }
         requires current { self.old.states.value.current < 16 }

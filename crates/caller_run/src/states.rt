@@ -1,8 +1,8 @@
 //! The vgetrandom states of a caller.
 ghost use Rattle.std.specs.Prelude.{◌≡◌, ◌<◌, IfOk, replicate, slice_set};
-ghost use Rattle.key_names.specs.Calls.{Setting, setting_after};
-ghost use Rattle.key_names.specs.Meaning.{caller_after};
-ghost use Rattle.key_names.specs.VgetrandomState.{wiped_state};
+ghost use Rattle.key_names.specs.Callers.Calls.{Setting, setting_after};
+ghost use Rattle.key_names.specs.Callers.Meaning.{caller_after};
+ghost use Rattle.key_names.specs.Kernel.VgetrandomState.{wiped_state};
 ghost use Rattle.caller_run.specs.Calling.{caller_at};
 
 use key_names::Event;
@@ -28,7 +28,7 @@ impl States {
         }
     }
 
-    /// The same, on the heap.
+    /// Sixteen wiped states on the heap.
     ///
     /// # Errors
     ///

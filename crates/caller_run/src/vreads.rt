@@ -35,7 +35,7 @@ fn flags_of(event: &Event) -> u32
 }
 
 impl Caller {
-    /// A read out of the current state, of as many bytes as `served` has, without acts inside.
+    /// Reads as many bytes as `served` has out of the current state, without acts inside.
     pub(crate) fn vread_alone<'x, R: Wait>(
         &mut self,
         rt: &'x R,
@@ -62,7 +62,7 @@ impl Caller {
         Reply::read(vread(&mut host, state, served, flags))
     }
 
-    // A read out of the current state, of as many bytes as `into` has, with these acts inside.
+    // Reads as many bytes as `into` has out of the current state, with these acts inside.
     fn vread<'x, R: Wait>(
         &mut self,
         rt: &'x R,
@@ -90,7 +90,7 @@ impl Caller {
         Reply::read(vread_inside(&mut host, st, into.served, into.flags))
     }
 
-    /// A read out of the current state, with the acts inside that waited for it. Their lines are replaced.
+    /// Reads out of the current state, with the acts inside that waited for the read. Their lines are replaced.
     pub(crate) fn read_state<R: Wait, G>(
         &mut self,
         shared: &Shared<'_, R, G>,

@@ -5,7 +5,7 @@ ghost use Rattle.key_names.specs.declared.events.Event.{Event};
 ghost use Rattle.key_names.specs.declared.events.Event.TheVariants.{Fork};
 ghost use Rattle.key_names.specs.Texts.ScriptGrammar.{Script};
 ghost use Rattle.key_names.specs.Texts.TranscriptGrammar.{StepFits};
-ghost use Rattle.key_names.specs.VgetrandomState.{wiped_state};
+ghost use Rattle.key_names.specs.Kernel.VgetrandomState.{wiped_state};
 ghost use Rattle.lane_table.specs.declared.lanes.Lanes.{Lanes};
 ghost use Rattle.lane_table.specs.declared.view.View.{View};
 ghost use Rattle.lane_table.specs.Calls.{view};
@@ -37,7 +37,7 @@ pub(crate) struct Way {
 }
 
 impl Way {
-    /// A caller at its start. It wipes these states.
+    /// A caller at its start. It wipes the states that it gets.
     pub(crate) fn starting(
         pass: Pass,
         set: Setting,
@@ -86,7 +86,7 @@ impl Way {
         None
     }
 
-    /// The visit of a fork, and then the pass and the room of the child.
+    /// Makes the visit of a fork, and returns the child's pass and room.
     pub(crate) fn begin_fork<R: Wait>(
         &mut self,
         rt: &R,
@@ -112,7 +112,7 @@ impl Way {
         (theirs, kid)
     }
 
-    /// The line of a fork.
+    /// Makes the line of a fork.
     pub(crate) fn tell_fork(&mut self, trace: &Trace, child: u32)
         requires can { (t : Lanes) × (rest : List Event) × CanAdvanceIn t self.old (Fork child ∷ rest) }
         requires fits { AllByRecursion StepFits trace.now }

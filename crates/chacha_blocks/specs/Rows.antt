@@ -21,7 +21,7 @@ turned x = map (slice_index x) (
     ∷ 10 ∷ 11 ∷ 8 ∷ 9
     ∷ 15 ∷ 12 ∷ 13 ∷ 14 ∷ [])
 
--- row i of such a state turned back to the right by i words
+-- row i of a turned state turned back to the right by i words
 abbrev pub turned_back : List ℕ → List ℕ
 turned_back x = map (slice_index x) (
     0 ∷ 1 ∷ 2 ∷ 3

@@ -5,7 +5,7 @@ ghost use Rattle.rand_chacha.specs.Block.{add32, xor_rotate, column_round, diago
 ghost use Rattle.std.specs.Simd.Lanes.{zip2};
 ghost use Rattle.rand_chacha.specs.ChaCha.{key_of};
 ghost use Rattle.rand_core.specs.Steps.{u32_at};
-ghost use Rattle.key_names.specs.Keystream.{keystream};
+ghost use Rattle.key_names.specs.Kernel.Keystream.{keystream};
 ghost use Rattle.chacha_blocks.specs.Rows.{state_of, turned, turned_back};
 
 use byteorder::{ByteOrder, LittleEndian};

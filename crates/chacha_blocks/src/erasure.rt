@@ -2,7 +2,7 @@
 //! `crng_fast_key_erasure`.
 
 ghost use Rattle.std.specs.Prelude.{◌≡◌, ◌+◌, ◌*◌, ◌/◌, ◌^◌, ◌<◌, ◌≤◌, length};
-ghost use Rattle.key_names.specs.Keystream.{keystream};
+ghost use Rattle.key_names.specs.Kernel.Keystream.{keystream};
 
 use crate::block::{BLOCK_BYTES, block, two_blocks};
 use crate::stream::fill_from_block;

@@ -1,7 +1,7 @@
 //! A place in a key's stream, from which bytes are read.
 
 ghost use Rattle.std.specs.Prelude.{◌≡◌, ◌+◌, ◌*◌, ◌/◌, ◌^◌, ◌<◌, length};
-ghost use Rattle.key_names.specs.Keystream.{keystream};
+ghost use Rattle.key_names.specs.Kernel.Keystream.{keystream};
 
 use rand_chacha::ChaCha20Rng;
 use rand_core::SeedableRng;

@@ -1,8 +1,8 @@
 //! A user's read from a key, which it erases.
 
 ghost use Rattle.std.specs.Prelude.{◌≡◌, ◌+◌, ◌^◌, ◌<◌, length};
-ghost use Rattle.key_names.specs.Keystream.{keystream};
-ghost use Rattle.key_names.specs.KeyInUse.{taken_bytes};
+ghost use Rattle.key_names.specs.Kernel.Keystream.{keystream};
+ghost use Rattle.key_names.specs.Keys.KeyInUse.{taken_bytes};
 ghost use Rattle.key_names.specs.declared.entries.Taken.TheVariants.{User};
 
 use crate::erasure::{REST_OF_BLOCK, derive_key, erase};

@@ -1,7 +1,7 @@
 //! Bytes of a key's stream from any position.
 
 ghost use Rattle.std.specs.Prelude.{◌≡◌, ◌+◌, ◌*◌, ◌%◌, ◌^◌, ◌<◌, ◌≤◌, length};
-ghost use Rattle.key_names.specs.Keystream.{keystream};
+ghost use Rattle.key_names.specs.Kernel.Keystream.{keystream};
 
 use crate::block::{BLOCK_BYTES, block, two_blocks};
 use crate::reader::Reader;

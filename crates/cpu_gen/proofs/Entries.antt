@@ -2,17 +2,17 @@
 use Rattle.std.proofs.Common.{◌≡◌, ℕ, true, false, Option, Some, None, List, refl, ap}
 use Rattle.key_names.specs.declared.entries.CpuEntry.{CpuEntry}
 use Rattle.key_names.specs.declared.entries.CpuEntry.TheVariants.{Read, Int, Irq, Dump, Prepare, Online}
-use Rattle.key_names.specs.BaseList.{generation_at}
-use Rattle.key_names.specs.CpuList.{CpuState, base_refill_of, cpu_step, generation_or}
-use Rattle.key_names.specs.KeyInUse.{base_call_value, call_value_or, cpu_value_step}
-use Rattle.key_names.specs.Book.{Lists}
+use Rattle.key_names.specs.Lanes.BaseList.{generation_at}
+use Rattle.key_names.specs.Lanes.CpuList.{CpuState, base_refill_of, cpu_step, generation_or}
+use Rattle.key_names.specs.Keys.KeyInUse.{base_call_value, call_value_or, cpu_value_step}
+use Rattle.key_names.specs.Lanes.Book.{Lists}
 use Rattle.cpu_gen.specs.CpuValue.{CpuValue, erased, refilled, after_entry, cpu_at}
 
 -- the key and the generation that the base hands over at a place
 abbrev pub handed_at : Lists → ℕ → CpuValue
 handed_at lists b = record { key = base_call_value lists b; generation = generation_at lists.base b }
 
--- the generator that is handed to an entry is the one that the base hands over in the refill that the entry names
+-- an entry gets the generator that the base hands over in the refill that the entry names
 abbrev pub HandsRefill : Lists → CpuEntry → CpuValue → Type 0
 HandsRefill lists e handed = (place : ℕ) → base_refill_of e ≡ Some place → handed ≡ handed_at lists place
 
@@ -25,7 +25,7 @@ pub refilled-handed_at : (lists : Lists) (refill : Option ℕ) (handed : CpuValu
 refilled-handed_at lists None handed g value is = refl
 refilled-handed_at lists (Some place) handed g value is = is place refl
 
--- one entry in a state of the list
+-- an entry changes the generator of a list's state as it changes that state
 pub after_entry-cpu_at : (lists : Lists) (c : ℕ) (s : CpuState) (value : List ℕ) (e : CpuEntry) (handed : CpuValue) →
     HandsRefill lists e handed → after_entry e handed (cpu_at s value) ≡ cpu_at (cpu_step lists.base c s e)
     (cpu_value_step lists value e)

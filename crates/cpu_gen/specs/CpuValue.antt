@@ -2,10 +2,10 @@
 use Rattle.std.specs.Prelude.{ℕ, true, false, Option, Some, None, List}
 use Rattle.key_names.specs.declared.entries.CpuEntry.{CpuEntry}
 use Rattle.key_names.specs.declared.entries.CpuEntry.TheVariants.{Read, Int, Irq, Dump, Prepare, Online}
-use Rattle.key_names.specs.Keystream.{keystream}
-use Rattle.key_names.specs.CpuList.{CpuState, cpu_after}
-use Rattle.key_names.specs.KeyInUse.{zero_key, cpu_value_after}
-use Rattle.key_names.specs.Book.{Lists}
+use Rattle.key_names.specs.Kernel.Keystream.{keystream}
+use Rattle.key_names.specs.Lanes.CpuList.{CpuState, cpu_after}
+use Rattle.key_names.specs.Keys.KeyInUse.{zero_key, cpu_value_after}
+use Rattle.key_names.specs.Lanes.Book.{Lists}
 
 pub record CpuValue : Type 0 where
   -- the 32 bytes of the key
@@ -40,7 +40,7 @@ after_entry (Dump now) handed c = c
 after_entry Prepare handed c = prepared c
 after_entry Online handed c = c
 
--- the generator of a CPU whose list is in this state, with this value of its key
+-- the generator of a CPU after a list that leaves this state, with this value of its key
 abbrev pub cpu_at : CpuState → List ℕ → CpuValue
 cpu_at s value = record { key = value; generation = s.generation }
 

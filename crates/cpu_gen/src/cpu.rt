@@ -2,8 +2,8 @@
 
 ghost use Rattle.std.specs.Prelude.{◌≡◌, ◌≢◌, ◌+◌, ◌^◌, ◌<◌, ◌≤◌, length, MatchBool};
 ghost use Rattle.key_names.specs.declared.entries.Taken.TheVariants.{Kernel};
-ghost use Rattle.key_names.specs.Keystream.{keystream};
-ghost use Rattle.key_names.specs.KeyInUse.{taken_bytes};
+ghost use Rattle.key_names.specs.Kernel.Keystream.{keystream};
+ghost use Rattle.key_names.specs.Keys.KeyInUse.{taken_bytes};
 ghost use Rattle.cpu_gen.specs.CpuValue.{start, erased, prepared};
 
 use chacha_blocks::{Detached, derive_key, erase, erase_and_fill};
@@ -48,8 +48,8 @@ impl Cpu {
         self.generation
     }
 
-    /// Whether the key is not of generation `g`, so that a read at `g` has to refill first. It is for callers of this
-    /// crate alone: the core compares [`Cpu::generation`], which its entries record.
+    /// Whether the key is not of generation `g`, so that a read at `g` has to refill first. It is for callers that use
+    /// this crate without the lanes: the core compares [`Cpu::generation`], which its entries record.
     pub fn needs(&self, g: u64) -> bool
         ensures { MatchBool result (self.now.generation ≢ g) (self.now.generation ≡ g) }
     {
@@ -71,8 +71,8 @@ impl Cpu {
         derive_key(&mut self.key)
     }
 
-    /// Erases the key (`crng_fast_key_erasure`). Writes the first bytes that the rest of its block has, at most 32, to
-    /// `out`, and returns the old key from block 1 on.
+    /// Erases the key (`crng_fast_key_erasure`). Fills `out`, at most 32 bytes, from the rest of the erased block, and
+    /// returns the old key from block 1 on.
     pub fn front(&mut self, out: &mut [u8]) -> Detached
         requires { length out.old ≤ 32 }
         ensures state { self.new ≡ erased self.old }

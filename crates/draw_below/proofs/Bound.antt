@@ -1,4 +1,4 @@
--- The remainder of 2^32 by a bound, from the bound's negative among 32-bit numbers.
+-- A bound's negative among 32-bit numbers has the remainder of 2^32 by the bound.
 use Rattle.std.proofs.Common.{◌≡◌, ◌<◌, ◌+◌, ◌*◌, ◌/◌, ◌%◌, ℕ, arith, ap, sym, ◌∙◌, lit<}
 use Rattle.std.proofs.Math.Nat.{add-mod_right, div-lt_iff_lt-mul, mul-lt-mul_of_pos_left}
 

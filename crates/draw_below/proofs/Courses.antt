@@ -6,10 +6,10 @@ use Rattle.std.proofs.lemmas.List.FromFn.{length-range_with_len}
 use Rattle.key_names.specs.declared.events.Event.TheVariants.{Add, Int32}
 use Rattle.key_names.specs.declared.events.Answer.TheVariants.{Ok as Done}
 use Rattle.key_names.specs.declared.names.Step.{Step}
-use Rattle.key_names.specs.Book.{LawfulLanes}
-use Rattle.key_names.specs.Deeds.{deeds_of}
-use Rattle.key_names.specs.IsTranscript.{MarkBy, marks_from}
-use Rattle.key_names.specs.SeenLine.{bytes_or_none, no_data}
+use Rattle.key_names.specs.Lanes.Book.{LawfulLanes}
+use Rattle.key_names.specs.Callers.Deeds.{deeds_of}
+use Rattle.key_names.specs.Transcripts.IsTranscript.{MarkBy, marks_from}
+use Rattle.key_names.specs.Transcripts.SeenLine.{bytes_or_none, no_data}
 use Rattle.key_names.proofs.Uses.BookUses.{lawful_is_disjoint}
 use Rattle.lane_table.specs.declared.view.View.{View}
 use Rattle.lane_table.specs.declared.view.Visit.{Visit}

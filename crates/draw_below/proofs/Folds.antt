@@ -55,7 +55,7 @@ no_draw : (c : ℕ) → draws_in c 0 0 [] ≡ Some []
 unfolding draws_in
 no_draw c = refl
 
--- after these answers
+-- these answers, and then the results of other draws
 pub behind : List ℕ → Option (List (Option ℕ)) → Option (List (Option ℕ))
 behind answers draws = option_map (λ more. map Some answers ++ more) draws
 
@@ -111,7 +111,7 @@ one_answered gives c w u v m answers rejected answer more had draw is =
           ∙ ap (λ l. behind l (draws_in c n 0 rest)) (sym is),
     )
 
--- all draws were answered
+-- if all draws were answered, the words that they took give exactly these answers
 pub all_answered : {W : Type 0} (gives : W → ℕ → W → Type 0) (c : ℕ) (w u : W) (m count : ℕ) (answers : List ℕ) →
     m ≡ count → IsAnswered gives c w u m answers →
     (taken : List ℕ) × Takes gives w taken u × (draws_in c count 0 taken ≡ Some (map Some answers ++ []))
@@ -123,7 +123,7 @@ all_answered gives c w u m count answers all had = (
       ∙ ap (λ l. draws_in c (m + 0) 0 l) (sym (append-nil had.0)) ∙ had.3 0 [] ∙ ap (behind answers) (no_draw c),
 )
 
--- the draw after the answers was spent
+-- if the draw after the answers was spent, the words that were taken give the answers and that spent draw
 pub then_spent : {W : Type 0} (gives : W → ℕ → W → Type 0) (c : ℕ) (w u v : W) (m count : ℕ) (answers : List ℕ)
     (rejected : List ℕ) → m < count → IsAnswered gives c w u m answers → Spends gives c u rejected v →
     (taken : List ℕ) × Takes gives w taken v × (draws_in c count 0 taken ≡ Some (map Some answers ++ None ∷ []))

@@ -30,7 +30,7 @@ untouched last (d ∷ ds) xs k above low drawn =
     ∙ get_moved xs last d k (omega arith) (omega (arith, drawn.0))
     ∙ ap (λ m. get_or xs m 0) (moved_other last d k (omega arith) (omega (arith, drawn.0)))
 
--- its own draw determines the last place
+-- the first draw decides which item comes to the last place
 last_item : (last d : ℕ) (ds xs : List ℕ) → 0 < last → last < length xs → AreDraws last (d ∷ ds) →
     get_or (exchanged last (d ∷ ds) xs) last 0 ≡ get_or xs d 0
 last_item last d ds xs some low drawn =
@@ -67,7 +67,7 @@ Covers xs ys = (k : ℕ) → k < length ys → (p : ℕ) × (p < length xs) × (
 abbrev AgreeBehind : ℕ → List ℕ → List ℕ → Type 0
 AgreeBehind last xs ys = (k : ℕ) → last < k → k < length xs → get_or xs k 0 ≡ get_or ys k 0
 
--- the place in xs of an item of ys, if the lists agree above the item's own place
+-- if the lists agree above a place, the item of ys at the place is in xs, at that place or below it
 place_of : (last : ℕ) (xs ys : List ℕ) → last < length xs → length xs ≡ length ys → AreDifferent ys → Covers xs ys →
     AgreeBehind last xs ys → (p : ℕ) × (p ≤ last) × (get_or xs p 0 ≡ get_or ys last 0)
 place_of last xs ys low n apart covers agree =
@@ -124,7 +124,7 @@ some_draws (suc last) xs ys low n apart covers agree =
       subst (λ z. exchanged z rest.0 swapped ≡ ys) before rest.3,
     )
 
--- the draws for an order of a list that is not empty
+-- each order of a list that is not empty has a list of draws
 ends : (xs ys : List ℕ) → 0 < length xs → AreDifferent xs → IsPermutation xs ys →
     (ds : List ℕ) × Makes xs ds ys
 ends xs ys some apart order =

@@ -36,8 +36,8 @@ none_rejected : (rs : List ℕ) → AllByRecursion (IsRejected 2) rs → rs ≡ 
 none_rejected [] all = refl
 none_rejected (r ∷ rs) all = absurd (true≢false (sym (leb-zero (2 * r % 4294967296)) ∙ all.0))
 
--- the invariant of a shuffle: the draws so far, one fewer than the number of the next, and the words that the last
--- of them rejected
+-- the invariant of a shuffle: the draws so far are one fewer than `done`, and `rejected` has the words that the last
+-- one rejected
 abbrev pub IsSoFar : {W : Type 0} → (W → ℕ → W → Type 0) → List ℕ → W → List ℕ → W → List ℕ → ℕ → Type 0
 IsSoFar gives before w now u rejected done =
     (ds : List ℕ) × (length ds + 1 ≡ done) × (length ds ≤ length before - 1) × Shuffles gives before w ds now u

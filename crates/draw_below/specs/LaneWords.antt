@@ -4,7 +4,7 @@ use Rattle.std.specs.Int.{from_le_bytes, w32}
 use Rattle.key_names.specs.declared.names.Step.{Step}
 use Rattle.key_names.specs.declared.events.Event.TheVariants.{Int32}
 use Rattle.key_names.specs.declared.events.Answer.TheVariants.{Ok as Done}
-use Rattle.key_names.specs.SeenLine.{bytes_or_none}
+use Rattle.key_names.specs.Transcripts.SeenLine.{bytes_or_none}
 use Rattle.lane_table.specs.declared.view.View.{View}
 use Rattle.lane_table.specs.Calls.{view}
 use Rattle.rng_core.specs.declared.setting.Setting.{Setting}

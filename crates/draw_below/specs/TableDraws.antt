@@ -5,11 +5,11 @@ use Rattle.std.specs.Int.{from_le_bytes, w32}
 use Rattle.key_names.specs.declared.names.Step.{Step}
 use Rattle.key_names.specs.declared.events.Event.TheVariants.{Add, Int32}
 use Rattle.key_names.specs.declared.events.Answer.TheVariants.{Ok as Done}
-use Rattle.key_names.specs.Book.{Book, Lists, LawfulLanes, lists_of}
-use Rattle.key_names.specs.Deeds.{deeds_of}
-use Rattle.key_names.specs.IsTranscript.{MarkBy, VisitsAre, marks_from}
-use Rattle.key_names.specs.SeenLine.{bytes_or_none, no_data}
-use Rattle.key_names.specs.Uses.{IsDisjoint}
+use Rattle.key_names.specs.Lanes.Book.{Book, Lists, LawfulLanes, lists_of}
+use Rattle.key_names.specs.Callers.Deeds.{deeds_of}
+use Rattle.key_names.specs.Transcripts.IsTranscript.{MarkBy, VisitsAre, marks_from}
+use Rattle.key_names.specs.Transcripts.SeenLine.{bytes_or_none, no_data}
+use Rattle.key_names.specs.Keys.Uses.{IsDisjoint}
 use Rattle.lane_table.specs.Advances.{Climbs}
 use Rattle.rng_core.specs.Makes.{IsOutcomeOf, setting_of}
 use Rattle.rng_core.specs.Settings.{first_setting}
@@ -42,7 +42,7 @@ pub record IsWordCall (lists : Lists) (word : ℕ) (steps : List Step) : Type 0 
   pub fulfils : IsOutcomeOf (setting_of (first_setting 0)) Int32 Done (bytes_or_none bytes) (deeds_of lists steps)
   pub word_is : word ≡ from_le_bytes w32 bytes
 
--- each word is that of its call
+-- each word is the one that its call read
 abbrev pub AreWordCalls : Lists → List ℕ → List (List Step) → Type 0
 AreWordCalls lists [] [] = Unit {0}
 AreWordCalls lists [] (steps ∷ calls) = ⊥
@@ -69,7 +69,7 @@ pub record AreTableWords (words : List ℕ) : Type 0 where
   pub last : ℕ
   pub in_order : Climbs 0 (map (λ by. by.mark.stamp) (marks_of (added ∷ reads))) last
 
--- the draws are the results of n draws below c from such words, which they use up
+-- the draws are the results of n draws below c from words of a table, and no word is left over
 pub record AreTableDraws (c n : ℕ) (draws : List (Option ℕ)) : Type 0 where
   pub words : List ℕ
   pub table : AreTableWords words

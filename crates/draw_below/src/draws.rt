@@ -25,7 +25,7 @@ fn is_accepted(c: u32, low: u32) -> bool
 /// likely as any other if each word is. For `c` 0 the result is the next word itself.
 ///
 /// A word times `c` has 64 bits. The high half is the result. The word is accepted if and only if the low half is at
-/// least 2^32 mod `c`. `rejected` then holds the words that were taken before the accepted one.
+/// least 2^32 mod `c`. After success `rejected` holds the words that were taken before the accepted one.
 ///
 /// # Errors
 ///

@@ -52,7 +52,7 @@ pub fn draw_each<W: Words, R: Wait>(rt: &R, words: &mut W, c: u32, count: u32) -
     }
 }
 
-// The same from the words that a pass reads.
+// Does the work of `draw_each` with the words that a pass reads.
 fn draw_from<R: Wait>(rt: &R, words: &mut LaneWords<'_>, c: u32, count: u32) -> Drawn
     requires { count ≤ 1000 }
     ensures source { SameSource words.old words.new }
@@ -82,9 +82,9 @@ fn draw_by_pass<R: Wait>(
     draw_from(rt, &mut words, c, count)
 }
 
-/// Makes a core with one CPU ready by a first sample, 32 bytes that count up from 0 with a credit of 256 bits. Then
-/// it draws `count` numbers below `c`, at most 1,000, from the integers of 4 bytes that caller 0 reads; for `c` 0
-/// these themselves are the numbers. It stops at a spent draw. All calls have CPU 0, the moment 0 and hardware words
+/// Makes a core with one CPU ready by a first sample, 32 bytes that count up from 0 with a credit of 256 bits. Then it
+/// draws `count` numbers below `c`, at most 1,000, from the integers of 4 bytes that caller 0 reads; for `c` 0 the
+/// integers themselves are the numbers. It stops at a spent draw. All calls have CPU 0, the moment 0 and hardware words
 /// 0.
 ///
 /// # Errors

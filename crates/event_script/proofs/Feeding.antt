@@ -2,7 +2,7 @@
 use Rattle.std.proofs.Common.{◌≡◌, ℕ, ◌+◌, ◌<◌, ◌≤◌, true, false, ltb, length, arith, ◌==◌, List, [], ◌∷◌, ◌++◌, append_assoc, append-nil, refl, sym, ap, subst, ◌∙◌, inl, inr, Err}
 use Rattle.std.proofs.lemmas.Bool.{cases_lt, le-ltb, lt-ltb}
 use Rattle.std.proofs.lemmas.List.{length-append}
-use Rattle.std.proofs.lemmas.List.Elements.{All-append, All-nil}
+use Rattle.std.proofs.lemmas.List.Elements.{All-append, All-head, All-nil, All-tail}
 use Rattle.key_names.specs.declared.faults.FaultKind.TheVariants.{TooLong}
 use Rattle.key_names.specs.Texts.ScriptFaults.{behind, parts, script_of, script_of_lines}
 use Rattle.key_names.proofs.Script.Parts.{Lacks}
@@ -22,7 +22,7 @@ behind_is_whole lines end b whole cut =
     rest_is_whole lines whole (omega (arith, ap length (cut_joins lines end b cut), length-append end (10 ∷ b))) b
     (sym (ap behind cut))
 
--- the bytes of the first line, and those after it
+-- the rest and the end of a line make a whole line, and the other bytes follow it
 regroup : (rest lines end b more : List ℕ) → lines ≡ end ++ 10 ∷ b
     → rest ++ (lines ++ more) ≡ ((rest ++ end) ++ 10 ∷ []) ++ (b ++ more)
 regroup rest lines end b more is =
@@ -63,6 +63,33 @@ lines_read text lines end b more line r next mid cut is empty first second at =
       );
     }
 
+-- ---- a piece that ends with a line feed
+
+no_items : (xs : List ℕ) → length xs ≡ 0 → xs ≡ []
+no_items [] none = refl
+no_items (x ∷ xs) none = absurd (omega (arith, none))
+
+no_front : (front more : List ℕ) → front ≡ more ++ 10 ∷ [] → Lacks 10 front → ⊥
+no_front [] more is clean = absurd (omega (arith, ap length is, length-append more (10 ∷ [])))
+no_front (b ∷ front) [] is clean =
+    let one : b ≡ 10 = cc in
+    let other = subst (λ x. (x == 10) ≡ false) one (All-head (λ x. (x == 10) ≡ false) b front clean) in
+    absurd cc
+no_front (b ∷ front) (x ∷ more) is clean =
+    no_front front more (let rest : front ≡ more ++ 10 ∷ [] = cc in rest)
+    (All-tail (λ x. (x == 10) ≡ false) b front clean)
+
+-- its last line is whole
+pub ends_line : (lines front more : List ℕ) → lines ++ front ≡ more ++ 10 ∷ [] → Lacks 10 front
+    → (front ≡ []) × (0 < length lines)
+ends_line [] front more is clean = absurd (no_front front more is clean)
+ends_line (b ∷ lines) front [] is clean =
+    let none : lines ++ front ≡ [] = cc in
+    (no_items front (omega (arith, ap length none, length-append lines front)), omega arith)
+ends_line (b ∷ lines) front (x ∷ more) is clean =
+    let rest : lines ++ front ≡ more ++ 10 ∷ [] = cc in
+    ((ends_line lines front more rest clean).0, omega arith)
+
 -- ---- how long the text is
 
 pub not_too_long : (text : List ℕ) (r : Reader) → HasFed text r → r.len ≤ 16777216 → length text ≤ 16777216
@@ -85,7 +112,7 @@ is_over text piece r fed many = elim (cases_lt 16777216 (length text)) [
 
 -- ---- one piece
 
--- there is more text, and none of it is read yet
+-- a piece is added to the text, and the reader has read none of it yet
 piece_begins : (text piece : List ℕ) (r : Reader) → IsBehind text r [] → IsBehind (text ++ piece) r piece
 piece_begins text piece r at = record {
   same = λ later. ap (λ x. script_of_lines (parts 10 x)) (append_assoc text piece later) ∙ at.same (piece ++ later);
@@ -93,7 +120,7 @@ piece_begins text piece r at = record {
   number = omega (arith, at.number, length-append text piece);
 }
 
--- the rest is the start of a line
+-- the reader keeps the start of a line as its rest
 front_kept : (text front : List ℕ) (r next : Reader) → IsBehind text r front → Lacks 10 front → next.stage ≡ r.stage
     → next.rest.items ≡ r.rest.items ++ front → IsBehind text next []
 front_kept text front r next at clean same rest = record {
@@ -115,7 +142,7 @@ same_place text unread r next stage rest at = record {
   number = rw (stage, rest) at.number;
 }
 
--- a piece was read, and the text is not too long
+-- a reader that reads a piece has been fed the longer text, if that text is not too long
 pub piece_read : (text piece lines front : List ℕ) (r begun read next : Reader) → HasFed text r
     → length text + length piece ≤ 16777216 → piece ≡ lines ++ front → Lacks 10 front
     → begun.stage ≡ r.stage → begun.rest.items ≡ r.rest.items
@@ -135,7 +162,7 @@ piece_read text piece lines front r begun read next fed short is clean stage res
           clean same kept;
     }
 
--- nothing more is read of a text that is too long
+-- if a text is too long, HasFed only requires that the reader counted too many bytes
 pub too_long_now : (text piece : List ℕ) (r next : Reader) → HasFed text r → 16777216 < length text + length piece
     → 16777216 < next.len → HasFed (text ++ piece) next
 too_long_now text piece r next fed many long =

@@ -23,7 +23,7 @@ unfolding script_from
 one_step d n [] some = absurd (let e = some.is in cc)
 one_step d n (line ∷ more) some = refl
 
--- the first line is added, and the script goes on with the other lines
+-- script_from adds the first line to the draft, and goes on with the other lines
 pub step_of : (d : Draft) (n : ℕ) (text : List ℕ)
     → script_from d n (parts 10 text)
     ≡ (at_line n (line_of (parts 10 text) >>= behind_line d) >>= by_next
@@ -39,7 +39,7 @@ not_alone n ((b ∷ tail) ∷ []) not = refl
 not_alone n ([] ∷ next ∷ more) not = refl
 not_alone n ((b ∷ tail) ∷ next ∷ more) not = refl
 
--- any text after the end has a fault
+-- any text after the line `end` has a fault
 pub more_behind : (n : ℕ) (text : List ℕ) → 0 < length text → nothing_behind n (parts 10 text) ≡
     at_line n (line_of (parts 10 text) >>= λ line. Err UnknownWord)
 more_behind n text some =

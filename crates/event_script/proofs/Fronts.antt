@@ -8,7 +8,7 @@ use Rattle.std.proofs.lemmas.List.Splits.{join_with_byte-slice_split}
 use Rattle.key_names.specs.Texts.ScriptFaults.{front, front_lines, parts}
 use Rattle.key_names.proofs.Script.Parts.{HasFirst, first_part}
 
--- the text is some bytes and the rest, and its front is the same bytes and the front of the rest
+-- the text is `before` and then left; its front is `before` and then the front of left
 pub record HasFront (text left : List ℕ) : Type 0 where
   pub before : List ℕ
   pub whole : text ≡ before ++ left
@@ -48,7 +48,7 @@ front_end (next ∷ more) line some end = rw end refl
 regroup : (before line rest : List ℕ) → before ++ (line ++ 10 ∷ rest) ≡ (before ++ (line ++ 10 ∷ [])) ++ rest
 regroup before line rest = simp append_assoc
 
--- one more line, which is not `end`
+-- if the first line of left is not `end`, it moves to the bytes before left
 pub goes_past : (text left line rest : List ℕ) → HasFront text left → parts 10 left ≡ line ∷ parts 10 rest
     → bytes_eq line (codes "end") ≡ false → HasFront text rest
 goes_past text left line rest h cut not =

@@ -6,6 +6,8 @@ pub mod FirstOfLines
 pub mod WholeLines
 pub mod Stages
 pub mod Feeding
+pub mod Waiting
+pub mod GoingOn
 pub mod Fronts
 pub mod LoadSteps
 pub mod LoadTexts
@@ -13,3 +15,5 @@ pub mod Loads
 pub mod LoadExamples
 pub mod ShortLines
 pub mod NumberFronts
+pub mod NextLine
+pub mod HeadLines

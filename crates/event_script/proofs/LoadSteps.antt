@@ -21,7 +21,7 @@ one_more_call start callers count caller =
     (map-range_with_len_more (call start caller) 0 count count (omega arith))
     ∙ sym (append_assoc (opening callers caller) (On caller ∷ calls) (call start caller count ∷ []))
 
--- a push gives the events with one more call, if the event is the next call
+-- if the next call is pushed on a caller's events, the result is its events with one more call
 pub pushed_call : (start callers count caller : ℕ) (items new : List Event) (event : Event) →
     new ≡ items ++ event ∷ [] →
     items ≡ load_events start callers count caller → event ≡ call start caller count →

@@ -44,7 +44,7 @@ sum_at_most f most (x ∷ xs) all =
 
 -- ---- one event
 
--- an event that a script with this many CPUs may have, and that adds little to it
+-- a script with this many CPUs may have this event, and the event adds little to it
 pub record Light (cpus : ℕ) (event : Event) : Type 0 where
   pub range : InRange 1 cpus event
   pub acts : (waiting : ℕ) → acts_after waiting event ≤ waiting
@@ -199,7 +199,7 @@ forks_others number from (suc n) others =
     sum_by-cons (λ e. cond (is_fork_of number e) 1 0) (Fork from) (map Fork (range_with_len (from + 1) n))
     ∙ rw (ne_eqb from number (others from (omega arith) (omega arith))) (omega arith)
 
--- and each of them once
+-- forks of consecutive numbers fork each of these numbers once
 forks_among : (number from n : ℕ) → from ≤ number → number < from + n →
     count_by (is_fork_of number) (map Fork (range_with_len from n)) ≡ 1
 forks_among number from zero low high = absurd (omega arith)
@@ -224,7 +224,7 @@ calls_fork_none start caller count = (
   each_from ForksNone (call start caller) 0 count (λ k low high. call_forks_none start caller k),
 )
 
--- the events of a caller fork a number as often as its opening does
+-- a caller forks a number as often as its opening does
 opening_forks : (start callers count caller number : ℕ) →
     count_by (is_fork_of number) (load_events start callers count caller) ≡ count_by (is_fork_of number)
     (opening callers caller)

@@ -45,13 +45,13 @@ module _ (text : List ℕ) (value len : ℕ) (so_far : BeginsDigits text value l
       (omega (arith, length-take len text)) in
       omega (arith, small, so_far.value_is)
 
-  -- a number at the start of the text has all of these digits
+  -- a number at the start of the text is at least len digits long
   digits_within : (n : ℕ) (other : List ℕ) → EndsNumber other → text ≡ decimal n ++ other → len ≤ length (decimal n)
   digits_within n other ends e =
       all_within len (decimal n) other (subst (λ (t : List ℕ). AllDigits 10 (take len t)) e so_far.digits)
       (omega (arith, ap length e, so_far.within)) ends
 
-  -- no number of a `u64` has more than twenty digits
+  -- a `u64` has at most twenty digits, so no digit follows if len is twenty or more
   pub twenty_digits : 20 ≤ len → (n : ℕ) (other : List ℕ) → n < 2 ^ 64 → EndsNumber other → text ≡ decimal n ++ other
       → EndsNumber (drop len text)
   twenty_digits many n other small ends e =

@@ -39,13 +39,13 @@ front_says version cpus event word more text rest few range spelt there =
       rest_is = rw cut refl;
     }
 
--- a function of the statement of a line, once the statement is found
+-- if f makes y of what was found, then f and g in sequence make g y of it
 then_more : {X Y Z : Type 0} (found : Result X FaultKind) (f : X → Result Y FaultKind) (g : Y → Result Z FaultKind) (y : Y)
     → (found >>= f) ≡ Ok y → (found >>= λ x. f x >>= g) ≡ g y
 then_more (Ok x) f g y says = rw says refl
 then_more (Err kind) f g y says = absurd cc
 
--- the first line is an interrupt
+-- if the first line is an interrupt, the draft gains its event
 pub irq_adds : (d : Draft) (v1 v2 : ℕ) (text rest : List ℕ) → d.cpus ≤ 256 → IsShort words.Irq (Two v1 v2)
     → text ≡ word_text words.Irq ++ (behind_word (Two v1 v2) ++ 10 ∷ rest)
     → (behind_first d (parts 10 text) ≡ after d (SaysEvent (Irq v1 v2))) × (parts 10 rest ≡ behind (parts 10 text))

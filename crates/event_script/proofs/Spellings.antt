@@ -39,7 +39,7 @@ no_word : (n : ℕ) (field : List ℕ) → length field ≡ n → AllByRecursion
     → None ≡ word_of field
 no_word n field is none = sym (word_of_length n field is ∙ none_of field (of_length n all_words) none)
 
--- the word of its own length that a field spells is its word
+-- a search among the words of its own length finds the word that a field spells
 pub among : (n : ℕ) (field : List ℕ) (found : Option Word) → length field ≡ n → IsAmong n field found →
     found ≡ word_of field
 among n field None is none = no_word n field is none

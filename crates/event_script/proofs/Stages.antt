@@ -62,7 +62,7 @@ module _ (text : List ℕ) (whole : IsWhole text) (some : 0 < length text) where
       (ap (λ r. r >>= behind_line (draft_as draft)) (line_stays text whole some later) ∙ is)
   line_fails draft number Memory is = tt
 
-  -- any text after the end has a fault
+  -- any text after the line `end` has a fault
   pub end_fails : (number : ℕ) (later : List ℕ) → nothing_behind number (parts 10 (text ++ later))
       ≡ at_line number (line_of (parts 10 text) >>= λ line. Err UnknownWord)
   end_fails number later =

@@ -1,4 +1,4 @@
--- The counts with one more event or block.
+-- How one more event or block changes the counts.
 use Rattle.std.proofs.Common.{◌≡◌, ℕ, ◌+◌, ◌<◌, ◌≤◌, ltb, leb, Bool, true, false, ◌||◌, inl, inr, Option, Some, None, List, [], ◌∷◌, ◌++◌, ◌-◌, drop, replicate, get_or, set, length, refl, sym, ap, ◌∙◌, arith}
 use Rattle.std.specs.List.{list_any}
 use Rattle.std.specs.Prelude.{count_by, fold, sum_by}
@@ -47,7 +47,7 @@ length_marked : (forked : List Bool) (child : Option ℕ) → length (marked for
 length_marked forked None = refl
 length_marked forked (Some child) = length-set forked child true
 
--- the limits, by what is counted
+-- the counts determine whether an event exceeds the limits
 pub limits_are : (d : Draft) (e : Event) (count read acts : ℕ) (forked : List Bool) →
     Tallied (blocks_of d) d.events count read acts forked
     → is_over count (read + bytes_read e) (acts_after acts e) ≡ is_past_limits d e

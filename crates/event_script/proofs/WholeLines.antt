@@ -56,7 +56,7 @@ first_line : (line text : List ℕ) → line_of (line ∷ parts 10 text)
 first_line line text = rw (first_part 10 text).is refl
 
 module _ (text : List ℕ) (whole : IsWhole text) (some : 0 < length text) where
-  -- the first line is the same, whatever follows
+  -- later text does not change the first line
   pub line_stays : (later : List ℕ) → line_of (parts 10 (text ++ later)) ≡ line_of (parts 10 text)
   line_stays later =
       let h = has_line text whole some in
@@ -74,13 +74,13 @@ module _ (text : List ℕ) (whole : IsWhole text) (some : 0 < length text) where
     pub rest_is_whole : IsWhole rest
     rest_is_whole = let h = has_line text whole some in subst IsWhole (sym (rest_is h)) h.whole
 
-    -- and so is the rest after it
+    -- later text follows the rest after the first line
     pub rest_stays : (later : List ℕ) → behind (parts 10 (text ++ later)) ≡ parts 10 (rest ++ later)
     rest_stays later =
         let h = has_line text whole some in
         ap behind (parts_of text later h) ∙ ap (λ x. parts 10 (x ++ later)) (sym (rest_is h))
 
--- a text that is one part has no whole line
+-- a text of whole lines is empty if it has no line end
 pub no_lines : (text : List ℕ) → IsWhole text → parts 10 text ≡ text ∷ [] → text ≡ []
 no_lines text (inl none) one = none
 no_lines text (inr front) one =

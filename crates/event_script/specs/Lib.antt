@@ -3,6 +3,8 @@ pub mod Says
 pub mod Tally
 pub mod Drafts
 pub mod Feeding
+pub mod Progress
+pub mod Waiting
 pub mod ScriptViews
 pub mod LoadScript
 pub mod ByteWords

@@ -17,17 +17,17 @@ abbrev pub FailsAt : {Y : Type 0} → ScriptError → Result Y ScriptFault → T
 FailsAt (Fault fault) given = given ≡ Err fault
 FailsAt NoMemory given = ⊤
 
--- the answer, seen through view, is the given one, unless memory ran out
+-- unless memory ran out, the answer seen through view is the given one
 abbrev pub GivesScript : {X Y : Type 0} → (X → Y) → Result X ScriptError → Result Y ScriptFault → Type 0
 GivesScript view (Ok x) given = given ≡ Ok (view x)
 GivesScript view (Err e) given = FailsAt e given
 
--- the same for an answer that also has the faulty line
+-- GivesScript for an error that also has the faulty line
 abbrev pub GivesUnread : {X Y : Type 0} → (X → Y) → Result X Unread → Result Y ScriptFault → Type 0
 GivesUnread view (Ok x) given = given ≡ Ok (view x)
 GivesUnread view (Err unread) given = FailsAt unread.error given
 
--- a draft goes on with more lines, or has ended
+-- the next state: true if the draft goes on with more lines, false if the script has ended
 abbrev pub next_as : Bool → Draft → Next
 next_as true d = GoesOn d
 next_as false d = Ends

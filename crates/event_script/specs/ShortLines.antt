@@ -12,7 +12,7 @@ behind_word None = []
 behind_word (One a) = 32 ∷ decimal a
 behind_word (Two a b) = 32 ∷ (decimal a ++ 32 ∷ decimal b)
 
--- an event has this word and these numbers, whatever the version and the number of CPUs
+-- in every version and with any number of CPUs, an event has this word and these numbers
 abbrev pub IsShort : Word → Numbers → Type 0
 IsShort Bits None = ⊤
 IsShort Int8 None = ⊤

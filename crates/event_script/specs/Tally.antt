@@ -19,7 +19,8 @@ pub record IsLight (event : Event) : Type 0 where
   pub unforked : fork_in event ≡ None
   pub waiting : (acts : ℕ) → acts_after acts event ≡ acts
 
--- whether one more event exceeds a limit: after count events, with this many bytes read and this many acts waiting
+-- whether one more event exceeds a limit, given the number of earlier events, the bytes read and the acts waiting with
+-- it
 abbrev pub is_over : ℕ → ℕ → ℕ → Bool
 is_over count read acts = nat_le 65536 count || nat_lt 16777216 read || nat_lt 8 acts
 

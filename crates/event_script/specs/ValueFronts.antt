@@ -8,8 +8,8 @@ abbrev pub EndsNumber : List ℕ → Type 0
 EndsNumber [] = ⊤
 EndsNumber (b ∷ text) = digit_value b < 10 → ⊥
 
--- the text is the spelling of a value that fits, and then the rest; no other value that fits is spelt there with no
--- digit after it
+-- the text is the spelling of x, which fits, and then the rest; no other fitting value is spelt there with no digit
+-- after it
 pub record IsFront {X : Type 0} (spelling : X → List ℕ) (Fits : X → Type 0) (text : List ℕ) (x : X)
     (rest : List ℕ) : Type 0 where
   pub fits : Fits x
@@ -17,7 +17,7 @@ pub record IsFront {X : Type 0} (spelling : X → List ℕ) (Fits : X → Type 0
   pub only : (y : X) (other : List ℕ) → Fits y → EndsNumber other → text ≡ spelling y ++ other
       → (y ≡ x) × (rest ≡ other)
 
--- the text begins with no spelling of such a value
+-- the text begins with no spelling of a fitting value that is followed by no digit
 abbrev pub NoFront : {X : Type 0} → (X → List ℕ) → (X → Type 0) → List ℕ → Type 0
 NoFront {X} spelling Fits text = (x : X) (other : List ℕ) → Fits x → EndsNumber other → text ≢ spelling x ++ other
 

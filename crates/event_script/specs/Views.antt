@@ -15,7 +15,7 @@ abbrev pub Fails : {Y : Type 0} → LineError → Result Y FaultKind → Type 0
 Fails Memory given = ⊤
 Fails (Kind kind) given = given ≡ Err kind
 
--- the answer, seen through view, is the given one, unless memory ran out
+-- unless memory ran out, the answer seen through view is the given one
 abbrev pub Gives : {X Y : Type 0} → (X → Y) → Result X LineError → Result Y FaultKind → Type 0
 Gives view (Ok x) given = given ≡ Ok (view x)
 Gives view (Err e) given = Fails e given

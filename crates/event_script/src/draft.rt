@@ -3,6 +3,7 @@
 ghost use Rattle.std.specs.Prelude.{◌≡◌, ◌<◌, ◌≤◌, ◌+◌, [], IfOk, map, vec_len};
 ghost use Rattle.std.specs.Bool.{OnTrue};
 ghost use Rattle.std.specs.List.{list_any};
+ghost use Rattle.event_script.specs.Progress.{IsViewOf};
 ghost use Rattle.event_script.specs.Tally.{IsLight, Tallied, blocks_in, fork_in, is_over};
 ghost use Rattle.event_script.specs.Views.{Gives};
 ghost use Rattle.key_names.specs.Texts.ScriptFaults.{SaysEvent, SaysCaller, GoesOn, after, blocks_of, has_orphan, is_bad_fork, is_past_limits};
@@ -10,6 +11,7 @@ ghost use Rattle.key_names.specs.Texts.ScriptGrammar.{InRange, acts_after};
 
 use crate::error::LineError;
 use crate::head::Head;
+use crate::progress::DraftView;
 use crate::reads::bytes_read;
 use key_names::{Event, FaultKind};
 use std::alloc::{AllocError, Global};
@@ -199,6 +201,21 @@ impl Draft {
         ensures { result ≡ has_orphan (draft_as self.now) }
     {
         is_any_set(&self.forked[self.done.len() + 1..])
+    }
+
+    /// A view of the draft, with the number of the next line.
+    pub(crate) fn view(&self, number: u32) -> DraftView<'_>
+        ensures seen { IsViewOf result (draft_as self.now) }
+        ensures number { result.number ≡ number }
+    {
+        DraftView {
+            version: self.head.version,
+            cpus: self.head.cpus,
+            blocks: self.done.len() as u32,
+            events: &self.events,
+            number,
+            has_orphan: self.has_orphan(),
+        }
     }
 
     /// All blocks, including the last one.

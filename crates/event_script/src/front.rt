@@ -5,8 +5,8 @@ ghost use Rattle.key_names.specs.Texts.ScriptFaults.{front};
 
 use crate::fields::{cut, spells};
 
-/// The number of bytes of the script at the start of a text. The script ends with the first line `end`. Without such a
-/// line the whole text belongs to it.
+/// The number of bytes of the script at the start of a text. The script ends with the first line `end`. If no line is
+/// `end`, the script is the whole text.
 pub(crate) fn front_len(text: &[u8]) -> usize
     ensures within { result ≤ length text.now }
     ensures front { take result text.now ≡ front text.now }

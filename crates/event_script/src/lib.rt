@@ -2,8 +2,9 @@
 //! returns the first fault of any other.
 //!
 //! `read` reads a whole text, and `read_front` a script at the start of a longer text. Both return a script exactly if
-//! the text is the one spelling of it, and otherwise the first fault by the definition. [`Script`] also makes the
-//! script of a load. `words` and `numbers` also read the words and numbers of transcripts and command lines.
+//! the text is its only spelling, and otherwise the text's first fault by the definition. A [`Reader`] takes a text in
+//! pieces, and shows the events of the lines so far. [`Script`] also makes the script of a load. `words` and `numbers`
+//! also read the words and numbers of transcripts and command lines.
 //!
 //! The contracts use the grammar and the faults of `key_names` (`specs/Texts`). `memchr` finds line ends.
 #![tactic(auto)]
@@ -20,6 +21,7 @@ mod hexes;
 mod line;
 mod load;
 pub mod numbers;
+pub mod progress;
 pub mod reader;
 mod reading;
 pub mod reads;
@@ -29,6 +31,7 @@ mod short;
 mod stage;
 pub mod words;
 
+pub use progress::{DraftView, Progress};
 pub use reader::Reader;
 pub use script::{Script, read, read_front};
 pub use script_error::{ScriptError, Unread};

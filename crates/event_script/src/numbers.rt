@@ -86,9 +86,9 @@ fn read_on(most: u64, value: u64, seen: usize, text: &[u8]) -> Option<(u64, &[u8
     cut_number(most, value, text.len(), text)
 }
 
-/// Like `read_on`, for numbers that mostly end before.
-// A function clears the room for its calls' results as it starts. This function is apart, so that a number that ends
-// before clears none.
+/// Calls `read_on`, for numbers that mostly end before this call.
+// A function clears the room for its calls' results when it starts. `read_on` is called in this separate function, so
+// that a number that ended before clears no room.
 #[inline(always)]
 fn read_on_apart(most: u64, value: u64, seen: usize, text: &[u8]) -> Option<(u64, &[u8])>
     requires digits { BeginsDigits text.now value seen }

@@ -1,12 +1,15 @@
 //! A script that is read piece by piece.
-ghost use Rattle.std.specs.Prelude.{◌≡◌, ◌+◌, ◌<◌, ◌^◌, ◌++◌, ◌==◌, ℕ, [], All, List, false, length, OnOk};
+ghost use Rattle.std.specs.Prelude.{◌≡◌, ◌+◌, ◌<◌, ◌≤◌, ◌^◌, ◌++◌, ◌∷◌, ◌==◌, ℕ, [], All, List, false, length, OnOk};
 ghost use Rattle.key_names.specs.Texts.ScriptFaults.{script_of, script_of_draft};
 ghost use Rattle.event_script.specs.Drafts.{draft_as};
 ghost use Rattle.event_script.specs.Feeding.{HasFed, IsBehind, IsWhole, number_of};
+ghost use Rattle.event_script.specs.Progress.{IsProgress};
 ghost use Rattle.event_script.specs.ScriptViews.{GivesUnread};
+ghost use Rattle.event_script.specs.Waiting.{IsWaiting};
 
 use crate::draft::Draft;
 use crate::fields::cut;
+use crate::progress::Progress;
 use crate::reading::fault;
 use crate::script_error::Unread;
 use crate::stage::Stage;
@@ -17,6 +20,9 @@ use std::mem;
 
 /// The most bytes of a script's text.
 const MOST_BYTES: usize = 16_777_216;
+
+/// The bytes of the line `end`.
+const END_BYTES: usize = 4;
 
 /// A reader for the text of a script, in pieces of any length. It buffers at most one incomplete line, or the faulty
 /// line.
@@ -59,6 +65,7 @@ impl Reader {
         requires short { number_of self.old.stage + length self.old.rest.items + length lines.now < 2 ^ 32 }
         ensures read { OnOk result ((text behind : List ℕ) → IsBehind text self.old (lines.now ++ behind)
             → IsBehind text self.new behind) }
+        ensures rest { OnOk result (0 < length lines.now → self.new.rest.items ≡ []) }
         ensures len { self.new.len ≡ self.old.len }
     {
         let Some((end, behind)) = cut(b'\n', lines) else {
@@ -81,7 +88,9 @@ impl Reader {
     /// that.
     pub fn feed(&mut self, alloc: Global, piece: &[u8]) -> Result<(), AllocError>
         requires { (text : List ℕ) × HasFed text self.old }
-        ensures { OnOk result ((text : List ℕ) → HasFed text self.old → HasFed (text ++ piece.now) self.new) }
+        ensures fed { OnOk result ((text : List ℕ) → HasFed text self.old → HasFed (text ++ piece.now) self.new) }
+        ensures line { OnOk result ((front : List ℕ) → piece.now ≡ front ++ 10 ∷ [] → self.new.len ≤ 16777216
+            → self.new.rest.items ≡ []) }
     {
         self.len = self.len.saturating_add(piece.len());
         if self.len > MOST_BYTES {
@@ -91,6 +100,31 @@ impl Reader {
         self.read_lines(alloc, lines)?;
         self.rest.extend_from_slice(front)?;
         Ok(())
+    }
+
+    /// How far the text was read.
+    pub fn progress(&self) -> Progress<'_>
+        requires { (text : List ℕ) × HasFed text self.now }
+        ensures shown { (text : List ℕ) → HasFed text self.now → IsProgress text result }
+        ensures waits { (text : List ℕ) → HasFed text self.now
+            → (self.now.len ≤ 16777216 → self.now.rest.items ≡ []) → result ≡ Progress.Waits → IsWaiting text }
+    {
+        if self.len > MOST_BYTES {
+            return Progress::Faulty(fault(0, FaultKind::TooLong));
+        }
+        if let Stage::Faulty { fault, .. } = &self.stage {
+            return Progress::Faulty(*fault);
+        }
+        if !self.rest.is_empty() {
+            return Progress::Waits;
+        }
+        match &self.stage {
+            Stage::Lines { draft, number } if self.len <= MOST_BYTES - END_BYTES => {
+                Progress::Open(draft.view(*number))
+            }
+            Stage::Ended { draft, number } => Progress::Ended(draft.view(*number)),
+            _ => Progress::Waits,
+        }
     }
 
     /// The script of the whole text. Its last block is still open.

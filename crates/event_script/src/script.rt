@@ -65,7 +65,7 @@ impl Script {
         })
     }
 
-    /// The version of its text: 1, 2 or 3. Every script is well-formed.
+    /// The version of the script's text: 1, 2 or 3. Every script is well-formed.
     pub fn version(&self) -> u32
         ensures number { result ≡ self.now.version }
         ensures well { WellFormed self.now }
@@ -147,7 +147,7 @@ pub fn read(alloc: Global, text: &[u8]) -> Result<Script, ScriptError>
     }
 }
 
-/// Reads the script at the start of a text, up to and including the first line `end`. Without such a line the whole
+/// Reads the script at the start of a text, up to and including the first line `end`. If no line is `end`, the whole
 /// text is read as the script. Returns the script and the number of its bytes.
 ///
 /// # Errors

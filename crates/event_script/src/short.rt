@@ -1,8 +1,7 @@
 //! Events of a word and at most two numbers, read in place.
 //!
 //! Most lines of a long script have such events. They are read in one pass, byte by byte, without a search for the line
-//! end or the fields. `None` allows no conclusion about a text: its first line is then read by its fields, like each
-//! line with a fault.
+//! end or the fields. After a `None` the first line is read by its fields, as each line with a fault is.
 
 ghost use Rattle.std.specs.Prelude.{◌≡◌, ℕ, ◌∷◌, ◌++◌, IfSome};
 ghost use Rattle.std.specs.Bool.{OnTrue};
@@ -18,8 +17,8 @@ use crate::events::LAST_MOMENT;
 use crate::numbers::number_front;
 use key_names::{Event, Word};
 
-/// The length of the longest word that is read here. A shorter text is left to the fields, so that one check of the
-/// length serves all words.
+/// The length of the longest word that is read here. A shorter text is read by its fields, so one check of the length
+/// serves all words.
 const LONGEST_WORD: usize = 6;
 
 /// The numbers after a word.
@@ -95,7 +94,8 @@ fn numbers_in_front(text: &[u8]) -> Option<(Numbers, &[u8])>
 }
 
 /// The numbers of the interrupt on the first line, and the text after the line.
-// The reader looks for it before other words and makes its event at once, since a running machine has many.
+// The reader looks for an interrupt before other words and makes its event at once, since a running machine has many of
+// them.
 pub(crate) fn irq_in_front(text: &[u8]) -> Option<(u64, u64, &[u8])>
     ensures spelt { IfSome result (λ all. text.now ≡ word_text Irq ++ (behind_word (Two all.0 all.1) ++ 10 ∷ all.2.now)) }
     ensures short { IfSome result (λ all. IsShort Irq (Two all.0 all.1)) }

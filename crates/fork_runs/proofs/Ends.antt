@@ -12,16 +12,16 @@ use Rattle.key_names.specs.declared.names.LaneId.TheVariants.{Pool as PoolLane, 
 use Rattle.key_names.specs.declared.names.Step.{Step}
 use Rattle.key_names.specs.declared.point.Point.{Point}
 use Rattle.key_names.specs.declared.point.Point.TheVariants.{Serve}
-use Rattle.key_names.specs.Book.{Book, LawfulBook, LawfulLanes, Lists, cpu_list}
-use Rattle.key_names.specs.Deeds.{Deed, deeds_of}
-use Rattle.key_names.specs.IsTranscript.{MarkBy, VisitsAre, stamped_at}
-use Rattle.key_names.specs.SeenLine.{no_data}
-use Rattle.key_names.specs.ServedNamed.{VisitsServeNamed}
-use Rattle.key_names.specs.StateList.{OrderedStateList, TakesRead, state_start}
-use Rattle.key_names.specs.Uses.{is_rekeyed}
-use Rattle.key_names.specs.Vgetrandom.{HostStep, IsCall, Outcome, at_point, outcome_behind}
-use Rattle.key_names.specs.VgetrandomState.{VgetrandomState, wiped_state}
-use Rattle.key_names.specs.VreadSteps.{Shows, published_by}
+use Rattle.key_names.specs.Lanes.Book.{Book, LawfulBook, LawfulLanes, Lists, cpu_list}
+use Rattle.key_names.specs.Callers.Deeds.{Deed, deeds_of}
+use Rattle.key_names.specs.Transcripts.IsTranscript.{MarkBy, VisitsAre, stamped_at}
+use Rattle.key_names.specs.Transcripts.SeenLine.{no_data}
+use Rattle.key_names.specs.Keys.ServedNamed.{VisitsServeNamed}
+use Rattle.key_names.specs.Lanes.StateList.{OrderedStateList, TakesRead, state_start}
+use Rattle.key_names.specs.Keys.Uses.{is_rekeyed}
+use Rattle.key_names.specs.Kernel.Vgetrandom.{HostStep, IsCall, Outcome, at_point, outcome_behind}
+use Rattle.key_names.specs.Kernel.VgetrandomState.{VgetrandomState, wiped_state}
+use Rattle.key_names.specs.Callers.VreadSteps.{Shows, published_by}
 use Rattle.key_names.proofs.Lists.Each.{each_append, each_right, each_weaker}
 use Rattle.key_names.proofs.Transcripts.KeyVisits.{all_there, key_reads}
 use Rattle.key_names.proofs.Transcripts.TakenMarks.{deeds_within, mark_takes}
@@ -600,7 +600,7 @@ module _ (turn : Turn) (point : Point) (n : ℕ) (p q w x : View) (left : Stage)
       childs_rest = child_later;
     }
 
--- the same for the arguments of the calls
+-- the calls' arguments are plain, so the facts hold for the calls
 module _ (set : Setting) (n m k f g : ℕ) (s : VgetrandomState) (plain : set ≡ first_setting 0) (same : m ≡ n)
     (again : k ≡ m) (none : f ≡ 0) (none_again : g ≡ f) (wiped : s ≡ wiped_state) where
   pub plain_sample : (p q : View) → ((own : List Step)

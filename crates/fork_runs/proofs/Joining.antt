@@ -2,7 +2,7 @@
 use Rattle.std.proofs.Common.{◌≡◌, ℕ, ◌+◌, ◌*◌, ◌-◌, ◌^◌, ◌≤◌, ◌⊎◌, inl, inr, Bool, true, false, max, List, length, refl, sym, ap, ◌∙◌, arith}
 use Rattle.std.specs.Prelude.{if◌then◌else◌, nat_lt}
 use Rattle.std.proofs.Math.ListN.{get_or-map}
-use Rattle.key_names.specs.VreadSteps.{published_by}
+use Rattle.key_names.specs.Callers.VreadSteps.{published_by}
 use Rattle.lane_table.specs.declared.view.LaneView.{LaneView}
 use Rattle.lane_table.specs.declared.view.View.{View}
 use Rattle.lane_table.specs.declared.view.Visit.{Visit}
@@ -14,7 +14,7 @@ use Rattle.lane_table.specs.WorldRule.{at, blank, known_of}
 use Rattle.lane_table.proofs.Rule.Shares.{merged_at}
 use Rattle.rng_core.proofs.Hosting.{published_more}
 
--- two halves of the whole share
+-- two halves of the share make the whole share
 pub whole_again : (a b c d : ℕ) → a ≡ 1 → b ≡ 1 → c ≡ 1 → d ≡ 1 →
     a * 2 ^ (max c d - c) + b * 2 ^ (max c d - d) ≡ 2 ^ max c d
 whole_again a b c d p q r s =
@@ -33,7 +33,7 @@ one_of_them xs ys = go (nat_lt (length xs) (length ys))
     go true = inr refl
     go false = inl refl
 
--- a generation that both have seen published, the joined view has too
+-- if both views have seen a generation published, so has the joined view
 pub joined_floor : (low : ℕ) (v w : View) → length v.lanes ≡ length w.lanes → low ≤ published_by (floor v) →
     low ≤ published_by (floor w) → low ≤ published_by (floor (both_of v w))
 joined_floor low v w long first second =

@@ -8,19 +8,19 @@ use Rattle.key_names.specs.declared.events.Answer.TheVariants.{Ok as Done}
 use Rattle.key_names.specs.declared.events.Word.TheVariants.{Vread}
 use Rattle.key_names.specs.declared.names.LaneId.{LaneId}
 use Rattle.key_names.specs.declared.names.Step.{Step}
-use Rattle.key_names.specs.Book.{Lists, LawfulBook, LawfulLanes, StatePlace, cpu_list, list_at, rekey_in, state_list}
-use Rattle.key_names.specs.Deeds.{deeds_of}
-use Rattle.key_names.specs.PrintedBytes.{Origin, origins_uses, StateEntries, LinePrints}
-use Rattle.key_names.specs.SeenLine.{SeenLine, bytes_in, bytes_or_none}
-use Rattle.key_names.specs.ServedNamed.{served_in, VisitsServeNamed}
-use Rattle.key_names.specs.StateList.{NamedState, TakesRead, OrderedStateList, LawfulStateList, rekey_at, state_start, state_step, state_after}
-use Rattle.key_names.specs.LiveMaterial.{state_bytes_start}
-use Rattle.key_names.specs.Uses.{Disjoint, is_rekeyed, rekeys_place, state_uses_at, uses_from}
-use Rattle.key_names.specs.Vgetrandom.{SystemAnswer, read, failed, HostStep, Ending, no_bytes, by_batch, by_system}
-use Rattle.key_names.specs.VreadSteps.{Shows}
-use Rattle.key_names.specs.VgetrandomState.{wiped_state}
-use Rattle.key_names.specs.Calls.{Call, Setting, vread_call}
-use Rattle.key_names.specs.Meaning.{CallMeaning, caller_start, unused_line}
+use Rattle.key_names.specs.Lanes.Book.{Lists, LawfulBook, LawfulLanes, StatePlace, cpu_list, list_at, rekey_in, state_list}
+use Rattle.key_names.specs.Callers.Deeds.{deeds_of}
+use Rattle.key_names.specs.Transcripts.PrintedBytes.{Origin, origins_uses, StateEntries, LinePrints}
+use Rattle.key_names.specs.Transcripts.SeenLine.{SeenLine, bytes_in, bytes_or_none}
+use Rattle.key_names.specs.Keys.ServedNamed.{served_in, VisitsServeNamed}
+use Rattle.key_names.specs.Lanes.StateList.{NamedState, TakesRead, OrderedStateList, LawfulStateList, rekey_at, state_start, state_step, state_after}
+use Rattle.key_names.specs.Keys.LiveMaterial.{state_bytes_start}
+use Rattle.key_names.specs.Keys.Uses.{Disjoint, is_rekeyed, rekeys_place, state_uses_at, uses_from}
+use Rattle.key_names.specs.Kernel.Vgetrandom.{SystemAnswer, read, failed, HostStep, Ending, no_bytes, by_batch, by_system}
+use Rattle.key_names.specs.Callers.VreadSteps.{Shows}
+use Rattle.key_names.specs.Kernel.VgetrandomState.{wiped_state}
+use Rattle.key_names.specs.Callers.Calls.{Call, Setting, vread_call}
+use Rattle.key_names.specs.Callers.Meaning.{CallMeaning, caller_start, unused_line}
 use Rattle.key_names.proofs.Transcripts.TakenMarks.{mark_takes}
 use Rattle.key_names.proofs.Transcripts.TakenOnce.{any_entry, counts_one, counts_two, equal_or_not, or_true}
 use Rattle.key_names.proofs.Transcripts.TranscriptReplays as walk
@@ -60,7 +60,7 @@ module _ (lists : Lists) (ps cs : List VEntry) (callers_are : lists.callers ≡ 
             let one = any_entry c p cs (or_false (any cs) (or_false (any cs || false) second)) in omega arith
       ]
 
-  -- an entry that takes a read is in one of the two lists
+  -- if an entry takes a read, it is in one of the two lists
   record TakenIn (caller state place c p : ℕ) (number : ℕ) (es : List VEntry) : Type 0 where
     caller_is : caller ≡ number
     state_is : state ≡ 0

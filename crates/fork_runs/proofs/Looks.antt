@@ -4,10 +4,10 @@ use Rattle.std.proofs.Common.{◌≡◌, ℕ, zero, suc, ◌≤◌, Bool, true, 
 use Rattle.key_names.specs.declared.names.Step.{Step}
 use Rattle.key_names.specs.declared.point.Point.{Point}
 use Rattle.key_names.specs.declared.entries.CpuEntry.{CpuEntry}
-use Rattle.key_names.specs.Book.{Lists}
-use Rattle.key_names.specs.Deeds.{Deed, looked, deeds_of}
-use Rattle.key_names.specs.Vgetrandom.{HostStep, publishes, system_call, at_point}
-use Rattle.key_names.specs.VreadSteps.{Shows, looks_of, published_by}
+use Rattle.key_names.specs.Lanes.Book.{Lists}
+use Rattle.key_names.specs.Callers.Deeds.{Deed, looked, deeds_of}
+use Rattle.key_names.specs.Kernel.Vgetrandom.{HostStep, publishes, system_call, at_point}
+use Rattle.key_names.specs.Callers.VreadSteps.{Shows, looks_of, published_by}
 use Rattle.key_names.proofs.Transcripts.GoodSteps.{good_behind}
 use Rattle.key_names.proofs.Transcripts.KeyVisits.{AllThere, all_there}
 use Rattle.key_names.proofs.Vgetrandom.KeyReads.{KeyReads}
@@ -26,7 +26,7 @@ use Rattle.rng_core.proofs.ActRuns.{Risen, sees_risen}
 use Rattle.rng_core.proofs.Readings.{never_fall, same_looks}
 use Rattle.fork_runs.specs.Runs.{DidAll}
 
--- a published generation other than 0 was found as at least 1
+-- if a published generation is not 0, the look that it came from found at least 1
 pub found_some : (g : ℕ) → 1 ≤ published_by g → 1 ≤ g
 found_some zero h = absurd (omega arith)
 found_some (suc g) h = omega arith
@@ -35,7 +35,7 @@ pub publishes_some : (g : ℕ) → 1 ≤ g → 1 ≤ published_by g
 publishes_some zero h = absurd (omega arith)
 publishes_some (suc g) h = omega arith
 
--- a caller that has seen the generation of a stopped call has seen the core ready
+-- if a caller has seen the generation of a stopped call, it has seen the core ready
 pub seen_ready : (seen : ℕ) (stage : Stage) → 1 ≤ published_or 1 stage → is_stopped stage ≡ true →
     published_or 0 stage ≤ published_by seen → 1 ≤ seen
 seen_ready seen New ready stands known = absurd (cc stands)
@@ -56,7 +56,7 @@ reads_both cpus (system_call n flags answer ∷ xs) ys a b = (a.0, reads_both cp
 reads_both cpus (at_point point wiped ∷ xs) ys a b = reads_both cpus xs ys a b
 
 module _ (lists : Lists) (caller k : ℕ) where
-  -- a call with its first look in its first part
+  -- two parts of a call are good together, if the first look is in the first part
   pub good_parts : (before after : List HostStep) (point : Point) (wiped : Bool) → GoodBehind lists caller k before →
       Good lists after → GoodBehind lists caller k (before ++ at_point point wiped ∷ after)
   good_parts [] after point wiped good rest g steps is some = cc
@@ -85,7 +85,7 @@ module _ (lanes : ℕ) (visits : ℕ → List Visit) (callers : StateLists) wher
     rises = subst (λ (l : List ℕ). Risen (floor v) l (floor w)) (sym (same_looks book did.made_steps))
         (sees_risen w (floor v) (floor w) did.made_steps did.told.went.sees)
 
-    -- with a core that was found ready before
+    -- the steps are good if the core was found ready before
     pub good_here : 1 ≤ floor v → Good book steps
     good_here some =
         let g = published_by (floor v) in
@@ -93,7 +93,7 @@ module _ (lanes : ℕ) (visits : ℕ → List Visit) (callers : StateLists) wher
         (never_fall (floor v) (floor v ∷ looks_of deeds) (floor w) (omega arith, rises))
         (floor v, deeds, refl, (refl, shows)) g steps refl (publishes_some (floor v) some)
 
-    -- with a core that its own first look found ready
+    -- the steps are good if the call's own first look found the core ready
     pub good_first : (caller k : ℕ) → GoodBehind book caller k steps
     good_first caller k = good_behind book (setting_of set) steps deeds there
         (never_fall (floor v) (looks_of deeds) (floor w) rises) shows

@@ -1,4 +1,4 @@
--- Marks with climbing stamps: they have each place of a lane at most once.
+-- Marks with climbing stamps have each place of a lane at most once.
 use Rattle.std.proofs.Common.{◌≡◌, ℕ, suc, ◌+◌, ◌<◌, ◌≤◌, ◌⊎◌, inl, inr, Bool, true, false, List, [], ◌∷◌, ◌++◌, Some, Option, refl, sym, ap, ◌∙◌, arith, eqb-true}
 use Rattle.std.specs.Prelude.{◌==◌, if◌then◌else◌}
 use Rattle.std.specs.List.{AllByRecursion}
@@ -7,8 +7,8 @@ use Rattle.key_names.specs.declared.names.LaneId.{LaneId}
 use Rattle.key_names.specs.declared.names.Step.{Step}
 use Rattle.key_names.specs.declared.names.Step.TheVariants.{Look, Visit as Marked}
 use Rattle.key_names.specs.declared.names.Who.{Who}
-use Rattle.key_names.specs.Book.{Book}
-use Rattle.key_names.specs.IsTranscript.{MarkBy, marks_from, is_same_lane, stamped_at}
+use Rattle.key_names.specs.Lanes.Book.{Book}
+use Rattle.key_names.specs.Transcripts.IsTranscript.{MarkBy, marks_from, is_same_lane, stamped_at}
 use Rattle.key_names.proofs.Transcripts.LaneCounts.{same_lane}
 use Rattle.key_names.proofs.Transcripts.TakenMarks.{hit, lane_takes, mark_takes}
 use Rattle.lane_table.specs.Advances.{Climbs}
@@ -35,7 +35,7 @@ module _ (lane : LaneId) (p : ℕ) where
   hits_steps caller event i (Marked mark ∷ steps) =
       ap (λ n. lane_takes lane p mark.lane mark.place + n) (hits_steps caller event (suc i) steps)
 
-  -- how many steps of some calls have it
+  -- how many steps of some calls have this place
   abbrev pub calls_have : List (List Step) → ℕ
   calls_have [] = 0
   calls_have (steps ∷ calls) = mark_takes lane p steps + calls_have calls
@@ -72,7 +72,7 @@ module _ (lane : LaneId) (p : ℕ) where
     abbrev stamp_of : Option (ℕ × Who) → ℕ
     stamp_of o = option_map_or (λ (x : ℕ × Who). x.0) o 0
 
-    -- after a mark of the place no other mark has it
+    -- after a mark of the place no later mark has it
     no_more : (stamp low high : ℕ) (who : Who) (marks : List MarkBy) → stamped_at book lane p ≡ Some (stamp, who) →
         stamp ≤ low → Climbs low (stamps_of marks) high → AllByRecursion (IsAt book) marks → hits marks ≡ 0
     no_more stamp low high who [] is below climbs all = refl

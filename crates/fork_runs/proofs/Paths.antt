@@ -6,13 +6,13 @@ use Rattle.std.proofs.lemmas.Bool.{ne_eqb}
 use Rattle.std.specs.Prelude.{◌==◌, MatchBool, if◌then◌else◌}
 use Rattle.key_names.specs.declared.point.Point.{Point}
 use Rattle.key_names.specs.declared.point.Point.TheVariants.{Start, Written, Serve, End}
-use Rattle.key_names.specs.BatchCopy.{block_after_copy, copy_bytes, state_after_copy}
-use Rattle.key_names.specs.Flags.{is_bad}
-use Rattle.key_names.specs.Vgetrandom.{SystemAnswer, read, failed, HostStep, publishes, system_call, at_point}
-use Rattle.key_names.specs.Vgetrandom.{holds, outdated, AttemptEnd, Attempt, Outcome, AtPoint, FromEnd, FromServe, FromWritten}
-use Rattle.key_names.specs.Vgetrandom.{FromStart, AfterKeyRead, IsAttempt, AfterAttempt, AttemptAndRest, BySystem}
-use Rattle.key_names.specs.Vgetrandom.{SecondAttempt, FirstAttempt, FromLook, IsCall}
-use Rattle.key_names.specs.VgetrandomState.{VgetrandomState, state_left, wiped_state}
+use Rattle.key_names.specs.Kernel.BatchCopy.{block_after_copy, copy_bytes, state_after_copy}
+use Rattle.key_names.specs.Kernel.Flags.{is_bad}
+use Rattle.key_names.specs.Kernel.Vgetrandom.{SystemAnswer, read, failed, HostStep, publishes, system_call, at_point}
+use Rattle.key_names.specs.Kernel.Vgetrandom.{holds, outdated, AttemptEnd, Attempt, Outcome, AtPoint, FromEnd, FromServe, FromWritten}
+use Rattle.key_names.specs.Kernel.Vgetrandom.{FromStart, AfterKeyRead, IsAttempt, AfterAttempt, AttemptAndRest, BySystem}
+use Rattle.key_names.specs.Kernel.Vgetrandom.{SecondAttempt, FirstAttempt, FromLook, IsCall}
+use Rattle.key_names.specs.Kernel.VgetrandomState.{VgetrandomState, state_left, wiped_state}
 use Rattle.key_names.proofs.Vgetrandom.CallsKeep.{match_cases}
 use Rattle.key_names.proofs.Vgetrandom.CopiesKeep.{copy_keeps_generation}
 use Rattle.vdso_state.specs.Places.{Climbs}

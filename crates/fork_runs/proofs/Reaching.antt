@@ -5,10 +5,10 @@ use Rattle.key_names.specs.declared.events.Event.TheVariants.{Reseed}
 use Rattle.key_names.specs.declared.names.Step.{Step}
 use Rattle.key_names.specs.declared.point.Point.{Point}
 use Rattle.key_names.specs.declared.point.Point.TheVariants.{Serve}
-use Rattle.key_names.specs.Deeds.{Deed}
-use Rattle.key_names.specs.SeenLine.{no_data}
-use Rattle.key_names.specs.VgetrandomState.{VgetrandomState}
-use Rattle.key_names.specs.VreadSteps.{published_by}
+use Rattle.key_names.specs.Callers.Deeds.{Deed}
+use Rattle.key_names.specs.Transcripts.SeenLine.{no_data}
+use Rattle.key_names.specs.Kernel.VgetrandomState.{VgetrandomState}
+use Rattle.key_names.specs.Callers.VreadSteps.{published_by}
 use Rattle.lane_table.specs.declared.view.View.{View}
 use Rattle.lane_table.specs.Steps.{both_of, halved}
 use Rattle.lane_table.specs.Steps as steps
@@ -36,7 +36,7 @@ pub known_on : {P : List Deed → Type 0} (set : Setting) (left : Stage) (v w : 
 known_on set left v w own low did =
     let a = published_more (floor v) (floor w) (did_floor set (knowing v []) (knowing w own) did) in omega arith
 
--- they stay known to both passes after a fork
+-- published generations stay known to both passes after a fork
 pub parent_known : (stage : Stage) (v before w : View) → published_or 0 stage ≤ published_by (floor v) →
     floor v ≤ floor before → w ≡ halved before → published_or 0 stage ≤ published_by (floor w)
 parent_known stage v before w low up is =

@@ -19,12 +19,12 @@ use Rattle.key_names.specs.declared.events.Event.TheVariants.{Add}
 use Rattle.key_names.specs.declared.names.LaneId.{LaneId}
 use Rattle.key_names.specs.declared.names.LaneId.TheVariants.{Pool as PoolLane, Base as BaseLane, Cpu as CpuLane}
 use Rattle.key_names.specs.declared.names.Step.{Step}
-use Rattle.key_names.specs.Book.{Lists, cpu_list}
-use Rattle.key_names.specs.Calls.{Setting as CallSetting}
-use Rattle.key_names.specs.Deeds.{BaseVisit, PoolVisit, at_base, at_cpu, at_pool, base_visit, cpu_visit, deed_at, deed_of, deed_or, deeds_of, pool_visit}
-use Rattle.key_names.specs.Forms.{CreditForm, Cross, Rooted}
-use Rattle.key_names.specs.PoolList.{Crossing, PoolState, crossing, early, none, pool_after, pool_step, ready}
-use Rattle.key_names.specs.SeenLine.{no_data}
+use Rattle.key_names.specs.Lanes.Book.{Lists, cpu_list}
+use Rattle.key_names.specs.Callers.Calls.{Setting as CallSetting}
+use Rattle.key_names.specs.Callers.Deeds.{BaseVisit, PoolVisit, at_base, at_cpu, at_pool, base_visit, cpu_visit, deed_at, deed_of, deed_or, deeds_of, pool_visit}
+use Rattle.key_names.specs.Callers.Forms.{CreditForm, Cross, Rooted}
+use Rattle.key_names.specs.Lanes.PoolList.{Crossing, PoolState, crossing, early, none, pool_after, pool_step, ready}
+use Rattle.key_names.specs.Transcripts.SeenLine.{no_data}
 use Rattle.lane_table.specs.declared.lanes.Lanes.{Lanes}
 use Rattle.lane_table.specs.declared.lanes.Pass.{Pass}
 use Rattle.lane_table.specs.declared.view.LaneEntry.TheVariants.{Base}
@@ -218,7 +218,7 @@ module _ (q : View) (wide : length q.lanes ≡ 3) (at_end : Ended 3 q) where
       rooted_seen caller event (suc step) sees.0 high root.pool.place set.now root.pool root.base more stand.1 sees.3
       root.names (rest ∙ root.deeds_are))
 
-  -- from the view of a new table
+  -- a sample on a new table makes the core ready
   pub sample_readies : (own : List Step)
       × DidAll (IsOutcomeOf (setting_of (first_setting 0)) (Add (range_with_len 0 32) 256) Done no_data) (first_setting 0)
       start own q → 1 ≤ floor q
@@ -230,7 +230,7 @@ module _ (q : View) (wide : length q.lanes ≡ 3) (at_end : Ended 3 q) where
       credit_seen 0 0 0 (floor start) (floor q) (setting_of (first_setting 0)) (range_with_len 0 32) k.made_steps
       k.told.went.stand k.told.went.sees (omega arith) (k.stands (length q.lanes) (known_of q) [] goes_on).form
 
--- the same for the arguments of the sample's call
+-- the sample makes the core ready also with the call's own arguments
 pub readied : (set : Setting) (p q : View) (lanes : ℕ) → set ≡ first_setting 0 → p ≡ start → lanes ≡ 3 →
     length q.lanes ≡ lanes → (q.share ≡ 2 ^ q.halvings → Ended lanes q) → ((own : List Step)
     × DidAll (IsOutcomeOf (setting_of set) (Add (range_with_len 0 32) 256) Done no_data) set p own q) → 1 ≤ floor q

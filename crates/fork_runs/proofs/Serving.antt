@@ -1,10 +1,10 @@
 -- On a core that was seen to be ready, each system call reads its bytes, and a call that goes on ends with bytes.
 use Rattle.std.proofs.Common.{◌≡◌, ℕ, ◌≤◌, true, false, List, [], ◌∷◌, refl, sym, subst, arith}
-use Rattle.key_names.specs.Flags.{is_bad}
-use Rattle.key_names.specs.Vgetrandom.{HostStep, publishes, system_call, at_point}
-use Rattle.key_names.specs.Vgetrandom.{AttemptEnd, holds, outdated, not_keyed}
-use Rattle.key_names.specs.Vgetrandom.{Attempt, Outcome, BySystem, AfterBoth, IsAttempt, AttemptAndRest, AfterAttempt}
-use Rattle.key_names.specs.VgetrandomState.{VgetrandomState}
+use Rattle.key_names.specs.Kernel.Flags.{is_bad}
+use Rattle.key_names.specs.Kernel.Vgetrandom.{HostStep, publishes, system_call, at_point}
+use Rattle.key_names.specs.Kernel.Vgetrandom.{AttemptEnd, holds, outdated, not_keyed}
+use Rattle.key_names.specs.Kernel.Vgetrandom.{Attempt, Outcome, BySystem, AfterBoth, IsAttempt, AttemptAndRest, AfterAttempt}
+use Rattle.key_names.specs.Kernel.VgetrandomState.{VgetrandomState}
 use Rattle.key_names.proofs.Lists.Each.{each_right}
 use Rattle.lane_table.specs.Advances.{floor}
 use Rattle.vdso_state.specs.declared.place.Place.{Place}
@@ -75,7 +75,7 @@ module _ (n flags : ℕ) (good : is_bad flags ≡ false) where
       (FromPoint place.point n place.next_block place.published out s) steps outcome
       (λ c t rest after rests. outdated_gives place.turn c t rest after rests) served k
 
-  -- a stopped call with good flags
+  -- the rest of a stopped call with good flags gives bytes
   pub rest_gives : (stage : Stage) (out : List ℕ) (s : VgetrandomState) (steps : List HostStep) (outcome : Outcome) →
       is_stopped stage ≡ true → AreServed steps → RestOfCall stage n flags out s steps outcome → IsGiven outcome.ending
   rest_gives New out s steps outcome stands served k = absurd (cc stands)

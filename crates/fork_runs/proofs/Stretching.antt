@@ -3,10 +3,10 @@ use Rattle.std.proofs.Common.{◌≡◌, ℕ, ◌<◌, ◌≤◌, arith, Bool, t
 use Rattle.std.specs.Prelude.{◌&&◌, Result}
 use Rattle.key_names.specs.declared.errno.Errno.{Errno}
 use Rattle.key_names.specs.declared.point.Point.{Point}
-use Rattle.key_names.specs.Flags.{is_bad}
-use Rattle.key_names.specs.Vgetrandom.{read, failed, HostStep, publishes, system_call, at_point, Ending, no_bytes, by_batch, by_system}
-use Rattle.key_names.specs.VgetrandomState.{VgetrandomState}
-use Rattle.key_names.specs.VreadSteps.{Shows, published_by}
+use Rattle.key_names.specs.Kernel.Flags.{is_bad}
+use Rattle.key_names.specs.Kernel.Vgetrandom.{read, failed, HostStep, publishes, system_call, at_point, Ending, no_bytes, by_batch, by_system}
+use Rattle.key_names.specs.Kernel.VgetrandomState.{VgetrandomState}
+use Rattle.key_names.specs.Callers.VreadSteps.{Shows, published_by}
 use Rattle.lane_table.specs.Calls.{view}
 use Rattle.lane_table.specs.Hands.{HoldsLanes}
 use Rattle.lane_table.specs.Advances.{floor}
@@ -82,7 +82,7 @@ module _ {R : Type 0} (h last : LaneHost R) (steps : List HostStep) (does : Does
     pub stays_unwiped : AreUnwiped steps
     stays_unwiped = unwiped steps (standing h) (standing last) none acted
 
-  -- a core that was seen to be ready serves
+  -- if the core was seen to be ready, each system call serves
   pub serves : 1 ≤ floor (view h.site.pass.now) → AreServed steps
   serves ready = all_served steps (standing h) (standing last) ready acted
 

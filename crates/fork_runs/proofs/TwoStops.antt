@@ -5,9 +5,9 @@ use Rattle.key_names.specs.declared.entries.VEntry.{VEntry}
 use Rattle.key_names.specs.declared.entries.VEntry.TheVariants.{Wipe}
 use Rattle.key_names.specs.declared.point.Point.{Point}
 use Rattle.key_names.specs.declared.point.Point.TheVariants.{Serve}
-use Rattle.key_names.specs.Vgetrandom.{HostStep, at_point, Outcome, outcome_behind, IsCall}
-use Rattle.key_names.specs.VgetrandomState.{VgetrandomState, wiped_state}
-use Rattle.key_names.specs.VreadSteps.{PointReached, points_of}
+use Rattle.key_names.specs.Kernel.Vgetrandom.{HostStep, at_point, Outcome, outcome_behind, IsCall}
+use Rattle.key_names.specs.Kernel.VgetrandomState.{VgetrandomState, wiped_state}
+use Rattle.key_names.specs.Callers.VreadSteps.{PointReached, points_of}
 use Rattle.key_names.proofs.Lists.Each.{each_append}
 use Rattle.vdso_state.specs.declared.place.Turn.{Turn}
 use Rattle.vdso_state.specs.declared.place.Turn.TheVariants.{First, Second}

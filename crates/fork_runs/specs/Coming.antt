@@ -3,10 +3,10 @@
 use Rattle.std.specs.Prelude.{ℕ, ◌≡◌, ◌<◌, ◌≤◌, ⊤, false, None, List}
 use Rattle.key_names.specs.declared.point.Point.{Point}
 use Rattle.key_names.specs.declared.point.Point.TheVariants.{Serve}
-use Rattle.key_names.specs.Flags.{is_bad}
-use Rattle.key_names.specs.Vgetrandom.{HostStep, Outcome, Ending, no_bytes, by_batch, by_system, IsCall}
-use Rattle.key_names.specs.VgetrandomState.{VgetrandomState, wiped_state}
-use Rattle.key_names.specs.VreadSteps.{points_of}
+use Rattle.key_names.specs.Kernel.Flags.{is_bad}
+use Rattle.key_names.specs.Kernel.Vgetrandom.{HostStep, Outcome, Ending, no_bytes, by_batch, by_system, IsCall}
+use Rattle.key_names.specs.Kernel.VgetrandomState.{VgetrandomState, wiped_state}
+use Rattle.key_names.specs.Callers.VreadSteps.{points_of}
 use Rattle.vdso_state.specs.declared.place.Place.{Place}
 use Rattle.vdso_state.specs.declared.place.Turn.{Turn}
 use Rattle.vdso_state.specs.declared.place.Turn.TheVariants.{First, Second}
@@ -26,13 +26,13 @@ pub record OnReadyCore (low high : ℕ) (steps : List HostStep) : Type 0 where
 abbrev pub ComesTo : Turn → Point → ℕ → List HostStep → Type 0
 ComesTo turn point begun steps = passes_by turn point begun (points_of steps) ≡ None
 
--- a call for one byte or more without flags, on a wiped state
+-- a call for one byte or more without flags, on a wiped state, reaches each point of its first attempt
 abbrev pub FirstAttemptComes : Type 0
 FirstAttemptComes = (n : ℕ) (point : Point) (steps : List HostStep) (outcome : Outcome) (low high : ℕ) → 1 ≤ n → 1 ≤ low →
     IsCall n 0 wiped_state steps outcome → OnReadyCore low high steps → ComesTo First point 0 steps
 
--- the rest of such a call after a stop at the point Serve of its first attempt, if only higher generations are
--- published from then on
+-- a call as in FirstAttemptComes that was stopped at the point Serve of its first attempt reaches each point of a
+-- second one, if only higher generations are published from then on
 abbrev pub SecondAttemptComes : Type 0
 SecondAttemptComes = (n : ℕ) (point : Point) (stop : Stop (IsCall n 0 wiped_state) n 0 First Serve)
     (steps : List HostStep) (outcome : Outcome) (low mid next high : ℕ) → 1 ≤ n → 1 ≤ low →
@@ -46,7 +46,7 @@ IsGiven no_bytes = ⊥
 IsGiven (by_batch bytes) = ⊤
 IsGiven (by_system answer) = IsRead answer
 
--- the rest of a call with good flags, from any place
+-- the rest of a call with good flags gives bytes, from any place
 abbrev pub EndsGiveBytes : Type 0
 EndsGiveBytes = (n flags : ℕ) (place : Place) (out : List ℕ) (s : VgetrandomState) (steps : List HostStep)
     (outcome : Outcome) → is_bad flags ≡ false → AreServed steps → BehindPlace n flags place out s steps outcome →

@@ -6,12 +6,12 @@ use Rattle.key_names.specs.declared.events.Event.TheVariants.{Reseed}
 use Rattle.key_names.specs.declared.names.Step.{Step}
 use Rattle.key_names.specs.declared.point.Point.{Point}
 use Rattle.key_names.specs.declared.point.Point.TheVariants.{Serve}
-use Rattle.key_names.specs.Deeds.{Deed}
-use Rattle.key_names.specs.Forms.{BaseOnly}
-use Rattle.key_names.specs.SeenLine.{no_data}
-use Rattle.key_names.specs.Vgetrandom.{at_point, HostStep, IsCall}
-use Rattle.key_names.specs.VgetrandomState.{VgetrandomState, wiped_state}
-use Rattle.key_names.specs.VreadSteps.{Shows, published_by}
+use Rattle.key_names.specs.Callers.Deeds.{Deed}
+use Rattle.key_names.specs.Callers.Forms.{BaseOnly}
+use Rattle.key_names.specs.Transcripts.SeenLine.{no_data}
+use Rattle.key_names.specs.Kernel.Vgetrandom.{at_point, HostStep, IsCall}
+use Rattle.key_names.specs.Kernel.VgetrandomState.{VgetrandomState, wiped_state}
+use Rattle.key_names.specs.Callers.VreadSteps.{Shows, published_by}
 use Rattle.lane_table.specs.declared.view.View.{View}
 use Rattle.lane_table.specs.Steps.{halved, both_of}
 use Rattle.lane_table.specs.Steps as steps

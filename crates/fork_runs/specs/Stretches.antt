@@ -3,10 +3,10 @@ use Rattle.std.specs.Prelude.{ℕ, ◌≡◌, ◌≤◌, ⊤, false, List, ◌++
 use Rattle.std.specs.List.{AllByRecursion}
 use Rattle.key_names.specs.declared.entries.VEntry.{VEntry}
 use Rattle.key_names.specs.declared.point.Point.{Point}
-use Rattle.key_names.specs.Flags.{is_bad}
-use Rattle.key_names.specs.Vgetrandom.{read, failed, HostStep, publishes, system_call, at_point, Ending, no_bytes, by_batch, by_system, Outcome, outcome_behind}
-use Rattle.key_names.specs.VgetrandomState.{VgetrandomState}
-use Rattle.key_names.specs.VreadSteps.{Shows, points_of, published_by}
+use Rattle.key_names.specs.Kernel.Flags.{is_bad}
+use Rattle.key_names.specs.Kernel.Vgetrandom.{read, failed, HostStep, publishes, system_call, at_point, Ending, no_bytes, by_batch, by_system, Outcome, outcome_behind}
+use Rattle.key_names.specs.Kernel.VgetrandomState.{VgetrandomState}
+use Rattle.key_names.specs.Callers.VreadSteps.{Shows, points_of, published_by}
 use Rattle.lane_table.specs.declared.view.View.{View}
 use Rattle.lane_table.specs.Advances.{floor}
 use Rattle.vdso_state.specs.declared.place.Turn.{Turn}
@@ -49,7 +49,8 @@ pub record Stop (From : List HostStep → Outcome → Type 0) (n flags : ℕ) (t
   pub leads : (rest : List HostStep) (outcome : Outcome) → AtPlace n flags place held state rest outcome →
       From (before ++ rest) (outcome_behind entries outcome)
 
--- from l to m a caller ran a call to a stop, from this stage, buffer and state to those
+-- from l to m a caller ran a call to a stop; the call's stage, buffer and state went from `stage`, `held` and s to
+-- `left`, `out` and t
 pub record StoppedOver (set : Setting) (n flags : ℕ) (stage : Stage) (held : List ℕ) (s : VgetrandomState)
     (turn : Turn) (point : Point) (left : Stage) (out : List ℕ) (t : VgetrandomState) (l m : Moment) : Type 0 where
   pub stop : Stop (RestOfCall stage n flags held s) n flags turn point

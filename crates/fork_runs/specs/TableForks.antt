@@ -10,17 +10,17 @@ use Rattle.key_names.specs.declared.events.Event.TheVariants.{Add, Reseed}
 use Rattle.key_names.specs.declared.names.Step.{Step}
 use Rattle.key_names.specs.declared.point.Point.{Point}
 use Rattle.key_names.specs.declared.point.Point.TheVariants.{Serve}
-use Rattle.key_names.specs.Book.{Book, Lists, LawfulBook, lists_of}
-use Rattle.key_names.specs.Deeds.{deeds_of}
-use Rattle.key_names.specs.Forms.{BaseOnly}
-use Rattle.key_names.specs.IsTranscript.{MarkBy, VisitsAre, marks_from}
-use Rattle.key_names.specs.PrintedBytes.{Origin, origins_uses, StateEntries, PrintsBy}
-use Rattle.key_names.specs.SeenLine.{no_data}
-use Rattle.key_names.specs.ServedNamed.{served_in}
-use Rattle.key_names.specs.Uses.{Disjoint, IsDisjoint}
-use Rattle.key_names.specs.Vgetrandom.{HostStep, at_point, Outcome, outcome_behind, by_batch, IsCall}
-use Rattle.key_names.specs.VgetrandomState.{VgetrandomState, wiped_state}
-use Rattle.key_names.specs.VreadSteps.{Shows}
+use Rattle.key_names.specs.Lanes.Book.{Book, Lists, LawfulBook, lists_of}
+use Rattle.key_names.specs.Callers.Deeds.{deeds_of}
+use Rattle.key_names.specs.Callers.Forms.{BaseOnly}
+use Rattle.key_names.specs.Transcripts.IsTranscript.{MarkBy, VisitsAre, marks_from}
+use Rattle.key_names.specs.Transcripts.PrintedBytes.{Origin, origins_uses, StateEntries, PrintsBy}
+use Rattle.key_names.specs.Transcripts.SeenLine.{no_data}
+use Rattle.key_names.specs.Keys.ServedNamed.{served_in}
+use Rattle.key_names.specs.Keys.Uses.{Disjoint, IsDisjoint}
+use Rattle.key_names.specs.Kernel.Vgetrandom.{HostStep, at_point, Outcome, outcome_behind, by_batch, IsCall}
+use Rattle.key_names.specs.Kernel.VgetrandomState.{VgetrandomState, wiped_state}
+use Rattle.key_names.specs.Callers.VreadSteps.{Shows}
 use Rattle.lane_table.specs.Advances.{Climbs}
 use Rattle.vdso_state.specs.declared.place.Turn.{Turn}
 use Rattle.vdso_state.specs.declared.place.Turn.TheVariants.{First, Second}
@@ -31,7 +31,7 @@ use Rattle.rng_core.specs.Makes.{IsOutcomeOf, setting_of}
 use Rattle.rng_core.specs.Settings.{first_setting}
 use Rattle.fork_runs.specs.Stretches.{AreUnwiped, Stop, GivesBytes}
 
--- the steps of the caller's calls are those of its host
+-- the steps of the caller's calls are those of the call's host
 abbrev pub IsShown : Lists → ℕ → List HostStep → List Step → Type 0
 IsShown lists caller steps own = Shows (setting_of (first_setting caller)) steps (deeds_of lists own)
 
@@ -78,8 +78,8 @@ pub record ShowsNamed (lists : Lists) (own : StateEntries) (steps : List Step) (
   pub by : PrintsBy own steps origins
   pub shown : out ≡ served_in lists (origins_uses lists origins)
 
--- one vgetrandom state of the parent, with the entries of its whole call, and one of the child, which starts wiped,
--- with those of its end of the call
+-- one vgetrandom state of the parent, with the entries of the parent's whole call, and one of the child, which starts
+-- wiped, with the entries of the child's end of the call
 abbrev pub two_states : List VEntry → List VEntry → List (List (List VEntry))
 two_states parents childs = (parents ∷ []) ∷ (childs ∷ []) ∷ []
 
@@ -116,7 +116,7 @@ pub record AreForkedBytes (turn : Turn) (point : Point) (n : ℕ) (parent child 
   -- the child's call is one that was wiped at the point, with the parent's steps before it
   pub child_call : IsCall n 0 wiped_state (stop.before ++ at_point point true ∷ child_end.steps)
       (outcome_behind stop.entries (outcome_behind (Wipe ∷ []) child_end.outcome))
-  -- a child that gives bytes of its state read a key after the fork, in the attempt that gave them
+  -- if a child gives bytes of its state, it read a key after the fork, in the attempt that gave them
   pub child_keyed : (bytes : List ℕ) → child_end.outcome.ending ≡ by_batch bytes →
       takes_key false child_end.steps ≡ true
   -- both lines show named bytes, each from entries of its own call. No two of all these entries use the same byte of

@@ -10,8 +10,8 @@ pub fn first_attempt_comes()
     ensures { FirstAttemptComes }
 {}
 
-/// If such a call was stopped at the point Serve of its first attempt, and only higher generations are published
-/// from then on, it reaches each point of a second attempt.
+/// If a call as in `first_attempt_comes` was stopped at the point Serve of its first attempt, and only higher
+/// generations are published from then on, it reaches each point of a second attempt.
 pub fn second_attempt_comes()
     ensures { SecondAttemptComes }
 {

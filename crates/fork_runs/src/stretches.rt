@@ -1,7 +1,7 @@
 //! The parts of a call over the lanes: to a point, and to the end.
 ghost use Rattle.std.specs.Prelude.{◌≡◌, ◌<◌, ◌≤◌, true, false, [], List, length};
 ghost use Rattle.key_names.specs.declared.names.Step.{Step};
-ghost use Rattle.key_names.specs.VreadSteps.{published_by};
+ghost use Rattle.key_names.specs.Callers.VreadSteps.{published_by};
 ghost use Rattle.lane_table.specs.Calls.{view};
 ghost use Rattle.lane_table.specs.Hands.{HoldsLanes};
 ghost use Rattle.lane_table.specs.Advances.{floor};
@@ -70,8 +70,8 @@ fn run_on_host<R: Wait>(
     }
 }
 
-/// Runs a call to a point of an attempt, on a core that its caller has seen to be ready. Returns whether it is
-/// stopped there; if not, it is over and never reached the point.
+/// Runs a call to a point of an attempt, on a core that its caller has seen to be ready. Returns whether the call is
+/// stopped there; if not, the call is over and never reached the point.
 pub(crate) fn run_to<'x, R: Wait>(
     rt: &'x R,
     caller: &Caller<'x>,

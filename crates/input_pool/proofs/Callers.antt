@@ -1,10 +1,10 @@
--- For callers: which entry of the list a mix makes, and a mix with the credit after it.
+-- For callers: the entry of the list that a mix makes, alone or with a credit after it.
 use Rattle.std.proofs.Common.{◌≡◌, ◌≢◌, ℕ, ◌<◌, ◌≤◌, List, ◌++◌, arith, append_assoc, refl, ◌∙◌, w32, w64}
 use Rattle.std.proofs.lemmas.Bool.{lt-ltb, le-ltb, ne_eqb}
 use Rattle.std.specs.Int.{to_le_bytes}
 use Rattle.key_names.specs.declared.entries.PoolEntry.TheVariants.{Mix, Input}
-use Rattle.key_names.specs.InputTimer.{input_number, input_timer_after, timer_bits}
-use Rattle.key_names.specs.PoolList.{PoolState, credit, crossing, pool_step}
+use Rattle.key_names.specs.Kernel.InputTimer.{input_number, input_timer_after, timer_bits}
+use Rattle.key_names.specs.Lanes.PoolList.{PoolState, credit, crossing, pool_step}
 use Rattle.input_pool.specs.PoolStands.{PoolParts, PoolStands}
 
 -- the state after bytes were mixed, and after they were also credited
@@ -21,7 +21,7 @@ credit-none bits capped = omega arith
 pub credit-after_none : (bits more : ℕ) → credit (credit bits 0) more ≡ credit bits more
 credit-after_none bits more = omega arith
 
--- two mixes are one of both texts
+-- two mixes are one mix of the joined texts
 pub mixed-mixed : (s : PoolState) (front rest : List ℕ) → mixed (mixed s front) rest ≡ mixed s (front ++ rest)
 mixed-mixed s front rest = rw (append_assoc s.text front rest, credit-after_none s.bits 0) refl
 
@@ -34,7 +34,7 @@ PoolStands-mix pool s text bits stands = record {
   capped = omega arith;
 }
 
--- the two together cross the bound that the entry crosses
+-- a mix and the credit after it together cross the bound that their entry crosses
 pub crossing-mix : (before between after : PoolParts) (s : PoolState) (text : List ℕ) (bits : ℕ) → PoolStands before s
     → PoolStands between (mixed s text) → PoolStands after (mixed_and_credited s text bits)
     → crossing between.bits after.bits ≡ crossing s.bits (pool_step s (Mix text bits)).bits
@@ -72,7 +72,7 @@ PoolStands-timed pool s word kind code value now fresh room stands =
       capped = entry.capped;
     })
 
--- once 256 bits are credited, an input event whose value differs from the last one only mixes
+-- once 256 bits are credited, an input event with another value than the last only mixes
 pub pool_step-untimed : (s : PoolState) (word kind code value now : ℕ) → value ≢ s.value → 256 ≤ s.bits
     → pool_step s (Input word kind code value now)
     ≡ record s { text = s.text ++ input_bytes word kind code value; value = value }

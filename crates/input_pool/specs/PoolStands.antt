@@ -1,6 +1,6 @@
 -- What contracts see of a pool, and how it matches the list of its entries.
 use Rattle.std.specs.Prelude.{◌≡◌, ℕ, ◌≤◌}
-use Rattle.key_names.specs.PoolList.{PoolState, Crossing, ready, early, none}
+use Rattle.key_names.specs.Lanes.PoolList.{PoolState, Crossing, ready, early, none}
 use Rattle.blake2s_core.specs.Hash.{Hash, Stands}
 use Rattle.input_pool.specs.declared.pool.Crossing.{Crossing as Answered}
 use Rattle.input_pool.specs.declared.pool.Crossing.TheVariants.{None, Early, Ready}
@@ -10,8 +10,8 @@ pub record PoolParts : Type 0 where
   pub hash : Hash
   pub bits : ℕ
 
--- the pool matches the state of a list: its hash the key and the text, its bits the bits. The state's input value and
--- timer are kept elsewhere
+-- the pool matches the state of a list: its hash matches the key and the text, and its bits are the state's. The
+-- state's input value and timer are kept elsewhere
 pub record PoolStands (pool : PoolParts) (s : PoolState) : Type 0 where
   pub hashed : Stands pool.hash s.key s.text
   pub credited : pool.bits ≡ s.bits

@@ -1,8 +1,8 @@
 //! The hash that samples are mixed into, with the bits that they were credited with.
 
 ghost use Rattle.std.specs.Prelude.{◌≡◌, ℕ};
-ghost use Rattle.key_names.specs.Blake2s.{blake2s};
-ghost use Rattle.key_names.specs.PoolList.{PoolState, credit, crossing, pool_start, pool_step, root_of_extraction, seed_block};
+ghost use Rattle.key_names.specs.Kernel.Blake2s.{blake2s};
+ghost use Rattle.key_names.specs.Lanes.PoolList.{PoolState, credit, crossing, pool_start, pool_step, root_of_extraction, seed_block};
 ghost use Rattle.key_names.specs.declared.entries.PoolEntry.TheVariants.{Mix, Extract};
 ghost use Rattle.input_pool.specs.PoolStands.{PoolStands};
 
@@ -61,7 +61,7 @@ fn counted(seed: &[u8; 32], hw: &[u8; 32], counter: u64) -> [u8; 32]
 impl Pool {
     ghost use Rattle.input_pool.specs.PoolStands.{crossing_of};
 
-    /// A pool of no samples: an unkeyed hash of no bytes, and no bits.
+    /// A pool without samples: a hash of no bytes, without a key, and no bits.
     pub fn start() -> Pool
         ensures { PoolStands result pool_start }
     {

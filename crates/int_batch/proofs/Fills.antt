@@ -3,12 +3,12 @@ use Rattle.std.proofs.Common.{◌≡◌, ℕ, suc, ◌+◌, ◌-◌, ◌*◌, �
 use Rattle.std.specs.Prelude.{◌==◌, not, ◌||◌, slice_range}
 use Rattle.std.proofs.lemmas.Bool.{le-leb}
 use Rattle.std.proofs.lemmas.List.{drop_at, length-take-le, length-replicate}
-use Rattle.key_names.specs.Keystream.{keystream}
-use Rattle.key_names.specs.Batches.{Fill, must_fill, batched_int, with_zeros}
+use Rattle.key_names.specs.Kernel.Keystream.{keystream}
+use Rattle.key_names.specs.Kernel.Batches.{Fill, must_fill, batched_int, with_zeros}
 use Rattle.key_names.proofs.Standards.Keystreams.{length-keystream, slice_range-keystream}
 use Rattle.int_batch.specs.BatchValue.{BatchValue, start, wants, filled, next_bytes, after_serving, IsBatchOf}
 
--- a new batch has to be filled exactly if its list says so
+-- a new batch has to be filled, as a batch without a fill has
 pub wants-start : (look width : ℕ) → wants look width (start width) ≡ must_fill look width None
 wants-start look width = ap (λ (b : Bool). b || not (look == 0)) (le-leb (96 / width) (96 / width) (omega arith))
 
@@ -26,7 +26,7 @@ IsBatchOf-filled width key fill none = record {
 room : (width position : ℕ) → position < 96 / width → width * position + width ≤ 96
 room width position below = grind arith
 
--- the integer that is served is the list's
+-- the batch serves the integer that the list gives
 pub next_bytes-batched_int : (width : ℕ) (key : List ℕ) (fill : Fill) (b : BatchValue) → IsBatchOf width key fill b →
     fill.count < 96 / width → next_bytes width b ≡ batched_int key width fill.count
 next_bytes-batched_int width key fill b is below =
@@ -38,7 +38,7 @@ next_bytes-batched_int width key fill b is below =
     ∙ slice_range-keystream key 32 96 from (from + width) (omega arith) fits
     ∙ ap (keystream key (32 + from)) len
 
--- the batch that is left is one of the same key
+-- the batch that is left has bytes of the same key
 length_front : (from width : ℕ) (bytes : List ℕ) → from ≤ length bytes →
     length (take from bytes ++ replicate width 0) ≡ from + width
 length_front from width bytes within =

@@ -1,7 +1,7 @@
 -- What contracts see of a batch, and how its calls change it.
 use Rattle.std.specs.Prelude.{ℕ, ◌≡◌, ◌+◌, ◌*◌, ◌/◌, Bool, Some, None, MatchBool, List, length, drop, replicate, slice_range}
-use Rattle.key_names.specs.Keystream.{keystream}
-use Rattle.key_names.specs.Batches.{Fill, must_fill, with_zeros}
+use Rattle.key_names.specs.Kernel.Keystream.{keystream}
+use Rattle.key_names.specs.Kernel.Batches.{Fill, must_fill, with_zeros}
 
 pub record BatchValue : Type 0 where
   -- 96 bytes

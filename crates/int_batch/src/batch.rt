@@ -43,8 +43,8 @@ impl<const W: usize> Batch<W> {
         }
     }
 
-    /// Whether the batch has to be filled before an integer is served at generation `g`: it is used up, or
-    /// its generation is another.
+    /// Whether the batch has to be filled before an integer is served at generation `g`: it is used up, or it has
+    /// another generation.
     pub fn wants(&self, g: u64) -> bool
         ensures { result ≡ wants g W self.now }
     {
@@ -76,8 +76,8 @@ impl<const W: usize> Batch<W> {
 
     /// Serves the next integer at generation `g`. If the batch has to be filled, `fill` makes new bytes first;
     /// otherwise it is not called. This is [`Batch::wants`], [`Batch::refill`] and [`Batch::serve`] in one, for callers
-    /// of this crate alone. If a proof needs the state that `fill` left in its captures, the caller calls the three
-    /// instead, as the core does.
+    /// that use this crate without the lanes. If a proof needs the state that `fill` left in its captures, the caller
+    /// calls the three instead, as the core does.
     pub fn next<F: FnOnce(&mut [u8; 96])>(&mut self, g: u64, fill: F) -> [u8; W]
         requires { IsTrue (wants g W self.old) → F.IsAlwaysCallable fill }
         ensures { ServesAt W g (FnOnceReturnsAtMut F.FnOnce fill self.old.bytes tt) self.old result self.new }

@@ -3,7 +3,7 @@ use Rattle.std.proofs.Common.{◌≡◌, ℕ, ◌+◌, List, ◌++◌, length, t
 use Rattle.std.proofs.lemmas.List.{take-append-drop, drop-drop}
 use Rattle.std.proofs.Math.Seq.{take-append_seam}
 
--- the bytes that a buffer got, and then the bytes that are left
+-- the bytes left before a call are those that it took, and then those left after it
 pub front_and_rest : (bytes front behind : List ℕ) (at n : ℕ) → length front ≡ n → front ≡ take n (drop at bytes)
     → drop at bytes ≡ take n (front ++ behind) ++ drop (at + n) bytes
 front_and_rest bytes front behind at n len is =

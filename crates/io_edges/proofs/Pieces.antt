@@ -6,7 +6,7 @@ use Rattle.std.proofs.KnownBytes.{Appends-trans, Consumes-kept, Consumes-trans}
 use Rattle.std.proofs.lemmas.List.{length-append}
 use Rattle.io_edges.specs.Pieces.{AppendsPrefix, ConsumesUpTo}
 
--- the first n bytes of a text, and m bytes of its rest
+-- if the first n bytes of a text were appended, and then m bytes of its rest, the first n + m bytes were appended
 pub Appends-next : (a b c : Option (List ℕ)) (text rest : List ℕ) (n m : ℕ)
     → Appends a b (take n text) → rest ≡ drop n text → Appends b c (take m rest)
     → Appends a c (take (n + m) text)

@@ -17,8 +17,8 @@ pub trait Source {
     ghost faults: { Self → ℕ };
 
     /// Takes bytes from the front of the input into the front of `buf`, and returns how many. If it returns 0 for a
-    /// buffer that is not empty, the input is at its end. The bytes of `buf` after those taken are unspecified, and
-    /// after a failure all of them.
+    /// buffer that is not empty, the input is at its end. The rest of `buf` is unspecified, and after a failure all of
+    /// `buf`.
     ///
     /// # Errors
     ///
@@ -43,8 +43,8 @@ pub trait Sink {
     /// How often it has failed. The count rises only with a failure, and stops at `u64::MAX`.
     ghost faults: { Self → ℕ };
 
-    /// Appends the front of `piece`, and returns how many bytes. Of a piece that is not empty it appends at least
-    /// one.
+    /// Appends the front of `piece`, and returns how many bytes. It appends at least one byte if the piece is not
+    /// empty.
     ///
     /// # Errors
     ///

@@ -4,8 +4,8 @@ use std::sync::Wait;
 
 /// The hook before each event of a caller.
 pub trait Gate: Sync {
-    /// Is called before each event, with the caller and the place of the event in its list. A caller's end has no
-    /// call (tested).
+    /// The run calls this before each event, with the caller and the event's place in the caller's list. It does not
+    /// call it before a caller's end (tested).
     fn before<R: Wait>(&self, rt: &R, caller: u32, event: u32);
 }
 

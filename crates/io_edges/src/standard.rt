@@ -31,7 +31,7 @@ impl<I: Read + Drop> Source for StdSource<I> {
 
     ghost faults = { λ s. s.faults };
 
-    // It retries a read that a signal interrupts. After 2^64 - 1 tries that is a fault.
+    // It retries a read that a signal interrupts. After 2^64 - 1 interrupted tries it counts a fault.
     fn take(&mut self, buf: &mut [u8]) -> Result<usize, Failed>
         // It counts a fault if and only if the call fails.
         ensures not_counted { OnOk result (source_faults self.new ≡ source_faults self.old) }
@@ -85,8 +85,8 @@ impl<O: Write + Drop> Sink for StdSink<O> {
 
     ghost faults = { λ s. s.faults };
 
-    // It retries a write that a signal interrupts. A write that takes no byte of a piece that is not empty is a
-    // fault: a caller that goes on after short puts would never end.
+    // It retries a write that a signal interrupts. A write that takes no byte is a fault unless the piece is empty: a
+    // caller that puts until all is written would never end.
     fn put(&mut self, piece: &[u8]) -> Result<usize, Failed>
         // It counts a fault if and only if the call fails.
         ensures not_counted { OnOk result (sink_faults self.new ≡ sink_faults self.old) }

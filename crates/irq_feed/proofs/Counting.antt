@@ -20,7 +20,7 @@ sum_more zero g h e = omega arith
 sum_more (suc n) g h e =
     (let a = sum_more n g h (λ f low. e f (omega arith)) in let b = e n (omega arith) in omega arith)
 
--- terms that are at most others, with the same sum, equal the others
+-- if each term of one sum is at most that of the other, and the sums are equal, the terms are equal
 pub sum_tight : (n : ℕ) (g h : ℕ → ℕ) → ((f : ℕ) → f < n → g f ≤ h f) → sum_below n g ≡ sum_below n h
     → (f : ℕ) → f < n → g f ≡ h f
 sum_tight zero g h e s f low = absurd (omega arith)
@@ -107,7 +107,7 @@ first_length s f (suc n) =
     (let a = first_length s f n in
     length-append (first_samples s f n) (sample s f n ∷ []) ∙ (let b = a in omega arith))
 
--- first samples are all of their own feeder
+-- the first samples of a feeder are all of that feeder
 pub first_own : (s : Numbers) (f n : ℕ) → of_feeder f (first_samples s f n) ≡ first_samples s f n
 first_own s f zero = refl
 first_own s f (suc n) =
@@ -122,7 +122,7 @@ first_else s f g (suc n) differ =
     ∙ ap (λ l. l ++ of_feeder g (sample s f n ∷ [])) (first_else s f g n differ)
     ∙ of_else (sample s f n) [] g differ
 
--- a prefix of first samples that is as long as all of them is all of them
+-- a prefix that is as long as the whole list is the whole list
 pub front_whole : (xs ys all : List Sample) → xs ++ ys ≡ all → length all ≤ length xs → xs ≡ all
 front_whole xs [] all e long = sym (append-nil xs) ∙ e
 front_whole xs (y ∷ ys) all e long =

@@ -8,8 +8,8 @@ use Rattle.key_names.specs.declared.names.LaneId.{LaneId}
 use Rattle.key_names.specs.declared.names.LaneId.TheVariants.{Pool as PoolLane, Base as BaseLane, Cpu as CpuLane}
 use Rattle.key_names.specs.declared.names.Mark.{Mark}
 use Rattle.key_names.specs.declared.names.Step.{Step}
-use Rattle.key_names.specs.IsTranscript.{MarkBy, PlacesStand, VisitsAre, is_same_lane, lane_marks, marks_from}
-use Rattle.key_names.specs.PlacesInOrder.{ByStamp, InOrder}
+use Rattle.key_names.specs.Transcripts.IsTranscript.{MarkBy, PlacesStand, VisitsAre, is_same_lane, lane_marks, marks_from}
+use Rattle.key_names.specs.Transcripts.PlacesInOrder.{ByStamp, InOrder}
 use Rattle.key_names.proofs.Lists.Each.{each_weaker}
 use Rattle.key_names.proofs.Transcripts.PlacesInOrder.{places_count_up}
 use Rattle.lane_table.specs.declared.view.View.{View}
@@ -91,7 +91,7 @@ in_lane w lane (by ∷ marks) all = go (nat_eq (index_of by.mark.lane) lane) ref
         ((m.visit, there, m.stamped), rest)
     go false is rest = rest
 
--- a lane's marks by its number
+-- two lanes are the same if and only if their numbers are
 same_lane : (a b : LaneId) → is_same_lane a b ≡ nat_eq (index_of a) (index_of b)
 same_lane PoolLane PoolLane = refl
 same_lane PoolLane BaseLane = refl

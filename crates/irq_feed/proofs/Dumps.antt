@@ -13,8 +13,8 @@ use Rattle.key_names.specs.declared.entries.PoolEntry.{PoolEntry}
 use Rattle.key_names.specs.declared.entries.PoolEntry.TheVariants.{Mix}
 use Rattle.key_names.specs.declared.entries.CpuEntry.{CpuEntry}
 use Rattle.key_names.specs.declared.entries.CpuEntry.TheVariants.{Dump}
-use Rattle.key_names.specs.FastPool.{FastPool, fast_after, fast_after_irq, fast_start, fast_step, makes_due, count_next, in_flight, dump_bits}
-use Rattle.key_names.specs.PoolList.{PoolState, credit, pool_after, pool_start, pool_step}
+use Rattle.key_names.specs.Kernel.FastPool.{FastPool, fast_after, fast_after_irq, fast_start, fast_step, makes_due, count_next, in_flight, dump_bits}
+use Rattle.key_names.specs.Lanes.PoolList.{PoolState, credit, pool_after, pool_start, pool_step}
 use Rattle.irq_feed.specs.declared.samples.Sample.{Sample}
 use Rattle.irq_feed.specs.TableFeed.{dumps_in, irq_entry, irq_here, irqs_in}
 
@@ -52,7 +52,7 @@ none_dumped = record {
   bits = refl;
 }
 
--- the sums of the samples
+-- the number of samples gives the number of dumps
 pub dumps_are : (samples : List Sample) (cpu : List CpuEntry) (pool : List PoolEntry) (d : Dumped samples cpu pool) →
     length samples / 1024 ≡ d.q
 dumps_are samples cpu pool d = ap (λ n. n / 1024) d.many ∙ div-mul-add d.q 1024 d.r d.low
@@ -118,7 +118,7 @@ module _ (samples : List Sample) (cpu : List CpuEntry) (pool : List PoolEntry) (
       ∙ ap (λ n. n + in_flight) (more_count f d.r d.count d.low ∙ last_one) in
       ap (λ c. max 1 (min 128 (c % 2 ^ 16 / 64))) count
 
-  -- the bits after a dump's credit, for any threshold that it crosses
+  -- after q dumps the pool has 16 q bits, capped at 256: the credit of one more dump adds 16 bits, up to that cap
   credit_more : (q : ℕ) → credit (min 256 (16 * q)) 16 ≡ min 256 (16 * (q + 1))
   credit_more q = elim (leb_tells (16 * q) 256) [
     | inl low ↦ (let under : 16 * q ≤ 256 = low.1 in

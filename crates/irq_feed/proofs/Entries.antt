@@ -10,10 +10,10 @@ use Rattle.key_names.specs.declared.names.Step.TheVariants.{Look, Visit as Marke
 use Rattle.key_names.specs.declared.entries.PoolEntry.{PoolEntry}
 use Rattle.key_names.specs.declared.entries.BaseEntry.{BaseEntry}
 use Rattle.key_names.specs.declared.entries.CpuEntry.{CpuEntry}
-use Rattle.key_names.specs.Book.{Lists, cpu_list}
-use Rattle.key_names.specs.Deeds.{Deed, looked, at_pool, at_base, at_cpu, nothing_there, deed_or, deed_at, deeds_of, pool_visit, base_visit, cpu_visit}
-use Rattle.key_names.specs.IsTranscript.{marks_from}
-use Rattle.key_names.specs.PlacesInOrder.{InOrder}
+use Rattle.key_names.specs.Lanes.Book.{Lists, cpu_list}
+use Rattle.key_names.specs.Callers.Deeds.{Deed, looked, at_pool, at_base, at_cpu, nothing_there, deed_or, deed_at, deeds_of, pool_visit, base_visit, cpu_visit}
+use Rattle.key_names.specs.Transcripts.IsTranscript.{marks_from}
+use Rattle.key_names.specs.Transcripts.PlacesInOrder.{InOrder}
 use Rattle.lane_table.specs.LaneNumbers.{index_of}
 use Rattle.rng_core.proofs.Courses.{lane_of}
 
@@ -83,7 +83,7 @@ one_seen es m e ms xs there rest = record {
   many = ap suc rest.many;
 }
 
--- a list is longer by the entry after a prefix
+-- a prefix of a list can be extended by the list's next entry
 pub next_entry : {E : Type 0} (es front rest : List E) (e : E) → es ≡ front ++ rest →
     slice_get es (length front) ≡ Some e → (more : List E) × (es ≡ (front ++ e ∷ []) ++ more)
 next_entry {E = E} es front rest e is there =

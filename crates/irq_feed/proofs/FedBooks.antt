@@ -13,16 +13,16 @@ use Rattle.key_names.specs.declared.entries.CpuEntry.{CpuEntry}
 use Rattle.key_names.specs.declared.entries.CpuEntry.TheVariants.{Dump}
 use Rattle.key_names.specs.declared.events.Event.TheVariants.{Irq as IrqEvent}
 use Rattle.key_names.specs.declared.events.Answer.TheVariants.{Ok as Done}
-use Rattle.key_names.specs.SeenLine.{no_data}
-use Rattle.key_names.specs.Book.{Book, Lists, LawfulLanes, lists_of, cpu_list}
-use Rattle.key_names.specs.Calls.{Setting as CallSetting}
-use Rattle.key_names.specs.Deeds.{Deed, PoolVisit, BaseVisit, CpuVisit, at_pool, at_base, at_cpu, deeds_of}
-use Rattle.key_names.specs.FastPool.{FastPool, fast_after, makes_due, dump_bits, dump_bytes}
-use Rattle.key_names.specs.Forms.{Rooted, BaseOnly, Cross, DumpForm, IrqForm}
-use Rattle.key_names.specs.IsTranscript.{MarkBy, VisitsAre, marks_from}
-use Rattle.key_names.specs.LineSamples.{SamplesStand, Dumps, IsQuiet, IsCrossing, EntryIsQuiet}
-use Rattle.key_names.specs.PoolList.{Crossing, crossing, ready, early, none, PoolState, pool_step}
-use Rattle.key_names.specs.Samples.{MakesDue}
+use Rattle.key_names.specs.Transcripts.SeenLine.{no_data}
+use Rattle.key_names.specs.Lanes.Book.{Book, Lists, LawfulLanes, lists_of, cpu_list}
+use Rattle.key_names.specs.Callers.Calls.{Setting as CallSetting}
+use Rattle.key_names.specs.Callers.Deeds.{Deed, PoolVisit, BaseVisit, CpuVisit, at_pool, at_base, at_cpu, deeds_of}
+use Rattle.key_names.specs.Kernel.FastPool.{FastPool, fast_after, makes_due, dump_bits, dump_bytes}
+use Rattle.key_names.specs.Callers.Forms.{Rooted, BaseOnly, Cross, DumpForm, IrqForm}
+use Rattle.key_names.specs.Transcripts.IsTranscript.{MarkBy, VisitsAre, marks_from}
+use Rattle.key_names.specs.Callers.LineSamples.{SamplesStand, Dumps, IsQuiet, IsCrossing, EntryIsQuiet}
+use Rattle.key_names.specs.Lanes.PoolList.{Crossing, crossing, ready, early, none, PoolState, pool_step}
+use Rattle.key_names.specs.Lanes.Samples.{MakesDue}
 use Rattle.key_names.proofs.Uses.BookUses.{lawful_is_disjoint}
 use Rattle.lane_table.specs.declared.view.View.{View}
 use Rattle.lane_table.specs.declared.view.Visit.{Visit}

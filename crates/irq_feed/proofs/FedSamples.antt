@@ -9,12 +9,12 @@ use Rattle.key_names.specs.declared.events.Answer.TheVariants.{Ok as Done}
 use Rattle.key_names.specs.declared.events.Word.TheVariants.{Irq as IrqWord}
 use Rattle.key_names.specs.declared.names.LaneId.{LaneId}
 use Rattle.key_names.specs.declared.names.Step.{Step}
-use Rattle.key_names.specs.Book.{Book, Visit as BookVisit, lists_of}
-use Rattle.key_names.specs.Deeds.{deeds_of}
-use Rattle.key_names.specs.IsTranscript.{MarkBy, PlacesStand, VisitsAre, all_marks, lane_marks, line_marks, marks_from}
-use Rattle.key_names.specs.LineSamples.{SamplesStand}
-use Rattle.key_names.specs.Samples.{LawfulSamples, fast_before, visits_of}
-use Rattle.key_names.specs.SeenLine.{SeenLine, no_data}
+use Rattle.key_names.specs.Lanes.Book.{Book, Visit as BookVisit, lists_of}
+use Rattle.key_names.specs.Callers.Deeds.{deeds_of}
+use Rattle.key_names.specs.Transcripts.IsTranscript.{MarkBy, PlacesStand, VisitsAre, all_marks, lane_marks, line_marks, marks_from}
+use Rattle.key_names.specs.Callers.LineSamples.{SamplesStand}
+use Rattle.key_names.specs.Lanes.Samples.{LawfulSamples, fast_before, visits_of}
+use Rattle.key_names.specs.Transcripts.SeenLine.{SeenLine, no_data}
 use Rattle.key_names.proofs.History.SortedVisits.{IsIn}
 use Rattle.key_names.proofs.Samples.Lines.{Apart}
 use Rattle.key_names.proofs.Samples.SampleLaw.{samples_lawful}

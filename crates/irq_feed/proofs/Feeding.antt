@@ -160,7 +160,7 @@ has_pass q feeds n owed w w' m near h of_queue is = (
   },
 )
 
--- after the flag of feeder n is written, n has the new flag and the feeders below it keep theirs
+-- after the flag of feeder n is written, n has the new flag and the feeders below n keep theirs
 pub now_is : (ds : List Bool) (n : ℕ) (b : Bool) → n < length ds → slice_index_or (set ds n b) n false ≡ b
 now_is ds n b low = get_or-set_same ds n b false low
 
@@ -200,7 +200,7 @@ module _ (q : FeedQueue) (feeds : Numbers) (n owed : ℕ) (w : FeedPass) (m m' :
     room = subst (λ v. feeds.feeders * feeds.each ≤ vec_capacity v) (sym samples) h.1.room;
   }
 
--- the feeder has a thread
+-- after a feeder got its thread, the next feeder can start
 pub in_thread : (q : FeedQueue) (feeds : Numbers) (n owed owed' : ℕ) (w : FeedPass) (m m' : Mixed)
     → CanTakeBack q feeds n owed w m → m'.samples ≡ m.samples → is_direct m' n ≡ false
     → ((f : ℕ) → f < n → is_direct m' f ≡ is_direct m f) → owed' ≡ owed + feeds.each
@@ -209,7 +209,7 @@ in_thread q feeds n owed owed' w m m' h samples here same more =
     goes_on q feeds n owed w m m' false h samples here same owed' w h.1.ends more h.1.of_queue h.1.knows h.1.direct
     (λ e. absurd (true≢false (sym e)))
 
--- the worker called the feeder's closure
+-- after the worker called a feeder's closure, the next feeder can start
 pub taken_back : (q : FeedQueue) (feeds : Numbers) (n owed owed' pushed : ℕ) (w w' x : FeedPass) (m m' : Mixed) (b : Bool)
     → CanTakeBack q feeds n owed w m → m'.samples ≡ m.samples → is_direct m' n ≡ b
     → ((f : ℕ) → f < n → is_direct m' f ≡ is_direct m f)
@@ -234,7 +234,7 @@ owed_small q feeds n next owed w m h =
     at_most_each true = omega arith
     at_most_each false = omega arith
 
--- the list has room for all of them
+-- the list has room for all samples from the queue
 pub owed_room : (q : FeedQueue) (feeds : Numbers) (n owed : ℕ) (w : FeedPass) (m : Mixed)
     → n ≡ feeds.feeders → HasBegun q feeds n n owed w m → owed ≤ vec_capacity m.samples
 owed_room q feeds n owed w m all h =
@@ -301,7 +301,7 @@ firsts_direct d feeds n zero is = tt
 firsts_direct d feeds n (suc k) is =
     all_behind d (first_samples feeds n k) (sample feeds n k ∷ []) (firsts_direct d feeds n k is) (is, tt)
 
--- the done samples of all other feeders are the same one number further
+-- one number further, the done samples of all other feeders are the same
 done_else : (feeds : Numbers) (d : ℕ → Bool) (n f : ℕ) → f ≢ n → done_so_far feeds d (n + 1) f ≡ done_so_far feeds d n f
 done_else feeds d n f differ = ap (λ b. cond (nat_lt f feeds.feeders) (cond (d f && not b) [] (first_samples feeds f feeds.each)) [])
     (⊎_elim (λ low. lt-ltb f (n + 1) (omega arith) ∙ sym (lt-ltb f n low))

@@ -5,10 +5,10 @@ use Rattle.key_names.specs.declared.names.Step.{Step}
 use Rattle.key_names.specs.declared.names.Step.TheVariants.{Look, Visit as Marked}
 use Rattle.key_names.specs.declared.entries.CpuEntry.{CpuEntry}
 use Rattle.key_names.specs.declared.entries.CpuEntry.TheVariants.{Irq}
-use Rattle.key_names.specs.Calls.{Setting}
-use Rattle.key_names.specs.PoolList.{Crossing, ready, early, none}
-use Rattle.key_names.specs.Deeds.{Deed, looked, at_pool, at_base, at_cpu, nothing_there, deed_of, deeds_of}
-use Rattle.key_names.specs.Forms.{Rooted, BaseOnly, Cross, DumpForm, IrqForm}
+use Rattle.key_names.specs.Callers.Calls.{Setting}
+use Rattle.key_names.specs.Lanes.PoolList.{Crossing, ready, early, none}
+use Rattle.key_names.specs.Callers.Deeds.{Deed, looked, at_pool, at_base, at_cpu, nothing_there, deed_of, deeds_of}
+use Rattle.key_names.specs.Callers.Forms.{Rooted, BaseOnly, Cross, DumpForm, IrqForm}
 use Rattle.key_names.specs.declared.entries.BaseEntry.{BaseEntry}
 use Rattle.key_names.specs.declared.entries.BaseEntry.TheVariants.{Early, Reseed as Reseeded}
 use Rattle.std.specs.Prelude.{Some, None}
@@ -56,7 +56,7 @@ mixes_then set event (x ∷ xs) ys v u w before after = (
       subst (λ n. Mixes set n ys u w) e after),
 )
 
--- the same, from the first event on
+-- interrupts that follow others are successive ones, numbered from the first event on
 pub mixes_on : (set : Called) (xs ys zs : List Sample) (v u w : View) → zs ≡ xs ++ ys → Mixes set (length xs) ys u w
     → Mixes set 0 xs v u → Mixes set 0 zs v w
 mixes_on set xs ys zs v u w is after before = subst (λ l. Mixes set 0 l v w) (sym is)
@@ -77,7 +77,7 @@ one_more set v₀ v₁ v₂ xs ys x v u w worker before popped is mixes last = (
     took (Feeder p) worker e = absurd worker
     took Nobody worker e = absurd worker
 
--- one more sample of a direct feeder
+-- the worker mixed one more sample of a direct feeder
 pub direct_more : (set : Called) (feeds : Numbers) (number index : ℕ) (xs ys zs : List Sample) (x : Sample)
     (v u w : View) → ys ≡ xs ++ first_samples feeds number index → zs ≡ ys ++ x ∷ [] → x ≡ sample feeds number index
     → Mixes set (length xs) (first_samples feeds number index) v u → Interrupted set (length ys) x u w

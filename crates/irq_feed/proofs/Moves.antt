@@ -20,7 +20,7 @@ use Rattle.irq_feed.proofs.Changes.{same_or_not, changed, changed_here, changed_
 
 -- ---- lists of views
 
--- a list with one more element at its end
+-- an element of a list with one more at its end is an old element or the new one
 at_more : (l : List Known) (a u : Known) (j : ℕ) → get_elem? (l ++ a ∷ []) j ≡ some u
     → (get_elem? l j ≡ some u) ⊎ ((j ≡ length l) × (a ≡ u))
 at_more [] a u zero e = inr (refl, some-injective a u e)
@@ -55,7 +55,7 @@ of_one x f e = ap (λ b. cond b (x ∷ []) []) (eq-eqb x.feeder f e)
 of_none : (x : Sample) (f : ℕ) → x.feeder ≢ f → of_feeder f (x ∷ []) ≡ []
 of_none x f other = ap (λ b. cond b (x ∷ []) []) (ne_eqb x.feeder f other)
 
--- one more sample after all others
+-- after one more sample at the end, each feeder's samples are still its first ones
 ordered_more : (feeds : Numbers) (pushed : ℕ → ℕ) (xs : List Sample) (x : Sample) (number : ℕ)
     → ((f : ℕ) → of_feeder f xs ≡ first_samples feeds f (pushed f)) → x ≡ sample feeds number (pushed number)
     → (f : ℕ) → of_feeder f (xs ++ x ∷ []) ≡ first_samples feeds f (changed pushed number (suc (pushed number)) f)
@@ -78,7 +78,7 @@ ordered_more feeds pushed xs x number before is f =
 
 -- ---- the feeders that ended
 
--- the worker's knowledge of them stays right if none of them changes
+-- the worker's knowledge of the feeders that ended stays right if none of them changes
 ends_kept : (next next' : ℕ) (seat seat' : ℕ → Option ℕ) (pushed pushed' : ℕ → ℕ) (es : List Ended) → next ≤ next'
     → ((f : ℕ) → f < next → seat f ≡ None → (seat' f ≡ None) × (pushed' f ≡ pushed f))
     → AllByRecursion (HasEnded next seat pushed) es → AllByRecursion (HasEnded next' seat' pushed') es

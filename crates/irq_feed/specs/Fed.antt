@@ -91,7 +91,7 @@ pub record HasBegun (queue : FeedQueue) (feeds : Numbers) (number next owed : �
 abbrev pub CanStart : FeedQueue → Numbers → ℕ → ℕ → FeedPass → Mixed → Type 0
 CanStart queue feeds number owed worker m = HasBegun queue feeds number number owed worker m
 
--- the same, after the feeder with this number got its pass
+-- as `HasBegun`, except that the feeder with this number already got its pass
 abbrev pub CanTakeBack : FeedQueue → Numbers → ℕ → ℕ → FeedPass → Mixed → Type 0
 CanTakeBack queue feeds number owed worker m =
     (number < feeds.feeders) × HasBegun queue feeds number (number + 1) owed worker m

@@ -6,8 +6,8 @@ use Rattle.key_names.specs.declared.entries.CpuEntry.{CpuEntry}
 use Rattle.key_names.specs.declared.entries.CpuEntry.TheVariants.{Read, Int, Irq, Dump, Prepare, Online}
 use Rattle.key_names.specs.declared.events.Event.TheVariants.{Irq as IrqEvent}
 use Rattle.key_names.specs.declared.events.Answer.TheVariants.{Ok as Done}
-use Rattle.key_names.specs.SeenLine.{no_data}
-use Rattle.key_names.specs.Deeds.{Deed, looked, at_pool, at_base, at_cpu, nothing_there, deeds_of}
+use Rattle.key_names.specs.Transcripts.SeenLine.{no_data}
+use Rattle.key_names.specs.Callers.Deeds.{Deed, looked, at_pool, at_base, at_cpu, nothing_there, deeds_of}
 use Rattle.lane_table.specs.declared.view.Visit.{Visit}
 use Rattle.lane_table.specs.declared.view.View.{View}
 use Rattle.lane_table.specs.LaneNumbers.{index_of}
@@ -30,7 +30,7 @@ pub record Interrupted (set : Setting) (event : ℕ) (x : Sample) (v w : View) :
   pub did : MakesIn (Sampled (IsOutcomeOf (setting_of set) (IrqEvent x.v1 x.v2) Done no_data)) (in_event set event)
       (knowing v []) (knowing w steps)
 
--- from v to w it made one interrupt for each sample, in order, in events numbered from this one on
+-- from v to w the pass made one interrupt for each sample, in order, in events numbered from this one on
 abbrev pub Mixes : Setting → ℕ → List Sample → View → View → Type 0
 Mixes set event [] v w = w ≡ v
 Mixes set event (x ∷ xs) v w = (u : View) × Interrupted set event x v u × Mixes set (suc event) xs u w

@@ -12,7 +12,7 @@ numbers = feeds.numbers
 abbrev pub sample : Numbers → ℕ → ℕ → Sample
 sample s feeder i = record { feeder = feeder; index = i; v1 = s.start + i; v2 = feeder }
 
--- its first n samples
+-- the first n samples of a feeder
 abbrev pub first_samples : Numbers → ℕ → ℕ → List Sample
 first_samples s feeder zero = []
 first_samples s feeder (suc n) = first_samples s feeder n ++ sample s feeder n ∷ []

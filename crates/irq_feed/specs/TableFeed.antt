@@ -1,17 +1,17 @@
--- Feeders on a new table: the visits of its lanes after them, and their numbers.
+-- Feeders on a new table: the visits of its lanes after the feeders, and the numbers of samples, dumps and bits.
 use Rattle.std.specs.Prelude.{◌≡◌, ◌<◌, ◌*◌, ◌/◌, ◌+◌, ◌++◌, ℕ, suc, min, List, [], ◌∷◌, length, map}
 use Rattle.key_names.specs.declared.names.Step.{Step}
 use Rattle.key_names.specs.declared.entries.CpuEntry.{CpuEntry}
 use Rattle.key_names.specs.declared.entries.CpuEntry.TheVariants.{Read, Int, Irq, Dump, Prepare, Online}
 use Rattle.key_names.specs.declared.events.Event.TheVariants.{Irq as IrqEvent}
 use Rattle.key_names.specs.declared.events.Answer.TheVariants.{Ok as Done}
-use Rattle.key_names.specs.Samples.{LawfulSamples}
-use Rattle.key_names.specs.SeenLine.{no_data}
-use Rattle.key_names.specs.PoolList.{pool_after}
-use Rattle.key_names.specs.Deeds.{deeds_of}
-use Rattle.key_names.specs.Book.{Book, Lists, LawfulLanes, lists_of, cpu_list}
-use Rattle.key_names.specs.IsTranscript.{MarkBy, VisitsAre, marks_from}
-use Rattle.key_names.specs.Uses.{IsDisjoint}
+use Rattle.key_names.specs.Lanes.Samples.{LawfulSamples}
+use Rattle.key_names.specs.Transcripts.SeenLine.{no_data}
+use Rattle.key_names.specs.Lanes.PoolList.{pool_after}
+use Rattle.key_names.specs.Callers.Deeds.{deeds_of}
+use Rattle.key_names.specs.Lanes.Book.{Book, Lists, LawfulLanes, lists_of, cpu_list}
+use Rattle.key_names.specs.Transcripts.IsTranscript.{MarkBy, VisitsAre, marks_from}
+use Rattle.key_names.specs.Keys.Uses.{IsDisjoint}
 use Rattle.lane_table.specs.Advances.{Climbs}
 use Rattle.rng_core.specs.Makes.{IsOutcomeOf, setting_of}
 use Rattle.rng_core.specs.Settings.{first_setting}
@@ -61,8 +61,8 @@ dumps_in (e ∷ es) = dump_here e + dumps_in es
 abbrev pub irq_entry : Sample → CpuEntry
 irq_entry x = Irq x.v1 x.v2 0
 
--- a table's book with one CPU: it and its samples are lawful, and it is disjoint. Its visits are exactly those of
--- one call for each sample, call after call
+-- the book of a table with one CPU: the book and its samples are lawful, and the book is disjoint. Its visits are
+-- exactly those of one call for each sample, call after call
 pub record IsFedBook (samples : List Sample) (book : Book) : Type 0 where
   pub cpus : length book.cpus ≡ 1
   pub lawful : LawfulLanes (lists_of book)

@@ -55,7 +55,7 @@ impl Lesson<Sample, Known> for Told {
     ghost fact = { Learns };
 }
 
-/// A pass for the next feeder is split off the worker's, and taken in again.
+/// A pass for the next feeder is split off the worker's pass, and taken in again.
 struct Next;
 
 impl Split<Known> for Next {

@@ -60,7 +60,7 @@ pub fn feed<'a, R: Threads + Wait + Sync, G: Gate>(
     feed_by(rt, alloc, intake, pass, worker, Feeders::InThreads)
 }
 
-/// The same, with a choice of where the feeders run.
+/// As [`feed`], with a choice of where the feeders run.
 ///
 /// # Errors
 ///

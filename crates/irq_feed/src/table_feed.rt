@@ -16,7 +16,7 @@ use std::thread::Threads;
 /// The number of samples after which a CPU dumps them into the pool.
 const DUMP_AT: u32 = 1024;
 
-/// The credit of such a dump, in bits.
+/// The credit of a dump after that many samples, in bits.
 const DUMP_BITS: u32 = 16;
 
 /// The most bits of the pool.

@@ -1,12 +1,12 @@
--- One mark more, after the marks of its lane.
+-- One more mark is added after the marks of its lane.
 use Rattle.std.proofs.Common.{◌≡◌, ◌<◌, ◌+◌, ℕ, zero, suc, Bool, true, false, List, [], ◌∷◌, ◌++◌, length, get_or, refl, sym, ap, ◌∙◌, append-nil, length-append, arith}
 use Rattle.std.specs.Prelude.{◌==◌, if◌then◌else◌, slice_set}
 use Rattle.std.specs.Global.{Vec}
 use Rattle.std.proofs.lemmas.Bool.{eq-eqb, eqb-true}
-use Rattle.key_names.specs.Book.{list_at}
-use Rattle.key_rows.specs.declared.moments.Moment.{Moment}
-use Rattle.key_rows.specs.declared.moments.Moments.{Moments}
-use Rattle.key_rows.specs.Cut.{moment_lists}
+use Rattle.key_names.specs.Lanes.Book.{list_at}
+use Rattle.audit_keys.specs.declared.moments.Moment.{Moment}
+use Rattle.audit_keys.specs.declared.moments.Moments.{Moments}
+use Rattle.audit_keys.specs.Cut.{moment_lists}
 use Rattle.key_audit.specs.Moments.{HasMarks}
 
 set_here : (cpus : List (Vec Moment)) (k : ℕ) (lane : Vec Moment) → k < length cpus →
@@ -29,7 +29,7 @@ was_here [] k d low = absurd (omega arith)
 was_here (x ∷ cpus) zero d low = refl
 was_here (x ∷ cpus) (suc k) d low = was_here cpus k d (omega arith)
 
--- one moment more on one CPU
+-- one more moment is added on one CPU
 pub one_more : (cpus : List (Vec Moment)) (k : ℕ) (old lane : Vec Moment) (m : Moment) → k < length cpus →
     old ≡ get_or cpus k old → lane.items ≡ old.items ++ m ∷ [] → (c : ℕ) →
     list_at (moment_lists (slice_set cpus k lane)) c
@@ -48,7 +48,7 @@ one_more cpus k old lane m low was more c = go (k == c) refl
         set_there cpus k c lane (λ e. (let t : (k == c) ≡ true = eq-eqb k c e in cc))
         ∙ sym (append-nil (list_at (moment_lists cpus) c))
 
--- one CPU more without visits
+-- one more CPU without visits is added
 no_more : (cpus : List (Vec Moment)) (lane : Vec Moment) → lane.items ≡ [] →
     ((c : ℕ) → c < length cpus → list_at (moment_lists cpus) c ≡ []) → (c : ℕ) →
     list_at (moment_lists (cpus ++ lane ∷ [])) c ≡ []

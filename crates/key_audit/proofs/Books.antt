@@ -1,38 +1,38 @@
--- The kept parts of a transcript are those of the book that its steps make.
+-- The kept parts of a transcript are those of the book that the transcript's steps make.
 use Rattle.std.proofs.Common.{◌≡◌, ℕ, List, map, sym, ap, subst, ◌∙◌}
 use Rattle.std.specs.Prelude.{IsPermutation}
 use Rattle.std.specs.Global.{Vec}
-use Rattle.key_names.specs.Book.{Book, lists_of}
-use Rattle.key_names.specs.Calls.{Call}
-use Rattle.key_names.specs.IsTranscript.{CallerMeans, EachCaller, IsTranscriptBy, MadeBook, MarkBy, all_marks, script_calls, state_lists}
-use Rattle.key_names.specs.IsTranscript.{start_setting}
-use Rattle.key_names.specs.Meaning.{CallMeaning}
-use Rattle.key_names.specs.SameSteps.{bare}
-use Rattle.key_names.specs.SeenLine.{SeenLine}
+use Rattle.key_names.specs.Lanes.Book.{Book, lists_of}
+use Rattle.key_names.specs.Callers.Calls.{Call}
+use Rattle.key_names.specs.Transcripts.IsTranscript.{CallerMeans, EachCaller, IsTranscriptBy, MadeBook, MarkBy, all_marks, script_calls, state_lists}
+use Rattle.key_names.specs.Transcripts.IsTranscript.{start_setting}
+use Rattle.key_names.specs.Callers.Meaning.{CallMeaning}
+use Rattle.key_names.specs.Transcripts.SameSteps.{bare}
+use Rattle.key_names.specs.Transcripts.SeenLine.{SeenLine}
 use Rattle.key_names.specs.Texts.ScriptGrammar.{Script}
 use Rattle.key_names.proofs.Unique.BareLines.{bare_marks}
 use Rattle.key_names.proofs.Unique.BareMeanings.{steps_make_the_book}
-use Rattle.line_orders.specs.Called.{seen_calls}
-use Rattle.line_orders.specs.Marks.{seen_mark}
-use Rattle.line_orders.proofs.BareStands.{same_bare}
+use Rattle.judge_lines.specs.Called.{seen_calls}
+use Rattle.judge_lines.specs.Marks.{seen_mark}
+use Rattle.judge_lines.proofs.BareStands.{same_bare}
 use Rattle.serial_replay.specs.declared.lists.Basis.{Basis}
 use Rattle.serial_replay.specs.Found.{BasisStands}
 use Rattle.serial_replay.proofs.RemadeLines.{keeps_made}
-use Rattle.key_uses.specs.Moments.{first_calls}
-use Rattle.state_entries.specs.Cut.{AreCut}
-use Rattle.state_entries.specs.declared.entry.StateEntry.{StateEntry}
-use Rattle.state_entries.specs.declared.line_ends.LineEnd.{LineEnd}
-use Rattle.state_entries.specs.Entries.{all_lists_in}
-use Rattle.state_entries.specs.Laws.{AreStateLists}
-use Rattle.state_entries.specs.LineEnds.{AreLineEnds}
-use Rattle.state_entries.specs.Stamped.{all_kept}
-use Rattle.state_entries.specs.Told.{AreToldEnds}
+use Rattle.audit_keys.specs.Moments.{first_calls}
+use Rattle.audit_keys.specs.StateCut.{AreCut}
+use Rattle.audit_keys.specs.declared.entry.StateEntry.{StateEntry}
+use Rattle.audit_keys.specs.declared.line_ends.LineEnd.{LineEnd}
+use Rattle.audit_keys.specs.Entries.{all_lists_in}
+use Rattle.audit_keys.specs.Laws.{AreStateLists}
+use Rattle.audit_keys.specs.LineEnds.{AreLineEnds}
+use Rattle.audit_keys.specs.Stamped.{all_kept}
+use Rattle.audit_keys.specs.ToldEnds.{AreToldEnds}
 use Rattle.key_audit.specs.declared.book.KeptBook.{KeptBook}
 use Rattle.key_audit.specs.Kept.{KeepsBook}
 use Rattle.key_audit.proofs.CutStates.{cut_bare, cut_states, ends_bare, lines_bare}
 use Rattle.key_audit.proofs.VisitMarks.{marks_visits}
 
--- the kept lists are those of the book, and lawful
+-- the kept data are those of the book's lists, which are lawful
 pub keeps_book : (script : Script) (t : List (List SeenLine)) (basis : Basis) → BasisStands script t basis →
     (m : MadeBook script t) (states : Vec (Vec (Vec StateEntry))) (lines : Vec (Vec LineEnd)) →
     AreStateLists (seen_calls basis.parts.calls.items) (all_lists_in states.items) →
@@ -90,7 +90,7 @@ module _ (script : Script) (t : List (List SeenLine)) (book : Book) (ms : List (
         visits = of.visits;
       }
 
-  -- the kept book of the bare lines is that of the lines
+  -- the kept book of the bare lines is the kept book of the lines
   pub kept_of_bare : (kept : KeptBook) →
       ((made : MadeBook script (map (map bare) t)) → KeepsBare kept made.book made.meanings) →
       KeepsBook kept t (script_calls script t) book ms

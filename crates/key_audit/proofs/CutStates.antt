@@ -1,45 +1,45 @@
--- The calls that a cut keeps are the first of each caller, and their entries are those of a book at that moment.
--- Answers and data have no part in the choice of these calls, in their ends, or in the call of each line.
+-- A cut keeps the first calls of each caller, and the entries of these calls are those of the book at that moment.
+-- Answers and data do not matter: bare lines have the same first calls, the same ends, and the same call for each line.
 use Rattle.std.proofs.Common.{◌≡◌, ℕ, zero, suc, ◌+◌, ◌<◌, ◌≤◌, List, [], ◌∷◌, ◌++◌, length, map, inl, inr, refl, sym, subst, ap, ◌∙◌, arith}
 use Rattle.std.specs.Prelude.{◌==◌, if◌then◌else◌, nat_le, take}
 use Rattle.std.specs.List.{range_with_len}
 use Rattle.std.proofs.lemmas.List.{append_cancel_right, length-map}
 use Rattle.key_names.specs.declared.names.Step.{Step}
-use Rattle.key_names.specs.Book.{Lists, list_at}
-use Rattle.key_names.specs.CallerOrders.{start_of}
+use Rattle.key_names.specs.Lanes.Book.{Lists, list_at}
+use Rattle.key_names.specs.Callers.CallerOrders.{start_of}
 use Rattle.key_names.specs.declared.entries.VEntry.{VEntry}
-use Rattle.key_names.specs.Calls.{BoundAct, Call, Setting, alone, vread_call, unbound, ending}
-use Rattle.key_names.specs.History.{calls_steps}
-use Rattle.key_names.specs.IsTranscript.{CallerMeans, EachCaller, script_calls, state_lists}
-use Rattle.key_names.specs.Meaning.{CallMeaning}
-use Rattle.key_names.specs.SameSteps.{bare}
-use Rattle.key_names.specs.SeenLine.{SeenLine}
+use Rattle.key_names.specs.Callers.Calls.{BoundAct, Call, Setting, alone, vread_call, unbound, ending}
+use Rattle.key_names.specs.Callers.History.{calls_steps}
+use Rattle.key_names.specs.Transcripts.IsTranscript.{CallerMeans, EachCaller, script_calls, state_lists}
+use Rattle.key_names.specs.Callers.Meaning.{CallMeaning}
+use Rattle.key_names.specs.Transcripts.SameSteps.{bare}
+use Rattle.key_names.specs.Transcripts.SeenLine.{SeenLine}
 use Rattle.key_names.specs.Texts.ScriptGrammar.{Script}
 use Rattle.key_names.proofs.History.CallerOrders.{order_is_start_and_own}
 use Rattle.key_names.proofs.Transcripts.TranscriptBooks.{lt_or_le}
 use Rattle.key_names.proofs.Unique.BareLines.{bare_act, bare_all, bare_call, bare_steps, bare_calls_steps, bare_orders}
 use Rattle.key_names.proofs.Lists.ListFacts.{list_beyond}
-use Rattle.key_uses.specs.Moments.{first_calls}
-use Rattle.key_uses.proofs.Moments.{calls_front, lines_front}
-use Rattle.state_entries.specs.Callers.{lists_left}
-use Rattle.state_entries.specs.declared.entry.CallEnd.{CallEnd}
-use Rattle.state_entries.specs.declared.entry.Cut.{Cut}
-use Rattle.state_entries.specs.declared.entry.Cut.TheVariants.{Stamp as ByStamp, Call as ByCall}
-use Rattle.state_entries.specs.declared.entry.StateEntry.{StateEntry}
-use Rattle.state_entries.specs.declared.line_ends.LineEnd.{LineEnd}
-use Rattle.state_entries.specs.Cut.{AreCut, all_lists_by, calls_by, lists_made}
-use Rattle.state_entries.specs.Ends.{end_of}
-use Rattle.state_entries.specs.LineEnds.{act_ends, all_line_ends, call_ends, line_ends, line_of_call, told_lines}
-use Rattle.state_entries.specs.Stamps.{latest_of, made_by, over_at, start_stamp}
-use Rattle.state_entries.specs.Told.{all_ends, ends_of_state, state_ends, told_ends}
-use Rattle.state_entries.proofs.CallersLeave.{calls_leave, map_same}
+use Rattle.audit_keys.specs.Moments.{first_calls}
+use Rattle.audit_keys.proofs.UseMoments.{calls_front, lines_front}
+use Rattle.audit_keys.specs.Callers.{lists_left}
+use Rattle.audit_keys.specs.declared.entry.CallEnd.{CallEnd}
+use Rattle.audit_keys.specs.declared.entry.Cut.{Cut}
+use Rattle.audit_keys.specs.declared.entry.Cut.TheVariants.{Stamp as ByStamp, Call as ByCall}
+use Rattle.audit_keys.specs.declared.entry.StateEntry.{StateEntry}
+use Rattle.audit_keys.specs.declared.line_ends.LineEnd.{LineEnd}
+use Rattle.audit_keys.specs.StateCut.{AreCut, all_lists_by, calls_by, lists_made}
+use Rattle.audit_keys.specs.Ends.{end_of}
+use Rattle.audit_keys.specs.LineEnds.{act_ends, all_line_ends, call_ends, line_ends, line_of_call, told_lines}
+use Rattle.audit_keys.specs.Stamps.{latest_of, made_by, over_at, start_stamp}
+use Rattle.audit_keys.specs.ToldEnds.{all_ends, ends_of_state, state_ends, told_ends}
+use Rattle.audit_keys.proofs.CallersLeave.{calls_leave, map_same}
 use Rattle.std.specs.Global.{Vec}
 use Rattle.key_audit.specs.Live.{calls_cut}
 
 -- ---- the first calls
 
 module _ (lists : Lists) (settings : ℕ → Setting) (cuts : ℕ → Cut) (starts made : ℕ → ℕ) where
-  -- the entries that the calls so far left are those of their meaning
+  -- the entries that the kept calls left are those of their meanings
   made_mean : (c : ℕ) (callers : List (List Call)) (mss : List (List CallMeaning)) →
       ((j : ℕ) → made (c + j) ≡ calls_by (cuts (c + j)) (starts (c + j)) (list_at callers j)) →
       EachCaller (λ c calls ms. CallerMeans lists (settings c) calls ms) c callers mss →
@@ -110,7 +110,7 @@ start_alike stamp callers c = elim (lt_or_le c (length callers)) [
       ∙ sym (ap (λ (cs : List Call). made_by stamp (start_stamp callers c) cs) (list_beyond callers c le))
 ]
 
--- a cut keeps the same number of bare calls
+-- a cut keeps as many bare calls as calls
 cut_alike : (cut : Cut) (callers : List (List Call)) (c : ℕ) →
     calls_by cut (start_stamp (map (map bare_call) callers) c) (list_at (map (map bare_call) callers) c)
     ≡ calls_by cut (start_stamp callers c) (list_at callers c)

@@ -3,12 +3,12 @@ use Rattle.std.proofs.Common.{◌≡◌, ℕ, List, refl, sym, subst, ◌∙◌,
 use Rattle.std.specs.Prelude.{Option, Some, None, true, Result, Ok, Err, IfOk}
 use Rattle.std.specs.Option.{is_some}
 use Rattle.std.specs.Global.{Vec}
-use Rattle.key_names.specs.Book.{Book, Lists}
-use Rattle.key_names.specs.Calls.{Call}
-use Rattle.key_names.specs.Meaning.{CallMeaning}
-use Rattle.key_names.specs.SeenLine.{SeenLine}
+use Rattle.key_names.specs.Lanes.Book.{Book, Lists}
+use Rattle.key_names.specs.Callers.Calls.{Call}
+use Rattle.key_names.specs.Callers.Meaning.{CallMeaning}
+use Rattle.key_names.specs.Transcripts.SeenLine.{SeenLine}
 use Rattle.key_names.specs.Texts.ScriptGrammar.{Script}
-use Rattle.key_uses.specs.HeldUnused.{HoldsUnused}
+use Rattle.audit_keys.specs.HeldUnused.{HoldsUnused}
 use Rattle.tool_ends.specs.Pairs.{IsNoPair, IsPair, RefusalOf}
 use Rattle.tool_ends.specs.declared.pair.NotRead.{NotRead}
 use Rattle.tool_ends.specs.declared.pair.NotRead.TheVariants.{ReadFault as SourceFails, Refused as FirstFault, NoTranscript, TooManyLines, NoMemory as Unread}
@@ -17,8 +17,8 @@ use Rattle.tool_ends.specs.declared.status.Status.TheVariants.{Done, No, Usage, 
 use Rattle.tool_ends.proofs.Inputs.{IsLimited}
 use Rattle.tool_ends.proofs.Pairs.{too_long}
 use Rattle.key_audit.specs.declared.ask.Ask.{Ask}
-use Rattle.state_entries.specs.declared.line_ends.LineEnd.{LineEnd}
-use Rattle.key_rows.specs.declared.moments.Line.{Line}
+use Rattle.audit_keys.specs.declared.line_ends.LineEnd.{LineEnd}
+use Rattle.audit_keys.specs.declared.moments.Line.{Line}
 use Rattle.key_audit.specs.Asked.{line_end}
 use Rattle.key_audit.specs.Live.{lists_after}
 use Rattle.key_audit.specs.Outcome.{Calls, TellsAfter, TellsHeld, TellsLive, ToldOf}
@@ -57,14 +57,14 @@ is_limited ask = record {
   };
 }
 
--- the keys and rests in memory were not used
+-- an output of held keys and rests is one of live ones, if they were not used
 pub live_told : {E : Type 0} (lists : Lists) (callers : List (List Call)) (book : Book) (ms : List (List CallMeaning))
     (r : Result (Vec ℕ) E) → HoldsUnused lists → IfOk r (λ text. TellsHeld lists callers book ms text.items) →
     IfOk r (λ text. TellsLive lists callers book ms text.items)
 live_told lists callers book ms (Ok text) unused told = record { told = told; unused = unused }
 live_told lists callers book ms (Err e) unused told = tt
 
--- the same after a line
+-- an output after a line is one of live keys and rests, if they were not used
 pub after_told : {E : Type 0} (line : Line) (end : LineEnd) (callers : List (List Call)) (book : Book)
     (ms : List (List CallMeaning)) (r : Result (Vec ℕ) E) → line_end callers line ≡ Some end →
     HoldsUnused (lists_after line end callers book ms) →

@@ -10,7 +10,7 @@ use Rattle.std.proofs.lemmas.List.{length-map}
 use Rattle.std.proofs.lemmas.Option.{slice_get_within, slice_get-map, same_Some}
 use Rattle.key_names.specs.declared.names.KeyName.{KeyName}
 use Rattle.key_names.specs.contracts.names.KeyNameOrd.TheImpl.{ghosts as names}
-use Rattle.key_rows.specs.declared.rows.Row.{Row}
+use Rattle.audit_keys.specs.declared.rows.Row.{Row}
 use Rattle.key_names.proofs.Transcripts.TranscriptBooks.{lt_or_le}
 use Rattle.key_audit.specs.Index.{IsIndexTo}
 use Rattle.key_audit.specs.Live.{name_at}
@@ -29,7 +29,7 @@ named_within rows n key there =
 module _ (rows : List Row) (before after : BTreeMap KeyName ℕ) (n : ℕ) (key : KeyName)
     (there : name_at rows n ≡ Some key) (updates : Updates names.cmp before after key (Some n))
     (indexed : IsIndexTo n rows before) where
-  -- the numbers of keys after one more key: the new key has the new number, and the others keep theirs
+  -- with one more key, the new key has the new number, and any other key has the number that it had before
   known : (k : KeyName) → (get names.cmp after k ≡ Some n) × (key ≡ k) ⊎ (get names.cmp after k ≡ get names.cmp before k)
   known k = elim (cases_Bool (is_at (names.cmp key) k)) [
     | inl same ↦ inl (updates.0 k ∙ rw same refl, found_name key k same)

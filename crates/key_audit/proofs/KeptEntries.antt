@@ -3,15 +3,15 @@ use Rattle.std.proofs.Common.{◌≡◌, ℕ, suc, Some, List, [], ◌∷◌, le
 use Rattle.std.specs.Prelude.{slice_get}
 use Rattle.std.specs.Global.{Vec}
 use Rattle.key_names.specs.declared.entries.VEntry.{VEntry}
-use Rattle.key_names.specs.Book.{Lists}
-use Rattle.list_replay.specs.declared.kept.KeptBase.{KeptBase}
-use Rattle.list_replay.specs.declared.kept.KeptCpu.{KeptCpu}
-use Rattle.list_replay.specs.declared.kept.Lists.{Lists as KeptLists}
-use Rattle.list_replay.specs.Kept.{Keeps}
-use Rattle.key_uses.specs.KeptEntries.{base_entries, cpu_entries}
-use Rattle.key_rows.specs.Told.{caller_lists, cpu_lists, HasEntries}
+use Rattle.key_names.specs.Lanes.Book.{Lists}
+use Rattle.judge_log.specs.declared.kept.KeptBase.{KeptBase}
+use Rattle.judge_log.specs.declared.kept.KeptCpu.{KeptCpu}
+use Rattle.judge_log.specs.declared.kept.Lists.{Lists as KeptLists}
+use Rattle.judge_log.specs.Kept.{Keeps}
+use Rattle.audit_keys.specs.KeptEntries.{base_entries, cpu_entries}
+use Rattle.audit_keys.specs.Told.{caller_lists, cpu_lists, HasEntries}
 
--- lists of one length, with equal entries at each place
+-- lists are equal if they have the same length and equal entries at each place
 same_entries : {K E : Type 0} (entry : K → E) (kept : List K) (list : List E) → length kept ≡ length list →
     ((i : ℕ) (k : K) (e : E) → slice_get kept i ≡ Some k → slice_get list i ≡ Some e → entry k ≡ e) →
     map entry kept ≡ list

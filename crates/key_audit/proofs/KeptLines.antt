@@ -4,13 +4,13 @@ use Rattle.std.specs.Prelude.{◌||◌, nat_le, IsPermutation}
 use Rattle.std.specs.Global.{Vec}
 use Rattle.std.specs.List.{list_any}
 use Rattle.std.proofs.lemmas.List.Sorted.{list_any-IsPermutation}
-use Rattle.key_names.specs.Book.{list_at}
-use Rattle.key_names.specs.IsTranscript.{MarkBy, all_marks}
-use Rattle.key_names.specs.SeenLine.{SeenLine}
-use Rattle.line_orders.specs.declared.marks.MarkOf.{MarkOf}
-use Rattle.line_orders.specs.Marks.{seen_mark}
-use Rattle.state_entries.specs.declared.line_ends.LineEnd.{LineEnd}
-use Rattle.state_entries.specs.LineEnds.{lines_in}
+use Rattle.key_names.specs.Lanes.Book.{list_at}
+use Rattle.key_names.specs.Transcripts.IsTranscript.{MarkBy, all_marks}
+use Rattle.key_names.specs.Transcripts.SeenLine.{SeenLine}
+use Rattle.judge_lines.specs.declared.marks.MarkOf.{MarkOf}
+use Rattle.judge_lines.specs.Marks.{seen_mark}
+use Rattle.audit_keys.specs.declared.line_ends.LineEnd.{LineEnd}
+use Rattle.audit_keys.specs.LineEnds.{lines_in}
 use Rattle.key_audit.specs.Asked.{has_stamp, stamps_reach}
 
 pub lines_kept : (lines : List (Vec LineEnd)) (c : ℕ) (list : Vec LineEnd) → c < length lines →

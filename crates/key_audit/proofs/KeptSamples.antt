@@ -6,12 +6,12 @@ use Rattle.std.proofs.lemmas.List.{length-map}
 use Rattle.std.proofs.lemmas.Option.{slice_get-map, slice_get_within}
 use Rattle.key_names.specs.declared.entries.PoolEntry.{PoolEntry}
 use Rattle.key_names.specs.declared.entries.PoolEntry.TheVariants.{Mix, Input, Bits, Extract}
-use Rattle.key_names.specs.Book.{Book, Visit, entries_of, lists_of}
-use Rattle.key_names.specs.PoolList.{PoolState, pool_after}
+use Rattle.key_names.specs.Lanes.Book.{Book, Visit, entries_of, lists_of}
+use Rattle.key_names.specs.Lanes.PoolList.{PoolState, pool_after}
 use Rattle.key_names.specs.Texts.ScriptGrammar.{Script}
-use Rattle.list_replay.specs.declared.kept.KeptPool.{KeptPool}
-use Rattle.list_replay.specs.Kept.{KeepsPoolLane, root_kept}
-use Rattle.key_rows.specs.declared.moments.Moment.{Moment}
+use Rattle.judge_log.specs.declared.kept.KeptPool.{KeptPool}
+use Rattle.judge_log.specs.Kept.{KeepsPoolLane, root_kept}
+use Rattle.audit_keys.specs.declared.moments.Moment.{Moment}
 use Rattle.key_audit.specs.KeptPool.{kept_bits, kept_samples, sample_count}
 use Rattle.key_audit.specs.Moments.{visit_moment, visit_moments}
 use Rattle.key_audit.specs.Sources.{bits_at, bits_before, event_at, hands_sample, is_extraction, is_sample, samples_before}

@@ -2,17 +2,17 @@
 use Rattle.std.proofs.Common.{◌≡◌, ℕ, suc, ◌<◌, List, [], ◌∷◌, length, map, refl, sym, ap, ◌∙◌, arith}
 use Rattle.std.specs.Global.{Vec}
 use Rattle.std.proofs.lemmas.List.{length-map}
-use Rattle.key_names.specs.Book.{Book, Visit, entries_of, list_at, lists_of}
-use Rattle.key_names.specs.Calls.{Call}
-use Rattle.key_names.specs.Meaning.{CallMeaning}
-use Rattle.key_names.specs.SeenLine.{SeenLine}
-use Rattle.line_orders.specs.Marks.{seen_mark}
-use Rattle.state_entries.specs.declared.entry.StateEntry.{StateEntry}
-use Rattle.state_entries.specs.Stamped.{all_kept, kept_lists}
-use Rattle.state_entries.specs.Told.{all_ends_in, ends_in}
-use Rattle.key_uses.proofs.Moments.{mapped_at}
-use Rattle.key_rows.specs.declared.moments.Moments.{Moments}
-use Rattle.key_rows.specs.Cut.{KeepsVisits, moment_lists, stamps_of, visit_stamps}
+use Rattle.key_names.specs.Lanes.Book.{Book, Visit, entries_of, list_at, lists_of}
+use Rattle.key_names.specs.Callers.Calls.{Call}
+use Rattle.key_names.specs.Callers.Meaning.{CallMeaning}
+use Rattle.key_names.specs.Transcripts.SeenLine.{SeenLine}
+use Rattle.judge_lines.specs.Marks.{seen_mark}
+use Rattle.audit_keys.specs.declared.entry.StateEntry.{StateEntry}
+use Rattle.audit_keys.specs.Stamped.{all_kept, kept_lists}
+use Rattle.audit_keys.specs.ToldEnds.{all_ends_in, ends_in}
+use Rattle.audit_keys.proofs.UseMoments.{mapped_at}
+use Rattle.audit_keys.specs.declared.moments.Moments.{Moments}
+use Rattle.audit_keys.specs.Cut.{KeepsVisits, moment_lists, stamps_of, visit_stamps}
 use Rattle.key_audit.specs.declared.book.KeptBook.{KeptBook}
 use Rattle.key_audit.specs.Kept.{KeepsBook}
 use Rattle.key_audit.specs.EntryMoments.{all_moments, caller_moments, end_moment, entry_moments}
@@ -57,7 +57,7 @@ all_ends_are (lists ∷ callers) = λ i. caller_ends lists.items i ∷ all_ends_
 
 module _ (kept : KeptBook) (t : List (List SeenLine)) (callers : List (List Call)) (book : Book)
     (ms : List (List CallMeaning)) (keeps : KeepsBook kept t callers book ms) (moments : Moments) where
-  -- the moments of a book's marks are those of its visits
+  -- if moments are made of a book's kept marks, they are those of its visits
   pub kept_moments : HasMarks (length kept.lanes.cpus.items) (map seen_mark kept.marks.items) moments →
       state_moments_in moments.callers.items ≡ all_moments kept.states.items → AreMoments callers book ms moments
   kept_moments has states =
@@ -75,7 +75,7 @@ module _ (kept : KeptBook) (t : List (List SeenLine)) (callers : List (List Call
         states = states ∙ all_ends_are kept.states.items ∙ ap (map (map (map end_moment))) keeps.ends;
       }
 
-  -- so the kept visits have the stamps of the book's
+  -- the kept visits have the stamps of the book's visits
   pub keeps_visits : AreMoments callers book ms moments → KeepsVisits book kept.lanes moments
   keeps_visits are = record {
     base = base_kept kept.lanes (lists_of book) keeps.lanes;

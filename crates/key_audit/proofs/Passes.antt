@@ -1,4 +1,4 @@
--- Walks along edges from known keys, until no new key is found.
+-- Walks go along edges from known keys, until one finds no new key.
 use Rattle.std.proofs.Common.{◌≡◌, ◌<◌, ◌≤◌, ◌+◌, ◌⊎◌, ℕ, zero, suc, Bool, true, false, true≢false, cond, List, [], ◌∷◌, length, take, get_or, inl, inr, refl, sym, ap, subst, ◌∙◌, arith}
 use Rattle.std.specs.Prelude.{Contains, IsTrue, not, ◌↔◌, ◌||◌}
 use Rattle.std.specs.List.{list_any}
@@ -65,7 +65,7 @@ unfollowed edge old none = record {
 
 -- ---- along some of them
 
--- the result of a walk along the first i edges, and whether one led to a new key
+-- a walk along the first i edges led from the old keys to the new ones; more is whether it found a new key
 pub record PassedTo (edges : List Edge) (i : ℕ) (old new : BTreeSet KeyName) (more : Bool) : Type 0 where
   pub stays : (key : KeyName) → Has old key → Has new key
   pub reached : (start : List KeyName) → ((key : KeyName) → Has old key → IsReached edges start key) →
@@ -98,7 +98,7 @@ module _ (edges : List Edge) (i : ℕ) (d : Edge) (low : i < length edges) (firs
         (Contains-get_or edges i d low))
   ]
 
-  -- an edge that led to a new key
+  -- if edge i leads to a new key, the walk along the first i + 1 edges found one
   pub one_new : (before : Bool) → PassedTo edges i first old before → Follows (get_or edges i d) old new true →
       PassedTo edges (i + 1) first new true
   one_new before passed follows = record {
@@ -117,7 +117,7 @@ module _ (edges : List Edge) (i : ℕ) (d : Edge) (low : i < length edges) (firs
     );
   }
 
-  -- an edge that did not
+  -- if edge i leads to no new key, the walk found one only if it had found one before
   pub none_new : (before : Bool) → PassedTo edges i first old before → Follows (get_or edges i d) old new false →
       PassedTo edges (i + 1) first new before
   none_new before passed follows = record {
@@ -145,7 +145,7 @@ passed_all edges n old new more all passed = record {
 
 -- ---- until no new key is found
 
--- how many edges lead to keys that are not known
+-- how many edges lead to keys that are not known yet
 abbrev pub unknown : List Edge → BTreeSet KeyName → ℕ
 unknown [] known = 0
 unknown (edge ∷ edges) known = cond (contains names.cmp known edge.to) 0 1 + unknown edges known
@@ -187,7 +187,7 @@ module _ (old new : BTreeSet KeyName) (stays : (key : KeyName) → Has old key �
       go false true up rest = omega arith
       go false false up rest = omega arith
 
--- each known key is reached; all that are reached are known after a walk that finds no new one
+-- each known key is reached, and after a walk that finds no new key, each reached key is known
 pub record ClosesUp (edges : List Edge) (start : List KeyName) (known : BTreeSet KeyName) (more : Bool) : Type 0 where
   pub begins : (key : KeyName) → Contains start key → Has known key
   pub reached : (key : KeyName) → Has known key → IsReached edges start key

@@ -1,4 +1,4 @@
--- The marks of a lane in the order of their stamps are those of its visits.
+-- In the order of their stamps, the marks of a lane are those of its visits.
 use Rattle.std.proofs.Common.{◌≡◌, ℕ, suc, ◌+◌, Bool, true, false, cond, Some, List, [], ◌∷◌, length, map, refl, sym, subst, ap, ◌∙◌, arith}
 use Rattle.std.specs.Prelude.{IsPermutation, unwrap_or}
 use Rattle.std.specs.List.{AllByRecursion}
@@ -8,22 +8,22 @@ use Rattle.std.proofs.lemmas.List.Sorted.{All-permutation}
 use Rattle.key_names.specs.declared.names.LaneId.{LaneId}
 use Rattle.key_names.specs.declared.names.LaneId.TheVariants.{Pool as PoolLane, Base as BaseLane, Cpu as CpuLane}
 use Rattle.key_names.specs.declared.names.Who.{Who}
-use Rattle.key_names.specs.Book.{Book, Visit, list_at}
-use Rattle.key_names.specs.IsTranscript.{MarkBy, PlacesStand, VisitsAre, is_same_lane, lane_marks, stamped, stamped_at}
-use Rattle.key_names.specs.PlacesInOrder.{InOrder}
+use Rattle.key_names.specs.Lanes.Book.{Book, Visit, list_at}
+use Rattle.key_names.specs.Transcripts.IsTranscript.{MarkBy, PlacesStand, VisitsAre, is_same_lane, lane_marks, stamped, stamped_at}
+use Rattle.key_names.specs.Transcripts.PlacesInOrder.{InOrder}
 use Rattle.key_names.proofs.Transcripts.LaneCounts.{lane_counts, same_lane}
 use Rattle.key_names.proofs.Transcripts.PlacesInOrder.{places_count_up}
-use Rattle.line_orders.specs.declared.marks.MarkOf.{MarkOf}
-use Rattle.line_orders.specs.Marks.{IsSortedByLane, seen_mark}
-use Rattle.line_orders.proofs.MarksMoved.{lane_moved, same_long}
-use Rattle.line_orders.proofs.Runs.{lane_sorted}
+use Rattle.judge_lines.specs.declared.marks.MarkOf.{MarkOf}
+use Rattle.judge_lines.specs.Marks.{IsSortedByLane, seen_mark}
+use Rattle.judge_lines.proofs.MarksMoved.{lane_moved, same_long}
+use Rattle.judge_lines.proofs.Runs.{lane_sorted}
 use Rattle.key_audit.specs.Moments.{MarksVisits, marks_on, moment_by, moments_on, visit_moment, visit_moments}
 
--- the mark of a visit at a place
+-- the mark is that of the visit at its place
 abbrev StandsIn : {E : Type 0} → List (Visit E) → MarkBy → Type 0
 StandsIn visits by = stamped visits by.mark.place ≡ Some (by.mark.stamp, by.who)
 
--- marks with places that count up from i are those of the visits from there on
+-- if the places of marks count up from i, they are the marks of the visits from place i on
 counted : {E : Type 0} (i : ℕ) (whole rest : List (Visit E)) (bys : List MarkBy) →
     ((j : ℕ) → stamped rest j ≡ stamped whole (i + j)) → length bys ≡ length rest →
     InOrder i (map (λ by. by.mark) bys) → AllByRecursion (StandsIn whole) bys → map moment_by bys ≡ visit_moments rest
@@ -57,7 +57,7 @@ module _ (lane : LaneId) where
       go true rest = ap (λ ms. by.mark ∷ ms) rest
       go false rest = rest
 
-  -- a fact about each mark with its lane holds of this lane's
+  -- a fact of each mark and its lane holds of this lane's marks
   all_on : (Q : LaneId → MarkBy → Type 0) (marks : List MarkBy) → AllByRecursion (λ by. Q by.mark.lane by) marks →
       AllByRecursion (λ by. Q lane by) (marks_on lane marks)
   all_on Q [] all = tt

@@ -5,7 +5,7 @@ use Rattle.std.specs.Str.{bytes_eq}
 use Rattle.std.proofs.lemmas.Slice.Eq.{bytes_eq-Decides}
 use Rattle.key_names.specs.Texts.ScriptFaults.{number_below}
 use Rattle.key_names.proofs.Script.Numbers.{number_again, number_takes}
-use Rattle.key_rows.specs.declared.moments.Line.{Line}
+use Rattle.audit_keys.specs.declared.moments.Line.{Line}
 use Rattle.transcript_text.specs.Reading.{lacks}
 use Rattle.transcript_text.proofs.Cutting.{lacks-decimal, not_lacking}
 use Rattle.transcript_text.proofs.LineTexts.{spells_numbers}
@@ -27,7 +27,7 @@ halves_are text caller event cut lack line fits e =
     spells_numbers text caller event cut lack (record { caller = line.caller; event = line.event })
     (record { caller = fits.0; event = fits.1 }) e
 
--- a word that is not read is the text of no number below 2^32
+-- if a word is not read as a number below 2^32, it spells none
 pub not_spelt : (text : List ℕ) (n : ℕ) → n < 4294967296 → None ≡ number_below 4294967296 text → text ≡ decimal n → ⊥
 not_spelt text n small none e =
     let again : number_below 4294967296 text ≡ Some n = rw e (number_again 4294967296 n small (omega arith)) in cc
@@ -67,14 +67,14 @@ not_both : (word : List ℕ) → word ≡ codes "live" → word ≡ codes "line"
 not_both word live line =
     let third = ap (λ (xs : List ℕ). get_or xs 2 0) (sym live ∙ line) in absurd (omega (arith, third))
 
--- a number has no dot
+-- the text of a number has no dot, so it names no line
 no_dot : (text : List ℕ) (n : ℕ) → n < 18446744073709551616 → text ≡ decimal n → (line : Line) → LineFits line →
     text ≡ line_text line → ⊥
 no_dot text n small number line fits e =
     not_cut text (subst (λ (x : List ℕ). lacks 46 x ≡ true) (sym number)
     (lacks-decimal 46 n (no_digit_below 46 (omega arith)) (omega arith))) line fits e
 
--- after live a line is tried first
+-- if the word after `live` names a line, the command is that of this line
 pub line_only : (text : List ℕ) (line : Line) → LineFits line → text ≡ line_text line →
     ((other : Line) → LineFits other → text ≡ line_text other → Some line ≡ Some other) → (ask : Ask) →
     LiveText text ask → Some (LiveAfter line) ≡ Some ask
@@ -107,7 +107,7 @@ no_stamp text read (Live n) asks none =
 no_stamp text read (LiveAfter line) asks none = none line asks.0 asks.1
 no_stamp text read (OneLine line) asks none = asks
 
--- and then a stamp
+-- if the word after `live` names no line, it is read as a stamp
 pub stamp_found : (text : List ℕ) (found : Option ℕ) (result : Option Ask) →
     found ≡ number_below 18446744073709551616 text →
     MatchOption found (result ≡ None) (λ n. IsSomeAnd result (λ ask. ask ≡ Live n)) →
@@ -116,7 +116,7 @@ stamp_found text None result read made none ask asks = absurd (no_stamp text rea
 stamp_found text (Some n) None read made none ask asks = absurd made
 stamp_found text (Some n) (Some one) read made none ask asks = ap Some made ∙ stamp_only text n read ask asks none
 
--- the words of live
+-- the words of a command that begins with `live`
 live_words : (word with : List ℕ) → word ≡ codes "live" → (ask : Ask) → LiveText with ask →
     AskTexts (word ∷ with ∷ []) ask
 live_words word with is Keys asks = absurd asks
@@ -137,11 +137,11 @@ live_word word with is (LiveAfter line) asks = (asks.0, (second word with (codes
 live_word word with is (OneLine line) asks =
     absurd (not_both word is (second word with (codes "line") (line_text line) asks.1).0)
 
--- a test that was passed
+-- if the test of two texts was passed, they are equal
 pub same_text : (text wanted : List ℕ) (b : Bool) → b ≡ bytes_eq text wanted → b ≡ true → text ≡ wanted
 same_text text wanted b test passed = (bytes_eq-Decides text wanted).0 (sym test ∙ passed)
 
--- a list of one word has just that word
+-- if a list has one word, that word is all of it
 pub one : {A : Type 0} (words : List (String A)) (word : String A) → 1 ≤ length words → length words < 2 →
     word ≡ slice_index_or words 0 word → map string_bytes words ≡ string_bytes word ∷ []
 one [] word some few is = absurd (omega arith)

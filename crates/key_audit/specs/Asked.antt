@@ -2,31 +2,31 @@
 use Rattle.std.specs.Prelude.{ℕ, ◌==◌, Bool, true, Option, Some, None, List, [], ◌∷◌, ◌++◌, codes, if◌then◌else◌, nat_le}
 use Rattle.std.specs.List.{list_any}
 use Rattle.std.specs.Option.{is_some}
-use Rattle.key_names.specs.Book.{list_at}
-use Rattle.key_names.specs.Calls.{Call}
-use Rattle.key_names.specs.IsTranscript.{all_marks}
-use Rattle.key_names.specs.SeenLine.{SeenLine}
-use Rattle.line_orders.specs.declared.marks.MarkOf.{MarkOf}
-use Rattle.state_entries.specs.declared.line_ends.LineEnd.{LineEnd}
-use Rattle.state_entries.specs.LineEnds.{told_lines}
-use Rattle.key_rows.specs.declared.moments.Line.{Line}
+use Rattle.key_names.specs.Lanes.Book.{list_at}
+use Rattle.key_names.specs.Callers.Calls.{Call}
+use Rattle.key_names.specs.Transcripts.IsTranscript.{all_marks}
+use Rattle.key_names.specs.Transcripts.SeenLine.{SeenLine}
+use Rattle.judge_lines.specs.declared.marks.MarkOf.{MarkOf}
+use Rattle.audit_keys.specs.declared.line_ends.LineEnd.{LineEnd}
+use Rattle.audit_keys.specs.LineEnds.{told_lines}
+use Rattle.audit_keys.specs.declared.moments.Line.{Line}
 use Rattle.key_audit.specs.declared.ask.Ask.{Ask}
 use Rattle.key_audit.specs.declared.ask.Ask.TheVariants.{Keys, Live, LiveAfter, Line as OneLine}
 
--- the first line of an event
+-- the first of these lines with this event's number
 abbrev pub line_in : ℕ → List LineEnd → Option LineEnd
 line_in event [] = None
 line_in event (line ∷ lines) = if line.event == event then Some line else line_in event lines
 
--- a line of the callers, with its call
+-- a line of the callers with its call, if there is such a line
 abbrev pub line_end : List (List Call) → Line → Option LineEnd
 line_end callers line = line_in line.event (list_at (told_lines callers) line.caller)
 
--- a stamp is not above all stamps of visits
+-- whether some visit has this stamp or a higher one
 abbrev pub has_stamp : List (List SeenLine) → ℕ → Bool
 has_stamp t stamp = list_any (λ by. nat_le stamp by.mark.stamp) (all_marks t)
 
--- the same of the kept marks
+-- whether some kept mark has this stamp or a higher one
 abbrev pub stamps_reach : ℕ → List MarkOf → Bool
 stamps_reach stamp marks = list_any (λ of. nat_le stamp of.mark.stamp) marks
 
@@ -36,7 +36,7 @@ is_there (Live stamp) callers t = has_stamp t stamp
 is_there (LiveAfter line) callers t = is_some (line_end callers line)
 is_there (OneLine line) callers t = is_some (line_end callers line)
 
--- the output if it does not
+-- the output if the transcript does not have the stamp or the line
 abbrev pub missing_text : Ask → List ℕ
 missing_text (Live stamp) = codes "no stamp" ++ 10 ∷ []
 missing_text _ = codes "no line" ++ 10 ∷ []

@@ -1,9 +1,9 @@
 -- The verdict on a transcript, with its book if it is lawful.
 use Rattle.std.specs.Prelude.{List}
-use Rattle.key_names.specs.IsTranscript.{FirstFails, script_calls}
-use Rattle.key_names.specs.SeenLine.{SeenLine}
+use Rattle.key_names.specs.Transcripts.IsTranscript.{FirstFails, script_calls}
+use Rattle.key_names.specs.Transcripts.SeenLine.{SeenLine}
 use Rattle.key_names.specs.Texts.ScriptGrammar.{Script}
-use Rattle.line_orders.specs.Clauses.{clause_of}
+use Rattle.judge_lines.specs.Clauses.{clause_of}
 use Rattle.transcript_check.specs.Judged.{IsSound}
 use Rattle.key_audit.specs.Kept.{KeepsBook}
 use Rattle.key_audit.specs.declared.book.AuditedBook.{AuditedBook}

@@ -1,16 +1,16 @@
 -- The forms of the command line.
 use Rattle.std.specs.Prelude.{ℕ, ◌≡◌, ◌<◌, ◌^◌, List, [], ◌∷◌, String, string_bytes, codes, map}
 use Rattle.std.specs.Fmt.{decimal}
-use Rattle.key_rows.specs.declared.moments.Line.{Line}
+use Rattle.audit_keys.specs.declared.moments.Line.{Line}
 use Rattle.key_audit.specs.Texts.{line_text}
 use Rattle.key_audit.specs.declared.ask.Ask.{Ask}
 use Rattle.key_audit.specs.declared.ask.Ask.TheVariants.{Keys, Live, LiveAfter, Line as OneLine}
 
--- a line with numbers that a word can name
+-- the numbers of the line are in the range of a word
 abbrev pub LineFits : Line → Type 0
 LineFits line = (line.caller < 2 ^ 32) × (line.event < 2 ^ 32)
 
--- the text after the word live
+-- the text after `live` names this command
 abbrev pub LiveText : List ℕ → Ask → Type 0
 LiveText text Keys = ⊥
 LiveText text (Live stamp) = (stamp < 2 ^ 64) × (text ≡ decimal stamp)

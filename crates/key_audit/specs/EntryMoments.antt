@@ -1,15 +1,15 @@
 -- The moments of the entries of vgetrandom states.
 use Rattle.std.specs.Prelude.{List, map}
 use Rattle.std.specs.Global.{Vec}
-use Rattle.state_entries.specs.declared.entry.CallEnd.{CallEnd}
-use Rattle.state_entries.specs.declared.entry.StateEntry.{StateEntry}
-use Rattle.key_rows.specs.declared.moments.Moment.{Moment}
+use Rattle.audit_keys.specs.declared.entry.CallEnd.{CallEnd}
+use Rattle.audit_keys.specs.declared.entry.StateEntry.{StateEntry}
+use Rattle.audit_keys.specs.declared.moments.Moment.{Moment}
 
 -- the moment of an entry: the stamp when the call that left it was over, and the line of that call
 abbrev pub end_moment : CallEnd → Moment
 end_moment end = record { stamp = end.stamp; line = record { caller = end.caller; event = end.event } }
 
--- those of a list, of a caller's lists, and of all callers'
+-- the moments of the entries of a list, of a caller's lists, and of all callers' lists
 abbrev pub entry_moments : List StateEntry → List Moment
 entry_moments list = map (λ e. end_moment e.end) list
 

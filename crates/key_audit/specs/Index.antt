@@ -3,10 +3,10 @@ use Rattle.std.specs.Prelude.{ℕ, ◌≡◌, ◌<◌, List, Some, IsSome}
 use Rattle.std.specs.BTreeMap.{BTreeMap, get}
 use Rattle.key_names.specs.declared.names.KeyName.{KeyName}
 use Rattle.key_names.specs.contracts.names.KeyNameOrd.TheImpl.{ghosts as names}
-use Rattle.key_rows.specs.declared.rows.Row.{Row}
+use Rattle.audit_keys.specs.declared.rows.Row.{Row}
 use Rattle.key_audit.specs.Live.{name_at}
 
--- the key of each of the first n rows has a number, and each number is that of a row with its key
+-- each of the first n rows' keys has a number, and each key with a number has the row with that number
 pub record IsIndexTo (n : ℕ) (rows : List Row) (numbers : BTreeMap KeyName ℕ) : Type 0 where
   pub named : (key : KeyName) (m : ℕ) → get names.cmp numbers key ≡ Some m → name_at rows m ≡ Some key
   pub all : (key : KeyName) (m : ℕ) → m < n → name_at rows m ≡ Some key → IsSome (get names.cmp numbers key)

@@ -1,21 +1,21 @@
--- Samples and bits, by the kept visits of the pool.
+-- Samples and bits, from the kept visits of the pool.
 use Rattle.std.specs.Prelude.{ℕ, suc, ◌+◌, Bool, not, ◌&&◌, Option, Some, None, List, [], ◌∷◌, if◌then◌else◌, slice_get}
 use Rattle.std.specs.Option.{is_some}
 use Rattle.key_names.specs.Texts.ScriptGrammar.{Script}
-use Rattle.list_replay.specs.declared.kept.KeptPool.{KeptPool}
-use Rattle.key_rows.specs.declared.moments.Moment.{Moment}
+use Rattle.judge_log.specs.declared.kept.KeptPool.{KeptPool}
+use Rattle.audit_keys.specs.declared.moments.Moment.{Moment}
 use Rattle.key_audit.specs.Sources.{event_at, hands_sample}
 
 abbrev pub is_kept_sample : Script → KeptPool → Moment → Bool
 is_kept_sample script kept moment =
     not (is_some kept.root) && hands_sample (event_at script moment.line.caller moment.line.event)
 
--- a visit counts if it was made for a sample
+-- a visit counts once if it was made for a sample, and otherwise not
 abbrev pub sample_count : Script → KeptPool → Option Moment → ℕ
 sample_count script kept None = 0
 sample_count script kept (Some moment) = if is_kept_sample script kept moment then 1 else 0
 
--- how many of some visits count; the first of them is at place i
+-- how many of these visits were made for a sample; the first of them is at place i
 abbrev pub kept_samples : Script → ℕ → List KeptPool → List Moment → ℕ
 kept_samples script i [] moments = 0
 kept_samples script i (k ∷ kept) moments =

@@ -3,38 +3,38 @@ use Rattle.std.specs.Prelude.{ℕ, ◌≡◌, Bool, true, false, Option, Some, N
 use Rattle.std.specs.Prelude.{option_map, slice_get, if◌then◌else◌, ◌==◌}
 use Rattle.std.specs.List.{flat_map}
 use Rattle.key_names.specs.declared.names.KeyName.{KeyName}
-use Rattle.key_names.specs.Book.{Book, Lists, list_at, lists_of}
-use Rattle.key_names.specs.Calls.{Call}
-use Rattle.key_names.specs.LiveMaterial.{base_key, cpu_batch, cpu_key, live_key, live_rest, state_batch, state_key}
-use Rattle.key_names.specs.Meaning.{CallMeaning}
-use Rattle.key_uses.specs.Moments.{book_at}
-use Rattle.state_entries.specs.declared.entry.Cut.{Cut}
-use Rattle.state_entries.specs.declared.entry.Cut.TheVariants.{Stamp as ByStamp, Call as ByCall}
-use Rattle.state_entries.specs.declared.line_ends.LineEnd.{LineEnd}
-use Rattle.state_entries.specs.Cut.{calls_by}
-use Rattle.state_entries.specs.Stamps.{start_stamp}
-use Rattle.key_rows.specs.declared.held.BatchHolder.{BatchHolder}
-use Rattle.key_rows.specs.declared.held.BatchHolder.TheVariants.{Cpu as CpuBatch, State as StateBatch}
-use Rattle.key_rows.specs.declared.held.Held.{Held}
-use Rattle.key_rows.specs.declared.held.HeldKey.{HeldKey}
-use Rattle.key_rows.specs.declared.held.HeldRest.{HeldRest}
-use Rattle.key_rows.specs.declared.held.KeyHolder.TheVariants.{Base, Cpu, State}
-use Rattle.key_rows.specs.declared.lives.Holder.TheVariants.{Cpu as InCpu, State as InState}
-use Rattle.key_rows.specs.declared.moments.Line.{Line}
-use Rattle.key_rows.specs.declared.moments.Moments.{Moments}
-use Rattle.key_rows.specs.declared.rows.Fate.{Fate}
-use Rattle.key_rows.specs.declared.rows.Fate.TheVariants.{Became, Served, GivenUp, Held as HeldFate}
-use Rattle.key_rows.specs.declared.rows.Row.{Row}
-use Rattle.key_rows.specs.Held.{held_key, held_rest}
-use Rattle.key_rows.specs.Rests.{widths}
-use Rattle.key_rows.specs.Told.{told_below}
+use Rattle.key_names.specs.Lanes.Book.{Book, Lists, list_at, lists_of}
+use Rattle.key_names.specs.Callers.Calls.{Call}
+use Rattle.key_names.specs.Keys.LiveMaterial.{base_key, cpu_batch, cpu_key, live_key, live_rest, state_batch, state_key}
+use Rattle.key_names.specs.Callers.Meaning.{CallMeaning}
+use Rattle.audit_keys.specs.Moments.{book_at}
+use Rattle.audit_keys.specs.declared.entry.Cut.{Cut}
+use Rattle.audit_keys.specs.declared.entry.Cut.TheVariants.{Stamp as ByStamp, Call as ByCall}
+use Rattle.audit_keys.specs.declared.line_ends.LineEnd.{LineEnd}
+use Rattle.audit_keys.specs.StateCut.{calls_by}
+use Rattle.audit_keys.specs.Stamps.{start_stamp}
+use Rattle.audit_keys.specs.declared.held.BatchHolder.{BatchHolder}
+use Rattle.audit_keys.specs.declared.held.BatchHolder.TheVariants.{Cpu as CpuBatch, State as StateBatch}
+use Rattle.audit_keys.specs.declared.held.Held.{Held}
+use Rattle.audit_keys.specs.declared.held.HeldKey.{HeldKey}
+use Rattle.audit_keys.specs.declared.held.HeldRest.{HeldRest}
+use Rattle.audit_keys.specs.declared.held.KeyHolder.TheVariants.{Base, Cpu, State}
+use Rattle.audit_keys.specs.declared.lives.Holder.TheVariants.{Cpu as InCpu, State as InState}
+use Rattle.audit_keys.specs.declared.moments.Line.{Line}
+use Rattle.audit_keys.specs.declared.moments.Moments.{Moments}
+use Rattle.audit_keys.specs.declared.rows.Fate.{Fate}
+use Rattle.audit_keys.specs.declared.rows.Fate.TheVariants.{Became, Served, GivenUp, Held as HeldFate}
+use Rattle.audit_keys.specs.declared.rows.Row.{Row}
+use Rattle.audit_keys.specs.Held.{held_key, held_rest}
+use Rattle.audit_keys.specs.Rests.{widths}
+use Rattle.audit_keys.specs.Told.{told_below}
 use Rattle.key_audit.specs.declared.until.Until.{Until}
 use Rattle.key_audit.specs.declared.until.Until.TheVariants.{Stamp as ToStamp, Call as ToCall}
 use Rattle.key_audit.specs.Texts.{holder_text, key_text, name_text, piece_text, span_text}
 
 -- ---- a book at a moment
 
--- the cut of each caller's calls: a stamp; and for one caller, if one is named, a call of its own
+-- the cut of each caller's calls: by a stamp, or, for the caller that is named, by a call of its own
 abbrev pub cut_at : Until → ℕ → Cut
 cut_at (ToStamp stamp) c = ByStamp stamp
 cut_at (ToCall stamp caller call) c = if caller == c then ByCall call else ByStamp stamp
@@ -47,20 +47,20 @@ until_stamp (ToCall stamp caller call) = stamp
 abbrev pub calls_cut : (ℕ → Cut) → List (List Call) → ℕ → ℕ
 calls_cut cuts callers c = calls_by (cuts c) (start_stamp callers c) (list_at callers c)
 
--- the visits of each lane up to the stamp, and the entries of those calls for each vgetrandom state
+-- the visits of each lane up to the stamp, and the entries that the kept calls left for each vgetrandom state
 abbrev pub lists_until : Until → List (List Call) → Book → List (List CallMeaning) → Lists
 lists_until until callers book ms = lists_of (book_at (until_stamp until) (calls_cut (cut_at until) callers) book ms)
 
--- after a stamp: each caller's calls that were over by it
+-- the lists after a stamp: each caller's calls that were over by it are kept
 abbrev pub lists_behind : ℕ → List (List Call) → Book → List (List CallMeaning) → Lists
 lists_behind stamp callers book ms = lists_until (ToStamp stamp) callers book ms
 
--- after a line: its caller's calls up to that of the line, and the others' that were over by the stamp when that was
--- over
+-- the lists after a line: of its caller, the calls up to the line's are kept; of the others, those that were over by
+-- the stamp when the line's call was over
 abbrev pub lists_after : Line → LineEnd → List (List Call) → Book → List (List CallMeaning) → Lists
 lists_after line end callers book ms = lists_until (ToCall end.stamp line.caller end.call) callers book ms
 
--- the keys that are in memory: of the base, of each CPU, and of each vgetrandom state of each caller
+-- the keys in memory: of the base, of each CPU, and of each vgetrandom state of each caller
 abbrev pub live_keys : Lists → List HeldKey
 live_keys lists =
     held_key Base (live_key lists base_key)
@@ -89,7 +89,7 @@ became_key (Served by) = false
 became_key (GivenUp by) = false
 became_key HeldFate = false
 
--- a word, and a row with only those of its pieces that became keys
+-- a word, and a row with those of its pieces that became keys
 abbrev pub kept_line : List ℕ → Moments → Row → List ℕ
 kept_line word moments row =
     word ++ key_text moments row
@@ -115,6 +115,6 @@ rest_line rest = codes "rest " ++ name_text rest.span.key ++ codes " " ++ batch_
 abbrev pub name_at : List Row → ℕ → Option KeyName
 name_at rows n = option_map (λ row. row.key) (slice_get rows n)
 
--- these are the numbers of the rows of the keys that are held, each once and in order
+-- numbers has the numbers of the held keys' rows, each once and in order
 abbrev pub AreRowsOf : List Row → List HeldKey → List ℕ → Type 0
 AreRowsOf rows keys numbers = map (name_at rows) numbers ≡ map (λ held. Some held.key) keys

@@ -1,17 +1,17 @@
--- The moments of a book's entries: the stamp and the line of each visit. For an entry of a vgetrandom state, they are
+-- The moments of a book's entries: the stamp and the line of each visit. The moment of a vgetrandom state's entry has
 -- the stamp when the call that left it was over, and that call's line.
 use Rattle.std.specs.Prelude.{ℕ, ◌≡◌, ◌<◌, List, [], ◌∷◌, ◌++◌, map, filter, length}
 use Rattle.std.specs.Global.{Vec}
 use Rattle.key_names.specs.declared.names.LaneId.{LaneId}
 use Rattle.key_names.specs.declared.names.LaneId.TheVariants.{Pool as PoolLane, Base as BaseLane, Cpu as CpuLane}
-use Rattle.key_names.specs.Book.{Book, Visit, list_at}
-use Rattle.key_names.specs.Calls.{Call}
-use Rattle.key_names.specs.IsTranscript.{MarkBy, is_same_lane}
-use Rattle.key_names.specs.Meaning.{CallMeaning}
-use Rattle.state_entries.specs.Told.{told_ends}
-use Rattle.key_rows.specs.declared.moments.Moment.{Moment}
-use Rattle.key_rows.specs.declared.moments.Moments.{Moments}
-use Rattle.key_rows.specs.Cut.{moment_lists}
+use Rattle.key_names.specs.Lanes.Book.{Book, Visit, list_at}
+use Rattle.key_names.specs.Callers.Calls.{Call}
+use Rattle.key_names.specs.Transcripts.IsTranscript.{MarkBy, is_same_lane}
+use Rattle.key_names.specs.Callers.Meaning.{CallMeaning}
+use Rattle.audit_keys.specs.ToldEnds.{told_ends}
+use Rattle.audit_keys.specs.declared.moments.Moment.{Moment}
+use Rattle.audit_keys.specs.declared.moments.Moments.{Moments}
+use Rattle.audit_keys.specs.Cut.{moment_lists}
 use Rattle.key_audit.specs.EntryMoments.{end_moment}
 
 -- ---- of a book
@@ -27,7 +27,8 @@ visit_moments visits = map visit_moment visits
 abbrev pub state_moments_in : List (Vec (Vec Moment)) → List (List (List Moment))
 state_moments_in callers = map (λ lists. moment_lists lists.items) callers
 
--- the moment of each visit of each lane, and for each entry of a vgetrandom state the end of the call that left it
+-- the moments are those of each visit of each lane; for an entry of a vgetrandom state, it is the end of the call that
+-- left it
 pub record AreMoments (callers : List (List Call)) (book : Book) (ms : List (List CallMeaning))
     (moments : Moments) : Type 0 where
   pub pool : moments.pool.items ≡ visit_moments book.pool
@@ -47,14 +48,14 @@ marks_on lane marks = filter (λ by. is_same_lane by.mark.lane lane) marks
 abbrev pub moments_on : LaneId → List MarkBy → List Moment
 moments_on lane marks = map moment_by (marks_on lane marks)
 
--- this many CPUs, and for each lane the moments of these marks
+-- there are this many CPUs, and each lane has the moments of its marks among these
 pub record HasMarks (many : ℕ) (marks : List MarkBy) (moments : Moments) : Type 0 where
   pub pool : moments.pool.items ≡ moments_on PoolLane marks
   pub base : moments.base.items ≡ moments_on BaseLane marks
   pub count : length moments.cpus.items ≡ many
   pub cpus : (c : ℕ) → c < many → list_at (moment_lists moments.cpus.items) c ≡ moments_on (CpuLane c) marks
 
--- one mark more, after those of its lane
+-- one more mark is added after those of its lane
 pub record AddsMark (old : Moments) (by : MarkBy) (new : Moments) : Type 0 where
   pub pool : new.pool.items ≡ old.pool.items ++ moments_on PoolLane (by ∷ [])
   pub base : new.base.items ≡ old.base.items ++ moments_on BaseLane (by ∷ [])
@@ -63,7 +64,7 @@ pub record AddsMark (old : Moments) (by : MarkBy) (new : Moments) : Type 0 where
       list_at (moment_lists new.cpus.items) c
       ≡ list_at (moment_lists old.cpus.items) c ++ moments_on (CpuLane c) (by ∷ [])
 
--- the marks of a book's visits: on each lane those of its visits, in order
+-- on each lane, the marks are those of the book's visits, in order
 pub record MarksVisits (book : Book) (marks : List MarkBy) : Type 0 where
   pub pool : moments_on PoolLane marks ≡ visit_moments book.pool
   pub base : moments_on BaseLane marks ≡ visit_moments book.base

@@ -1,22 +1,22 @@
--- The outcome of the program, for each way to end, for a script and a transcript after it.
+-- The outcome of the program, by status, for an input of a script and a transcript after it.
 use Rattle.std.specs.Prelude.{ℕ, ◌≡◌, ◌⊎◌, true, false, Some, List, ◌++◌, Option, map, All, IsPermutation}
 use Rattle.std.specs.List.{flat_map}
-use Rattle.key_names.specs.Book.{Book, Lists, lists_of}
-use Rattle.key_names.specs.Calls.{Call}
-use Rattle.key_names.specs.IsTranscript.{Clause, FirstFails, clause_number, script_calls}
-use Rattle.key_names.specs.Meaning.{CallMeaning}
-use Rattle.key_names.specs.SeenLine.{SeenLine}
+use Rattle.key_names.specs.Lanes.Book.{Book, Lists, lists_of}
+use Rattle.key_names.specs.Callers.Calls.{Call}
+use Rattle.key_names.specs.Transcripts.IsTranscript.{Clause, FirstFails, clause_number, script_calls}
+use Rattle.key_names.specs.Callers.Meaning.{CallMeaning}
+use Rattle.key_names.specs.Transcripts.SeenLine.{SeenLine}
 use Rattle.key_names.specs.Texts.ScriptGrammar.{Script}
 use Rattle.transcript_check.specs.Judged.{IsSound}
-use Rattle.state_entries.specs.declared.line_ends.LineEnd.{LineEnd}
-use Rattle.key_uses.specs.HeldUnused.{HoldsUnused}
-use Rattle.key_rows.specs.declared.moments.Line.{Line as LineName}
-use Rattle.key_rows.specs.declared.moments.Moments.{Moments}
-use Rattle.key_rows.specs.declared.rows.Row.{Row}
-use Rattle.key_rows.specs.declared.told.Told.{Told}
-use Rattle.key_rows.specs.MadeOrder.{RowsByMaking}
-use Rattle.key_rows.specs.Rows.{IsRow, all_pieces, birth_of}
-use Rattle.key_rows.specs.Told.{book_tells, tells_of}
+use Rattle.audit_keys.specs.declared.line_ends.LineEnd.{LineEnd}
+use Rattle.audit_keys.specs.HeldUnused.{HoldsUnused}
+use Rattle.audit_keys.specs.declared.moments.Line.{Line as LineName}
+use Rattle.audit_keys.specs.declared.moments.Moments.{Moments}
+use Rattle.audit_keys.specs.declared.rows.Row.{Row}
+use Rattle.audit_keys.specs.declared.told.Told.{Told}
+use Rattle.audit_keys.specs.MadeOrder.{RowsByMaking}
+use Rattle.audit_keys.specs.Rows.{IsRow, all_pieces, birth_of}
+use Rattle.audit_keys.specs.Told.{book_tells, tells_of}
 use Rattle.tool_ends.specs.Pairs.{FailsAsText, IsPair, TellsFault, most_input, no_line}
 use Rattle.tool_ends.specs.Reads.{ReadsEnds}
 use Rattle.tool_ends.specs.declared.status.Status.{Status}
@@ -39,7 +39,7 @@ pub record AreRows (book : Book) (rows : List Row) : Type 0 where
   pub each : IsPermutation told.lives.births.items (map birth_of rows)
   pub say : All (IsRow (all_pieces told) told.lives.endings.items) rows
 
--- the text of the rows, in the order in which their keys were made
+-- the output is the text of the rows, in the order in which their keys were made
 pub record TellsKeys (callers : List (List Call)) (book : Book) (ms : List (List CallMeaning))
     (output : List ℕ) : Type 0 where
   pub moments : Moments
@@ -49,8 +49,8 @@ pub record TellsKeys (callers : List (List Call)) (book : Book) (ms : List (List
   pub ordered : RowsByMaking moments rows
   pub text : output ≡ rows_text moments rows
 
--- the lines of the keys and rests in memory after the beginnings of a book's lists, and of what can be computed from
--- them
+-- the output has the lines of the keys and rests in memory after beginnings of a book's lists, and of what can be
+-- computed from them
 pub record TellsHeld (lists : Lists) (callers : List (List Call)) (book : Book) (ms : List (List CallMeaning))
     (output : List ℕ) : Type 0 where
   pub moments : Moments
@@ -58,28 +58,28 @@ pub record TellsHeld (lists : Lists) (callers : List (List Call)) (book : Book) 
   pub rows : List Row
   pub are : AreRows book rows
   pub ordered : RowsByMaking moments rows
-  -- the rows of the keys that are in memory, each once and no others
+  -- numbers has the rows of the keys in memory, each once and no others
   pub numbers : List ℕ
   pub held : AreRowsOf rows (live_keys lists) numbers
-  -- and then the keys and bytes that can be computed from these keys and rests
+  -- more has the lines of the keys and bytes that can be computed from these keys and rests
   pub more : List ℕ
   pub reached : TellsReached moments rows (map (λ held. held.key) (live_keys lists)) (live_rests lists) more
   pub text : output ≡ held_lines moments rows numbers ++ flat_map rest_line (live_rests lists) ++ more
 
--- and these keys and rests were not used in these beginnings
+-- moreover, these keys and rests were not used in these beginnings
 pub record TellsLive (lists : Lists) (callers : List (List Call)) (book : Book) (ms : List (List CallMeaning))
     (output : List ℕ) : Type 0 where
   pub told : TellsHeld lists callers book ms output
   pub unused : HoldsUnused lists
 
--- the same after a line
+-- the output for the keys and rests in memory after a line
 pub record TellsAfter (line : LineName) (callers : List (List Call)) (book : Book) (ms : List (List CallMeaning))
     (output : List ℕ) : Type 0 where
   pub end : LineEnd
   pub is : line_end callers line ≡ Some end
   pub live : TellsLive (lists_after line end callers book ms) callers book ms output
 
--- the rows of the keys that the bytes of a line come from, and the extractions of their roots
+-- the output has the rows of the keys that a line's bytes come from, and the extractions of their roots
 pub record TellsLine (line : LineName) (script : Script) (callers : List (List Call)) (book : Book)
     (ms : List (List CallMeaning)) (output : List ℕ) : Type 0 where
   pub moments : Moments
@@ -104,13 +104,13 @@ pub record TellsLawful (ask : Ask) (script : Script) (t : List (List SeenLine)) 
   pub there : is_there ask (script_calls script t) t ≡ true
   pub tells : Tells ask script (script_calls script t) sound.book sound.meanings output
 
--- the transcript is lawful, and does not have the stamp or the line
+-- the transcript is lawful, and lacks the stamp or the line of the command
 pub record TellsMissing (ask : Ask) (script : Script) (t : List (List SeenLine)) (output : List ℕ) : Type 0 where
   pub sound : IsSound script t
   pub missing : is_there ask (script_calls script t) t ≡ false
   pub line : output ≡ missing_text ask
 
--- the number of the first clause that fails
+-- the output has the number of the first clause that fails
 pub record TellsClause (script : Script) (t : List (List SeenLine)) (output : List ℕ) : Type 0 where
   pub clause : Clause
   pub fails : FirstFails script t clause
@@ -127,14 +127,14 @@ ToldOf ask script t NoMemory output = ⊥
 
 -- ---- for an input
 
--- a script with a transcript after it, and this output and status for them
+-- the input is a script with a transcript after it, and this output and status are for them
 pub record OfPair (ask : Ask) (status : Status) (input output : List ℕ) : Type 0 where
   pub script : Script
   pub t : List (List SeenLine)
   pub pair : IsPair input script t
   pub told : ToldOf ask script t status output
 
--- a script with a text after it that fails a clause as a text
+-- the input is a script with a text after it, and the text fails a clause
 pub record OfText (input output : List ℕ) : Type 0 where
   pub number : ℕ
   pub fails : FailsAsText input number

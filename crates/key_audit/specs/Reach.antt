@@ -1,20 +1,20 @@
--- The keys and bytes that can be computed from the keys and rests in memory: keys that were not made yet, and bytes of
--- later lines.
+-- The keys and bytes that can be computed from the keys and rests in memory. These are keys that were not made yet, and
+-- bytes of later lines.
 use Rattle.std.specs.Prelude.{ℕ, Bool, false, not, ◌&&◌, ◌||◌, ◌↔◌, ◌≡◌, Option, Some, None, List, [], ◌∷◌, ◌++◌, codes}
 use Rattle.std.specs.Prelude.{filter, nat_le, nat_lt, ◌-◌, if◌then◌else◌, Contains, IsTrue, IsPermutation, IsSortedByKey}
 use Rattle.std.specs.List.{flat_map, list_any}
 use Rattle.std.specs.List.Sorted.{IsStableByKey}
 use Rattle.key_names.specs.declared.names.KeyName.{KeyName}
 use Rattle.key_names.specs.contracts.names.KeyNamePartialEq.TheImpl.{ghosts as names}
-use Rattle.key_rows.specs.declared.held.HeldRest.{HeldRest}
-use Rattle.key_rows.specs.declared.moments.Line.{Line}
-use Rattle.key_rows.specs.contracts.moments.LineOrd.TheImpl.{ghosts as lines}
-use Rattle.key_rows.specs.contracts.moments.LinePartialEq.TheImpl.{ghosts as same_lines}
-use Rattle.key_rows.specs.declared.moments.Moments.{Moments}
-use Rattle.key_rows.specs.declared.rows.Fate.{Fate}
-use Rattle.key_rows.specs.declared.rows.Fate.TheVariants.{Became, Served, GivenUp, Held}
-use Rattle.key_rows.specs.declared.rows.Piece.{Piece}
-use Rattle.key_rows.specs.declared.rows.Row.{Row}
+use Rattle.audit_keys.specs.declared.held.HeldRest.{HeldRest}
+use Rattle.audit_keys.specs.declared.moments.Line.{Line}
+use Rattle.audit_keys.specs.contracts.moments.LineOrd.TheImpl.{ghosts as lines}
+use Rattle.audit_keys.specs.contracts.moments.LinePartialEq.TheImpl.{ghosts as same_lines}
+use Rattle.audit_keys.specs.declared.moments.Moments.{Moments}
+use Rattle.audit_keys.specs.declared.rows.Fate.{Fate}
+use Rattle.audit_keys.specs.declared.rows.Fate.TheVariants.{Became, Served, GivenUp, Held}
+use Rattle.audit_keys.specs.declared.rows.Piece.{Piece}
+use Rattle.audit_keys.specs.declared.rows.Row.{Row}
 use Rattle.key_audit.specs.Edges.{IsReached, edges_of}
 use Rattle.key_audit.specs.Live.{kept_line}
 use Rattle.key_audit.specs.Texts.{line_text, moment_at, name_text, span_text}
@@ -50,14 +50,14 @@ next_lines moments is_held is_known rows =
 
 -- ---- bytes that were copied out
 
--- bytes that an entry served, with the line of the entry
+-- bytes that an entry served, with the entry's line
 abbrev pub copied_at : Moments → Piece → Fate → List Copied
 copied_at moments piece (Served by) = record { line = (moment_at moments by).line; span = piece.span } ∷ []
 copied_at moments piece (Became key) = []
 copied_at moments piece (GivenUp by) = []
 copied_at moments piece Held = []
 
--- the same, if their key can be computed or they are in a rest that is held
+-- served bytes, if their key can be computed or a held rest has them
 abbrev pub copied_piece : Moments → Bool → List HeldRest → Piece → List Copied
 copied_piece moments is_known rests piece =
     if is_known || is_in_rest rests piece then copied_at moments piece piece.fate else []
@@ -74,7 +74,7 @@ copied_bytes moments is_known rests rows = flat_map (copied_row moments is_known
 abbrev pub copied_text : Copied → List ℕ
 copied_text one = codes " " ++ span_text one.span ++ codes "<" ++ name_text one.span.key
 
--- the end of a line, if one was begun
+-- the end of the line that was begun, if one was
 abbrev pub line_end : Option Line → List ℕ
 line_end None = []
 line_end (Some line) = 10 ∷ []
@@ -83,11 +83,11 @@ abbrev pub is_line : Option Line → Line → Bool
 is_line None line = false
 is_line (Some last) line = same_lines.eq last line
 
--- the beginning of a line, after the end of the last one
+-- the beginning of a line, after the end of the one before it; both are empty if the line is the same
 abbrev pub line_begin : Option Line → Line → List ℕ
 line_begin last line = if is_line last line then [] else line_end last ++ codes "line " ++ line_text line
 
--- the lines of bytes that come after bytes of this line
+-- the text of copied bytes, after bytes of the line `last`
 abbrev pub lines_after : Option Line → List Copied → List ℕ
 lines_after last [] = line_end last
 lines_after last (one ∷ more) =
@@ -98,17 +98,16 @@ copied_lines copied = lines_after None copied
 
 -- ---- the output
 
--- the lines of the keys and bytes that can be computed from these keys and these rests of batches
+-- the output has the lines of the keys and bytes that can be computed from these keys and these rests of batches
 pub record TellsReached (moments : Moments) (rows : List Row) (keys : List KeyName) (rests : List HeldRest)
     (output : List ℕ) : Type 0 where
-  -- which keys are held
+  -- is_held is whether a key is held
   pub is_held : KeyName → Bool
   pub held : (key : KeyName) → IsTrue (is_held key) ↔ Contains keys key
-  -- the keys that can be computed: these, those that bytes of the rests became, and those that their bytes became in
-  -- turn
+  -- is_known is whether a key can be computed: it is held, or bytes of a rest or of a known key became it
   pub is_known : KeyName → Bool
   pub known : (key : KeyName) → IsTrue (is_known key) ↔ IsReached (edges_of rows) (keys ++ rest_keys rests rows) key
-  -- the copied bytes of these keys and rests: line by line, and those of a line in the rows' order
+  -- copied has the served bytes that can be computed, line by line, and for each line in the rows' order
   pub copied : List Copied
   pub each : IsPermutation (copied_bytes moments is_known rests rows) copied
   pub ordered : IsSortedByKey (λ one. one.line) lines.cmp copied

@@ -7,18 +7,18 @@ use Rattle.key_names.specs.declared.names.KeyName.TheVariants.{Root, Base, Cpu, 
 use Rattle.key_names.specs.declared.names.LaneId.{LaneId}
 use Rattle.key_names.specs.declared.names.LaneId.TheVariants.{Pool as PoolLane, Base as BaseLane, Cpu as CpuLane}
 use Rattle.key_names.specs.declared.names.Span.{Span}
-use Rattle.key_uses.specs.declared.used.Origin.{Origin}
-use Rattle.key_uses.specs.declared.used.Origin.TheVariants.{Lane, State}
-use Rattle.key_rows.specs.declared.lives.Holder.{Holder}
-use Rattle.key_rows.specs.declared.lives.Holder.TheVariants.{Base as InBase, Cpu as InCpu, State as InState, Read as InRead}
-use Rattle.key_rows.specs.declared.moments.Line.{Line}
-use Rattle.key_rows.specs.declared.moments.Moment.{Moment}
-use Rattle.key_rows.specs.declared.moments.Moments.{Moments}
-use Rattle.key_rows.specs.declared.rows.Fate.{Fate}
-use Rattle.key_rows.specs.declared.rows.Fate.TheVariants.{Became, Served, GivenUp, Held}
-use Rattle.key_rows.specs.declared.rows.Piece.{Piece}
-use Rattle.key_rows.specs.declared.rows.Row.{Row}
-use Rattle.key_rows.specs.MadeOrder.{moment_at as moment_told}
+use Rattle.audit_keys.specs.declared.used.Origin.{Origin}
+use Rattle.audit_keys.specs.declared.used.Origin.TheVariants.{Lane, State}
+use Rattle.audit_keys.specs.declared.lives.Holder.{Holder}
+use Rattle.audit_keys.specs.declared.lives.Holder.TheVariants.{Base as InBase, Cpu as InCpu, State as InState, Read as InRead}
+use Rattle.audit_keys.specs.declared.moments.Line.{Line}
+use Rattle.audit_keys.specs.declared.moments.Moment.{Moment}
+use Rattle.audit_keys.specs.declared.moments.Moments.{Moments}
+use Rattle.audit_keys.specs.declared.rows.Fate.{Fate}
+use Rattle.audit_keys.specs.declared.rows.Fate.TheVariants.{Became, Served, GivenUp, Held}
+use Rattle.audit_keys.specs.declared.rows.Piece.{Piece}
+use Rattle.audit_keys.specs.declared.rows.Row.{Row}
+use Rattle.audit_keys.specs.MadeOrder.{moment_at as moment_told}
 
 -- ---- moments
 

@@ -1,9 +1,9 @@
 //! The text of a command's answer.
 ghost use Rattle.std.specs.Prelude.{◌≡◌, false, true, IfOk, List, MatchOption};
-ghost use Rattle.key_names.specs.Book.{Book};
-ghost use Rattle.key_names.specs.IsTranscript.{IsTranscriptBy, script_calls};
-ghost use Rattle.key_names.specs.Meaning.{CallMeaning};
-ghost use Rattle.key_names.specs.SeenLine.{SeenLine};
+ghost use Rattle.key_names.specs.Lanes.Book.{Book};
+ghost use Rattle.key_names.specs.Transcripts.IsTranscript.{IsTranscriptBy, script_calls};
+ghost use Rattle.key_names.specs.Callers.Meaning.{CallMeaning};
+ghost use Rattle.key_names.specs.Transcripts.SeenLine.{SeenLine};
 ghost use Rattle.key_audit.specs.Asked.{is_there};
 ghost use Rattle.key_audit.specs.Kept.{KeepsBook};
 ghost use Rattle.key_audit.specs.Outcome.{Tells};
@@ -15,11 +15,11 @@ use crate::keys::keys_text;
 use crate::line::sources_text;
 use crate::live::{after_text, live_text};
 use crate::until::Until;
+use audit_keys::use_laws::moments_hold_unused;
 use event_script::Script;
-use key_uses::laws::moments_hold_unused;
 use std::alloc::{AllocError, Global};
 
-// The output for a book that has the stamp or the line of the command.
+// The output for a book. The book has the stamp or the line of the command.
 fn told_text(
     alloc: Global,
     ask: Ask,
@@ -40,7 +40,7 @@ fn told_text(
     }
 }
 
-/// The output for a lawful transcript's book; it is empty if the transcript lacks the stamp or the line of the command.
+/// The output for a lawful transcript's book. `None` if the transcript lacks the stamp or the line of the command.
 ///
 /// # Errors
 ///

@@ -1,15 +1,15 @@
 //! The commands that the words of a command line name.
 ghost use Rattle.std.specs.Prelude.{◌≡◌, ◌∷◌, ◌++◌, [], true, Some, IfSome, MatchOption};
-ghost use Rattle.key_rows.specs.declared.moments.Line.{Line as LineName};
+ghost use Rattle.audit_keys.specs.declared.moments.Line.{Line as LineName};
 ghost use Rattle.transcript_text.specs.Reading.{lacks};
 ghost use Rattle.key_audit.specs.Commands.{AskTexts, Asks, LineFits, LiveText};
 ghost use Rattle.key_audit.specs.Texts.{line_text};
 
+use audit_keys::moments::Line;
 use event_script::numbers::number_up_to;
-use key_rows::moments::Line;
 use memchr::memchr;
 
-/// The forms of the command line, as they are printed for any other words.
+/// The forms of the command line, which are printed if the words are of none.
 pub(crate) const USAGE: &str =
     "usage: key_audit keys | key_audit live T | key_audit live C.E | key_audit line C.E";
 
@@ -52,7 +52,7 @@ fn line_of(text: &[u8]) -> Option<Line>
     })
 }
 
-/// The command with this text after `live`: a line, or else a stamp.
+/// The command if this text is the word after `live`: a line is tried before a stamp.
 fn live_of(text: &[u8]) -> Option<Ask>
     ensures found { IfSome result (LiveText text.now) }
     ensures only { (ask : Ask) → LiveText text.now ask → result ≡ Some ask }
@@ -63,7 +63,7 @@ fn live_of(text: &[u8]) -> Option<Ask>
     }
 }
 
-/// The command of a word and the one after it.
+/// The command of two words.
 fn ask_by(word: &str, argument: &str) -> Option<Ask>
     ensures found { IfSome result (AskTexts (word.now ∷ argument.now ∷ [])) }
     ensures only { (ask : Ask) → AskTexts (word.now ∷ argument.now ∷ []) ask → result ≡ Some ask }
@@ -77,7 +77,7 @@ fn ask_by(word: &str, argument: &str) -> Option<Ask>
     None
 }
 
-/// The command of the words, if they are of one of the forms.
+/// The command of the words, if they are of one of its forms.
 pub(crate) fn ask_of(words: &[String]) -> Option<Ask>
     ensures found { IfSome result (Asks words.now) }
     ensures only { (ask : Ask) → Asks words.now ask → result ≡ Some ask }

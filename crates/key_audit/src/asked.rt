@@ -2,22 +2,22 @@
 ghost use Rattle.std.specs.Prelude.{◌≡◌, List, map};
 ghost use Rattle.std.specs.List.{list_any};
 ghost use Rattle.std.specs.Option.{is_some};
-ghost use Rattle.key_names.specs.Book.{Book, list_at};
-ghost use Rattle.key_names.specs.Calls.{Call};
-ghost use Rattle.key_names.specs.Meaning.{CallMeaning};
-ghost use Rattle.key_names.specs.SeenLine.{SeenLine};
-ghost use Rattle.line_orders.specs.Marks.{seen_mark};
-ghost use Rattle.state_entries.specs.LineEnds.{lines_in};
+ghost use Rattle.key_names.specs.Lanes.Book.{Book, list_at};
+ghost use Rattle.key_names.specs.Callers.Calls.{Call};
+ghost use Rattle.key_names.specs.Callers.Meaning.{CallMeaning};
+ghost use Rattle.key_names.specs.Transcripts.SeenLine.{SeenLine};
+ghost use Rattle.judge_lines.specs.Marks.{seen_mark};
+ghost use Rattle.audit_keys.specs.LineEnds.{lines_in};
 ghost use Rattle.key_audit.specs.Asked.{is_there, line_end as told_end, line_in, missing_text, stamps_reach};
 ghost use Rattle.key_audit.specs.Kept.{KeepsBook};
 
 use crate::ask::Ask;
 use crate::book::KeptBook;
-use key_rows::moments::Line;
-use line_orders::marks::MarkOf;
-use state_entries::LineEnd;
+use audit_keys::line_ends::LineEnd;
+use audit_keys::moments::Line;
+use judge_lines::marks::MarkOf;
 
-// The first line of an event.
+// The first of these lines with this event's number.
 fn line_in(lines: &[LineEnd], event: u32) -> Option<LineEnd>
     ensures { result ≡ line_in event lines.now }
 {
@@ -39,7 +39,7 @@ pub(crate) fn line_end(lines: &[Vec<LineEnd>], line: Line) -> Option<LineEnd>
     }
 }
 
-// Whether a stamp is not above those of all visits.
+// Whether some visit has this stamp or a higher one.
 fn has_stamp(marks: &[MarkOf], stamp: u64) -> bool
     ensures { result ≡ stamps_reach stamp marks.now }
 {
@@ -67,7 +67,7 @@ pub(crate) fn is_there(ask: Ask, book: &KeptBook) -> bool
     }
 }
 
-/// The output if it does not.
+/// The output if the transcript does not have the stamp or the line of the command.
 pub(crate) fn missing_text(ask: Ask) -> &'static str
     ensures { result.now ≡ missing_text ask }
 {

@@ -1,4 +1,4 @@
-//! The top call: it takes the words of a command line, and gives the answer.
+//! The top call. It takes the words of a command line, and writes the answer.
 ghost use Rattle.std.specs.Prelude.{◌≡◌, ◌↔◌, ◌⊎◌, []};
 ghost use Rattle.io_edges.specs.Faults.{Rose};
 ghost use Rattle.tool_ends.specs.Ends.{CountsReadFault, CountsWriteFault};
@@ -54,7 +54,7 @@ fn audit_input<S: Source, K: Sink>(alloc: Global, ask: Ask, source: &mut S, sink
 /// - `keys`: a row for each key that the run made.
 /// - `live T`: the keys and rests of batches in memory after stamp T, and the later keys and lines that can be computed
 ///   from them.
-/// - `live C.E`: the same once event E of caller C is over.
+/// - `live C.E`: the keys and rests in memory once event E of caller C is over, and what can be computed from them.
 /// - `line C.E`: the rows that the bytes of event E of caller C come from, and the extractions of their roots.
 ///
 /// T is below 2^64, C and E are below 2^32, all spelt as in a script.
@@ -63,16 +63,16 @@ fn audit_input<S: Source, K: Sink>(alloc: Global, ask: Ask, source: &mut S, sink
 /// - `ReadFault`: the source failed. Nothing is written.
 /// - `Refused`: the input has a fault, and the line with the first one was written, as `rng check` writes it.
 /// - `No`: the transcript is not lawful for the script, and the line with the number of the first clause that fails was
-///   written. Or it is lawful, but has no visit with this stamp or a higher one, or does not have this line: `no stamp`
-///   or `no line` was written.
-/// - `WriteFault`: the sink failed at a put, or at the flush after the last. What it got in this call is a prefix of
-///   the output.
-/// - `NoMemory`: memory ran out. Nothing is written. It is not proved that each key which is held has a row; without
-///   one, `live` would end so too.
+///   written. Or the transcript is lawful, but lacks this line, or a visit with this stamp or a higher one: `no line`
+///   or `no stamp` was written.
+/// - `WriteFault`: the sink failed at a put, or at the flush after the last put. It got a prefix of the output in this
+///   call.
+/// - `NoMemory`: memory ran out. Nothing is written. `live` would also end so if a held key had no row; it is not
+///   proved that each has one.
 /// - `Done`: the input was read to its end, the transcript is lawful and has that stamp or line, and the whole output
 ///   was written.
 ///
-/// If the output was written whole, the sink keeps nothing of it back.
+/// If the whole output was written, the sink has handed all of it on.
 pub fn audit<S: Source, K: Sink>(
     alloc: Global,
     words: &[String],

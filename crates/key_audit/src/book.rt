@@ -1,19 +1,20 @@
-//! The book of a transcript, as the check of the transcript hands it on.
+//! The book of a transcript, from the lists that the check of the transcript hands on.
 ghost use Rattle.std.specs.Prelude.{List, IfOk};
-ghost use Rattle.key_names.specs.IsTranscript.{MadeBook, script_calls};
-ghost use Rattle.key_names.specs.SeenLine.{SeenLine};
+ghost use Rattle.key_names.specs.Transcripts.IsTranscript.{MadeBook, script_calls};
+ghost use Rattle.key_names.specs.Transcripts.SeenLine.{SeenLine};
 ghost use Rattle.key_names.specs.Texts.ScriptGrammar.{Script as ScriptLines};
 ghost use Rattle.serial_replay.specs.Found.{BasisStands};
 ghost use Rattle.key_audit.specs.Audited.{IsAudited};
 ghost use Rattle.key_audit.specs.Kept.{KeepsBook};
 
+use audit_keys::entry::StateEntry;
+use audit_keys::line_ends::{LineEnd, line_ends};
+use audit_keys::lists::state_lists;
 use event_script::Script;
-use line_orders::clause::Clause;
-use line_orders::marks::MarkOf;
-use list_replay::Lists;
+use judge_lines::clause::Clause;
+use judge_lines::marks::MarkOf;
+use judge_log::Lists;
 use serial_replay::lists::Basis;
-use state_entries::line_ends::line_ends;
-use state_entries::{LineEnd, StateEntry, state_lists};
 use std::alloc::{AllocError, Global};
 use transcript_check::check::{Judged, check_lists};
 use transcript_text::Transcript;
@@ -23,11 +24,11 @@ use transcript_text::Transcript;
 pub struct KeptBook {
     /// The kept visits of each lane.
     pub lanes: Lists,
-    /// The entries of each of the sixteen vgetrandom states of each caller, and the call that left each.
+    /// The entries of each of the sixteen vgetrandom states of each caller, each with the call that left it.
     pub states: Vec<Vec<Vec<StateEntry>>>,
     /// The lines of each caller, each with its call.
     pub lines: Vec<Vec<LineEnd>>,
-    /// The marks of all visits, lane after lane, those of one lane by their stamps.
+    /// The marks of all visits, sorted by lane, and in each lane by stamp.
     pub marks: Vec<MarkOf>,
 }
 
@@ -39,7 +40,7 @@ pub enum AuditedBook {
     Unlawful(Clause),
 }
 
-// The book of the steps that these lists are made of.
+// The book of the steps from which these lists were made.
 fn book_of(alloc: Global, basis: Basis<'_>) -> Result<KeptBook, AllocError>
     ensures { (script : ScriptLines) (t : List (List SeenLine)) → BasisStands script t basis.entry →
         (made : MadeBook script t) →
@@ -55,8 +56,8 @@ fn book_of(alloc: Global, basis: Basis<'_>) -> Result<KeptBook, AllocError>
     })
 }
 
-/// Judges a transcript, keeps its book if it is lawful, and frees the rest: the transcript, and the lists that it was
-/// judged by.
+/// Judges a transcript, and keeps its book if it is lawful. Frees the transcript and the lists that were made to judge
+/// it.
 ///
 /// # Errors
 ///

@@ -1,12 +1,13 @@
-//! The edges from each key to the keys that its bytes became, and the keys that such edges lead to.
+//! An edge leads from a key to each key that its bytes became. Following edges from some keys gives all keys that can
+//! be reached.
 ghost use Rattle.std.specs.Prelude.{◌≡◌, ◌++◌, ◌↔◌, IfOk, OnOk, IsTrue, Contains, map, reverse};
 ghost use Rattle.std.specs.BTreeSet.{contains};
 ghost use Rattle.key_names.specs.declared.names.KeyName.{KeyName as BookName};
 ghost use Rattle.key_names.specs.contracts.names.KeyNameOrd.TheImpl.{ghosts as names};
 ghost use Rattle.key_audit.specs.Edges.{Follows, HasPassed, IsReached, edges_of, row_edges, turned};
 
+use audit_keys::rows::{Fate, Row};
 use key_names::KeyName;
-use key_rows::rows::{Fate, Row};
 use std::alloc::{AllocError, Global};
 use std::collections::BTreeSet;
 
@@ -53,7 +54,7 @@ fn turned(edge: Edge) -> Edge
     }
 }
 
-/// Edges from the keys that were made to those that they were made of, the last first.
+/// The edges turned back, from each key to the keys that its bytes come from. The last edge comes first.
 ///
 /// # Errors
 ///
@@ -79,7 +80,7 @@ pub(crate) fn set_of(alloc: Global, keys: &[KeyName]) -> Result<BTreeSet<KeyName
     Ok(set)
 }
 
-// Goes along an edge from a known key. Returns whether it leads to a new one.
+// Follows an edge if it begins at a known key. Returns whether it leads to a new key.
 fn follow(known: &mut BTreeSet<KeyName>, edge: Edge) -> Result<bool, AllocError>
     ensures { IfOk result (λ more. Follows edge known.old known.new more) }
 {
@@ -89,7 +90,7 @@ fn follow(known: &mut BTreeSet<KeyName>, edge: Edge) -> Result<bool, AllocError>
     Ok(false)
 }
 
-// Goes along each edge from a known key. Returns whether one leads to a new key.
+// Follows each edge that begins at a known key. Returns whether one leads to a new key.
 fn pass(known: &mut BTreeSet<KeyName>, edges: &[Edge]) -> Result<bool, AllocError>
     ensures { IfOk result (λ more. HasPassed edges.now known.old known.new more) }
 {
@@ -102,7 +103,7 @@ fn pass(known: &mut BTreeSet<KeyName>, edges: &[Edge]) -> Result<bool, AllocErro
     Ok(more)
 }
 
-/// The keys that edges lead to from these, and these.
+/// The start keys, and the keys that edges lead to from them, one after another.
 ///
 /// # Errors
 ///

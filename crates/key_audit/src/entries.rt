@@ -1,13 +1,13 @@
 //! The entries of vgetrandom states without the calls that left them.
 ghost use Rattle.std.specs.Prelude.{◌≡◌, IfOk, map};
-ghost use Rattle.key_rows.specs.Told.{caller_lists};
-ghost use Rattle.state_entries.specs.Entries.{entries_in, lists_in, all_lists_in};
-ghost use Rattle.state_entries.specs.Cut.{all_lists_by, entries_by, lists_by};
+ghost use Rattle.audit_keys.specs.Told.{caller_lists};
+ghost use Rattle.audit_keys.specs.Entries.{entries_in, lists_in, all_lists_in};
+ghost use Rattle.audit_keys.specs.StateCut.{all_lists_by, entries_by, lists_by};
 ghost use Rattle.key_audit.specs.Live.{cut_at};
 
 use crate::until::Until;
+use audit_keys::entry::{Cut, StateEntry};
 use key_names::VEntry;
-use state_entries::{Cut, StateEntry};
 use std::alloc::{AllocError, Global};
 
 fn list_entries(alloc: Global, list: &[StateEntry]) -> Result<Vec<VEntry>, AllocError>
@@ -48,7 +48,7 @@ pub(crate) fn all_entries(
     Ok(entries)
 }
 
-// Those that a cut keeps.
+// The entries of a list that a cut keeps.
 fn list_entries_by(alloc: Global, cut: Cut, list: &[StateEntry]) -> Result<Vec<VEntry>, AllocError>
     ensures { IfOk result (λ entries. entries.items ≡ entries_by cut list.now) }
 {

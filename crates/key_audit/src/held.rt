@@ -1,10 +1,10 @@
-//! The keys and rests in memory after a stamp, and their lines.
+//! The keys and rests in memory at a moment, and their lines.
 ghost use Rattle.std.specs.Prelude.{◌≡◌, ◌++◌, IfOk, List, OnOk, filter, slice_get};
 ghost use Rattle.std.specs.List.{flat_map};
-ghost use Rattle.key_names.specs.Book.{Book};
-ghost use Rattle.key_names.specs.Calls.{Call};
-ghost use Rattle.key_names.specs.Meaning.{CallMeaning};
-ghost use Rattle.key_names.specs.SeenLine.{SeenLine};
+ghost use Rattle.key_names.specs.Lanes.Book.{Book};
+ghost use Rattle.key_names.specs.Callers.Calls.{Call};
+ghost use Rattle.key_names.specs.Callers.Meaning.{CallMeaning};
+ghost use Rattle.key_names.specs.Transcripts.SeenLine.{SeenLine};
 ghost use Rattle.key_audit.specs.Kept.{KeepsBook};
 ghost use Rattle.key_audit.specs.Moments.{AreMoments};
 ghost use Rattle.key_audit.specs.Texts.{piece_text};
@@ -16,12 +16,12 @@ use crate::entries::entries_until;
 use crate::row_index::RowIndex;
 use crate::text::Text;
 use crate::until::Until;
-use key_rows::cut::kept_to;
-use key_rows::held::{BatchHolder, Held, HeldKey, HeldRest};
-use key_rows::held_book::hold_book;
-use key_rows::lives::Holder;
-use key_rows::moments::Moments;
-use key_rows::rows::{Fate, Piece, Row};
+use audit_keys::cut::kept_to;
+use audit_keys::held::{BatchHolder, Held, HeldKey, HeldRest};
+use audit_keys::held_book::hold_book;
+use audit_keys::lives::Holder;
+use audit_keys::moments::Moments;
+use audit_keys::rows::{Fate, Piece, Row};
 use std::alloc::{AllocError, Global};
 
 /// The keys and rests that are held at a moment.
@@ -45,8 +45,8 @@ pub(crate) fn held_at(
     Ok(held)
 }
 
-/// The numbers of the rows of keys that are held. Each key has one, since an entry made it. If one had none, the call
-/// would fail rather than leave the key out.
+/// The numbers of the rows of keys that are held. Each held key has a row, since an entry made it. If one had no row,
+/// the call would fail rather than leave the key out.
 ///
 /// # Errors
 ///
@@ -72,7 +72,7 @@ fn became_key(fate: Fate) -> bool
     matches!(fate, Fate::Became(_))
 }
 
-// Adds those of some pieces that became keys.
+// Adds those of these pieces that became keys.
 fn put_became(text: &mut Text, moments: &Moments, pieces: &[Piece]) -> Result<(), AllocError>
     ensures { OnOk result (text.new.bytes.items ≡ text.old.bytes.items
         ++ flat_map (piece_text moments.now) (filter (λ piece. became_key piece.fate) pieces.now)) }
@@ -85,7 +85,7 @@ fn put_became(text: &mut Text, moments: &Moments, pieces: &[Piece]) -> Result<()
     Ok(())
 }
 
-/// Adds a word, and a row with only those of its pieces that became keys.
+/// Adds a word, and a row with those of its pieces that became keys.
 ///
 /// # Errors
 ///

@@ -1,10 +1,10 @@
 //! The command `keys`: the rows of a book.
 ghost use Rattle.std.specs.Prelude.{◌≡◌, List, IfOk};
-ghost use Rattle.key_names.specs.Book.{Book};
-ghost use Rattle.key_names.specs.Calls.{Call};
-ghost use Rattle.key_names.specs.Meaning.{CallMeaning};
-ghost use Rattle.key_names.specs.SeenLine.{SeenLine};
-ghost use Rattle.key_rows.specs.MadeOrder.{RowsByMaking};
+ghost use Rattle.key_names.specs.Lanes.Book.{Book};
+ghost use Rattle.key_names.specs.Callers.Calls.{Call};
+ghost use Rattle.key_names.specs.Callers.Meaning.{CallMeaning};
+ghost use Rattle.key_names.specs.Transcripts.SeenLine.{SeenLine};
+ghost use Rattle.audit_keys.specs.MadeOrder.{RowsByMaking};
 ghost use Rattle.key_audit.specs.Kept.{KeepsBook};
 ghost use Rattle.key_audit.specs.Outcome.{AreRows, TellsKeys};
 
@@ -12,9 +12,9 @@ use crate::book::KeptBook;
 use crate::entries::all_entries;
 use crate::moments::moments_of;
 use crate::text::Text;
-use key_rows::moments::Moments;
-use key_rows::rows::{Row, make_rows, sort_rows};
-use key_rows::told::tell_book;
+use audit_keys::moments::Moments;
+use audit_keys::rows::{Row, make_rows, sort_rows};
+use audit_keys::told::tell_book;
 use std::alloc::{AllocError, Global};
 
 /// The rows of a book in the order in which their keys were made.

@@ -4,10 +4,10 @@ ghost use Rattle.std.specs.BTreeSet.{contains};
 ghost use Rattle.std.specs.List.{flat_map};
 ghost use Rattle.key_names.specs.declared.names.KeyName.{KeyName as BookName};
 ghost use Rattle.key_names.specs.contracts.names.KeyNameOrd.TheImpl.{ghosts as names};
-ghost use Rattle.key_names.specs.Book.{Book};
-ghost use Rattle.key_names.specs.Calls.{Call};
-ghost use Rattle.key_names.specs.Meaning.{CallMeaning};
-ghost use Rattle.key_names.specs.SeenLine.{SeenLine};
+ghost use Rattle.key_names.specs.Lanes.Book.{Book};
+ghost use Rattle.key_names.specs.Callers.Calls.{Call};
+ghost use Rattle.key_names.specs.Callers.Meaning.{CallMeaning};
+ghost use Rattle.key_names.specs.Transcripts.SeenLine.{SeenLine};
 ghost use Rattle.key_audit.specs.Edges.{IsReached};
 ghost use Rattle.key_audit.specs.KeptPool.{is_kept_sample, kept_bits, kept_samples, sample_count};
 ghost use Rattle.key_audit.specs.Kept.{KeepsBook};
@@ -21,12 +21,12 @@ use crate::edges::{edges_back, edges_of, reached_by};
 use crate::keys::rows_of;
 use crate::moments::moments_of;
 use crate::text::{Text, moment_at};
+use audit_keys::moments::{Line, Moment, Moments};
+use audit_keys::rows::{Fate, Row};
+use audit_keys::used::Origin;
 use event_script::Script;
+use judge_log::KeptPool;
 use key_names::{Event, KeyName, LaneId};
-use key_rows::moments::{Line, Moment, Moments};
-use key_rows::rows::{Fate, Row};
-use key_uses::used::Origin;
-use list_replay::KeptPool;
 use std::alloc::{AllocError, Global};
 use std::collections::BTreeSet;
 
@@ -39,7 +39,7 @@ fn is_served_for(moments: &Moments, line: Line, fate: Fate) -> bool
     }
 }
 
-// Whether bytes of the row's key were copied out for a line.
+// Whether bytes of the row's key were served for a line.
 fn serves(moments: &Moments, line: Line, row: &Row) -> bool
     ensures { result ≡ serves moments.now line row.now }
 {
@@ -81,7 +81,7 @@ fn sources(
     reached_by(alloc, &back, &serving)
 }
 
-// The rows of these keys, the last made first.
+// The rows of these keys, the last one made first.
 fn rows_back<'a>(
     alloc: Global,
     keys: &BTreeSet<KeyName>,
@@ -96,7 +96,7 @@ fn rows_back<'a>(
         .collect(alloc)
 }
 
-// Whether an event hands a sample to the pool. Bits are asked for and credited without one.
+// Whether an event hands a sample to the pool. All events do but those that ask for bits or credit them.
 fn hands_sample(script: &Script, line: Line) -> bool
     ensures { result ≡ hands_sample (event_at script.now line.caller line.event) }
 {
@@ -116,14 +116,14 @@ fn is_sample(script: &Script, kept: &KeptPool, moment: &Moment) -> bool
     kept.root.is_none() && hands_sample(script, moment.line)
 }
 
-// The first `count` visits.
+// The first `count` visits of the pool.
 fn first_visits(pool: &[KeptPool], count: u64) -> &[KeptPool]
     ensures { result.now ≡ take count pool.now }
 {
     pool.get(..count as usize).unwrap_or(pool)
 }
 
-// A visit counts if it was made for a sample.
+// 1 if a visit was made for a sample, and 0 otherwise.
 fn sample_count(script: &Script, kept: &KeptPool, moments: &[Moment], place: usize) -> u64
     ensures count { result ≡ sample_count script.now kept.now (slice_get moments.now place) }
     ensures small { result ≤ 1 }
@@ -220,7 +220,7 @@ fn put_extractions(
     Ok(())
 }
 
-// The text for a line, given the kept visits of the pool.
+// The text for a line, from the kept visits of the pool.
 fn origin_text(
     alloc: Global,
     line: Line,
@@ -241,7 +241,7 @@ fn origin_text(
     Ok(text.bytes)
 }
 
-/// The rows that the bytes of a line come from, the last made first, and the extractions of their roots.
+/// The rows that the bytes of a line come from, the last one made first, and the extractions of their roots.
 ///
 /// # Errors
 ///

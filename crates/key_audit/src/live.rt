@@ -1,11 +1,11 @@
 //! The commands `live T` and `live C.E`: the keys and rests in memory after a stamp or a line, and the keys and bytes
 //! that can be computed from them.
 ghost use Rattle.std.specs.Prelude.{◌≡◌, IfOk, List, Some};
-ghost use Rattle.key_names.specs.Book.{Book};
-ghost use Rattle.key_names.specs.Calls.{Call};
-ghost use Rattle.key_names.specs.Meaning.{CallMeaning};
-ghost use Rattle.key_names.specs.SeenLine.{SeenLine};
-ghost use Rattle.state_entries.specs.declared.line_ends.LineEnd.{LineEnd};
+ghost use Rattle.key_names.specs.Lanes.Book.{Book};
+ghost use Rattle.key_names.specs.Callers.Calls.{Call};
+ghost use Rattle.key_names.specs.Callers.Meaning.{CallMeaning};
+ghost use Rattle.key_names.specs.Transcripts.SeenLine.{SeenLine};
+ghost use Rattle.audit_keys.specs.declared.line_ends.LineEnd.{LineEnd};
 ghost use Rattle.key_audit.specs.Asked.{line_end};
 ghost use Rattle.key_audit.specs.Kept.{KeepsBook};
 ghost use Rattle.key_audit.specs.Live.{lists_after, lists_until};
@@ -20,7 +20,7 @@ use crate::reach::reached_text;
 use crate::row_index::RowIndex;
 use crate::text::Text;
 use crate::until::Until;
-use key_rows::moments::Line;
+use audit_keys::moments::Line;
 use std::alloc::{AllocError, Global};
 
 /// The keys and rests that are held at a moment, and the keys and bytes that can be computed from them.
@@ -46,7 +46,8 @@ pub(crate) fn live_text(alloc: Global, until: Until, book: &KeptBook) -> Result<
     Ok(text.bytes)
 }
 
-/// The same after a line; an empty text if the line does not exist.
+/// The keys and rests that are held after a line, and what can be computed from them. The text is empty if the line
+/// does not exist.
 ///
 /// # Errors
 ///

@@ -1,9 +1,9 @@
 //! `key_audit`: the keys that a lawful transcript's run made, the holder of each, and the fates of its bytes.
 //!
-//! [`audit`] carries the contract: it states for every command the meaning of each status and of the output; for
-//! `NoMemory`, only that nothing is written. [`book`] makes the book of a transcript, which the check of the transcript
-//! hands on. The functions of this file have no clause and are only tested: standard streams, standard error and the
-//! exit code.
+//! The contract is that of [`audit`]. For every command it states the meaning of each status and of the output. For
+//! `NoMemory` it only states that no output is written. [`book`] makes the book of a transcript, which the check of the
+//! transcript hands on. The functions of this file have no clause and are only tested. They connect the command to
+//! standard streams, standard error and the exit code.
 #![tactic(auto)]
 
 mod answer;
@@ -30,7 +30,7 @@ use std::io::BufWriter;
 use std::process::ExitCode;
 use tool_ends::{Status, words};
 
-/// How many bytes of output are gathered to one write.
+/// How many bytes of output are gathered for one write.
 const GATHERED: usize = 64 * 1024;
 
 /// Runs a command on the standard streams. Only tested.

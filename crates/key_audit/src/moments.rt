@@ -1,16 +1,16 @@
 //! The moments at which the entries of a book were left, and their lines.
 ghost use Rattle.std.specs.Prelude.{ℕ, ◌≡◌, ◌<◌, ◌++◌, ◌==◌, ◌∷◌, [], IfOk, OnOk, length, map, if◌then◌else◌};
-ghost use Rattle.key_names.specs.Book.{list_at};
-ghost use Rattle.key_rows.specs.Cut.{moment_lists};
-ghost use Rattle.line_orders.specs.Marks.{seen_mark};
+ghost use Rattle.key_names.specs.Lanes.Book.{list_at};
+ghost use Rattle.audit_keys.specs.Cut.{moment_lists};
+ghost use Rattle.judge_lines.specs.Marks.{seen_mark};
 ghost use Rattle.key_audit.specs.Moments.{moment_by, AddsMark, HasMarks, state_moments_in};
 ghost use Rattle.key_audit.specs.EntryMoments.{all_moments, caller_moments, end_moment, entry_moments};
 
 use crate::book::KeptBook;
+use audit_keys::entry::{CallEnd, StateEntry};
+use audit_keys::moments::{Line, Moment, Moments};
+use judge_lines::marks::MarkOf;
 use key_names::LaneId;
-use key_rows::moments::{Line, Moment, Moments};
-use line_orders::marks::MarkOf;
-use state_entries::{CallEnd, StateEntry};
 use std::alloc::{AllocError, Global};
 
 fn moment_by(of: &MarkOf) -> Moment
@@ -25,7 +25,7 @@ fn moment_by(of: &MarkOf) -> Moment
     }
 }
 
-// Appends the moment of a visit of a CPU to those that it has. A CPU that the book does not have gets none.
+// Appends the moment of a visit to those of its CPU. If the book does not have the CPU, no moment is appended.
 fn push_cpu(cpus: &mut Vec<Vec<Moment>>, cpu: usize, moment: Moment) -> Result<(), AllocError>
     ensures count { length cpus.new.items ≡ length cpus.old.items }
     ensures each { (c : ℕ) → c < length cpus.old.items → OnOk result (list_at (moment_lists cpus.new.items) c
@@ -50,7 +50,7 @@ fn push_mark(moments: &mut Moments, of: &MarkOf) -> Result<(), AllocError>
     Ok(())
 }
 
-// This many CPUs, and no visits.
+// The moments of a book with this many CPUs and no visits.
 fn no_visits(alloc: Global, cpus: usize) -> Result<Moments, AllocError>
     ensures { IfOk result (λ moments. HasMarks cpus [] moments) }
 {
@@ -77,7 +77,7 @@ fn moments_of_marks(alloc: Global, cpus: usize, marks: &[MarkOf]) -> Result<Mome
     Ok(moments)
 }
 
-// The stamp when a call was over, and its line.
+// The moment when a call was over: its stamp, and the call's line.
 fn end_moment(end: CallEnd) -> Moment
     ensures { result ≡ end_moment end }
 {
@@ -124,8 +124,8 @@ fn state_moments(
     Ok(moments)
 }
 
-/// The moments of the entries of a book: the stamp and the line of each visit. For an entry of a vgetrandom state, they
-/// are the stamp when the call that left it was over, and that call's line.
+/// The moments of the entries of a book: the stamp and the line of each visit. The moment of a vgetrandom state's entry
+/// has the stamp when the call that left it was over, and that call's line.
 ///
 /// # Errors
 ///

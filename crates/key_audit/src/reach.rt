@@ -1,10 +1,10 @@
-//! The keys and bytes that can be computed from the keys and rests in memory: keys that were not made yet, and bytes of
-//! later lines.
+//! The keys and bytes that can be computed from the keys and rests in memory. These are keys that were not made yet,
+//! and bytes of later lines.
 ghost use Rattle.std.specs.Prelude.{◌≡◌, ◌++◌, IfOk, OnOk, IsPermutation, IsSortedByKey, map};
 ghost use Rattle.std.specs.BTreeSet.{contains};
 ghost use Rattle.std.specs.List.Sorted.{IsStableByKey};
 ghost use Rattle.key_names.specs.contracts.names.KeyNameOrd.TheImpl.{ghosts as names};
-ghost use Rattle.key_rows.specs.contracts.moments.LineOrd.TheImpl.{ghosts as lines};
+ghost use Rattle.audit_keys.specs.contracts.moments.LineOrd.TheImpl.{ghosts as lines};
 ghost use Rattle.key_audit.specs.Reach.{TellsReached, copied_bytes, copied_lines, copied_piece, copied_row, copied_text};
 ghost use Rattle.key_audit.specs.Reach.{has_piece, is_in_rest, is_line, line_begin, line_end, next_lines, rest_keys};
 ghost use Rattle.key_audit.specs.Reach.{row_rest_keys};
@@ -12,14 +12,14 @@ ghost use Rattle.key_audit.specs.Reach.{row_rest_keys};
 use crate::edges::{edges_of, reached_by, set_of};
 use crate::held::put_kept;
 use crate::text::{Text, moment_at};
+use audit_keys::held::{HeldKey, HeldRest};
+use audit_keys::moments::{Line, Moments};
+use audit_keys::rows::{Fate, Piece, Row};
 use key_names::{KeyName, Span};
-use key_rows::held::{HeldKey, HeldRest};
-use key_rows::moments::{Line, Moments};
-use key_rows::rows::{Fate, Piece, Row};
 use std::alloc::{AllocError, Global};
 use std::collections::BTreeSet;
 
-/// Bytes of a key that were copied out for a line.
+/// Bytes of a key that were served for a line.
 #[derive(Clone, Copy)]
 struct Copied {
     line: Line,
@@ -41,7 +41,7 @@ fn is_in_rest(rests: &[HeldRest], piece: &Piece) -> bool
     rests.iter().any(|rest| has_piece(rest, piece))
 }
 
-// Adds the keys that bytes of a row became, if these bytes are in the rests.
+// Adds the keys that bytes of a row became, if the rests have these bytes.
 fn push_rest_keys(keys: &mut Vec<KeyName>, rests: &[HeldRest], row: &Row) -> Result<(), AllocError>
     ensures { OnOk result (keys.new.items ≡ keys.old.items ++ row_rest_keys rests.now row.now) }
 {
@@ -55,7 +55,7 @@ fn push_rest_keys(keys: &mut Vec<KeyName>, rests: &[HeldRest], row: &Row) -> Res
     Ok(())
 }
 
-// Some keys, and those that bytes of rests became.
+// These keys, and the keys that bytes of the rests became.
 fn with_rest_keys(
     alloc: Global,
     keys: &[KeyName],
@@ -128,7 +128,7 @@ fn copied_bytes(
     Ok(all)
 }
 
-// Line by line; the bytes of a line keep their order.
+// Sorts bytes by line. The bytes of a line keep their order.
 fn sort_by_line(all: &mut Vec<Copied>) -> Result<(), AllocError>
     ensures each { IsPermutation all.old.items all.new.items }
     ensures ordered { OnOk result (IsSortedByKey (λ one. one.line) lines.cmp all.new.items) }
@@ -156,7 +156,7 @@ fn is_line(last: Option<Line>, line: Line) -> bool
     }
 }
 
-// Begins a line, unless the last bytes are of the same one.
+// Begins a line, unless the bytes before are of the same line.
 fn begin_line(text: &mut Text, last: Option<Line>, line: Line) -> Result<(), AllocError>
     ensures { OnOk result (text.new.bytes.items ≡ text.old.bytes.items ++ line_begin last line) }
 {

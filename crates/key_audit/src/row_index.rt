@@ -3,8 +3,8 @@ ghost use Rattle.std.specs.Prelude.{◌≡◌, ◌≢◌, ℕ, IfOk, IfSome, Non
 ghost use Rattle.key_audit.specs.Index.{IsIndexTo};
 ghost use Rattle.key_audit.specs.Live.{name_at};
 
+use audit_keys::rows::Row;
 use key_names::KeyName;
-use key_rows::rows::Row;
 use std::alloc::{AllocError, Global};
 use std::collections::BTreeMap;
 
@@ -33,7 +33,7 @@ impl<'a> RowIndex<'a> {
         Ok(RowIndex { rows, by_name })
     }
 
-    /// The number of the row of a key, or `None` if no row is of this key.
+    /// The number of the row of a key, or `None` if no row has this key.
     pub(crate) fn find(&self, key: KeyName) -> Option<usize>
         ensures found { IfSome result (λ n. name_at self.now.rows.now n ≡ Some key) }
         ensures none { result ≡ None → (n : ℕ) → name_at self.now.rows.now n ≢ Some key }

@@ -3,15 +3,15 @@ ghost use Rattle.std.specs.Prelude.{◌≡◌, ◌++◌, ◌∷◌, [], OnOk, de
 ghost use Rattle.key_audit.specs.Texts.{name_text, call_text, holder_text, line_text, origin_text, at_text, entry_text};
 ghost use Rattle.key_audit.specs.Texts.{span_text, fate_text, piece_text, end_text, key_text, row_text, rows_text, moment_at};
 
+use audit_keys::lives::Holder;
+use audit_keys::moments::{Line, Moment, Moments};
+use audit_keys::rows::{Fate, Piece, Row};
+use audit_keys::used::Origin;
 use itoa::Buffer;
 use key_names::{KeyName, LaneId, Span};
-use key_rows::lives::Holder;
-use key_rows::moments::{Line, Moment, Moments};
-use key_rows::rows::{Fate, Piece, Row};
-use key_uses::used::Origin;
 use std::alloc::{AllocError, Global};
 
-/// For an entry without a moment.
+/// The moment that is shown for an entry without one.
 const NO_MOMENT: Moment = Moment {
     stamp: 0,
     line: Line {

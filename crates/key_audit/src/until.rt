@@ -2,14 +2,15 @@
 ghost use Rattle.std.specs.Prelude.{◌≡◌};
 ghost use Rattle.key_audit.specs.Live.{cut_at, until_stamp};
 
-use state_entries::Cut;
+use audit_keys::entry::Cut;
 
 /// The moment up to which a command reads a book.
 #[derive(Clone, Copy, Debug, PartialEq, Eq)]
 pub(crate) enum Until {
-    /// The visits up to this stamp, and the calls that were over by it.
+    /// The visits up to this stamp, and the calls that were over by this stamp.
     Stamp(u64),
-    /// The same; but for this caller, its calls up to and including the one of this number.
+    /// The visits and calls as for `Stamp`. Of this caller, however, the calls up to and including the one with this
+    /// number.
     Call {
         stamp: u64,
         caller: u32,

@@ -2,7 +2,7 @@
 use Rattle.std.proofs.Common.{ℕ, ◌≡◌, ◌≤◌, ◌==◌, true, Some, [], ◌∷◌, refl, sym, ap, arith, eqb-true}
 use Rattle.key_names.specs.declared.point.Point.{Point}
 use Rattle.key_names.specs.declared.point.Point.TheVariants.{Start, Written, Serve, End}
-use Rattle.key_names.specs.Points.{is_same_point, number_of, point_numbered}
+use Rattle.key_names.specs.Kernel.Points.{is_same_point, number_of, point_numbered}
 use Rattle.key_names.proofs.Lists.ListFacts.{found_passes}
 
 pub number_small : (p : Point) → number_of p ≤ 4

@@ -1,4 +1,4 @@
--- The samples of a book, if its visits are the marks of lines, from the samples of those lines.
+-- If a book's visits are the marks of lines, the book's samples follow from those of the lines.
 pub mod Lines
 pub mod DeedPlaces
 pub mod LineVisits

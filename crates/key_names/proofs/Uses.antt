@@ -1,4 +1,4 @@
--- No byte of a key is in two uses, and no used byte and no replaced key is still held.
+-- No byte of a key is in two uses, and neither a used byte nor a replaced key is still held.
 pub mod UseLists
 pub mod Walks
 pub mod BaseUses

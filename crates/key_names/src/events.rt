@@ -33,7 +33,7 @@ pub enum Event {
     Hw {
         bytes: HardwareWords,
     },
-    /// A word, in the kernel the cycle counter, and bytes are mixed (`add_device_randomness`).
+    /// A word (in the kernel the cycle counter) and bytes are mixed (`add_device_randomness`).
     Device {
         word: u64,
         text: Text,
@@ -59,7 +59,7 @@ pub enum Event {
         v1: u64,
         v2: u64,
     },
-    /// An input event. The word is in the kernel the cycle counter (`add_input_randomness`).
+    /// An input event. In the kernel the word is the cycle counter (`add_input_randomness`).
     Input {
         word: u64,
         kind: u16,
@@ -71,7 +71,7 @@ pub enum Event {
         len: u32,
         flags: u32,
     },
-    /// The same through the vDSO, on the caller's current vgetrandom state (`__cvdso_getrandom_data`).
+    /// getrandom(2) through the vDSO, on the caller's current vgetrandom state (`__cvdso_getrandom_data`).
     Vread {
         len: u32,
         flags: u32,

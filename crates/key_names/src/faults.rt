@@ -19,7 +19,7 @@ pub enum FaultKind {
     BadNumber,
     /// A field of bytes is not spelt as bytes, or the field after `hw` is not 32 bytes long.
     BadHex,
-    /// Blocks are out of order: line 3 begins no block, or a block is not the next one.
+    /// Blocks are out of order: line 3 begins no block, or a block does not have the next number.
     BadCaller,
     /// A fork's number is taken, or is not greater than the number of the forking caller.
     BadFork,

@@ -1,6 +1,6 @@
 //! The flags of getrandom(2).
 ghost use Rattle.std.specs.Prelude.{◌≡◌};
-ghost use Rattle.key_names.specs.Flags.{is_bad, is_nonblock, is_insecure};
+ghost use Rattle.key_names.specs.Kernel.Flags.{is_bad, is_nonblock, is_insecure};
 
 /// Do not wait for the core to be ready.
 pub const GRND_NONBLOCK: u32 = 1;

@@ -1,46 +1,47 @@
 //! The laws of books, each as the contract of a function without code.
-ghost use Rattle.key_names.specs.LiveMaterial.{LawfulIsDisjoint, LawfulIsErased, LawfulHoldsNamed};
-ghost use Rattle.key_names.specs.StateCalls.{UsesLeaveLawfulLists};
-ghost use Rattle.key_names.specs.ServedNamed.{LawfulServesNamed};
-ghost use Rattle.key_names.specs.StatesReplayed.{StatesAreReplayed};
-ghost use Rattle.key_names.specs.PrintedBytes.{TranscriptPrintsNamed};
+ghost use Rattle.key_names.specs.Keys.LiveMaterial.{LawfulIsDisjoint, LawfulIsErased, LawfulHoldsNamed};
+ghost use Rattle.key_names.specs.Callers.StateCalls.{UsesLeaveLawfulLists};
+ghost use Rattle.key_names.specs.Keys.ServedNamed.{LawfulServesNamed};
+ghost use Rattle.key_names.specs.Transcripts.StatesReplayed.{StatesAreReplayed};
+ghost use Rattle.key_names.specs.Transcripts.PrintedBytes.{TranscriptPrintsNamed};
 ghost use Rattle.key_names.specs.Texts.ScriptOrFault.{TextIsScriptOrFaulty};
-ghost use Rattle.key_names.specs.BookHistory.{HistoryKeepsLanes};
-ghost use Rattle.key_names.specs.TranscriptBook.{TranscriptIsLawful, BookIsUnique, FirstFailIsUnique};
-ghost use Rattle.key_names.specs.SameSteps.{StepsMakeTheBook};
-ghost use Rattle.key_names.specs.CallerOrders.{OrderIsStartAndOwn, StartIsAFront, LooksAreCounted, LooksInParts};
-ghost use Rattle.key_names.specs.PlacesInOrder.{PlacesCountUp, PlacesInAnyOrder};
-ghost use Rattle.key_names.specs.LiveMaterial.{HalfFinishedIsDisjoint, HalfFinishedIsErased, HalfFinishedHoldsNamed};
+ghost use Rattle.key_names.specs.Lanes.BookHistory.{HistoryKeepsLanes};
+ghost use Rattle.key_names.specs.Transcripts.TranscriptBook.{TranscriptIsLawful, BookIsUnique, FirstFailIsUnique};
+ghost use Rattle.key_names.specs.Transcripts.SameSteps.{StepsMakeTheBook};
+ghost use Rattle.key_names.specs.Callers.CallerOrders.{OrderIsStartAndOwn, StartIsAFront, LooksAreCounted, LooksInParts};
+ghost use Rattle.key_names.specs.Transcripts.PlacesInOrder.{PlacesCountUp, PlacesInAnyOrder};
+ghost use Rattle.key_names.specs.Keys.LiveMaterial.{HalfFinishedIsDisjoint, HalfFinishedIsErased, HalfFinishedHoldsNamed};
 
 /// In a lawful book no byte of a key's keystream is used twice.
 pub fn lawful_is_disjoint()
     ensures { LawfulIsDisjoint }
 {}
 
-/// In a lawful book, no key that the base, a CPU or a vgetrandom state still holds was replaced, and no two of these
-/// keys have the same name. No byte in the unserved rest of a batch was used, no two such rests share a byte, and
-/// served bytes are 0. The law `books_hold_unused` of `key_uses` adds that no byte of a held key was used.
+/// In a lawful book, a key that the base, a CPU or a vgetrandom state still holds was never replaced, and no two of
+/// these keys have the same name. No byte in the unserved rest of a batch was used, no two such rests share a byte, and
+/// served bytes are 0. The law `books_hold_unused` of `audit_keys` adds that no byte of a held key was used.
 pub fn lawful_is_erased()
     ensures { LawfulIsErased }
 {}
 
-/// In a lawful book, each held key has the value of its name, and the rest of each batch the bytes of its named span.
+/// In a lawful book, each held key has the value of its name, and the rest of each batch has the bytes of its named
+/// span.
 pub fn lawful_holds_named()
     ensures { LawfulHoldsNamed }
 {}
 
-/// The first law also holds while visits are half finished: a place that an extraction or a refill names
-/// may not yet be in its list.
+/// `lawful_is_disjoint` also holds while visits are half finished: a place that an extraction or a refill names may not
+/// yet be in its list.
 pub fn half_finished_is_disjoint()
     ensures { HalfFinishedIsDisjoint }
 {}
 
-/// So does the second law.
+/// `lawful_is_erased` also holds while visits are half finished.
 pub fn half_finished_is_erased()
     ensures { HalfFinishedIsErased }
 {}
 
-/// So does the third law.
+/// `lawful_holds_named` also holds while visits are half finished.
 pub fn half_finished_holds_named()
     ensures { HalfFinishedHoldsNamed }
 {}
@@ -90,14 +91,14 @@ pub fn states_are_replayed()
     ensures { StatesAreReplayed }
 {}
 
-/// A lawful transcript of a well-formed script prints the bytes of named spans of keystream, and no such byte twice.
-/// Each line shows, one after another, the bytes of the spans that entries of its own serve. No two of all these
+/// A lawful transcript of a well-formed script prints the bytes of named spans of keystream, and none of these bytes
+/// twice. Each line shows, one after another, the bytes of the spans that entries of its own serve. No two of all these
 /// entries use the same byte of a key.
 pub fn transcript_prints_named()
     ensures { TranscriptPrintsNamed }
 {}
 
-/// A script's text gives back that script. A text is a script's exactly if it has no fault.
+/// A script's text gives back that script. A text is a script's if and only if it has no fault.
 pub fn text_is_script_or_faulty()
     ensures { TextIsScriptOrFaulty }
 {}
@@ -108,14 +109,14 @@ pub fn order_is_start_and_own()
     ensures { OrderIsStartAndOwn }
 {}
 
-/// A child starts with the steps that its parent starts with, and then those of the parent up to the visit of the
-/// fork, which is included.
+/// A child starts with the steps that its parent starts with, and then the parent's own steps up to the fork's visit,
+/// which is included.
 #[tactic(auto, using(crate::proofs::History::CallerOrders::start_is_a_front))]
 pub fn start_is_a_front()
     ensures { StartIsAFront }
 {}
 
-/// A look depends on the caller's earlier steps only by the greatest generation seen in them.
+/// Of the caller's earlier steps, only the greatest generation seen in them matters to a look.
 #[tactic(auto, using(crate::proofs::History::CallerOrders::looks_are_counted))]
 pub fn looks_are_counted()
     ensures { LooksAreCounted }

@@ -1,9 +1,9 @@
-//! The names of keys, the entries of the lanes, events, words and answers, and the definitions that the contracts
-//! of all other crates use.
+//! The names of keys, the entries of the lanes, events, words and answers, and the definitions that the contracts of
+//! all other crates use.
 //!
 //! Its functions read and write these types, each by its definition. [`laws`] has the promises about every lawful book
-//! and transcript: no byte of a key is used twice, no key that is still held was replaced, and the steps of a
-//! transcript make only one book.
+//! and transcript: no byte of a key is used twice, no replaced key is still held, and the steps of a transcript make
+//! only one book.
 //!
 //! It uses no other crate of the repository. A keystream is, by definition, the one that `rand_chacha` states for its
 //! words. BLAKE2s is defined here.

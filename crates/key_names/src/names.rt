@@ -35,10 +35,10 @@ pub struct Who {
 ///
 /// - `Root(p)`: the root that visit `p` of the pool extracted and gave out.
 /// - `Base(i)`: the base's next key, bytes 0 to 32 of the block that the visit at base place `i` erased with.
-/// - `Cpu(c, k)`: the same for CPU `c` and its place `k`.
+/// - `Cpu(c, k)`: the next key of CPU `c`, from bytes 0 to 32 of the block at its place `k`.
 /// - `Call(lane, i)`: the other half of such a block, bytes 32 to 64, if it becomes a key.
-/// - `Vdso(caller, state, n)`: the key that this vgetrandom state kept for itself when it made
-///   its `n`-th batch, from 0.
+/// - `Vdso(caller, state, n)`: the key that this vgetrandom state kept for itself when it made its `n`-th batch, from
+///   0.
 #[derive(Clone, Copy, Debug, PartialEq, Eq, PartialOrd, Ord)]
 pub enum KeyName {
     Root(u64),

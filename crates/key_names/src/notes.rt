@@ -1,6 +1,6 @@
 //! Entries of the pool's list with bytes that stay with the caller.
 
-/// An entry of the pool's list by reference, which a caller hands over after a visit of the pool. `specs/PoolNotes`
+/// An entry of the pool's list by reference, which a caller hands over after a visit of the pool. `specs/Lanes/PoolNotes`
 /// defines the entry of each.
 #[derive(Clone, Copy)]
 pub enum PoolNote<'a> {

@@ -1,6 +1,6 @@
 //! The four points of a vgetrandom call.
 ghost use Rattle.std.specs.Prelude.{◌≡◌};
-ghost use Rattle.key_names.specs.Points.{is_same_point, point_numbered};
+ghost use Rattle.key_names.specs.Kernel.Points.{is_same_point, point_numbered};
 
 /// A point inside a vgetrandom call, at which the state's memory may be wiped.
 #[derive(Clone, Copy, Debug, PartialEq, Eq)]

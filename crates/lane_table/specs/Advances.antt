@@ -9,7 +9,7 @@ use Rattle.key_names.specs.declared.names.Who.{Who}
 use Rattle.lane_table.specs.declared.view.Visit.{Visit}
 use Rattle.lane_table.specs.declared.view.View.{View}
 use Rattle.lane_table.specs.declared.view.LaneEntry.{LaneEntry}
-use Rattle.key_names.specs.BaseList.{ready}
+use Rattle.key_names.specs.Lanes.BaseList.{ready}
 use Rattle.base_gen.specs.BaseValue.{BaseValue}
 use Rattle.lane_table.specs.Meaning.{Model, replay}
 use Rattle.lane_table.specs.WorldRule.{at, known_of}
@@ -70,7 +70,7 @@ Climbs low (stamp ∷ stamps) high = (low < stamp) × Climbs stamp stamps high
 abbrev pub floor : View → ℕ
 floor v = max v.seen (replay (known_of v 1)).base.generation
 
--- the generation of a lane's model, of the base or of a CPU; in a model of any other kind it is 0
+-- the generation in a model of the base or of a CPU; in a model of the pool it is 0
 abbrev pub generation_of : Model → ℕ
 generation_of s = max s.base.generation s.cpu.cpu.generation
 

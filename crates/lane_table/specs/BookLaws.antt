@@ -6,14 +6,14 @@ use Rattle.key_names.specs.declared.entries.BaseEntry.{BaseEntry}
 use Rattle.key_names.specs.declared.entries.Taken.{Taken}
 use Rattle.key_names.specs.declared.entries.CpuEntry.{CpuEntry}
 use Rattle.key_names.specs.declared.entries.CpuEntry.TheVariants.{Read}
-use Rattle.key_names.specs.PoolList.{pool_after, root_value}
-use Rattle.key_names.specs.BaseList.{base_erases, generation_at, refill_of}
-use Rattle.key_names.specs.Batches.{Fill}
-use Rattle.key_names.specs.CpuList.{cpu_after}
-use Rattle.key_names.specs.FastPool.{fast_after}
-use Rattle.key_names.specs.KeyInUse.{base_call_value, cpu_call_value, cpu_used_at}
-use Rattle.key_names.specs.LiveMaterial.{cpu_bytes_start, cpu_bytes_step}
-use Rattle.key_names.specs.Book.{Lists, cpu_list, ForwardLawful, HalfFinishedLanes, LawfulLanes}
+use Rattle.key_names.specs.Lanes.PoolList.{pool_after, root_value}
+use Rattle.key_names.specs.Lanes.BaseList.{base_erases, generation_at, refill_of}
+use Rattle.key_names.specs.Kernel.Batches.{Fill}
+use Rattle.key_names.specs.Lanes.CpuList.{cpu_after}
+use Rattle.key_names.specs.Kernel.FastPool.{fast_after}
+use Rattle.key_names.specs.Keys.KeyInUse.{base_call_value, cpu_call_value, cpu_used_at}
+use Rattle.key_names.specs.Keys.LiveMaterial.{cpu_bytes_start, cpu_bytes_step}
+use Rattle.key_names.specs.Lanes.Book.{Lists, cpu_list, ForwardLawful, HalfFinishedLanes, LawfulLanes}
 use Rattle.base_gen.specs.BaseValue as base
 use Rattle.cpu_gen.specs.CpuValue as cpu
 use Rattle.int_batch.specs.BatchValue.{BatchValue, IsBatchOf}
@@ -25,8 +25,8 @@ use Rattle.lane_table.specs.References.{Closed, LawfulLists, AllAnswered, AllHal
 use Rattle.lane_table.specs.WorldRule.{Begins, known_of}
 use Rattle.lane_table.specs.BookLists.{StateLists, book_lists}
 
--- the lists of some lanes, with a pool and a base, are each lawful, and each name of a visit in the parent lane is
--- mutual
+-- the lists of a pool, a base and some CPUs are each lawful, and if an entry names a visit of the parent lane, that
+-- visit names the entry
 pub record ClosedLanes (lanes : ℕ) (visits : ℕ → List Visit) : Type 0 where
   pub low : 2 ≤ lanes
   pub closed : Closed lanes visits
@@ -38,7 +38,7 @@ pub record Continues (lanes : ℕ) (v : View) (visits : ℕ → List Visit) : Ty
   pub begins : (lane : ℕ) → lane < lanes → Begins (known_of v lane) (visits lane)
   pub closed : ClosedLanes lanes visits
 
--- such lists are lawful as a book, as far as names of visits in parent lanes go
+-- closed lists are lawful as a book, as far as the names of visits in parent lanes go
 abbrev pub ClosedIsForwardLawful : Type 0
 ClosedIsForwardLawful = (lanes : ℕ) (visits : ℕ → List Visit) (callers : StateLists) →
     ClosedLanes lanes visits →
@@ -96,7 +96,7 @@ pub record VisitsGive (lanes : ℕ) (visits : ℕ → List Visit) (lists : Lists
       slice_get (visits (c + 2)) place ≡ Some x → x.entry ≡ CpuVisited (Read look refill taken) →
       x.gave.key ≡ cpu_call_value lists c place
 
--- such lanes have the values of the book, and hand on the values of the book
+-- the models of closed lanes have the values of the book, and their visits hand on the values of the book
 abbrev pub ClosedReplays : Type 0
 ClosedReplays = (lanes : ℕ) (visits : ℕ → List Visit) (callers : StateLists) →
     ClosedLanes lanes visits →

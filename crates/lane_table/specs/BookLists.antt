@@ -6,8 +6,8 @@ use Rattle.key_names.specs.declared.entries.PoolEntry.{PoolEntry}
 use Rattle.key_names.specs.declared.entries.BaseEntry.{BaseEntry}
 use Rattle.key_names.specs.declared.entries.CpuEntry.{CpuEntry}
 use Rattle.key_names.specs.declared.entries.VEntry.{VEntry}
-use Rattle.key_names.specs.Book.{Book, Lists, lists_of, entries_of}
-use Rattle.key_names.specs.Book as of_book
+use Rattle.key_names.specs.Lanes.Book.{Book, Lists, lists_of, entries_of}
+use Rattle.key_names.specs.Lanes.Book as of_book
 use Rattle.lane_table.specs.declared.view.LaneEntry.{LaneEntry}
 use Rattle.lane_table.specs.declared.view.LaneEntry.TheVariants.{Pool, Base, Cpu}
 use Rattle.lane_table.specs.declared.view.Visit.{Visit}

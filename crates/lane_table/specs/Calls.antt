@@ -107,14 +107,14 @@ pub record SameHistory (j : ℕ) (v w : View) : Type 0 where
   pub places : (at j w).places ≡ (at j v).places
   pub heard : (at j w).heard ≡ (at j v).heard
 
--- its state at the lane is as before, too
+-- the pass's state at the lane is also as before
 pub record SameOtherLane (j : ℕ) (v w : View) : Type 0 where
   pub stage : (at j w).stage ≡ (at j v).stage
   pub owed : (at j w).owes ≡ (at j v).owes
   pub raise : (at j w).raised ≡ (at j v).raised
   pub still : SameHistory j v w
 
--- the same, except that the lane may owe an answer now
+-- at a lane that the pass holds, all is as before, except that it may owe an answer there now
 pub record SameHeldLane (j : ℕ) (v w : View) : Type 0 where
   pub known : known_of w j ≡ known_of v j
   pub stage : (at j w).stage ≡ (at j v).stage
@@ -153,7 +153,7 @@ DrewTooLate lane m m' = (m'.0.drawn ≡ m.0.drawn + 1) × (2 ^ 62 ≤ last_stamp
 abbrev pub IsSpent : ℕ → Seated → Seated → Type 0
 IsSpent lane m m' = (2 ^ 62 ≤ m.0.stamp) ⊎ (2 ^ 62 ≤ (at lane m'.0).found) ⊎ DrewTooLate lane m m'
 
--- each of the three is below
+-- each of these three numbers is below 2^62
 pub record Unspent (lane : ℕ) (m m' : Seated) : Type 0 where
   pub stamp : m.0.stamp < 2 ^ 62
   pub ticket : (at lane m'.0).found < 2 ^ 62
@@ -225,7 +225,7 @@ pub record Left (lane : ℕ) (m m' : Seated) : Type 0 where
   pub stamps : m'.0.stamps ≡ m.0.stamps
   pub drawn : m'.0.drawn ≡ m.0.drawn
 
--- a look, at least as high as each generation that the pass has from looks, from the base or from CPUs
+-- the pass looked, and found a generation at least as high as each one that it knows from looks, the base or CPUs
 pub record Looked (g : ℕ) (m m' : Seated) : Type 0 where
   pub consistent : Consistent m'.0
   pub same : SameView m.0 m'.0
@@ -265,7 +265,7 @@ pub record Ended (lanes : ℕ) (v : View) : Type 0 where
   pub made : (i : ℕ) → i < lanes → (at i v).made ≡ length (known_of v i)
   pub placed : (i p : ℕ) → i < lanes → times p (at i v).places ≡ once_below p (length (known_of v i))
 
--- a load that changes nothing: a pass with the whole share that is idle is at the end
+-- a load that changes nothing; if the pass is idle and has the whole share, `Ended` holds for its view
 abbrev pub settles : Step (Option Content) → Seated → ℕ → Seated → Type 0
 settles st m r m' = (m' ≡ m) × (m.0.share ≡ 2 ^ m.0.halvings → IsIdle m.0 → Ended (length m.0.lanes) m.0)
 

@@ -10,13 +10,13 @@ use Rattle.key_names.specs.declared.entries.BaseEntry.{BaseEntry}
 use Rattle.key_names.specs.declared.entries.BaseEntry.TheVariants.{Draw, Refill}
 use Rattle.key_names.specs.declared.entries.CpuEntry.{CpuEntry}
 use Rattle.key_names.specs.declared.entries.CpuEntry.TheVariants.{Read, Int, Irq, Dump, Prepare, Online}
-use Rattle.key_names.specs.Keystream.{keystream}
-use Rattle.key_names.specs.LawfulList.{LawfulFrom}
-use Rattle.key_names.specs.PoolList.{PoolState, pool_start, pool_step, root_of_extraction, base_place_of}
-use Rattle.key_names.specs.BaseList.{BaseState, BaseFits, root_of, refill_of, reseeds_at}
-use Rattle.key_names.specs.CpuList.{CpuState, CpuFits, base_refill_of}
-use Rattle.key_names.specs.Batches.{Fill, fills_after, batch_step}
-use Rattle.key_names.specs.FastPool.{FastPool, fast_start, fast_step}
+use Rattle.key_names.specs.Kernel.Keystream.{keystream}
+use Rattle.key_names.specs.Lanes.LawfulList.{LawfulFrom}
+use Rattle.key_names.specs.Lanes.PoolList.{PoolState, pool_start, pool_step, root_of_extraction, base_place_of}
+use Rattle.key_names.specs.Lanes.BaseList.{BaseState, BaseFits, root_of, refill_of, reseeds_at}
+use Rattle.key_names.specs.Lanes.CpuList.{CpuState, CpuFits, base_refill_of}
+use Rattle.key_names.specs.Kernel.Batches.{Fill, fills_after, batch_step}
+use Rattle.key_names.specs.Kernel.FastPool.{FastPool, fast_start, fast_step}
 use Rattle.input_pool.specs.PoolStands.{PoolStands}
 use Rattle.base_gen.specs.BaseValue.{BaseValue, key_in_use}
 use Rattle.base_gen.specs.BaseValue as base
@@ -169,8 +169,8 @@ cpu_gives c got (Dump now) = nothing
 cpu_gives c got Prepare = nothing
 cpu_gives c got Online = nothing
 
--- the key that an entry hands on: an extraction its root, a refill a key with the base's generation, and a read the
--- key of a longer one
+-- the key that an entry hands on: an extraction hands on its root, a refill a key with the base's generation, and a
+-- read the key that serves it if it is long
 abbrev pub gave_of : Model → LaneEntry → Handed → Handed
 gave_of s (Pool e) got = pool_gives s.pool e
 gave_of s (Base e) got = base_gives s.base got e
@@ -183,7 +183,8 @@ model_step s x = made_of s x.entry x.got
 abbrev pub replay : List Visit → Model
 replay xs = fold model_step start_model xs
 
--- a state for the words about a base's and a CPU's list; fields that these words do not use are left empty
+-- the state of a list, made from a model for the definitions about the base's and a CPU's list; fields that these do
+-- not use are empty
 abbrev pub base_state : BaseValue → BaseState
 base_state b = record {
   place = 0;

@@ -7,8 +7,8 @@ use lib.ListN.{get_elem?}
 use Rattle.lane_table.specs.declared.view.Visit.{Visit}
 use Rattle.lane_table.specs.Meaning.{LawfulLane, behind_of, ahead_of, parent}
 
--- if an entry of the lane names a place of the parent lane, the visit there names this place, and this one received
--- its key
+-- if an entry of the lane names a place of the parent lane, the visit there names this entry's place, and this entry
+-- received that visit's key
 abbrev pub Pointed : ℕ → List Visit → List Visit → Type 0
 Pointed lane behind here = (b p : ℕ) (x : Visit) → get_elem? here b ≡ some x → behind_of x.entry ≡ Some p
     → (y : Visit) × (get_elem? behind p ≡ some y) × (ahead_of y.entry ≡ Some (lane, b)) × (x.got ≡ y.gave)
@@ -26,7 +26,7 @@ Closed lanes lists = (lane : ℕ) → 1 ≤ lane → lane < lanes → Pointed la
 abbrev pub AllAnswered : ℕ → (ℕ → List Visit) → Type 0
 AllAnswered lanes lists = (lane : ℕ) → 1 ≤ lane → lane < lanes → Answered lane (lists (parent lane)) (lists lane)
 
--- the same, except that the named place may be beyond the list
+-- as `Answered`, except that the named place may be beyond the list
 abbrev pub HalfAnswered : ℕ → List Visit → List Visit → Type 0
 HalfAnswered lane behind here = (p b : ℕ) (x : Visit) → get_elem? behind p ≡ some x → ahead_of x.entry ≡ Some (lane, b)
     → ((y : Visit) × (get_elem? here b ≡ some y) × (behind_of y.entry ≡ Some p)) ⊎ (length here ≤ b)

@@ -4,7 +4,7 @@ use Rattle.std.specs.Prelude.{◌≡◌, ◌⊎◌, ℕ, ◌+◌, ◌^◌, ◌<�
 use Rattle.std.specs.List.{sum_by}
 use mathlib.Core.Option.{some}
 use lib.ListN.{get_elem?}
-use Rattle.key_names.specs.Book.{HalfFinishedLanes}
+use Rattle.key_names.specs.Lanes.Book.{HalfFinishedLanes}
 use Rattle.lane_table.specs.declared.view.Visit.{Visit}
 use Rattle.lane_table.specs.declared.view.View.{View}
 use Rattle.lane_table.specs.declared.view.Content.{Content}
@@ -48,20 +48,20 @@ pub record Tickets (s : St) (lane : ℕ) : Type 0 where
   pub turn : (j t : ℕ) (v : View) → IsView s j v → (at lane v).stage ≡ Holding t → t ≡ serving_of s lane
   pub loaded : (j : ℕ) (v : View) → IsView s j v → (at lane v).loaded ≤ serving_of s lane
 
--- the ticket number is first, plus one for each ticket that the passes drew; the serving number is lower by the
+-- the ticket number is `first` plus the number of tickets that the passes drew; the serving number is lower by the
 -- number of tickets that are out
 pub record CountsFrom (first : ℕ) (s : St) (lane : ℕ) : Type 0 where
   pub ticket : ticket_of s lane ≡ first + sum_by (λ a. a.tickets) (column lane s.views)
   pub serving : serving_of s lane + sum_by (λ a. has_ticket a.stage) (column lane s.views)
       ≡ first + sum_by (λ a. a.tickets) (column lane s.views)
 
--- whenever a pass has exactly this view, the ticket number and the serving number of each lane are first
+-- whenever a pass has exactly this view, the ticket number and the serving number of each lane are both `first`
 abbrev pub NumbersAre : ℕ → View → Type 0
 NumbersAre first v = (s : St) (j lane : ℕ) → WorldRule first s → IsView s j v → lane < length s.homes →
     (ticket_of s lane ≡ first) × (serving_of s lane ≡ first)
 
--- each pass knows a prefix of each lane's list, and all of it if it holds the lane; with an entry it knows the entry
--- of the parent lane that this one names. The lists that the lane's value carries have the same properties
+-- each pass knows a prefix of each lane's list, and all of it if it holds the lane; if it knows an entry, it knows the
+-- entry of the parent lane that this entry names. The lists that the lane's value carries have the same properties
 pub record KnownLists (s : St) (logs : ℕ → List Visit) : Type 0 where
   pub known : (j lane : ℕ) (v : View) → IsView s j v → lane < length s.homes → Begins (known_of v lane) (logs lane)
   pub heard : (j lane : ℕ) (v : View) → IsView s j v → lane < length s.homes → AllBegin (at lane v).heard (logs lane)
@@ -71,8 +71,8 @@ pub record KnownLists (s : St) (logs : ℕ → List Visit) : Type 0 where
   pub carried : (lane : ℕ) → lane < length s.homes →
       (lists : ℕ → List Visit) × Carries (length s.homes) logs lane lists
 
--- a value in its slot is the replay of the lane's list, with the list's next place and last stamp; any other value
--- is with the served pass
+-- a value in its slot is the replay of the lane's list, with the list's next place and last stamp; if the slot is
+-- empty, the served pass has the value
 pub record Values (first : ℕ) (s : St) (logs : ℕ → List Visit) : Type 0 where
   pub replays : (lane : ℕ) (c : Content) → lane < length s.homes → get_elem? s.homes lane ≡ some (some (Some c)) →
       Replays lane first (logs lane) c
@@ -91,14 +91,14 @@ pub record Counts (s : St) (logs : ℕ → List Visit) : Type 0 where
   pub whole : sum_by (weight top) s.views ≡ 2 ^ top
   pub spent : (j : ℕ) (v : View) → IsView s j v → v.share ≡ 0 → v.lanes ≡ []
 
--- stamps rise along each list, and a pass's stamp is at least that of each visit that it made, or that was made
--- before it was split off
+-- a later visit in a list has a higher stamp, and a pass's stamp bounds the stamps of all visits that it made or
+-- inherited at its split
 pub record Stamps (first : ℕ) (s : St) (logs : ℕ → List Visit) : Type 0 where
   pub rising : (lane : ℕ) → lane < length s.homes → Rising first (logs lane)
   pub passed : (j : ℕ) (v : View) → IsView s j v → All (λ n. n ≤ v.stamp) v.stamps
 
--- the place that an entry of the parent lane names ahead is answered; or it is half finished: the place is the next
--- one, and a pass that holds the lane owes the answer
+-- if an entry of the parent lane names place b ahead, the visit there answers it; or the reference is half finished:
+-- the place is the next one, and a pass that holds the lane owes the answer
 abbrev pub IsAnswered : St → (ℕ → List Visit) → ℕ → ℕ → ℕ → Type 0
 IsAnswered s logs lane p b =
     ((y : Visit) × (get_elem? (logs lane) b ≡ some y) × (behind_of y.entry ≡ Some p))

@@ -64,7 +64,7 @@ draws st m r m' = (lane : ℕ) → st.word ≡ ticket_word lane
 abbrev pub queued_found : ℕ → ℕ → Seated → Seated
 queued_found lane t m = (with_at lane (waiting t (finding t (at lane m.0))) (with_drawn m.0), m.1)
 
--- the same exchange, with the found number kept
+-- an exchange of the ticket word that also keeps the number it found
 abbrev pub tries : Step (Option Content) → Seated → ℕ → Seated → Type 0
 tries st m r m' = (lane : ℕ) → st.word ≡ ticket_word lane → ((at lane m.0).loaded ≤ r)
     × (r ≡ st.first → m' ≡ queued_found lane st.first m) × (r ≢ st.first → m' ≡ found lane r m)
@@ -92,7 +92,7 @@ learn_from lists k (a ∷ rest) = learn (lists k) a ∷ learn_from lists (suc k)
 abbrev pub learned : (ℕ → List Visit) → View → View
 learned lists v = record v { lanes = learn_from lists 0 v.lanes }
 
--- the parts of other lanes that the pass holds do not change
+-- if the pass holds another lane, the view's part of that lane does not change
 abbrev pub KeepsHeld : ℕ → View → View → Type 0
 KeepsHeld lane v w = (j u : ℕ) → j < length v.lanes → j ≢ lane → (at j v).stage ≡ Holding u → at j w ≡ at j v
 
@@ -140,7 +140,7 @@ visited x a = record a {
 abbrev pub with_stamp : ℕ → View → View
 with_stamp n v = record v { stamp = n; stamps = v.stamps ++ n ∷ [] }
 
--- an entry at this place that names the held place of a lane ahead leaves a half-finished reference
+-- if an entry at this place names the held place of a lane ahead, its reference is half finished
 abbrev pub owing : Option (ℕ × ℕ) → ℕ → View → View
 owing None place v = v
 owing (Some named) place v = with_at named.0 (record (at named.0 v) { owes = Some place }) v
@@ -159,7 +159,7 @@ pub record NamesHeld (lane : ℕ) (v : View) (ahead place : ℕ) : Type 0 where
   pub holding : IsHolding (at ahead v)
   pub free : (at ahead v).owes ≡ None
 
--- an entry names ahead a held place or none, and in the parent lane the place that this hold owes; it raises the
+-- an entry names ahead a held place or none; in the parent lane it names the place that this hold owes. It raises the
 -- generation if and only if this hold did
 pub record MayName (lane : ℕ) (e : LaneEntry) (v : View) : Type 0 where
   pub ahead : (ahead_of e ≡ None) ⊎ ((l : ℕ) × (b : ℕ) × (ahead_of e ≡ Some (l, b)) × NamesHeld lane v l b)
@@ -193,7 +193,7 @@ leaves st m r m' = (lane : ℕ) → st.word ≡ serving_word lane → m' ≡ lef
 abbrev pub saw : ℕ → Seated → Seated
 saw g m = (record m.0 { seen = g; looks = m.0.looks ++ g ∷ [] }, m.1)
 
--- a look is at least each generation that was seen, and the one known of the base
+-- a look finds at least each generation that was seen, and at least the one known of the base
 abbrev pub looks : Step (Option Content) → Seated → ℕ → Seated → Type 0
 looks st m r m' = st.word ≡ 0
     → (m.0.seen ≤ r) × (raises (known_of m.0 1) ≤ r) × (r < 2 ^ 63) × (m' ≡ saw r m) × Consistent m'.0
@@ -212,7 +212,7 @@ lifts st m r m' = (m' ≡ raised r m) × Consistent m'.0
 abbrev pub halved : View → View
 halved v = record v { halvings = v.halvings + 1 }
 
--- the part of a lane for a pass that is split off: the same knowledge, and no own acts
+-- the part of a lane for a pass that is split off: the same knowledge, but no visits and no tickets of its own
 abbrev pub told : LaneView → LaneView
 told a = record a { made = 0; places = []; tickets = 0; stage = Away; owes = None; raised = 0 }
 

@@ -1,4 +1,4 @@
--- The deed at the mark of a visit, as its maker met it: computed from the model before it and the key that it
+-- The deed of a visit as its maker met it: it follows from the model before the visit and the key that the visit
 -- received.
 use Rattle.std.specs.Prelude.{◌≡◌, ℕ, ◌≤◌, ⊤, true, false, List, []}
 use Rattle.key_names.specs.declared.names.LaneId.TheVariants.{Pool as PoolLane, Base as BaseLane, Cpu as CpuLane}
@@ -6,12 +6,12 @@ use Rattle.key_names.specs.declared.entries.PoolEntry.{PoolEntry}
 use Rattle.key_names.specs.declared.entries.BaseEntry.{BaseEntry}
 use Rattle.key_names.specs.declared.entries.CpuEntry.{CpuEntry}
 use Rattle.key_names.specs.declared.entries.CpuEntry.TheVariants.{Read, Int, Irq, Dump, Prepare, Online}
-use Rattle.key_names.specs.PoolList.{PoolState, pool_step}
-use Rattle.key_names.specs.BaseList.{root_of}
-use Rattle.key_names.specs.Batches.{batched_int}
-use Rattle.key_names.specs.KeyInUse.{taken_bytes}
-use Rattle.key_names.specs.Deeds.{deed_at, at_pool, at_base, at_cpu, pool_visit, base_visit, cpu_visit, base_serves}
-use Rattle.key_names.specs.Book.{Lists}
+use Rattle.key_names.specs.Lanes.PoolList.{PoolState, pool_step}
+use Rattle.key_names.specs.Lanes.BaseList.{root_of}
+use Rattle.key_names.specs.Kernel.Batches.{batched_int}
+use Rattle.key_names.specs.Keys.KeyInUse.{taken_bytes}
+use Rattle.key_names.specs.Callers.Deeds.{deed_at, at_pool, at_base, at_cpu, pool_visit, base_visit, cpu_visit, base_serves}
+use Rattle.key_names.specs.Lanes.Book.{Lists}
 use Rattle.base_gen.specs.BaseValue.{BaseValue, base_at, key_in_use}
 use Rattle.base_gen.specs.BaseValue as base
 use Rattle.cpu_gen.specs.CpuValue as cpu

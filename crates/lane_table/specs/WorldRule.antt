@@ -26,7 +26,7 @@ serving_word lane = 16 * lane + 17
 abbrev pub words_of : ℕ → ℕ
 words_of lanes = 16 * lanes + 16
 
--- the table's slot of a lane: none with this number, or out with a pass, or at home
+-- a lane's slot in the table: it does not exist, is out with a pass, or is at home
 abbrev pub Home : Type 0
 Home = maybe.Option (maybe.Option (Option Content))
 
@@ -42,12 +42,12 @@ abbrev pub AllBegin : List (List Visit) → List Visit → Type 0
 AllBegin [] log = Unit {0}
 AllBegin (xs ∷ lists) log = Begins xs log × AllBegin lists log
 
--- the stamp of the last visit, or first if the list is empty
+-- the stamp of the last visit, or `first` if the list is empty
 abbrev pub last_stamp : ℕ → List Visit → ℕ
 last_stamp first [] = first
 last_stamp first (x ∷ xs) = last_stamp x.stamp xs
 
--- stamps rise along the list, and all are above first
+-- stamps rise along the list, and all are above `first`
 abbrev pub Rising : ℕ → List Visit → Type 0
 Rising first [] = Unit {0}
 Rising first (x ∷ xs) = (first < x.stamp) × Rising x.stamp xs
@@ -125,7 +125,7 @@ IsHomeOrHeld lane first serving home col log =
     ((c : Content) × (home ≡ some (some (Some c))) × Replays lane first log c)
     ⊎ ((j : ℕ) × (a : LaneView) × (get_elem? col j ≡ some a) × (a.stage ≡ Holding serving))
 
--- how often a place is in a list of places, and 1 for a place below n
+-- how often a place is in a list of places; and 1 if a place is below n, else 0
 abbrev pub times : ℕ → List ℕ → ℕ
 times place places = sum_by (λ p. if p == place then 1 else 0) places
 
@@ -141,7 +141,7 @@ pub record LaneOk (lane first ticket serving : ℕ) (home : Home) (col : List La
   -- each ticket from the served one on belongs to one pass
   pub ordered : serving ≤ ticket
   pub counted : serving + sum_by (λ a. has_ticket a.stage) col ≡ ticket
-  -- the ticket number is first plus the tickets that the passes drew
+  -- the ticket number is `first` plus the number of tickets that the passes drew
   pub drawn : ticket ≡ first + sum_by (λ a. a.tickets) col
   pub passes : (j : ℕ) (a : LaneView) → get_elem? col j ≡ some a → PassOk ticket serving owner home log j a
   pub whereabouts : IsHomeOrHeld lane first serving home col log
@@ -167,8 +167,8 @@ Owed lanes v = (lane : ℕ) → lane < lanes → OwedAt lane (at lane v) (known_
 abbrev pub Owes : ℕ → ℕ → List View → Type 0
 Owes lane p views = (j : ℕ) × (v : View) × (get_elem? views j ≡ some v) × ((at lane v).owes ≡ Some p)
 
--- a place of the lane that an entry of the parent lane names has a visit that names the entry; or it is the next
--- place, and a pass owes the answer
+-- if an entry of the parent lane names a place of the lane, the visit there names the entry; or the place is the next
+-- one, and a pass owes the answer
 abbrev pub Pending : ℕ → List Visit → List Visit → List View → Type 0
 Pending lane behind here views =
     (p b : ℕ) (x : Visit) → get_elem? behind p ≡ some x → ahead_of x.entry ≡ Some (lane, b)

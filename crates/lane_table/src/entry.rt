@@ -10,7 +10,7 @@ pub trait Entry: Drop {
 }
 
 impl Entry for PoolNote<'_> {
-    ghost use Rattle.key_names.specs.PoolNotes.{entry_of};
+    ghost use Rattle.key_names.specs.Lanes.PoolNotes.{entry_of};
     ghost use Rattle.lane_table.specs.declared.view.LaneEntry.TheVariants.{Pool};
 
     ghost entry = { λ note. Pool (entry_of note) };

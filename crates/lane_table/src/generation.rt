@@ -9,8 +9,8 @@ use crate::plays::{Look, Raise};
 
 impl Lanes {
     /// One look at the generation: a load, which takes no lane and never waits. The result is below 2^63. It is at
-    /// least as high as the result of each earlier look, as each generation known of the base and of a CPU, and as
-    /// the last raise.
+    /// least as high as the pass's earlier looks and raises, and as each generation that the pass knows of the base or
+    /// a CPU.
     pub fn generation(&self, pass: &mut Pass) -> u64
         requires { IsPassOf self.now pass.old }
         ensures pass { IsSamePass self.now pass.old pass.new }

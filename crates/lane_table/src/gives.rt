@@ -73,8 +73,8 @@ impl Lanes {
         pass.stamp = stamp;
     }
 
-    /// Makes a visit at the held place, and gives the lane back. Its stamp is one more than the greater of the
-    /// pass's and the lane's, and becomes the last stamp of both.
+    /// Releases the lane with a visit at the held place. The visit gets the first stamp that is above those of the pass
+    /// and the lane, and both take it over.
     pub fn put<E: Entry>(&self, pass: &mut Pass, held: Held, who: Who, entry: E) -> Mark
         requires pass { IsPassOf self.now pass.old }
         requires entry { CanPut self.now pass.old held (E.entry entry) }

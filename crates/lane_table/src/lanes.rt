@@ -67,8 +67,8 @@ pub struct Held {
     pub(crate) state: Boxed,
 }
 
-/// The reason why `try_take` did not get a lane. `try_take` checks them in this order, except that it reads the
-/// lane's last stamp only after it got the lane.
+/// Why `try_take` did not get a lane. It checks for the reasons in this order, except that it reads the lane's last
+/// stamp only after it got the lane.
 #[derive(Clone, Copy, Debug, PartialEq, Eq)]
 pub enum TakeFault {
     /// A number that would have to grow is 2^62 or more: the lane's tickets, its last stamp, or the stamp of the
@@ -110,7 +110,7 @@ impl Lanes {
 }
 
 impl Pass {
-    /// Its stamp: at least that of each visit that it made, or that was made before it was split off.
+    /// The pass's stamp: an upper bound for the stamps of the visits that it made or inherited at its split.
     pub fn stamp(&self) -> u64
         ensures { result ≡ self.now.stamp }
     {

@@ -5,8 +5,8 @@ ghost use Rattle.lane_table.specs.BookLaws.{ClosedReplays, ClosedGives};
 ghost use Rattle.lane_table.specs.RuleLaws.{EachTicketHasOneHolder, NumbersCountFromFirst, KnownListsBegin, ValuesAreReplays};
 ghost use Rattle.lane_table.specs.RuleLaws.{CountsAndSharesAddUp, StampsRise, ListsAreLawfulSoFar, GenerationIsTheBases};
 
-/// In each lane the tickets from the serving number up to the ticket number are out, each with one pass, and no
-/// others. The pass that holds the lane has the served ticket.
+/// In each lane exactly the tickets from the serving number up to the ticket number are out, each with one pass. The
+/// pass that holds the lane has the served ticket.
 pub fn each_ticket_has_one_holder()
     ensures { EachTicketHasOneHolder }
 {}
@@ -17,9 +17,9 @@ pub fn numbers_count_from_first()
     ensures { NumbersCountFromFirst }
 {}
 
-/// Each lane has one list of visits. Each pass knows a prefix of it, and all of it if it holds the lane. A pass that
-/// knows an entry also knows the entry of the parent lane that it names. The lists that the value of a lane carries
-/// have the same properties.
+/// Each lane has one list of visits. Each pass knows a prefix of it, and all of it if it holds the lane. If a pass
+/// knows an entry, it knows the entry of the parent lane that this entry names. The lists that the value of a lane
+/// carries have the same properties.
 pub fn known_lists_begin()
     ensures { KnownListsBegin }
 {}
@@ -36,8 +36,8 @@ pub fn counts_and_shares_add_up()
     ensures { CountsAndSharesAddUp }
 {}
 
-/// Stamps rise along each list. No visit that a pass made, or that was made before it was split off, has a stamp
-/// above the pass's.
+/// A later visit in a list has a higher stamp. No visit that a pass made, or inherited at its split, has a stamp above
+/// the pass's.
 pub fn stamps_rise()
     ensures { StampsRise }
 {}
@@ -55,7 +55,7 @@ pub fn generation_is_the_bases()
     ensures { GenerationIsTheBases }
 {}
 
-/// Take lists that are each lawful, in which each named visit of a parent lane also names the entry that names it.
+/// Suppose that each list is lawful, and that if an entry names a visit of its parent lane, that visit names the entry.
 /// Then the lanes of the book are lawful as far as these names go (`ForwardLawful`).
 pub fn closed_is_forward_lawful()
     ensures { ClosedIsForwardLawful }

@@ -141,8 +141,8 @@ impl Lanes {
         pass.stamp = pass.stamp.max(stamp);
     }
 
-    /// Changes nothing. If the pass is idle and has the whole share, it knows each lane's whole list, and its count
-    /// is all visits. A pass has the whole share once it has joined all others.
+    /// Changes nothing. If the pass is idle and has the whole share, it knows each lane's whole list, and has counted
+    /// all visits. A pass has the whole share once it has joined all others.
     pub fn settle(&self, pass: &mut Pass)
         requires { IsPassOf self.now pass.old }
         ensures pass { IsSamePass self.now pass.old pass.new }

@@ -39,7 +39,7 @@ impl Play<Slot, View> for Draw {
     ghost then = { draws };
 }
 
-/// The same exchange, with the found number kept.
+/// An exchange of the ticket word that also keeps the number it found.
 pub struct Try;
 
 impl Play<Slot, View> for Try {

@@ -16,7 +16,7 @@ pub enum LaneEntry {
     Cpu(CpuEntry),
 }
 
-/// The key that an entry hands to the entry that it names, and the generation of its lane.
+/// The key that an entry hands to the entry that it names, and the generation of the lane that hands it over.
 pub struct Handed {
     pub key: LinkedList<u8>,
     pub generation: u64,
@@ -66,7 +66,7 @@ pub struct LaneView {
 ///
 /// - `first`: a bound below all stamps of the table's visits.
 /// - `share` and `halvings`: its share of the table, which is `share / 2^halvings`.
-/// - `stamp`: at least the stamp of each visit that it made, or that a pass made before it was split off.
+/// - `stamp`: an upper bound for the stamps of the visits that it made or inherited at its split.
 /// - `stamps`: the stamps of these visits.
 /// - `drawn`: the number of tickets that it drew.
 /// - `seen`: the greatest generation that it looked at, or raised.

@@ -5,8 +5,8 @@ use Rattle.key_names.specs.declared.errno.Errno.{Errno}
 use Rattle.key_names.specs.declared.events.Event.TheVariants.{Read, Reseed as ReseedEvent}
 use Rattle.key_names.specs.declared.events.InsideAct.{InsideAct}
 use Rattle.key_names.specs.declared.events.InsideAct.TheVariants.{Wipe, Vread, Reseed}
-use Rattle.key_names.specs.Meaning.{ActMeans}
-use Rattle.key_names.specs.SeenLine.{bytes_or_none, no_data}
+use Rattle.key_names.specs.Callers.Meaning.{ActMeans}
+use Rattle.key_names.specs.Transcripts.SeenLine.{bytes_or_none, no_data}
 use Rattle.rng_core.specs.declared.site.Site.{Site}
 use Rattle.rng_core.specs.Acts.{done_line}
 use Rattle.rng_core.specs.Makes.{setting_of, result_answer, given}

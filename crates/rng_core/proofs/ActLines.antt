@@ -4,8 +4,8 @@ use Rattle.std.specs.Prelude.{Result}
 use Rattle.key_names.specs.declared.errno.Errno.{Errno}
 use Rattle.key_names.specs.declared.events.Event.TheVariants.{Read, Reseed as ReseedEvent}
 use Rattle.key_names.specs.declared.events.InsideAct.TheVariants.{Wipe, Vread, Reseed}
-use Rattle.key_names.specs.Meaning.{ActMeans}
-use Rattle.key_names.specs.SeenLine.{bytes_or_none, no_data}
+use Rattle.key_names.specs.Callers.Meaning.{ActMeans}
+use Rattle.key_names.specs.Transcripts.SeenLine.{bytes_or_none, no_data}
 use Rattle.rng_core.specs.declared.setting.Setting.{Setting}
 use Rattle.rng_core.specs.Traces.{Moment}
 use Rattle.rng_core.specs.Makes.{Makes, IsOutcomeOf, setting_of, result_answer, given}

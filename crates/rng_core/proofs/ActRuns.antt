@@ -4,11 +4,11 @@ use Rattle.std.specs.Prelude.{MatchBool, ◌&&◌, ◌||◌, ⊤}
 use Rattle.std.specs.List.{AllByRecursion, list_any}
 use Rattle.key_names.specs.declared.names.Step.{Step}
 use Rattle.key_names.specs.declared.point.Point.{Point}
-use Rattle.key_names.specs.Deeds.{Deed, deeds_of}
-use Rattle.key_names.specs.Meaning.{ActMeans}
+use Rattle.key_names.specs.Callers.Deeds.{Deed, deeds_of}
+use Rattle.key_names.specs.Callers.Meaning.{ActMeans}
 use Rattle.key_names.specs.Texts.TranscriptGrammar.{StepFits}
-use Rattle.key_names.specs.Points.{is_same_point}
-use Rattle.key_names.specs.VreadSteps.{PointReached}
+use Rattle.key_names.specs.Kernel.Points.{is_same_point}
+use Rattle.key_names.specs.Callers.VreadSteps.{PointReached}
 use Rattle.lane_table.specs.declared.view.View.{View}
 use Rattle.lane_table.specs.declared.view.Visit.{Visit}
 use Rattle.lane_table.specs.BookLists.{StateLists, book_lists}
@@ -25,7 +25,7 @@ use Rattle.rng_core.specs.Acts.{Ask, ActOutcome, ActRan, ActAt, ActsAt, done_lin
 use Rattle.rng_core.proofs.Makings.{After, did_floor, deeds_then}
 use Rattle.rng_core.proofs.TellLemmas.{told_then, trace_then, fits_then}
 
--- a pass knows at least as much
+-- the view w knows at least as much as v
 pub record Onward (v w : View) : Type 0 where
   pub sized : length w.lanes ≡ length v.lanes
   pub grows : Grows v w
@@ -102,7 +102,7 @@ sees_risen w low high (visited mark e ∷ made_steps) h =
 
 -- The caller's own steps, with those of acts between them
 
--- from l to m these are the caller's own steps, and P holds of their deeds; without acts they are all steps
+-- from l to m these are the caller's own steps, and P holds for their deeds; without acts they are all steps
 pub record Own (set : Setting) (Alone : Type 0) (P : List Deed → Type 0) (l m : Moment) : Type 0 where
   pub made_steps : List MadeStep
   pub trace : m.steps ≡ l.steps ++ map step_of made_steps
@@ -159,7 +159,7 @@ own_then {set} l m n a b = record {
   };
 }
 
--- after acts
+-- if only acts ran from l to m, the own steps from m to n are the own steps from l to n
 pub own_behind : {set : Setting} {Alone : Type 0} {P : List Deed → Type 0} (l m n : Moment) → m.steps ≡ l.steps →
     Onward l.view m.view → (Alone → m.view ≡ l.view) → Own set Alone P m n → Own set Alone P l n
 own_behind {set} l m n same onward idle k = record {

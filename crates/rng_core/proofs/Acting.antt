@@ -4,10 +4,10 @@ use Rattle.std.specs.Prelude.{MatchBool, ◌&&◌, if◌then◌else◌}
 use Rattle.std.specs.List.{AllByRecursion}
 use Rattle.key_names.specs.declared.point.Point.{Point}
 use Rattle.key_names.specs.declared.point.Point.TheVariants.{Start}
-use Rattle.key_names.specs.Deeds.{Deed}
-use Rattle.key_names.specs.Vgetrandom.{HostStep, publishes, system_call, at_point}
-use Rattle.key_names.specs.Points.{is_same_point}
-use Rattle.key_names.specs.VreadSteps.{published_by, Shows, PointReached, points_of, before_start, from_start, first_points, second_points}
+use Rattle.key_names.specs.Callers.Deeds.{Deed}
+use Rattle.key_names.specs.Kernel.Vgetrandom.{HostStep, publishes, system_call, at_point}
+use Rattle.key_names.specs.Kernel.Points.{is_same_point}
+use Rattle.key_names.specs.Callers.VreadSteps.{published_by, Shows, PointReached, points_of, before_start, from_start, first_points, second_points}
 use Rattle.lane_table.specs.declared.view.View.{View}
 use Rattle.lane_table.specs.Advances.{looked, floor}
 use Rattle.vdso_state.specs.Host.{Does, DoesAll}
@@ -60,7 +60,7 @@ step_onward s t (at_point point wiped) k = ran_onward s.core.set point s.asks (i
 
 -- Points of the attempts
 
--- of the points to come, those in the first attempt or after it, by the current attempt
+-- the points still to come in the first attempt, and those to come after it; both depend on the current attempt
 abbrev pub active : Attempt → List PointReached → List PointReached
 active Before points = first_points points
 active First points = before_start points
@@ -94,7 +94,7 @@ acted_up_to (publishes g ∷ steps) s t does =
 acted_up_to (system_call n flags answer ∷ steps) s t does = acted_up_to steps does.0 t does.2
 acted_up_to (at_point point wiped ∷ steps) s t does = acted_up_to steps does.0 t does.2
 
--- the deeds of the caller's own steps are those of the host's steps, and without acts they are all steps
+-- the deeds of the caller's own steps are those of the host's steps, and without acts the caller makes no other steps
 pub acted_own : (steps : List HostStep) (set : Setting) (asks : List Ask) (s t : ActStand) → s.core.set ≡ set →
     s.asks ≡ asks → 1 < length s.core.moment.view.lanes → DoesAll acting s steps t
     → Own set (asks ≡ []) (Shows (setting_of set) steps) s.core.moment t.core.moment
@@ -293,7 +293,7 @@ module _ {R : Type 0} where
   host_step h next (system_call n flags answer) does = does
   host_step h next (at_point point wiped) does = does
 
-  -- its steps are those of the caller itself
+  -- the steps of a host over the lanes are those of the caller itself
   pub host_acts : (steps : List HostStep) (h last : LaneHost R) → DoesAll hosting h steps last →
       DoesAll acting (standing h) steps (standing last) × SameLoans h last
   host_acts [] h last does = (

@@ -1,15 +1,15 @@
--- The end of a call of vgetrandom: its state's generation is one that was published, and only a call for no bytes
--- ends with none.
+-- The end of a call of vgetrandom: its state's generation is one that was published, and only a call for no bytes ends
+-- as `no_bytes`.
 use Rattle.std.proofs.Common.{◌≡◌, ℕ, ◌≤◌, Bool, true, false, List, [], ◌∷◌, ◌++◌, refl, sym, ap, ◌∙◌, subst, arith}
 use Rattle.std.specs.Prelude.{MatchBool, ◌==◌, ⊤}
 use Rattle.std.proofs.lemmas.Bool.{eqb-true}
 use Rattle.key_names.specs.declared.point.Point.{Point}
 use Rattle.key_names.specs.declared.point.Point.TheVariants.{Start, Written, Serve, End}
-use Rattle.key_names.specs.Flags.{is_bad}
-use Rattle.key_names.specs.BatchCopy.{state_after_copy, copy_bytes, block_after_copy}
+use Rattle.key_names.specs.Kernel.Flags.{is_bad}
+use Rattle.key_names.specs.Kernel.BatchCopy.{state_after_copy, copy_bytes, block_after_copy}
 use Rattle.key_names.proofs.Vgetrandom.CopiesKeep.{copy_keeps_generation}
-use Rattle.key_names.specs.VgetrandomState.{VgetrandomState, state_left}
-use Rattle.key_names.specs.Vgetrandom.{SystemAnswer, read, failed, HostStep, publishes, system_call, at_point, Attempt, AttemptEnd, holds, outdated, not_keyed, AtPoint, FromEnd, FromServe, AfterKeyRead, FromWritten, FromStart, IsAttempt, no_bytes, by_batch, by_system, Outcome, BySystem, ByBatch, AfterAttempt, AttemptAndRest, AfterBoth, SecondAttempt, FirstAttempt, ByNothing, FromPublished, FromLook, IsCall}
+use Rattle.key_names.specs.Kernel.VgetrandomState.{VgetrandomState, state_left}
+use Rattle.key_names.specs.Kernel.Vgetrandom.{SystemAnswer, read, failed, HostStep, publishes, system_call, at_point, Attempt, AttemptEnd, holds, outdated, not_keyed, AtPoint, FromEnd, FromServe, AfterKeyRead, FromWritten, FromStart, IsAttempt, no_bytes, by_batch, by_system, Outcome, BySystem, ByBatch, AfterAttempt, AttemptAndRest, AfterBoth, SecondAttempt, FirstAttempt, ByNothing, FromPublished, FromLook, IsCall}
 
 -- each published generation is at most this
 abbrev pub PublishesUpTo : ℕ → List HostStep → Type 0

@@ -6,7 +6,7 @@ use Rattle.std.proofs.lemmas.List.{map-append, append-nil}
 use Rattle.std.proofs.lemmas.List.Sums.{sum_by-cons}
 use Rattle.key_names.specs.declared.names.Mark.{Mark}
 use Rattle.key_names.specs.declared.names.Step.{Step}
-use Rattle.key_names.specs.IsTranscript.{MarkBy, VisitsAre, marks_from}
+use Rattle.key_names.specs.Transcripts.IsTranscript.{MarkBy, VisitsAre, marks_from}
 use Rattle.key_names.proofs.Lists.Each.{each_append, each_weaker}
 use Rattle.lane_table.specs.declared.view.LaneEntry.{LaneEntry}
 use Rattle.lane_table.specs.declared.view.LaneView.{LaneView}
@@ -109,7 +109,7 @@ module _ (caller event : ℕ) where
   known_by w n (looked g ∷ made_steps) stand = known_by w (suc n) made_steps stand
   known_by w n (visited mark e ∷ made_steps) stand = ((e, stand.0), known_by w (suc n) made_steps stand.1)
 
--- one call
+-- one call makes exactly the visits that its trace lists
 pub course_told : (set : Setting) (v w : View) (steps : List Step) (made_steps : List MadeStep) →
     TraceRecords set (knowing v []) (knowing w steps) made_steps → Course v w (marks_from set.caller set.event 0 steps)
 course_told set v w steps made_steps is =
@@ -205,7 +205,7 @@ made_of_three v n = go v.lanes n
         omega arith
     go (a ∷ b ∷ c ∷ d ∷ l) e = absurd (omega arith)
 
--- known visits, in each lane as many as were made, are the visits of the table's book
+-- if the known visits of each lane are as many as were made, they are the visits of the table's book
 pub three_visits : (w : View) (marks : List MarkBy) → length w.lanes ≡ 3 → Ended (length w.lanes) w →
     ((lane : ℕ) → lane < 3 → (at lane w).made ≡ marks_in lane marks) → AllByRecursion (IsKnown w) marks →
     VisitsAre (book_of (length w.lanes) (known_of w) []) marks

@@ -11,9 +11,9 @@ use Rattle.key_names.specs.declared.entries.PoolEntry.{PoolEntry}
 use Rattle.key_names.specs.declared.entries.BaseEntry.{BaseEntry}
 use Rattle.key_names.specs.declared.entries.CpuEntry.{CpuEntry}
 use Rattle.key_names.specs.declared.entries.VEntry.{VEntry}
-use Rattle.key_names.specs.PoolList.{PoolState, pool_step}
-use Rattle.key_names.specs.Book.{Lists}
-use Rattle.key_names.specs.Deeds.{Deed, PoolVisit, BaseVisit, CpuVisit, at_pool, at_base, at_cpu, deed_of, deed_at, pool_visit, base_visit, cpu_visit}
+use Rattle.key_names.specs.Lanes.PoolList.{PoolState, pool_step}
+use Rattle.key_names.specs.Lanes.Book.{Lists}
+use Rattle.key_names.specs.Callers.Deeds.{Deed, PoolVisit, BaseVisit, CpuVisit, at_pool, at_base, at_cpu, deed_of, deed_at, pool_visit, base_visit, cpu_visit}
 use Rattle.lane_table.specs.declared.view.Visit.{Visit}
 use Rattle.lane_table.specs.declared.view.View.{View}
 use Rattle.lane_table.specs.declared.view.Handed.{Handed}

@@ -6,11 +6,11 @@ use Rattle.key_names.specs.declared.entries.Taken.TheVariants.{User, Kernel}
 use Rattle.key_names.specs.declared.entries.BaseEntry.TheVariants.{Reseed as Reseeded, Tick as Ticked}
 use Rattle.key_names.specs.declared.events.Event.TheVariants.{Kread, Uread, Reseed, Tick}
 use Rattle.key_names.specs.declared.events.Answer.TheVariants.{Ok as Done, NoData, Fired, Idle}
-use Rattle.key_names.specs.SeenLine.{bytes_or_none, no_data}
-use Rattle.key_names.specs.Calls.{Setting}
-use Rattle.key_names.specs.Deeds.{Deed, looked}
-use Rattle.key_names.specs.Forms.{Looked, ReadForm, Rooted, BaseOnly}
-use Rattle.key_names.specs.Answers.{answer_of}
+use Rattle.key_names.specs.Transcripts.SeenLine.{bytes_or_none, no_data}
+use Rattle.key_names.specs.Callers.Calls.{Setting}
+use Rattle.key_names.specs.Callers.Deeds.{Deed, looked}
+use Rattle.key_names.specs.Callers.Forms.{Looked, ReadForm, Rooted, BaseOnly}
+use Rattle.key_names.specs.Callers.Answers.{answer_of}
 use Rattle.rng_core.specs.Makes.{IsOutcomeOf, Serving}
 
 match_some : (P Q : Type 0) (n : ℕ) → 0 < n → Q → MatchBool (n == 0) P Q

@@ -11,12 +11,12 @@ use Rattle.key_names.specs.declared.errno.Errno.{Errno}
 use Rattle.key_names.specs.declared.errno.Errno.TheVariants.{NoData, Again, Invalid, Interrupted}
 use Rattle.key_names.specs.declared.events.Answer.{Answer}
 use Rattle.key_names.specs.declared.events.Event.TheVariants.{Read}
-use Rattle.key_names.specs.Deeds.{Deed, deed_or, deed_at, deed_of, deeds_of, at_pool, at_base, at_cpu, pool_visit, base_visit, cpu_visit}
-use Rattle.key_names.specs.Book.{Lists, cpu_list}
-use Rattle.key_names.specs.Answers.{system_answer, served_bytes}
-use Rattle.key_names.specs.SeenLine.{bytes_or_none, bytes_in}
-use Rattle.key_names.specs.Vgetrandom.{CpuPlace, SystemAnswer, read, failed}
-use Rattle.key_names.specs.VreadSteps.{published_by, place_of, last_place, errno_of, answer_with, answer_behind, answer_of_errno}
+use Rattle.key_names.specs.Callers.Deeds.{Deed, deed_or, deed_at, deed_of, deeds_of, at_pool, at_base, at_cpu, pool_visit, base_visit, cpu_visit}
+use Rattle.key_names.specs.Lanes.Book.{Lists, cpu_list}
+use Rattle.key_names.specs.Callers.Answers.{system_answer, served_bytes}
+use Rattle.key_names.specs.Transcripts.SeenLine.{bytes_or_none, bytes_in}
+use Rattle.key_names.specs.Kernel.Vgetrandom.{CpuPlace, SystemAnswer, read, failed}
+use Rattle.key_names.specs.Callers.VreadSteps.{published_by, place_of, last_place, errno_of, answer_with, answer_behind, answer_of_errno}
 use Rattle.lane_table.specs.declared.view.Visit.{Visit}
 use Rattle.lane_table.specs.declared.view.View.{View}
 use Rattle.lane_table.specs.declared.view.Stage.{Stage}
@@ -84,7 +84,7 @@ visit_of [] = None
 visit_of (made_step ∷ []) = place_in made_step
 visit_of (made_step ∷ next ∷ made_steps) = visit_of (next ∷ made_steps)
 
--- it is the visit of the deeds, in all lists that continue the known ones
+-- that visit is the last of the deeds, in all lists that continue the known ones
 module _ (lanes : ℕ) (v : View) (visits : ℕ → List Visit) (callers : List (List (List VEntry)))
     (k : Continues lanes v visits) where
   abbrev book : Lists

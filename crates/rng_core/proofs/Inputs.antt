@@ -1,8 +1,8 @@
 -- An input event in the pool and its timer.
 use Rattle.std.proofs.Common.{◌≡◌, ◌≢◌, ℕ, ◌<◌, ◌≤◌, List, sym, ap, ◌∙◌, subst, arith}
 use Rattle.key_names.specs.declared.entries.PoolEntry.TheVariants.{Input}
-use Rattle.key_names.specs.InputTimer.{InputTimer, input_timer_after, timer_bits}
-use Rattle.key_names.specs.PoolList.{PoolState, crossing, credit, pool_step}
+use Rattle.key_names.specs.Kernel.InputTimer.{InputTimer, input_timer_after, timer_bits}
+use Rattle.key_names.specs.Lanes.PoolList.{PoolState, crossing, credit, pool_step}
 use Rattle.input_pool.specs.PoolStands.{PoolParts, PoolStands}
 use Rattle.input_pool.proofs.Callers.{mixed, mixed_and_credited, input_bytes, credit-none, crossing-mix, PoolStands-timed, PoolStands-untimed, pool_step-timed, pool_step-untimed}
 use Rattle.sample_credit.specs.LastInput.{LastInput}

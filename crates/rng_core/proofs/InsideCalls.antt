@@ -6,16 +6,16 @@ use Rattle.std.proofs.lemmas.List.{length-map}
 use Rattle.std.proofs.lemmas.Bool.{le-leb, ne_eqb}
 use Rattle.key_names.specs.declared.events.Answer.{Answer}
 use Rattle.key_names.specs.declared.point.Point.{Point}
-use Rattle.key_names.specs.Book.{Lists}
-use Rattle.key_names.specs.Deeds.{Deed, deeds_of}
-use Rattle.key_names.specs.Meaning.{CallerState, CallMeaning, ActMeans, ActsMean, VreadMeans, ByVgetrandom, current_state, with_state, tries_local, unused_line}
-use Rattle.key_names.specs.Flags.{is_bad}
-use Rattle.key_names.specs.SeenLine.{Shown, bytes_or_none}
+use Rattle.key_names.specs.Lanes.Book.{Lists}
+use Rattle.key_names.specs.Callers.Deeds.{Deed, deeds_of}
+use Rattle.key_names.specs.Callers.Meaning.{CallerState, CallMeaning, ActMeans, ActsMean, VreadMeans, ByVgetrandom, current_state, with_state, tries_local, unused_line}
+use Rattle.key_names.specs.Kernel.Flags.{is_bad}
+use Rattle.key_names.specs.Transcripts.SeenLine.{Shown, bytes_or_none}
 use Rattle.key_names.specs.Texts.TranscriptGrammar.{StepFits}
-use Rattle.key_names.specs.Vgetrandom.{IsCall}
-use Rattle.key_names.specs.VgetrandomState.{VgetrandomState}
-use Rattle.key_names.specs.Points.{is_same_point}
-use Rattle.key_names.specs.VreadSteps.{published_by, Shows, WipesStand, PointReached, points_of, first_points, is_wiped, is_reached, is_wipe, ending_answer, ending_shown, NeverFall}
+use Rattle.key_names.specs.Kernel.Vgetrandom.{IsCall}
+use Rattle.key_names.specs.Kernel.VgetrandomState.{VgetrandomState}
+use Rattle.key_names.specs.Kernel.Points.{is_same_point}
+use Rattle.key_names.specs.Callers.VreadSteps.{published_by, Shows, WipesStand, PointReached, points_of, first_points, is_wiped, is_reached, is_wipe, ending_answer, ending_shown, NeverFall}
 use Rattle.key_names.proofs.Vgetrandom.Attempts.{match_false}
 use Rattle.key_names.proofs.Lists.Each.{each_weaker}
 use Rattle.lane_table.specs.declared.view.View.{View}
@@ -163,7 +163,7 @@ module _ {R : Type 0} {h last : LaneHost R} {finish : Finish} (n flags : ℕ) (s
   same_asks : asks_of last.acts.now ≡ asks_of h.acts.now
   same_asks = acted_asks runs.steps from to does
 
-  -- each step is one of the caller itself
+  -- each step of the call is one of the caller itself
   inside_ran : InsideRan n flags s finish.state from
       (λ attempt. act_stand (stand h.site.set last.site.pass.now last.site.trace.now) attempt
       (asks_of last.acts.now) (outcomes_of last.acts.now last.out.now))

@@ -7,15 +7,15 @@ use Rattle.key_names.specs.declared.entries.BaseEntry.TheVariants.{Refill}
 use Rattle.key_names.specs.declared.entries.CpuEntry.{CpuEntry}
 use Rattle.key_names.specs.declared.entries.CpuEntry.TheVariants.{Int}
 use Rattle.key_names.specs.declared.events.Answer.TheVariants.{Ok as Done}
-use Rattle.key_names.specs.Batches.{Fill, must_fill, batched_int}
-use Rattle.key_names.specs.Calls.{Setting as FormSetting}
-use Rattle.key_names.specs.Deeds.{Deed, BaseVisit, CpuVisit, looked, at_base, at_cpu}
-use Rattle.key_names.specs.Answers.{served_bytes}
-use Rattle.key_names.specs.SeenLine.{bytes_or_none}
-use Rattle.key_names.specs.Forms.{CpuOnly, DrawForm, CpuReadForm, ReadForm, BatchForm, RefilledBatch, IntForm, Looked}
+use Rattle.key_names.specs.Kernel.Batches.{Fill, must_fill, batched_int}
+use Rattle.key_names.specs.Callers.Calls.{Setting as FormSetting}
+use Rattle.key_names.specs.Callers.Deeds.{Deed, BaseVisit, CpuVisit, looked, at_base, at_cpu}
+use Rattle.key_names.specs.Callers.Answers.{served_bytes}
+use Rattle.key_names.specs.Transcripts.SeenLine.{bytes_or_none}
+use Rattle.key_names.specs.Callers.Forms.{CpuOnly, DrawForm, CpuReadForm, ReadForm, BatchForm, RefilledBatch, IntForm, Looked}
 use Rattle.int_batch.specs.BatchValue.{wants, filled, next_bytes}
 use Rattle.int_batch.proofs.Fills.{wants-start, next_bytes-batched_int, IsBatchOf-filled}
-use Rattle.key_names.specs.Keystream.{keystream}
+use Rattle.key_names.specs.Kernel.Keystream.{keystream}
 use Rattle.lane_table.specs.declared.view.Handed.{Handed}
 use Rattle.lane_table.specs.declared.view.LaneEntry.TheVariants.{Base, Cpu}
 use Rattle.lane_table.specs.Meaning.{CpuModel, Model, batch_of, batch_at, cpu_entered, generator_of}

@@ -8,15 +8,15 @@ use Rattle.key_names.specs.declared.entries.BaseEntry.{BaseEntry}
 use Rattle.key_names.specs.declared.entries.BaseEntry.TheVariants.{Refill}
 use Rattle.key_names.specs.declared.entries.CpuEntry.{CpuEntry}
 use Rattle.key_names.specs.declared.entries.CpuEntry.TheVariants.{Read}
-use Rattle.key_names.specs.Book.{Lists}
-use Rattle.key_names.specs.Deeds.{Deed, looked, deed_of, deeds_of}
-use Rattle.key_names.specs.Answers.{deed_bytes, served_bytes, bits_read}
-use Rattle.key_names.specs.SeenLine.{count}
+use Rattle.key_names.specs.Lanes.Book.{Lists}
+use Rattle.key_names.specs.Callers.Deeds.{Deed, looked, deed_of, deeds_of}
+use Rattle.key_names.specs.Callers.Answers.{deed_bytes, served_bytes, bits_read}
+use Rattle.key_names.specs.Transcripts.SeenLine.{count}
 use Rattle.key_names.specs.declared.events.Event.TheVariants.{Bits as BitsEvent}
 use Rattle.key_names.specs.declared.events.Answer.TheVariants.{Ok as Done}
-use Rattle.key_names.specs.PoolList.{PoolState, Crossing, crossing, pool_step}
-use Rattle.key_names.specs.Forms.{Rooted, BaseOnly, PoolOnly, CpuOnly, PlainRead, RefilledRead, CreditForm, Cross}
-use Rattle.key_names.specs.Forms as forms
+use Rattle.key_names.specs.Lanes.PoolList.{PoolState, Crossing, crossing, pool_step}
+use Rattle.key_names.specs.Callers.Forms.{Rooted, BaseOnly, PoolOnly, CpuOnly, PlainRead, RefilledRead, CreditForm, Cross}
+use Rattle.key_names.specs.Callers.Forms as forms
 use Rattle.lane_table.specs.declared.view.Handed.{Handed}
 use Rattle.lane_table.specs.declared.view.Visit.{Visit}
 use Rattle.lane_table.specs.declared.view.LaneEntry.{LaneEntry}
@@ -54,7 +54,7 @@ pub did_map : {P Q : List Deed → Type 0} (set : Setting) (m n : Moment) → ((
     Makes P set m n → Makes Q set m n
 did_map set m n f k = did_in_map set m n (λ visits. f) k
 
--- the form alone
+-- if a call made deeds of a form that serve bytes, it made deeds of that form
 pub formed : {F : List Deed → Type 0} {bytes : List ℕ} (set : Setting) (m n : Moment) →
     Makes (Serving F bytes) set m n →
     Makes F set m n
@@ -64,7 +64,7 @@ pub served_of : (set : Setting) (m n : Moment) (lane place : ℕ) (s : Model) (e
     Visited set m n lane place s e got → Served set m n lane place e (serving e s got)
 served_of set m n lane place s e got x = record { model = s; got = got; visited = x; serves = refl }
 
--- after changes that are no steps
+-- if no step was made from l to m, a call from m to n is a call from l to n
 pub did_after : {P : (ℕ → List Visit) → List Deed → Type 0} (set : Setting) (l m n : Moment) → TraceRecords set l m [] →
     MakesIn P set m n → MakesIn P set l n
 did_after set l m n a k = record {
@@ -91,7 +91,7 @@ serving_looked set l m n g a k = record {
       };
 }
 
--- one visit of the pool, the base or a CPU
+-- a visit of the pool, the base or a CPU has the form of its one entry
 pub did_pool : (set : Setting) (m n : Moment) (place : ℕ) (s : Model) (e : PoolEntry) (got : Handed) →
     Visited set m n 0 place s (Pool e) got → Makes (PoolOnly e) set m n
 did_pool set m n place s e got x = record {
@@ -125,7 +125,7 @@ did_cpu set m n cpu place e bytes fits x = record {
       };
 }
 
--- a root, and a visit of the base that names it
+-- an extraction, and a visit of the base that names its root, have the form Rooted
 pub did_rooted : (set : Setting) (l m n : Moment) (root base : ℕ) (s : Model) (got : Handed) (entry : ℕ → BaseEntry)
     (bytes : List ℕ) → Visited set l m 0 root s (Pool (Extract set.hw base)) got →
     Served set m n 1 base (Base (entry root)) bytes
@@ -150,7 +150,7 @@ did_rooted set l m n root base s got entry bytes x y = record {
       };
 }
 
--- a read from a CPU, after its look
+-- a read from a CPU after its look has the form PlainRead
 pub did_plain_read : (set : Setting) (l m n : Moment) (g place : ℕ) (taken : Taken) (bytes : List ℕ) →
     TraceRecords set l m (went.looked g ∷ []) → Served set m n (set.cpu + 2) place (Cpu (Read g None taken)) bytes
     → Makes (Serving (PlainRead (setting_of set) taken) bytes) set l n
@@ -202,7 +202,7 @@ did_refilled_read set k l m n g base place s got taken bytes a x y = record {
       };
 }
 
--- no step at all
+-- a call that makes no step has no deeds
 pub did_nothing : {P : List Deed → Type 0} (set : Setting) (m : Moment) → 1 < length m.view.lanes → P [] →
     Makes P set m m
 did_nothing set m two p = record {
@@ -214,12 +214,12 @@ did_nothing set m two p = record {
   stands = λ lanes visits callers c. p;
 }
 
--- a look alone
+-- one look has the deed of that look
 pub did_look : (set : Setting) (l m : Moment) (g : ℕ) → TraceRecords set l m (went.looked g ∷ []) →
     Makes (λ (deeds : List Deed). deeds ≡ looked g ∷ []) set l m
 did_look set l m g a = record { made_steps = went.looked g ∷ []; told = a; stands = λ lanes visits callers c. refl }
 
--- a visit of the pool that credits bits, and the threshold that they cross
+-- a visit of the pool that credits bits, and the steps for the threshold that they cross, have the form of a credit
 pub did_credit : (set : Setting) (l m n : Moment) (place : ℕ) (s : Model) (e : PoolEntry) (got : Handed)
     (crossed : Crossing) → Visited set l m 0 place s (Pool e) got →
     crossed ≡ crossing s.pool.bits (pool_step s.pool e).bits
@@ -240,7 +240,7 @@ did_credit set l m n place s e got crossed x is k = record {
       };
 }
 
--- the bits that a visit reads
+-- a visit that reads the bits completes the event
 pub did_bits : (set : Setting) (m n : Moment) (place b : ℕ) (s : Model) (got : Handed) →
     Visited set m n 0 place s (Pool Bits) got → b ≡ s.pool.bits →
     Makes (IsOutcomeOf (setting_of set) BitsEvent Done (count b)) set m n
@@ -255,7 +255,7 @@ did_bits set m n place b s got x is = record {
   };
 }
 
--- successive calls
+-- the deeds of two successive calls
 pub record After (P Q : List Deed → Type 0) (deeds : List Deed) : Type 0 where
   pub first : List Deed
   pub rest : List Deed
@@ -287,7 +287,7 @@ pub did_then : {P Q : List Deed → Type 0} (set : Setting) (l m n : Moment) →
     Makes (After P Q) set l n
 did_then set l m n a b = did_in_then set l m n a b
 
--- after a look that found g
+-- the deeds after a look that found g, with that look
 pub record Behind (g : ℕ) (P : List Deed → Type 0) (deeds : List Deed) : Type 0 where
   pub rest : List Deed
   pub deeds_are : deeds ≡ looked g ∷ rest

@@ -1,11 +1,11 @@
--- Two reads out of a caller's own state, as the law of such states needs them.
+-- Two reads out of a caller's own state, as the law of own states needs them.
 use Rattle.std.proofs.Common.{◌≡◌, ℕ, ◌+◌, ◌<◌, ◌≤◌, cond, List, [], ◌∷◌, ◌++◌, length, get_or, refl, sym, ap, ◌∙◌, subst, arith}
 use Rattle.std.specs.Prelude.{◌==◌}
 use Rattle.std.specs.List.{sum_by}
 use Rattle.std.proofs.lemmas.List.Sums.{sum_by-append, sum_by-cons}
 use Rattle.key_names.specs.declared.events.Answer.{Answer}
-use Rattle.key_names.specs.SeenLine.{Shown}
-use Rattle.key_names.specs.VgetrandomState.{VgetrandomState, wiped_state}
+use Rattle.key_names.specs.Transcripts.SeenLine.{Shown}
+use Rattle.key_names.specs.Kernel.VgetrandomState.{VgetrandomState, wiped_state}
 use Rattle.lane_table.specs.declared.view.LaneView.{LaneView}
 use Rattle.lane_table.specs.declared.view.View.{View}
 use Rattle.lane_table.specs.WorldRule.{Begins, St, WorldRule, at, blank, known_of, times}
@@ -41,7 +41,7 @@ module _ {n flags : ℕ} {s t : VgetrandomState} {answer : Answer} {shown : Show
       (at lane m.view).places ≡ (get_or z lane blank).places ++ places_in lane k.did.made_steps)
       lanes k.did.told.went.places
 
--- one view has at most as many visits as all
+-- one view counts at most as many visits as all views together
 one_of_all : (f : View → ℕ) (views : List View) (j : ℕ) (v : View) (s : St) → views ≡ s.views → IsView s j v →
     f nobody ≡ 0 → f v ≤ sum_by f views
 one_of_all f views j v s are is none = let e = sum_at_set f s.views j v nobody is in

@@ -11,20 +11,20 @@ use Rattle.key_names.specs.declared.entries.VEntry.TheVariants.{Rekey, Blocks, R
 use Rattle.key_names.specs.declared.events.Answer.{Answer}
 use Rattle.key_names.specs.declared.names.LaneId.{LaneId}
 use Rattle.key_names.specs.declared.names.LaneId.TheVariants.{Pool as PoolLane, Base as BaseLane, Cpu as CpuLane}
-use Rattle.key_names.specs.BatchCopy.{has_left, serves_locally, copy_entries, state_after_copy}
-use Rattle.key_names.specs.Book.{Lists, list_at, cpu_list, StatePlace, rekey_in, HalfFinishedBook}
-use Rattle.key_names.specs.CpuList.{taken_at}
-use Rattle.key_names.specs.Calls.{Setting as CallSetting, BoundAct, first_setting}
-use Rattle.key_names.specs.Deeds.{Deed, deeds_of}
-use Rattle.key_names.specs.Forms.{Looked}
-use Rattle.key_names.specs.LiveMaterial.{StateBytes, state_bytes_start}
-use Rattle.key_names.specs.Meaning.{CallerState, CallMeaning, LineMeaning, ByLocalCopy, ByVgetrandom, LocalOrCall, VreadMeans, caller_start, current_state, tries_local, unused_line, with_state}
-use Rattle.key_names.specs.IsTranscript.{state_lists}
-use Rattle.key_names.specs.SeenLine.{Shown}
-use Rattle.key_names.specs.StateList.{NamedState, state_start, TakesRead, LawfulStateList, rekey_at}
-use Rattle.key_names.specs.StatesReplayed.{IsNamed, IsReplayed}
-use Rattle.key_names.specs.VgetrandomState.{VgetrandomState, wiped_state}
-use Rattle.key_names.specs.VreadSteps.{NeverFall, looks_of, published_by}
+use Rattle.key_names.specs.Kernel.BatchCopy.{has_left, serves_locally, copy_entries, state_after_copy}
+use Rattle.key_names.specs.Lanes.Book.{Lists, list_at, cpu_list, StatePlace, rekey_in, HalfFinishedBook}
+use Rattle.key_names.specs.Lanes.CpuList.{taken_at}
+use Rattle.key_names.specs.Callers.Calls.{Setting as CallSetting, BoundAct, first_setting}
+use Rattle.key_names.specs.Callers.Deeds.{Deed, deeds_of}
+use Rattle.key_names.specs.Callers.Forms.{Looked}
+use Rattle.key_names.specs.Keys.LiveMaterial.{StateBytes, state_bytes_start}
+use Rattle.key_names.specs.Callers.Meaning.{CallerState, CallMeaning, LineMeaning, ByLocalCopy, ByVgetrandom, LocalOrCall, VreadMeans, caller_start, current_state, tries_local, unused_line, with_state}
+use Rattle.key_names.specs.Transcripts.IsTranscript.{state_lists}
+use Rattle.key_names.specs.Transcripts.SeenLine.{Shown}
+use Rattle.key_names.specs.Lanes.StateList.{NamedState, state_start, TakesRead, LawfulStateList, rekey_at}
+use Rattle.key_names.specs.Transcripts.StatesReplayed.{IsNamed, IsReplayed}
+use Rattle.key_names.specs.Kernel.VgetrandomState.{VgetrandomState, wiped_state}
+use Rattle.key_names.specs.Callers.VreadSteps.{NeverFall, looks_of, published_by}
 use Rattle.key_names.proofs.Lists.Each.{each_append, each_both, each_weaker}
 use Rattle.key_names.proofs.Vgetrandom.CopiesKeep.{Settled, Keeps, keeps_append, keeps_weaker}
 use Rattle.key_names.proofs.Vgetrandom.CallsKeep.{match_cases, call_keeps, local_keeps, wipe_keeps, lawful_list}
@@ -62,7 +62,7 @@ module _ (c p : ℕ) where
   one_more : (place : ℕ) (rest : List ℕ) → times p (place ∷ rest) ≡ hit (place == p) + times p rest
   one_more place rest = sum_by-cons (λ (q : ℕ). cond (q == p) 1 0) place rest
 
-  -- a mark of the CPU's lane, or of another
+  -- a mark counts if it is of the CPU's lane, and else does not
   counted_if : (b : Bool) (place n : ℕ) (rest : List ℕ) → n ≡ times p rest →
       (if b then hit (place == p) else 0) + n ≡ times p (if b then place ∷ rest else rest)
   counted_if true place n rest is = let more = one_more place rest in omega arith
@@ -146,7 +146,7 @@ module _ (lists : Lists) (set : CallSetting) (n flags : ℕ) (acts : List BoundA
     after = with_state (standing set s) t;
   }
 
-  -- a read by a call of vgetrandom
+  -- a read by a call of vgetrandom leaves its entries
   called : NeverFall (looks_of deeds) → ByVgetrandom n flags acts meaning → Leaves lists s t es steps
   called rising by = let to : t ≡ by.outcome.state = ap current_state by.after in
       let there = all_there lists (map step_of steps) in
@@ -163,7 +163,7 @@ module _ (lists : Lists) (set : CallSetting) (n flags : ℕ) (acts : List BoundA
       subst (λ (z : VgetrandomState × List VEntry). Leaves lists s z.0 z.1 steps)
       (λ i. (sym to i, sym by.entries i)) done
 
-  -- a read by a copy after one look
+  -- a read by a copy after one look leaves its entries
   served : (look : ℕ) (rest : List Deed) → 1 ≤ n → serves_locally (published_by look) s n ≡ true →
       ByLocalCopy n rest meaning → Leaves lists s t es steps
   served look rest some serves by = let to : t ≡ state_after_copy s 0 n = ap current_state by.after in
@@ -289,7 +289,7 @@ none_else (uses ∷ states) zero zero n read is = refl
 none_else (uses ∷ states) zero (suc k) n read is = absurd (cc is)
 none_else (uses ∷ states) (suc i) k n read is = none_else states i k n read is
 
--- a read that an entry takes is in its CPU's list
+-- if an entry takes a read, the read is in its CPU's list
 read_there : (cpus : ℕ → List CpuEntry) (es : List VEntry) (n : ℕ) (read : ℕ × ℕ) → AllByRecursion (TakesRead cpus) es →
     rekey_at es n ≡ Some read → taken_at (cpus read.0) read.1 ≡ Some (User 32)
 read_there cpus [] n read all is = absurd (cc is)

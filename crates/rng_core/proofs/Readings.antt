@@ -9,17 +9,17 @@ use Rattle.key_names.specs.declared.names.Step.{Step}
 use Rattle.key_names.specs.declared.names.LaneId.TheVariants.{Pool as PoolLane, Base as BaseLane, Cpu as CpuLane}
 use Rattle.key_names.specs.declared.errno.Errno.{Errno}
 use Rattle.key_names.specs.declared.events.Answer.{Answer}
-use Rattle.key_names.specs.Flags.{is_bad}
-use Rattle.key_names.specs.Book.{Lists}
-use Rattle.key_names.specs.BatchCopy.{has_left, serves_locally, copy_bytes, copy_entries, state_after_copy}
-use Rattle.key_names.specs.Deeds.{Deed, deed_or, deed_at, deed_of, deeds_of, pool_visit, base_visit, cpu_visit, at_pool, at_base, at_cpu}
-use Rattle.key_names.specs.Deeds as deed
-use Rattle.key_names.specs.Forms.{Looked}
-use Rattle.key_names.specs.Meaning.{CallerState, CallMeaning, VreadMeans, ByLocalCopy, ByVgetrandom, LocalOrCall, current_state, with_state, tries_local}
-use Rattle.key_names.specs.SeenLine.{Shown, bytes_or_none}
-use Rattle.key_names.specs.Vgetrandom.{read, failed, HostStep, Ending, no_bytes, by_batch, by_system, FromLook, BySystem, IsCall}
-use Rattle.key_names.specs.VgetrandomState.{VgetrandomState}
-use Rattle.key_names.specs.VreadSteps.{Shows, ending_answer, ending_shown, published_by, looks_of, NeverFall}
+use Rattle.key_names.specs.Kernel.Flags.{is_bad}
+use Rattle.key_names.specs.Lanes.Book.{Lists}
+use Rattle.key_names.specs.Kernel.BatchCopy.{has_left, serves_locally, copy_bytes, copy_entries, state_after_copy}
+use Rattle.key_names.specs.Callers.Deeds.{Deed, deed_or, deed_at, deed_of, deeds_of, pool_visit, base_visit, cpu_visit, at_pool, at_base, at_cpu}
+use Rattle.key_names.specs.Callers.Deeds as deed
+use Rattle.key_names.specs.Callers.Forms.{Looked}
+use Rattle.key_names.specs.Callers.Meaning.{CallerState, CallMeaning, VreadMeans, ByLocalCopy, ByVgetrandom, LocalOrCall, current_state, with_state, tries_local}
+use Rattle.key_names.specs.Transcripts.SeenLine.{Shown, bytes_or_none}
+use Rattle.key_names.specs.Kernel.Vgetrandom.{read, failed, HostStep, Ending, no_bytes, by_batch, by_system, FromLook, BySystem, IsCall}
+use Rattle.key_names.specs.Kernel.VgetrandomState.{VgetrandomState}
+use Rattle.key_names.specs.Callers.VreadSteps.{Shows, ending_answer, ending_shown, published_by, looks_of, NeverFall}
 use Rattle.key_names.proofs.Vgetrandom.Attempts.{match_true, match_false}
 use Rattle.lane_table.specs.declared.view.View.{View}
 use Rattle.lane_table.specs.BookLists.{book_lists}
@@ -212,8 +212,7 @@ module _ (n flags : ℕ) (s t : VgetrandomState) (answer : Answer) (shown : Show
         after = ap (with_state before) k.state;
       }
 
-      -- the call begins with a look, which finds at least the generation of the look that found that the batch
-      -- cannot serve
+      -- a call after a refusal begins with a look, which finds at least the generation that the refusing look found
       behind_look : (refused : Refused n s l.view m.view) → FromLook n flags s k.steps k.outcome →
           Looked (LocalOrCall n flags [] meant) deeds
       behind_look refused from =
@@ -262,7 +261,7 @@ module _ (n flags : ℕ) (s t : VgetrandomState) (answer : Answer) (shown : Show
           (knowing m.view z) o) same called_did;
     }
 
--- the batch did not serve, and nothing changed
+-- if the batch did not serve and nothing changed, the call and the look before it are the read
 pub left_read : (n n' flags : ℕ) (s s' t : VgetrandomState) (answer : Answer) (shown : Shown) (set : Setting)
     (l m o : Moment) → s.generation ≤ published_by (floor l.view) → n' ≡ n →
     LeftToSystem n flags s s' l m → Called n' flags s' t answer shown set m o →

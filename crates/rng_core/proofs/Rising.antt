@@ -27,7 +27,7 @@ reseeded_at xs i root now x there is = ap (λ (k : Model). k.base.generation)
     (fold_next model_step start_model xs i x (stands_at xs i x there)
     ∙ ap (λ (e : LaneEntry). made_of (replay (take i xs)) e x.got) is)
 
--- its maker has seen the raised generation
+-- the maker of a reseed has seen the raised generation
 reseed_seen : (set : Setting) (m n : Moment) (place root now : ℕ) (s : Model) (got : Handed) →
     Visited set m n 1 place s (Base (Reseed root now)) got → s.base.generation < floor n.view
 reseed_seen set m n place root now s got v =

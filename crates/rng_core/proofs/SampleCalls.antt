@@ -5,9 +5,9 @@ use Rattle.key_names.specs.declared.entries.PoolEntry.TheVariants.{Bits}
 use Rattle.key_names.specs.declared.entries.CpuEntry.{CpuEntry}
 use Rattle.key_names.specs.declared.events.Event.TheVariants.{Bits as BitsEvent}
 use Rattle.key_names.specs.declared.events.Answer.TheVariants.{Ok as Done}
-use Rattle.key_names.specs.Forms.{CreditForm, Cross}
-use Rattle.key_names.specs.PoolList.{Crossing, crossing, pool_step}
-use Rattle.key_names.specs.SeenLine.{count}
+use Rattle.key_names.specs.Callers.Forms.{CreditForm, Cross}
+use Rattle.key_names.specs.Lanes.PoolList.{Crossing, crossing, pool_step}
+use Rattle.key_names.specs.Transcripts.SeenLine.{count}
 use Rattle.lane_table.specs.declared.lanes.Held.{Held}
 use Rattle.lane_table.specs.declared.view.LaneEntry.TheVariants.{Pool, Cpu}
 use Rattle.lane_table.specs.Calls.{view}
@@ -22,7 +22,7 @@ use Rattle.rng_core.proofs.Makings.{did_bits, did_credit}
 use Rattle.rng_core.proofs.Sampling.{CpuMet, did_met, visited_below}
 use Rattle.rng_core.proofs.SiteLemmas.{same_then, by_set, does_behind, does_visited}
 
--- the bits that a visit reads
+-- a call that reads the bits in one visit completes the event
 pub does_bits : (h k : Held) (bits : ℕ) (l m n : Site) → Entered pool_lane h l m → VisitedIdly pool_lane k (Pool Bits) m n →
     bits ≡ (lane_of m pool_lane).pool.bits → Completes 1 BitsEvent Done (count bits) l n
 does_bits h k bits l m n a b is = does_behind (λ set visits. IsOutcomeOf (setting_of set) BitsEvent Done (count bits)) 1
@@ -30,7 +30,7 @@ does_bits h k bits l m n a b is = does_behind (λ set visits. IsOutcomeOf (setti
     a.walked a.trace
     (does_visited 0 k (Pool Bits) m n b (λ x. did_bits m.set (at m) (at n) _ bits _ _ x is))
 
--- a visit of the pool that credits bits, and the threshold that they cross
+-- a visit of the pool that credits bits, and the steps for the threshold that they cross, have the form of a credit
 pub does_credit : (h k : Held) (e : PoolEntry) (crossed : Crossing) (j l m n : Site) → Entered pool_lane h j l →
     VisitedIdly pool_lane k (Pool e) l m →
     crossed ≡ crossing (lane_of l pool_lane).pool.bits (pool_step (lane_of l pool_lane).pool e).bits →
@@ -44,13 +44,13 @@ does_credit h k e crossed j l m n a b is d = does_behind (λ set visits. CreditF
           (by_set (λ set visits. Cross (setting_of set) crossed) l m n b.same d.did);
     })
 
--- a visit of the caller's CPU, and the fast pool that it met
+-- a visit of the caller's CPU met the fast pool that the caller knows
 pub does_met : (h : Held) (e : CpuEntry) (m n : Site) → IsIntOfBatch e → VisitedIdly (own_lane m) h (Cpu e) m n →
     DoesIn 1 (CpuMet m.set.cpu h.turn.place e (own_cpu m).fast) m n
 does_met h e m n fits b = does_visited (own_lane m) h (Cpu e) m n b
     (λ x. did_met m.set (at m) (at n) m.set.cpu h.turn.place _ e _ fits x)
 
--- its place is not one of those known before the lane was taken
+-- the next place of the taken CPU is none of those that the caller knew before
 pub taken_behind : (h : Held) (l m : Site) → IsIdle 4 l → IsOnCpu l → Entered (own_lane m) h l m →
     own_places l ≤ h.turn.place
 taken_behind h l m idle cpu a =
@@ -60,7 +60,7 @@ taken_behind h l m idle cpu a =
     ∙ ap (λ (lane : ℕ). length (known_of (view m.pass.now) lane)) a.holds.lane_is
     ∙ ap (λ (s : Setting). length (known_of (view m.pass.now) (s.cpu + 2))) a.walked.same.set in omega arith
 
--- its place is known after the visit
+-- the place of a visit is known after it
 pub visit_below : (h : Held) (e : CpuEntry) (m n : Site) → VisitedIdly (own_lane m) h (Cpu e) m n →
     h.turn.place < own_places n
 visit_below h e m n b =

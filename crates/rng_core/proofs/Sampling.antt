@@ -9,13 +9,13 @@ use Rattle.key_names.specs.declared.entries.CpuEntry.{CpuEntry}
 use Rattle.key_names.specs.declared.entries.CpuEntry.TheVariants.{Irq, Dump}
 use Rattle.key_names.specs.declared.events.Event.TheVariants.{Irq as IrqEvent}
 use Rattle.key_names.specs.declared.events.Answer.TheVariants.{Ok as Done}
-use Rattle.key_names.specs.SeenLine.{no_data}
-use Rattle.key_names.specs.Calls.{Setting as CallSetting}
-use Rattle.key_names.specs.PoolList.{Crossing, ready, early, none}
-use Rattle.key_names.specs.Deeds.{Deed, at_cpu, at_pool}
-use Rattle.key_names.specs.FastPool.{FastPool, makes_due, dump_bytes, dump_bits}
-use Rattle.key_names.specs.Samples.{MakesDue, IsDump}
-use Rattle.key_names.specs.Forms.{Rooted, Cross, CpuOnly, CreditForm}
+use Rattle.key_names.specs.Transcripts.SeenLine.{no_data}
+use Rattle.key_names.specs.Callers.Calls.{Setting as CallSetting}
+use Rattle.key_names.specs.Lanes.PoolList.{Crossing, ready, early, none}
+use Rattle.key_names.specs.Callers.Deeds.{Deed, at_cpu, at_pool}
+use Rattle.key_names.specs.Kernel.FastPool.{FastPool, makes_due, dump_bytes, dump_bits}
+use Rattle.key_names.specs.Lanes.Samples.{MakesDue, IsDump}
+use Rattle.key_names.specs.Callers.Forms.{Rooted, Cross, CpuOnly, CreditForm}
 use Rattle.lane_table.specs.declared.view.Handed.{Handed}
 use Rattle.lane_table.specs.declared.view.LaneEntry.{LaneEntry}
 use Rattle.lane_table.specs.declared.view.LaneEntry.TheVariants.{Cpu}
@@ -29,7 +29,7 @@ use Rattle.lane_table.proofs.Lists.Lists.{at_below}
 use Rattle.rng_core.specs.declared.setting.Setting.{Setting}
 use Rattle.rng_core.specs.Traces.{Moment, Visited}
 use Rattle.rng_core.specs.Makes.{MakesIn, IsOutcomeOf}
-use Rattle.key_names.specs.LineSamples.{EntryIsQuiet, IsMix, IsCrossing}
+use Rattle.key_names.specs.Callers.LineSamples.{EntryIsQuiet, IsMix, IsCrossing}
 use Rattle.rng_core.specs.SampleDeeds.{Sampled, DumpStands, fast_in}
 use Rattle.rng_core.proofs.Makings.{After}
 use Rattle.rng_core.proofs.Finding.{found_cpu}
@@ -73,7 +73,7 @@ visited_below set m n lane place s e got x =
     let low = at_below (known_of n.view (index_of x.mark.lane)) x.mark.place x.met.visit x.met.there in
     let on = ap (λ (l : ℕ). length (known_of n.view l)) x.lane_is in let at = x.place_is in omega arith
 
--- a dump, and the bytes that it mixes
+-- a dump and its mix satisfy DumpStands
 pub dump_stands : (set : CallSetting) (place from : ℕ) (fast : FastPool) (text : List ℕ) (bits : ℕ)
     (visits : ℕ → List Visit)
     (deeds : List Deed) → from ≤ place → text ≡ dump_bytes fast → bits ≡ dump_bits fast →
@@ -93,7 +93,7 @@ dump_stands set place from fast text bits visits deeds late bytes_are bits_are h
       crosses = credit.crosses;
     }
 
--- an interrupt that made no dump due
+-- the samples of an interrupt that made no dump due are correct
 pub sample_quiet : (set : CallSetting) (v1 v2 place : ℕ) (fast : FastPool) (visits : ℕ → List Visit)
     (deeds : List Deed) →
     makes_due fast set.now ≡ false → CpuMet set.cpu place (Irq v1 v2 set.now) fast visits deeds →
@@ -118,7 +118,7 @@ sample_quiet set v1 v2 place fast visits deeds quiet h = let only = h.only in re
   ));
 }
 
--- an interrupt that made a dump due, with the dump
+-- the samples of an interrupt that made a dump due are correct, if the dump follows
 pub sample_dumped : (set : CallSetting) (v1 v2 place from : ℕ) (fast : FastPool) (visits : ℕ → List Visit)
     (deeds : List Deed) → IsTrue (makes_due fast set.now) → place < from →
     After (CpuMet set.cpu place (Irq v1 v2 set.now) fast visits) (DumpStands set from visits) deeds →

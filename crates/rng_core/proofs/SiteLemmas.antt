@@ -4,9 +4,9 @@ use Rattle.key_names.specs.declared.entries.PoolEntry.{PoolEntry}
 use Rattle.key_names.specs.declared.entries.BaseEntry.{BaseEntry}
 use Rattle.key_names.specs.declared.entries.CpuEntry.{CpuEntry}
 use Rattle.key_names.specs.declared.names.Step.{Step}
-use Rattle.key_names.specs.Deeds.{Deed, looked as look}
-use Rattle.key_names.specs.Forms.{PoolOnly, BaseOnly, CpuOnly}
-use Rattle.key_names.specs.Forms as forms
+use Rattle.key_names.specs.Callers.Deeds.{Deed, looked as look}
+use Rattle.key_names.specs.Callers.Forms.{PoolOnly, BaseOnly, CpuOnly}
+use Rattle.key_names.specs.Callers.Forms as forms
 use Rattle.lane_table.specs.declared.lanes.Held.{Held}
 use Rattle.lane_table.specs.declared.view.Visit.{Visit}
 use Rattle.lane_table.specs.declared.view.LaneEntry.{LaneEntry}
@@ -46,7 +46,7 @@ walked_then l m n xs ys a b = record {
       (subst (λ (s : Setting). TraceRecords s (at m) (at n) ys) a.same.set b.told);
 }
 
--- a weaker property
+-- a call with a property has each weaker property too
 pub does_in_map : {P Q : (ℕ → List Visit) → List Deed → Type 0} (steps : ℕ) (m n : Site) →
     ((visits : ℕ → List Visit) (deeds : List Deed) → P visits deeds → Q visits deeds) → DoesIn steps P m n →
     DoesIn steps Q m n
@@ -61,7 +61,7 @@ pub does_map : {P Q : List Deed → Type 0} (steps : ℕ) (m n : Site) → ((dee
     Does steps P m n → Does steps Q m n
 does_map steps m n f k = does_in_map steps m n (λ visits. f) k
 
--- a larger number of steps
+-- a call of at most few steps is one of at most many steps
 pub does_within : {P : (ℕ → List Visit) → List Deed → Type 0} (few many : ℕ) (m n : Site) → few ≤ many →
     DoesIn few P m n →
     DoesIn many P m n
@@ -72,13 +72,13 @@ does_within few many m n less k = record {
   did = k.did;
 }
 
--- the form alone
+-- if a call made deeds of a form that serve bytes, it made deeds of that form
 pub does_formed : {F : List Deed → Type 0} {bytes : List ℕ} (steps : ℕ) (m n : Site) →
     Does steps (Serving F bytes) m n →
     Does steps F m n
 does_formed steps m n k = does_map steps m n (λ deeds h. h.form) k
 
--- after changes that are no steps, for a property of the setting
+-- if no step was made from l to m, a call from m to n is a call from l to n; its property may depend on the setting
 pub does_behind : (P : Setting → (ℕ → List Visit) → List Deed → Type 0) (steps : ℕ) (l m n : Site) → Walked [] l m →
     m.trace.now ≡ l.trace.now → DoesIn steps (P m.set) m n → DoesIn steps (P l.set) l n
 does_behind P steps l m n a e k = record {
@@ -92,7 +92,7 @@ pub does_after : {P : (ℕ → List Visit) → List Deed → Type 0} (steps : �
     m.trace.now ≡ l.trace.now → DoesIn steps P m n → DoesIn steps P l n
 does_after {P} steps l m n a e k = does_behind (λ s. P) steps l m n a e k
 
--- successive calls, the second with a property of the setting
+-- two successive calls are one; the second's property may depend on the setting
 pub does_in_then : {P : (ℕ → List Visit) → List Deed → Type 0} (Q : Setting → (ℕ → List Visit) → List Deed → Type 0)
     (first second : ℕ) (l m n : Site) → DoesIn first P l m → DoesIn second (Q m.set) m n →
     DoesIn (first + second) (λ visits. After (P visits) (Q l.set visits)) l n
@@ -107,7 +107,7 @@ pub does_then : {P : List Deed → Type 0} (Q : Setting → List Deed → Type 0
     Does first P l m → Does second (Q m.set) m n → Does (first + second) (After P (Q l.set)) l n
 does_then Q first second l m n a b = does_in_then (λ s visits. Q s) first second l m n a b
 
--- after a look
+-- a look and the call after it are one call
 pub does_looked : (P : Setting → ℕ → List Deed → Type 0) (bytes : List ℕ) (steps g : ℕ) (l m n : Site) →
     Looked g l m → Does steps (Serving (P m.set g) bytes) m n →
     Does (steps + 1) (Serving (forms.Looked (P l.set)) bytes) l n
@@ -119,7 +119,7 @@ does_looked P bytes steps g l m n a k = record {
       (by_set (λ s visits. Serving (P s g) bytes) l m n a.walked.same k.did);
 }
 
--- the same, with the found generation
+-- a look and the call after it are one call, with the generation that the look found
 pub does_found : (P : Setting → List Deed → Type 0) (steps g : ℕ) (l m n : Site) → Looked g l m →
     Does steps (P m.set) m n →
     Does (steps + 1) (Behind g (P l.set)) l n
@@ -130,7 +130,7 @@ does_found P steps g l m n a k = record {
   did = did_behind l.set (at l) (at m) (at n) g a.walked.told (by_set (λ s visits. P s) l m n a.walked.same k.did);
 }
 
--- a look alone
+-- one look is a call of one step
 pub does_look : (g : ℕ) (m n : Site) → LookedIdly g m n → Does 1 (λ (deeds : List Deed). deeds ≡ look g ∷ []) m n
 does_look g m n a = record {
   same = a.looked.walked.same;
@@ -139,7 +139,7 @@ does_look g m n a = record {
   did = did_look m.set (at m) (at n) g a.looked.walked.told;
 }
 
--- no step at all
+-- a call may make no step
 pub does_nothing : {P : List Deed → Type 0} (steps : ℕ) (m : Site) → IsIdle steps m → P [] → Does steps P m m
 does_nothing steps m idle p = record {
   same = record { lanes = refl; set = refl; pass = refl; trace = refl };
@@ -148,7 +148,7 @@ does_nothing steps m idle p = record {
   did = did_nothing m.set (at m) (let a = idle.has.pass.sized in let b = m.lanes.now.few in omega arith) p;
 }
 
--- one visit
+-- one visit is a call of one step
 pub does_visited : {P : (ℕ → List Visit) → List Deed → Type 0} (lane : ℕ) (h : Held) (e : LaneEntry) (m n : Site) →
     VisitedIdly lane h e m n → (Visited m.set (at m) (at n) lane h.turn.place (lane_of m lane) e
     (handed lane e (view m.pass.now)) →
@@ -163,7 +163,7 @@ does_visited lane h e m n k f = record {
 pub visit_at : (a b : ℕ) (h : Held) (e : LaneEntry) (m n : Site) → a ≡ b → VisitedIdly a h e m n → VisitedIdly b h e m n
 visit_at a b h e m n same k = subst (λ (l : ℕ). VisitedIdly l h e m n) same k
 
--- a visit of the pool, the base or a CPU alone
+-- a visit of the pool, the base or a CPU alone is a call of one step
 pub does_pool : (h k : Held) (e : PoolEntry) (l m n : Site) → Entered 0 h l m → VisitedIdly 0 k (Pool e) m n →
     Does 1 (PoolOnly e) l n
 does_pool h k e l m n a b = does_after 1 l m n a.walked a.trace

@@ -5,8 +5,8 @@ use Rattle.key_names.specs.declared.entries.BaseEntry.{BaseEntry}
 use Rattle.key_names.specs.declared.entries.BaseEntry.TheVariants.{Refill}
 use Rattle.key_names.specs.declared.entries.CpuEntry.TheVariants.{Read, Int}
 use Rattle.key_names.specs.declared.entries.Taken.{Taken}
-use Rattle.key_names.specs.Deeds.{Deed}
-use Rattle.key_names.specs.Forms.{BaseOnly, PlainRead, RefilledRead, Rooted, BatchForm, RefilledBatch}
+use Rattle.key_names.specs.Callers.Deeds.{Deed}
+use Rattle.key_names.specs.Callers.Forms.{BaseOnly, PlainRead, RefilledRead, Rooted, BatchForm, RefilledBatch}
 use Rattle.lane_table.specs.declared.lanes.Held.{Held}
 use Rattle.lane_table.specs.declared.view.LaneEntry.{LaneEntry}
 use Rattle.lane_table.specs.declared.view.LaneEntry.TheVariants.{Pool, Base, Cpu}
@@ -24,14 +24,14 @@ use Rattle.rng_core.proofs.IntFulfilling.{did_batch, did_refilled_batch}
 use Rattle.rng_core.proofs.Makings.{did_base, did_rooted, did_plain_read, did_refilled_read}
 use Rattle.rng_core.proofs.SiteLemmas.{same_then, does_visited}
 
--- a visit of the base alone
+-- a visit of the base alone serves its bytes
 pub serves_base : (h : Held) (e : BaseEntry) (bytes : List ℕ) (m n : Site) → VisitedIdly 1 h (Base e) m n →
     bytes ≡ serving (Base e) (lane_of m 1) (handed 1 (Base e) (view m.pass.now)) →
     Does 1 (Serving (BaseOnly e) bytes) m n
 serves_base h e bytes m n k is = does_visited 1 h (Base e) m n k (λ x. did_base m.set (at m) (at n) h.turn.place e bytes
     (record { model = _; got = _; visited = x; serves = is }))
 
--- a root, and a visit of the base that names it
+-- an extraction, and a visit of the base that names its root, serve the bytes of that visit
 pub serves_rooted : (h : Held) (place : ℕ) (s : Model) (entry : ℕ → BaseEntry) (bytes : List ℕ) (l m n : Site) →
     Same l m →
     length m.trace.now ≡ length l.trace.now + 1 →
@@ -48,7 +48,7 @@ serves_rooted h place s entry bytes l m n same one v b is = record {
       (record { model = _; got = _; visited = b.visited; serves = is }));
 }
 
--- the bytes that a CPU serves after it was taken
+-- a CPU that was taken serves the bytes of its visit
 cpu_serves : {Q : List Deed → Type 0} (h : Held) (e : LaneEntry) (bytes : List ℕ) (steps : ℕ) (l m n : Site) →
     Same l m →
     length m.trace.now + 1 ≤ length l.trace.now + steps → VisitedServing (own_lane m) h e bytes m n →
@@ -60,7 +60,7 @@ cpu_serves h e bytes steps l m n same few b f = record {
   did = f (subst (λ (s : Setting). Served s (at m) (at n) (s.cpu + 2) h.turn.place e bytes) same.set b.served);
 }
 
--- a read from a CPU, after a look
+-- a read from a CPU after a look has the form PlainRead
 pub serves_plain_read : (h : Held) (g : ℕ) (taken : Taken) (bytes : List ℕ) (l m n : Site) → EnteredCpu h g l m →
     VisitedServing (own_lane m) h (Cpu (Read g None taken)) bytes m n →
     Does 3 (Serving (PlainRead (setting_of l.set) taken) bytes) l n
@@ -68,7 +68,7 @@ serves_plain_read h g taken bytes l m n a b = cpu_serves h _ bytes 3 l m n a.wal
     b
     (λ x. did_plain_read l.set (at l) (at m) (at n) g h.turn.place taken bytes a.walked.told x)
 
--- a read from a CPU, after a look and a refill
+-- a read from a CPU after a look and a refill has the form RefilledRead
 pub serves_refilled_read : (h : Held) (base : KeyHandoff) (g : ℕ) (taken : Taken) (bytes : List ℕ) (j l m n : Site) →
     EnteredCpu h g j l → Refilled h base l m → VisitedServing (own_lane m) h (Cpu (Read g (Some base.place) taken)) bytes m
     n →
@@ -79,7 +79,7 @@ serves_refilled_read h base g taken bytes j l m n a b d = cpu_serves h _ bytes 3
     a.walked.told (subst (λ (s : Setting). Visited s (at l) (at m) 1 base.place b.visited.0
     (Base (Refill s.cpu h.turn.place)) nothing) a.walked.same.set b.visited.1) x)
 
--- an integer of a CPU, after a look
+-- an integer of a CPU after a look has the form BatchForm
 pub serves_batch : (h : Held) (g width : ℕ) (fills : Bool) (bytes : List ℕ) (l m n : Site) → FitsBatch width →
     EnteredCpu h g l m → VisitedServing (own_lane m) h (Cpu (Int g None width fills)) bytes m n →
     Does 3 (Serving (BatchForm (setting_of l.set) width) bytes) l n
@@ -87,7 +87,7 @@ serves_batch h g width fills bytes l m n fits a b = cpu_serves h _ bytes 3 l m n
     (let q = a.room in omega arith) b
     (λ x. did_batch l.set (at l) (at m) (at n) g h.turn.place width fills bytes fits a.walked.told x)
 
--- an integer of a CPU, after a look and a refill
+-- an integer of a CPU after a look and a refill has the form RefilledBatch
 pub serves_refilled_batch : (h : Held) (base : KeyHandoff) (g width : ℕ) (bytes : List ℕ) (j l m n : Site) →
     FitsBatch width → EnteredCpu h g j l → Refilled h base l m →
     VisitedServing (own_lane m) h (Cpu (Int g (Some base.place) width true)) bytes m n →

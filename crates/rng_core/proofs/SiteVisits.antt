@@ -112,7 +112,7 @@ can_put_naming lane h outer e s has on kind names above parent_is owes makes fit
   };
 }
 
--- the effect of such a visit
+-- the effect of a visit with an entry that names the other lane
 pub record Named (lane : ℕ) (h : Held) (outer : Turn) (e : LaneEntry) (m n : Site) : Type 0 where
   pub has : HasInHands (hand outer (Some h.turn.place) 0 ∷ []) n
   pub early : n.pass.now.stamp ≤ last_stamp
@@ -146,14 +146,14 @@ named lane h outer e m n has on names early v =
       visited = v.visited lane on;
     }
 
--- a visit after changes that are no steps, with an entry that depends on the setting
+-- if no step was made from l to m, a visit from m to n is a visit from l to n; its entry may depend on the setting
 pub visited_behind : (F : Setting → LaneEntry) (lane place : ℕ) (s : Model) (got : Handed) (l m n : Site) →
     Walked [] l m →
     Visited m.set (at m) (at n) lane place s (F m.set) got → Visited l.set (at l) (at n) lane place s (F l.set) got
 visited_behind F lane place s got l m n a v = visited_after _ _ _ _ _ _ _ _ _ a.told
     (subst (λ (x : Setting). Visited x (at m) (at n) lane place s (F x) got) a.same.set v)
 
--- the lane held before the taken one is as it was, and so is its value
+-- if a lane is taken while another is held, the other keeps its hold and its value
 pub kept_under : (lane outer : ℕ) (h o : Held) (owes : Option ℕ) (raised : ℕ) (l m : Site) →
     HoldsWith owes raised outer o l → outer ≢ lane → Took lane h l m → lane_of m outer ≡ lane_of l outer
 kept_under lane outer h o owes raised l m holds other k = let in_hand = holds.has.held.0 in

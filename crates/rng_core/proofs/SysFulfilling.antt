@@ -7,12 +7,12 @@ use Rattle.key_names.specs.declared.entries.BaseEntry.{BaseEntry}
 use Rattle.key_names.specs.declared.entries.BaseEntry.TheVariants.{Wait, Resume, Interrupt}
 use Rattle.key_names.specs.declared.events.Event.TheVariants.{Read}
 use Rattle.key_names.specs.declared.events.Answer.TheVariants.{Ok as Done, Again, Invalid, Interrupted}
-use Rattle.key_names.specs.SeenLine.{bytes_or_none}
-use Rattle.key_names.specs.Flags.{is_bad, is_nonblock, is_insecure}
-use Rattle.key_names.specs.Calls.{Setting}
-use Rattle.key_names.specs.Deeds.{Deed, looked, at_pool, at_base, at_cpu, nothing_there}
-use Rattle.key_names.specs.Forms.{Looked, LookedForm, SysForm, ReadForm, CpuReadForm, DrawForm, BaseOnly, WaitedInVain, Waited, PlainRead, RefilledRead}
-use Rattle.key_names.specs.Answers.{system_answer, was_interrupted, is_interrupt, served_bytes}
+use Rattle.key_names.specs.Transcripts.SeenLine.{bytes_or_none}
+use Rattle.key_names.specs.Kernel.Flags.{is_bad, is_nonblock, is_insecure}
+use Rattle.key_names.specs.Callers.Calls.{Setting}
+use Rattle.key_names.specs.Callers.Deeds.{Deed, looked, at_pool, at_base, at_cpu, nothing_there}
+use Rattle.key_names.specs.Callers.Forms.{Looked, LookedForm, SysForm, ReadForm, CpuReadForm, DrawForm, BaseOnly, WaitedInVain, Waited, PlainRead, RefilledRead}
+use Rattle.key_names.specs.Callers.Answers.{system_answer, was_interrupted, is_interrupt, served_bytes}
 use Rattle.rng_core.specs.Makes.{IsOutcomeOf, Serving}
 
 all_true : (x y z : Bool) → (x && not z) ≡ true → y ≡ true → (x && (y && not z)) ≡ true

@@ -31,7 +31,7 @@ length_map : (xs : List MadeStep) → length (map step_of xs) ≡ length xs
 length_map [] = refl
 length_map (x ∷ xs) = let e = length_map xs in omega arith
 
--- successive calls
+-- the trace of two successive calls lists the steps of both
 pub trace_then : (l m n : Moment) (xs ys : List MadeStep) → m.steps ≡ l.steps ++ map step_of xs →
     n.steps ≡ m.steps ++ map step_of ys → n.steps ≡ l.steps ++ map step_of (xs ++ ys)
 trace_then l m n xs ys a b = b ∙ ap (λ (s : List Step). s ++ map step_of ys) a
@@ -54,7 +54,7 @@ told_then set l m n xs ys a b = record {
   fits = fits_then xs ys a.fits b.fits;
 }
 
--- no step
+-- if nothing happened, the trace records no step
 pub told_idly : (set : Setting) (m n : Moment) → n.steps ≡ m.steps →
     Advances set.caller set.event (length m.steps) m.view n.view [] → TraceRecords set m n []
 told_idly set m n same went = record { trace = same ∙ sym (append-nil m.steps); went = went; fits = tt }
@@ -64,7 +64,7 @@ lane_fits PoolLane low = tt
 lane_fits BaseLane low = tt
 lane_fits (CpuLane c) low = omega arith
 
--- the mark of a visit of a lane held with these numbers
+-- the mark of a visit fits, if the lane was held with these numbers
 pub mark_fits : (mark : Mark) (lane place stamp own : ℕ) → index_of mark.lane ≡ lane → lane < 258 →
     mark.place ≡ place → place ≤ stamp → stamp < 2 ^ 62 → own ≤ 2 ^ 62 → mark.stamp ≡ max own stamp + 1 → MarkFits mark
 mark_fits mark lane place stamp own on near there low early late is = record {
@@ -73,7 +73,7 @@ mark_fits mark lane place stamp own on near there low early late is = record {
   stamp = omega arith;
 }
 
--- a visit that was put
+-- a lane that was given back with a visit got exactly that visit
 pub visited_by_put : (set : Setting) (m m' : Seated) (told told' : List Step) (mark : Mark) (who : Who) (e : LaneEntry)
     (lane : ℕ) → index_of mark.lane ≡ lane → mark.place ≡ length (known_of m.0 lane) → lane < length m.0.lanes →
     1 < length m.0.lanes → who ≡ maker set.caller set.event (length told)
@@ -109,7 +109,7 @@ visited_by_put set m m' told told' mark who e lane on there near two by trace fi
   };
 }
 
--- a visit after changes that are no steps
+-- if no step was made from l to m, a visit from m to n is a visit from l to n
 pub visited_after : (set : Setting) (l m n : Moment) (lane place : ℕ) (s : Model) (e : LaneEntry) (got : Handed) →
     TraceRecords set l m [] → Visited set m n lane place s e got → Visited set l n lane place s e got
 visited_after set l m n lane place s e got a b =
@@ -125,7 +125,7 @@ pub visited_is : (set : Setting) (m n : Moment) (lane place : ℕ) (s : Model) (
     e ≡ e' → Visited set m n lane place s e got → Visited set m n lane place s e' got
 visited_is set m n lane place s e e' got is k = subst (λ (z : LaneEntry). Visited set m n lane place s z got) is k
 
--- a visit of the held lane
+-- if the held lane was given back with a visit, one visit of it was made
 pub visited_at : (set : Setting) (m m' : Seated) (told told' : List Step) (mark : Mark) (who : Who) (e : LaneEntry)
     (held lane : ℕ) → held ≡ lane → index_of mark.lane ≡ held → mark.place ≡ length (known_of m.0 held) →
     held < length m.0.lanes → 1 < length m.0.lanes
@@ -138,12 +138,12 @@ visited_at set m m' told told' mark who e held lane same on there near two by tr
     mark.place (replay (known_of m.0 l)) e (handed l e m.0)) same
     (visited_by_put set m m' told told' mark who e held on there near two by trace fits k)
 
--- the same, by an equal place
+-- a visit at a place is one at any equal place
 pub visited_place : (set : Setting) (m n : Moment) (lane p q : ℕ) (s : Model) (e : LaneEntry) (got : Handed) → p ≡ q →
     Visited set m n lane p s e got → Visited set m n lane q s e got
 visited_place set m n lane p q s e got is k = subst (λ (z : ℕ). Visited set m n lane z s e got) is k
 
--- the visit of a moment is also that of a later one, if the known list did not change and no step was made
+-- if no step was made from m to n, and the known list did not change, a visit from l to m is a visit from l to n
 pub visited_stays : (set : Setting) (l m n : Moment) (lane place : ℕ) (s : Model) (e : LaneEntry) (got : Handed) →
     Visited set l m lane place s e got → TraceRecords set m n [] → known_of n.view lane ≡ known_of m.view lane →
     Visited set l n lane place s e got

@@ -2,10 +2,10 @@
 use Rattle.std.specs.Prelude.{◌≡◌, ℕ, ◌&&◌, Bool, true, false, MatchBool, List, if◌then◌else◌}
 use Rattle.key_names.specs.declared.point.Point.{Point}
 use Rattle.key_names.specs.declared.point.Point.TheVariants.{Start}
-use Rattle.key_names.specs.Flags.{is_bad}
-use Rattle.key_names.specs.Vgetrandom.{SystemAnswer, HostStep, Outcome, IsCall}
-use Rattle.key_names.specs.VgetrandomState.{VgetrandomState}
-use Rattle.key_names.specs.Points.{is_same_point}
+use Rattle.key_names.specs.Kernel.Flags.{is_bad}
+use Rattle.key_names.specs.Kernel.Vgetrandom.{SystemAnswer, HostStep, Outcome, IsCall}
+use Rattle.key_names.specs.Kernel.VgetrandomState.{VgetrandomState}
+use Rattle.key_names.specs.Kernel.Points.{is_same_point}
 use Rattle.lane_table.specs.WorldRule.{Consistent}
 use Rattle.vdso_state.specs.Host.{Doings, DoesAll, doings}
 use Rattle.rng_core.specs.declared.vdso.attempt.Attempt.{Attempt}

@@ -6,11 +6,11 @@ use Rattle.key_names.specs.declared.events.InsideAct.{InsideAct}
 use Rattle.key_names.specs.declared.events.InsideAct.TheVariants.{Wipe, Vread, Reseed}
 use Rattle.key_names.specs.declared.names.Step.{Step}
 use Rattle.key_names.specs.declared.point.Point.{Point}
-use Rattle.key_names.specs.Deeds.{Deed}
-use Rattle.key_names.specs.Meaning.{LineMeaning, ActMeans}
-use Rattle.key_names.specs.SeenLine.{bytes_or_none}
-use Rattle.key_names.specs.Points.{is_same_point}
-use Rattle.key_names.specs.VreadSteps.{is_wipe}
+use Rattle.key_names.specs.Callers.Deeds.{Deed}
+use Rattle.key_names.specs.Callers.Meaning.{LineMeaning, ActMeans}
+use Rattle.key_names.specs.Transcripts.SeenLine.{bytes_or_none}
+use Rattle.key_names.specs.Kernel.Points.{is_same_point}
+use Rattle.key_names.specs.Callers.VreadSteps.{is_wipe}
 use Rattle.lane_table.specs.declared.view.View.{View}
 use Rattle.rng_core.specs.declared.vdso.acts.Bound.{Bound}
 use Rattle.rng_core.specs.declared.setting.Setting.{Setting}
@@ -93,7 +93,7 @@ abbrev pub ActAt : Setting → Point → Ask → View → View → ActOutcome �
 ActAt set point ask v w x y = MatchBool (is_same_point point ask.point && not x.done) (ActRan set ask v w y)
     ((y ≡ x) × (w ≡ v))
 
--- the same for all acts of a list, in order
+-- each act of a list in order: it runs if it is bound to the point and has not run yet
 abbrev pub ActsAt : Setting → Point → List Ask → View → View → List ActOutcome → List ActOutcome → Type 0
 ActsAt set point [] v w [] [] = w ≡ v
 ActsAt set point [] v w [] (y ∷ ys) = ⊥

@@ -4,7 +4,7 @@ use Rattle.key_names.specs.declared.errno.Errno.{Errno}
 use Rattle.key_names.specs.declared.errno.Errno.TheVariants.{NoData, Again, Invalid, Interrupted}
 use Rattle.key_names.specs.declared.names.Step.{Step}
 use Rattle.key_names.specs.declared.names.Step.TheVariants.{Look}
-use Rattle.key_names.specs.Flags.{is_bad, is_nonblock, is_insecure}
+use Rattle.key_names.specs.Kernel.Flags.{is_bad, is_nonblock, is_insecure}
 use Rattle.rng_core.specs.Sites.{seen_by}
 use Rattle.rng_core.specs.declared.site.Site.{Site}
 
@@ -20,7 +20,7 @@ pub record NeedsReady (nonblock : Bool) (flags : ℕ) : Type 0 where
   pub secure : is_insecure flags ≡ false
   pub waits : is_nonblock flags ≡ nonblock
 
--- each result of a read implies this of its flags and of the core
+-- the fact about the flags and the core that a read's result implies
 abbrev pub ReadCause : {T : Type 0} → Result T Errno → ℕ → Site → Site → Type 0
 ReadCause (Ok x) flags m n = is_bad flags ≡ false
 ReadCause (Err Invalid) flags m n = (is_bad flags ≡ true) × (n.trace.now ≡ m.trace.now)
@@ -35,7 +35,7 @@ pub record FoundReady (m n : Site) : Type 0 where
   pub steps : n.trace.now ≡ m.trace.now ++ Look look ∷ rest
   pub ready : 1 ≤ look
 
--- each result of a reseed implies this of the core
+-- the fact about the core that a reseed's result implies
 abbrev pub ReseedCause : {T : Type 0} → Result T Errno → Site → Site → Type 0
 ReseedCause (Ok x) m n = FoundReady m n
 ReseedCause (Err e) m n = (e ≡ NoData) × FoundUnready [] m n

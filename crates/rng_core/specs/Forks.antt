@@ -4,7 +4,7 @@ use Rattle.key_names.specs.declared.names.Mark.{Mark}
 use Rattle.key_names.specs.declared.names.Step.{Step}
 use Rattle.key_names.specs.declared.names.Step.TheVariants.{Visit}
 use Rattle.key_names.specs.declared.entries.BaseEntry.TheVariants.{Fork}
-use Rattle.key_names.specs.Forms.{BaseOnly}
+use Rattle.key_names.specs.Callers.Forms.{BaseOnly}
 use Rattle.lane_table.specs.declared.view.View.{View}
 use Rattle.lane_table.specs.declared.lanes.Pass.{Pass}
 use Rattle.lane_table.specs.Steps.{halved}
@@ -32,7 +32,7 @@ pub record TellsOf (child : ℕ) (m n : Site) : Type 0 where
   pub mark : Mark
   pub visit : n.trace.now ≡ m.trace.now ++ Visit mark ∷ []
 
--- the caller forked another one, in one visit, and this is its pass
+-- the caller forked a child in one visit, and `child` is the child's pass
 pub record SplitsOff (number : ℕ) (child : Pass) (m n : Site) : Type 0 where
   pub same : Same m n
   pub has : HasInHands [] n

@@ -4,12 +4,12 @@ use Rattle.std.proofs.Props.{props}
 use Rattle.std.specs.Coded.{Coded-set}
 use Rattle.atomic_table.specs.Seated.{TableId, table_id_coded}
 use Rattle.key_names.specs.declared.names.Step.{Step}
-use Rattle.key_names.specs.Calls.{Setting as CallSetting}
-use Rattle.key_names.specs.Deeds.{Deed}
-use Rattle.key_names.specs.Forms.{SysForm}
-use Rattle.key_names.specs.Flags.{is_bad}
-use Rattle.key_names.specs.Vgetrandom.{SystemAnswer, read, failed}
-use Rattle.key_names.specs.VreadSteps.{published_by, answer_behind}
+use Rattle.key_names.specs.Callers.Calls.{Setting as CallSetting}
+use Rattle.key_names.specs.Callers.Deeds.{Deed}
+use Rattle.key_names.specs.Callers.Forms.{SysForm}
+use Rattle.key_names.specs.Kernel.Flags.{is_bad}
+use Rattle.key_names.specs.Kernel.Vgetrandom.{SystemAnswer, read, failed}
+use Rattle.key_names.specs.Callers.VreadSteps.{published_by, answer_behind}
 use Rattle.lane_table.specs.declared.view.Stage.{Stage}
 use Rattle.lane_table.specs.declared.view.Stage.TheVariants.{Away, Queued, Holding}
 use Rattle.lane_table.specs.declared.lanes.Lanes.{Lanes}

@@ -2,8 +2,8 @@
 use Rattle.std.specs.Prelude.{◌≡◌, ℕ, ◌<◌, List, [], length}
 use Rattle.std.specs.List.{AllByRecursion}
 use Rattle.key_names.specs.declared.events.Answer.{Answer}
-use Rattle.key_names.specs.SeenLine.{Shown}
-use Rattle.key_names.specs.VgetrandomState.{VgetrandomState}
+use Rattle.key_names.specs.Transcripts.SeenLine.{Shown}
+use Rattle.key_names.specs.Kernel.VgetrandomState.{VgetrandomState}
 use Rattle.vdso_state.specs.Host.{Doings, doings}
 use Rattle.rng_core.specs.declared.site.Site.{Site}
 use Rattle.rng_core.specs.declared.vdso.acts.Bound.{Bound}
@@ -70,7 +70,7 @@ module _ {R : Type 0} where
         (λ last. act_stand (stand h.site.set next.site.pass.now next.site.trace.now) last (asks_of next.acts.now)
         (outcomes_of next.acts.now next.out.now))
 
-  -- the same, with acts or without
+  -- a call for n bytes on the state s, which became t, with acts inside or without
   pub record HostCalled (n flags : ℕ) (s t : VgetrandomState) (answer : Answer) (shown : Shown) (h next : LaneHost R)
       : Type 0 where
     pub loans : SameLoans h next

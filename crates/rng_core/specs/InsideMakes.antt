@@ -5,14 +5,14 @@ use Rattle.key_names.specs.declared.entries.VEntry.{VEntry}
 use Rattle.key_names.specs.declared.events.Answer.{Answer}
 use Rattle.key_names.specs.declared.events.Answer.TheVariants.{Unused}
 use Rattle.key_names.specs.declared.events.Word.TheVariants.{Inside}
-use Rattle.key_names.specs.Book.{Lists}
-use Rattle.key_names.specs.Calls.{BoundAct}
-use Rattle.key_names.specs.Deeds.{Deed, deeds_of}
-use Rattle.key_names.specs.Meaning.{CallerState, CallMeaning, LineMeaning, VreadMeans, current_state, with_state}
-use Rattle.key_names.specs.Meaning.{unused_line}
-use Rattle.key_names.specs.SeenLine.{Shown, SeenLine, bytes_or_none, no_data}
+use Rattle.key_names.specs.Lanes.Book.{Lists}
+use Rattle.key_names.specs.Callers.Calls.{BoundAct}
+use Rattle.key_names.specs.Callers.Deeds.{Deed, deeds_of}
+use Rattle.key_names.specs.Callers.Meaning.{CallerState, CallMeaning, LineMeaning, VreadMeans, current_state, with_state}
+use Rattle.key_names.specs.Callers.Meaning.{unused_line}
+use Rattle.key_names.specs.Transcripts.SeenLine.{Shown, SeenLine, bytes_or_none, no_data}
 use Rattle.key_names.specs.Texts.TranscriptGrammar.{StepFits}
-use Rattle.key_names.specs.VgetrandomState.{VgetrandomState}
+use Rattle.key_names.specs.Kernel.VgetrandomState.{VgetrandomState}
 use Rattle.lane_table.specs.declared.view.Visit.{Visit}
 use Rattle.lane_table.specs.BookLists.{StateLists, book_lists}
 use Rattle.lane_table.specs.BookLaws.{Continues}
@@ -63,8 +63,8 @@ inside_meaning lists deeds answer shown entries outcomes before t = record {
   after = with_state before t;
 }
 
--- from l to m the caller read n bytes with these flags out of the state s, which became t: the trace has its own
--- steps, and its acts have theirs
+-- from l to m the caller read n bytes with these flags out of the state s, which became t: the trace has the read's own
+-- steps, and the outcomes have the acts' steps
 pub record InsideMakes (n flags : ℕ) (s t : VgetrandomState) (answer : Answer) (shown : Shown) (set : Setting)
     (l m : Moment) (asks : List Ask) (outcomes : List ActOutcome) : Type 0 where
   pub entries : List VEntry

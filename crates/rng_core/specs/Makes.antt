@@ -1,16 +1,16 @@
 -- The effect of a call on the book, for all final lists of visits that continue the lists that the pass knows.
 use Rattle.std.specs.Prelude.{◌≡◌, ℕ, List, [], map, Bool, true, false, Result, Ok, Err}
 use Rattle.key_names.specs.declared.entries.VEntry.{VEntry}
-use Rattle.key_names.specs.Calls.{Setting as CallSetting}
-use Rattle.key_names.specs.Deeds.{Deed, deeds_of}
+use Rattle.key_names.specs.Callers.Calls.{Setting as CallSetting}
+use Rattle.key_names.specs.Callers.Deeds.{Deed, deeds_of}
 use Rattle.key_names.specs.declared.events.Event.{Event}
 use Rattle.key_names.specs.declared.events.Answer.{Answer}
 use Rattle.key_names.specs.declared.events.Answer.TheVariants.{Ok as Done, Fired, Idle}
 use Rattle.key_names.specs.declared.errno.Errno.{Errno}
-use Rattle.key_names.specs.SeenLine.{Shown}
-use Rattle.key_names.specs.Forms.{Form}
-use Rattle.key_names.specs.Answers.{served_bytes, answer_of, shown_of}
-use Rattle.key_names.specs.VreadSteps.{answer_of_errno}
+use Rattle.key_names.specs.Transcripts.SeenLine.{Shown}
+use Rattle.key_names.specs.Callers.Forms.{Form}
+use Rattle.key_names.specs.Callers.Answers.{served_bytes, answer_of, shown_of}
+use Rattle.key_names.specs.Callers.VreadSteps.{answer_of_errno}
 use Rattle.lane_table.specs.declared.view.Visit.{Visit}
 use Rattle.lane_table.specs.declared.view.Handed.{Handed}
 use Rattle.lane_table.specs.declared.view.LaneEntry.{LaneEntry}
@@ -28,14 +28,14 @@ use Rattle.rng_core.specs.declared.setting.Setting.{Setting}
 abbrev pub setting_of : Setting → CallSetting
 setting_of set = record { cpu = set.cpu; now = set.now; hw = set.hw }
 
--- from m to n the trace lists the steps of the pass, and P holds of the lists and of the deeds of these steps
+-- from m to n the trace lists the steps of the pass, and P holds for the lists and for the deeds of these steps
 pub record MakesIn (P : (ℕ → List Visit) → List Deed → Type 0) (set : Setting) (m n : Moment) : Type 0 where
   pub made_steps : List MadeStep
   pub told : told.TraceRecords set m n made_steps
   pub stands : (lanes : ℕ) (visits : ℕ → List Visit) (callers : List (List (List VEntry))) →
       Continues lanes n.view visits → P visits (deeds_of (book_lists lanes visits callers) (map step_of made_steps))
 
--- the same for the deeds alone
+-- from m to n the trace lists the steps of the pass, and P holds for their deeds
 abbrev pub Makes : (List Deed → Type 0) → Setting → Moment → Moment → Type 0
 Makes P set m n = MakesIn (λ visits. P) set m n
 

@@ -1,8 +1,8 @@
 -- An example of the law of a caller's own states: two reads out of one state.
 use Rattle.std.specs.Prelude.{◌≡◌, ℕ, ◌<◌, List, [], ◌∷◌}
 use Rattle.key_names.specs.declared.events.Answer.{Answer}
-use Rattle.key_names.specs.SeenLine.{Shown}
-use Rattle.key_names.specs.VgetrandomState.{VgetrandomState, wiped_state}
+use Rattle.key_names.specs.Transcripts.SeenLine.{Shown}
+use Rattle.key_names.specs.Kernel.VgetrandomState.{VgetrandomState, wiped_state}
 use Rattle.lane_table.specs.WorldRule.{St, WorldRule}
 use Rattle.lane_table.specs.RuleLaws.{IsView}
 use Rattle.rng_core.specs.declared.setting.Setting.{Setting}
@@ -10,8 +10,8 @@ use Rattle.rng_core.specs.Traces.{Moment}
 use Rattle.rng_core.specs.VreadMakes.{VreadMakes}
 use Rattle.rng_core.specs.OwnStates.{OwnUse, by_vread, OwnBook, own_lists}
 
--- two reads by the clause of vread, the second from the state and the pass that the first left. Whenever the pass
--- knows what it knows after both, the table's lists and the entries of this state make such a book
+-- take two reads by the clause of vread, the second on the state and with the view that the first left. While a pass
+-- has the view after both, OwnBook holds for the table's lists and this state's entries
 abbrev pub TwoReadsHaveABook : Type 0
 TwoReadsHaveABook = (n₁ n₂ flags₁ flags₂ : ℕ) (t₁ t₂ : VgetrandomState) (answer₁ answer₂ : Answer)
     (shown₁ shown₂ : Shown) (set₁ set₂ : Setting) (l₁ m₁ l₂ m₂ : Moment)

@@ -5,13 +5,13 @@ use Rattle.std.specs.List.{sum_by, AllByRecursion}
 use Rattle.key_names.specs.declared.entries.VEntry.{VEntry}
 use Rattle.key_names.specs.declared.entries.VEntry.TheVariants.{Wipe}
 use Rattle.key_names.specs.declared.events.Answer.{Answer}
-use Rattle.key_names.specs.BatchCopy.{copy_entries}
-use Rattle.key_names.specs.Book.{Lists, HalfFinishedBook}
-use Rattle.key_names.specs.LiveMaterial.{IsErased, HoldsNamed, replayed_batch}
-use Rattle.key_names.specs.SeenLine.{Shown}
-use Rattle.key_names.specs.StatesReplayed.{IsReplayed}
-use Rattle.key_names.specs.Uses.{IsDisjoint}
-use Rattle.key_names.specs.VgetrandomState.{VgetrandomState, wiped_state}
+use Rattle.key_names.specs.Kernel.BatchCopy.{copy_entries}
+use Rattle.key_names.specs.Lanes.Book.{Lists, HalfFinishedBook}
+use Rattle.key_names.specs.Keys.LiveMaterial.{IsErased, HoldsNamed, replayed_batch}
+use Rattle.key_names.specs.Transcripts.SeenLine.{Shown}
+use Rattle.key_names.specs.Transcripts.StatesReplayed.{IsReplayed}
+use Rattle.key_names.specs.Keys.Uses.{IsDisjoint}
+use Rattle.key_names.specs.Kernel.VgetrandomState.{VgetrandomState, wiped_state}
 use Rattle.lane_table.specs.declared.view.View.{View}
 use Rattle.lane_table.specs.declared.view.Visit.{Visit}
 use Rattle.lane_table.specs.WorldRule.{St, WorldRule, at, times}
@@ -121,7 +121,7 @@ pub record OwnBook (lists : Lists) (states : List (List OwnUse)) : Type 0 where
   pub replayed : (i : ℕ) (uses : List OwnUse) → slice_get states i ≡ Some uses →
       IsReplayed lists i 0 (entries_left uses) (after_uses wiped_state uses)
 
--- at each moment between two atomic steps, for all states that callers of the core have of their own
+-- at each moment between two atomic steps, OwnBook holds for the states that callers of the core own
 abbrev pub OwnStatesAreLawful : Type 0
 OwnStatesAreLawful = (first : ℕ) (s : St) (r : WorldRule first s) (states : List (List OwnUse)) →
     OwnStates s states → OwnBook (own_lists s r.logs states) states

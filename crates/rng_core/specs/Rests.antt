@@ -1,7 +1,7 @@
 -- The bytes that the rest of a read makes.
 use Rattle.std.specs.Prelude.{◌≡◌, ℕ, ◌-◌, ◌*◌, ◌<◌, ◌≤◌, ◌^◌, ◌++◌, List, length, take}
 use Rattle.key_names.specs.declared.entries.Taken.{Taken}
-use Rattle.key_names.specs.Keystream.{keystream}
+use Rattle.key_names.specs.Kernel.Keystream.{keystream}
 use Rattle.rng_core.specs.Reading.{taken_count}
 use Rattle.rng_core.specs.declared.crng.rest.Rest.{Rest}
 
@@ -11,7 +11,7 @@ pub record Asks (taken : Taken) (bytes : List ℕ) : Type 0 where
   pub some : 0 < length bytes
   pub short : length bytes ≤ 2 ^ 20
 
--- the bytes made so far, and then those of the key's next blocks
+-- the bytes that a rest has made, and then those of the key's next blocks
 abbrev pub finished : Rest → List ℕ → List ℕ
 finished r bytes = take r.made bytes ++ keystream r.key.key (64 * r.key.next_block) (length bytes - r.made)
 

@@ -3,8 +3,8 @@ use Rattle.std.specs.Prelude.{◌≡◌, ℕ, ◌+◌, ◌≤◌, [], length, fa
 use Rattle.key_names.specs.declared.errno.Errno.{Errno}
 use Rattle.key_names.specs.declared.errno.Errno.TheVariants.{Interrupted}
 use Rattle.key_names.specs.declared.entries.BaseEntry.TheVariants.{Resume, Interrupt}
-use Rattle.key_names.specs.Flags.{is_bad}
-use Rattle.key_names.specs.Forms.{BaseOnly}
+use Rattle.key_names.specs.Kernel.Flags.{is_bad}
+use Rattle.key_names.specs.Callers.Forms.{BaseOnly}
 use Rattle.lane_table.specs.Calls.{view}
 use Rattle.rng_core.specs.Traces.{BeginsWithLook}
 use Rattle.rng_core.specs.Makes.{Serving}

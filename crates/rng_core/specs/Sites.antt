@@ -1,12 +1,12 @@
 -- The preconditions and effects of calls at a site.
 use Rattle.std.specs.Prelude.{◌≡◌, ◌≢◌, ◌⊎◌, ℕ, ◌+◌, ◌<◌, ◌≤◌, ◌^◌, List, [], ◌∷◌, length, Option, Some, None, Bool, false}
-use Rattle.key_names.specs.Deeds.{Deed}
+use Rattle.key_names.specs.Callers.Deeds.{Deed}
 use Rattle.key_names.specs.declared.entries.PoolEntry.TheVariants.{Extract}
 use Rattle.key_names.specs.declared.entries.BaseEntry.TheVariants.{Refill}
 use Rattle.key_names.specs.declared.events.Event.{Event}
 use Rattle.key_names.specs.declared.events.Answer.{Answer}
-use Rattle.key_names.specs.Batches.{must_fill}
-use Rattle.key_names.specs.SeenLine.{Shown}
+use Rattle.key_names.specs.Kernel.Batches.{must_fill}
+use Rattle.key_names.specs.Transcripts.SeenLine.{Shown}
 use Rattle.lane_table.specs.declared.lanes.Held.{Held}
 use Rattle.lane_table.specs.declared.view.Visit.{Visit}
 use Rattle.lane_table.specs.declared.view.LaneEntry.{LaneEntry}
@@ -289,14 +289,14 @@ pub record Refilled (cpu : Held) (base : KeyHandoff) (m n : Site) : Type 0 where
 abbrev pub IsOneStep : Site → Site → Type 0
 IsOneStep m n = length n.trace.now ≡ length m.trace.now + 1
 
--- a call was made in at most this many steps, P holds of the lists and its deeds, and no lane is held
+-- a call was made in at most this many steps, P holds for the lists and its deeds, and no lane is held
 pub record DoesIn (steps : ℕ) (P : (ℕ → List Visit) → List Deed → Type 0) (m n : Site) : Type 0 where
   pub same : Same m n
   pub has : HasInHands [] n
   pub room : length n.trace.now ≤ length m.trace.now + steps
   pub did : MakesIn P m.set (at m) (at n)
 
--- the same for the deeds alone
+-- a call was made in at most this many steps, P holds for its deeds, and no lane is held
 abbrev pub Does : ℕ → (List Deed → Type 0) → Site → Site → Type 0
 Does steps P m n = DoesIn steps (λ visits. P) m n
 

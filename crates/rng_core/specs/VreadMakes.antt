@@ -3,14 +3,14 @@ use Rattle.std.specs.Prelude.{◌≡◌, ◌⊎◌, ℕ, ◌+◌, ◌≤◌, tru
 use Rattle.key_names.specs.declared.entries.VEntry.{VEntry}
 use Rattle.key_names.specs.declared.errno.Errno.{Errno}
 use Rattle.key_names.specs.declared.events.Answer.{Answer}
-use Rattle.key_names.specs.BatchCopy.{serves_locally, copy_bytes, state_after_copy}
-use Rattle.key_names.specs.Calls.{Setting as CallSetting}
-use Rattle.key_names.specs.Deeds.{Deed}
-use Rattle.key_names.specs.Meaning.{CallerState, CallMeaning, VreadMeans, current_state, with_state, tries_local}
-use Rattle.key_names.specs.SeenLine.{Shown}
-use Rattle.key_names.specs.Vgetrandom.{HostStep, Outcome, IsCall}
-use Rattle.key_names.specs.VgetrandomState.{VgetrandomState}
-use Rattle.key_names.specs.VreadSteps.{Shows, WipesStand, points_of, ending_answer, ending_shown, published_by}
+use Rattle.key_names.specs.Kernel.BatchCopy.{serves_locally, copy_bytes, state_after_copy}
+use Rattle.key_names.specs.Callers.Calls.{Setting as CallSetting}
+use Rattle.key_names.specs.Callers.Deeds.{Deed}
+use Rattle.key_names.specs.Callers.Meaning.{CallerState, CallMeaning, VreadMeans, current_state, with_state, tries_local}
+use Rattle.key_names.specs.Transcripts.SeenLine.{Shown}
+use Rattle.key_names.specs.Kernel.Vgetrandom.{HostStep, Outcome, IsCall}
+use Rattle.key_names.specs.Kernel.VgetrandomState.{VgetrandomState}
+use Rattle.key_names.specs.Callers.VreadSteps.{Shows, WipesStand, points_of, ending_answer, ending_shown, published_by}
 use Rattle.lane_table.specs.declared.view.View.{View}
 use Rattle.lane_table.specs.Calls.{SameView}
 use Rattle.lane_table.specs.Advances.{looked, floor}
@@ -55,7 +55,7 @@ pub record Refused (n : ℕ) (s : VgetrandomState) (v w : View) : Type 0 where
   pub glanced : OnlyLooked found v w
   pub refuses : serves_locally (published_by found) s n ≡ false
 
--- before the first step of a read that the batch does not serve: one look if it tries the batch, and no look if not
+-- from v to w a read that the batch does not serve looked once if it tried the batch, and else did nothing
 pub record Unserved (n flags : ℕ) (s : VgetrandomState) (v w : View) : Type 0 where
   pub untried : tries_local n flags [] ≡ false → w ≡ v
   pub tried : tries_local n flags [] ≡ true → Refused n s v w

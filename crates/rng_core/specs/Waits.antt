@@ -3,7 +3,7 @@ use Rattle.std.specs.Prelude.{◌≡◌, ℕ, ◌-◌, ◌*◌, [], ◌≤◌, R
 use Rattle.key_names.specs.declared.errno.Errno.{Errno}
 use Rattle.key_names.specs.declared.errno.Errno.TheVariants.{Interrupted}
 use Rattle.key_names.specs.declared.entries.BaseEntry.TheVariants.{Resume, Interrupt}
-use Rattle.key_names.specs.Forms.{BaseOnly}
+use Rattle.key_names.specs.Callers.Forms.{BaseOnly}
 use Rattle.lane_table.specs.declared.view.View.{View}
 use Rattle.lane_table.specs.Advances.{floor}
 use Rattle.rng_core.specs.declared.setting.Setting.{Setting}

@@ -1,7 +1,7 @@
 //! A CPU's batches of integers, one for each width.
 ghost use Rattle.std.specs.Prelude.{◌≡◌, ◌<◌, ◌/◌, ℕ, Bool, None, length};
 ghost use Rattle.key_names.specs.declared.entries.CpuEntry.TheVariants.{Int};
-ghost use Rattle.key_names.specs.Batches.{must_fill};
+ghost use Rattle.key_names.specs.Kernel.Batches.{must_fill};
 ghost use Rattle.lane_table.specs.declared.view.Handed.{Handed};
 ghost use Rattle.lane_table.specs.Meaning.{CpuModel, CpuLaneStands, batch_at, cpu_entered};
 ghost use Rattle.lane_table.specs.VisitsMet.{cpu_serving};

@@ -1,8 +1,8 @@
 //! The effects of calls on a CPU's value, each as its entry defines it.
 ghost use Rattle.std.specs.Prelude.{◌≡◌, ◌≢◌, ℕ, ◌<◌, ◌≤◌, ◌+◌, ◌^◌, Bool, true, None, Some, length};
 ghost use Rattle.key_names.specs.declared.entries.CpuEntry.TheVariants.{Read, Int, Irq, Dump as DumpEntry, Prepare, Online};
-ghost use Rattle.key_names.specs.Batches.{must_fill};
-ghost use Rattle.key_names.specs.FastPool.{makes_due, dump_bits, dump_bytes};
+ghost use Rattle.key_names.specs.Kernel.Batches.{must_fill};
+ghost use Rattle.key_names.specs.Kernel.FastPool.{makes_due, dump_bits, dump_bytes};
 ghost use Rattle.lane_table.specs.declared.view.LaneEntry.TheVariants.{Cpu as OfCpu};
 ghost use Rattle.lane_table.specs.declared.view.Handed.{Handed};
 ghost use Rattle.lane_table.specs.Meaning.{Model, ValueRepresents, made_of};

@@ -1,17 +1,17 @@
 //! The calls of the core: reads, samples, reseeds and the other operations on the lanes.
 //!
-//! A call runs at a [`Site`]: the table of lanes, the caller's pass, the trace of its steps, and the caller's
-//! setting. The folders follow the sections of random.c.
+//! A call runs at a [`Site`]: the table of lanes, the caller's pass, the trace of its steps, and the caller's setting.
+//! The folders follow the sections of random.c.
 //!
-//! For every interleaving of the callers the crate promises the following. A call's trace lists exactly the looks
-//! and visits that it made; the look by which `vread_local`, alone or in `vread`, finds that the batch cannot serve
-//! is the only one left out. These steps are a form of the call's event, with its answer and its bytes, and the call
-//! ends with no lane held. A read holds no lane while it makes the bytes after the first 32; a fill of a batch of
-//! integers makes its 96 bytes while the CPU is held. A call may wait: for a lane, and a blocking read for
-//! readiness. Not promised: that a wait ends.
+//! For every interleaving of the callers the crate promises the following. A call's trace lists exactly the looks and
+//! visits that it made; the look by which `vread_local`, alone or in `vread`, finds that the batch cannot serve is the
+//! only one left out. These steps are a form of the call's event, with its answer and its bytes, and the call ends with
+//! no lane held. A read holds no lane while it makes the bytes after the first 32; a fill of a batch of integers makes
+//! its 96 bytes while the CPU is held. A call may wait: for a lane, and a blocking read for readiness. Not promised:
+//! that a wait ends.
 //!
-//! `lane_table` defines the knowledge of a pass, the parts how an entry changes a value, and `vdso_state` a read out
-//! of a caller's own state.
+//! The knowledge of a pass is defined in `lane_table`, the change that an entry makes to a value in the parts, and a
+//! read out of a caller's own state in `vdso_state`.
 #![tactic(auto)]
 
 mod batches;

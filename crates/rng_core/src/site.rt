@@ -23,7 +23,7 @@ pub struct Site<'a> {
 
 impl Site<'_> {
     ghost use Rattle.lane_table.specs.declared.view.LaneEntry.TheVariants.{Pool as OfPool, Base as OfBase, Cpu as OfCpu};
-    ghost use Rattle.key_names.specs.PoolNotes.{entry_of};
+    ghost use Rattle.key_names.specs.Lanes.PoolNotes.{entry_of};
     ghost use Rattle.lane_table.specs.Advances.{maker};
     ghost use Rattle.rng_core.specs.Sites.{IsIdle, IsOnCpu, HasRoom, Holds, Took, Entered, EnteredCpu, CanVisit, IsMade, VisitedIdly, Visits, Looked, LookedIdly, GaveBack, pool_lane, base_lane, own_lane, last_stamp};
 

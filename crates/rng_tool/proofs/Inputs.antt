@@ -13,7 +13,7 @@ use Rattle.rng_tool.specs.declared.judge.Judge.{Judge}
 -- ---- runs
 
 -- a text that is too long has its first fault at line 0
-too_long : (text : List ℕ) → 16777216 < length text → first_fault text ≡ Some (record { line = 0; kind = TooLong })
+pub too_long : (text : List ℕ) → 16777216 < length text → first_fault text ≡ Some (record { line = 0; kind = TooLong })
 unfolding script_of
 too_long text long = let is : ltb 16777216 (length text) ≡ true = lt-ltb _ _ long in rw is refl
 

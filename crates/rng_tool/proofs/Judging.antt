@@ -1,9 +1,9 @@
--- The answers about a script and the transcript after it are those for their text.
+-- An answer about a script and the transcript after it is one for their text.
 use Rattle.std.proofs.Common.{◌≡◌, ℕ, List, Option, sym, subst, refl, ◌∙◌, inl, inr}
 use Rattle.std.specs.Prelude.{IfSome}
-use Rattle.key_names.specs.IsTranscript.{HasLines, clause_number, lines_clause}
+use Rattle.key_names.specs.Transcripts.IsTranscript.{HasLines, clause_number, lines_clause}
 use Rattle.key_names.specs.Texts.ScriptGrammar.{Script}
-use Rattle.key_names.specs.SeenLine.{SeenLine}
+use Rattle.key_names.specs.Transcripts.SeenLine.{SeenLine}
 use Rattle.key_names.specs.Texts.TranscriptGrammar.{TranscriptFits, transcript_text}
 use Rattle.serial_replay.specs.Replayed.{IsTheTranscript}
 use Rattle.tool_ends.specs.Behind.{IsApart, IsWhole, compared_with}
@@ -22,7 +22,7 @@ use Rattle.rng_tool.specs.declared.judge.Judge.TheVariants.{Check, Replay}
 use Rattle.tool_ends.proofs.Inputs.{wider}
 use Rattle.rng_tool.proofs.Runs.{under_own_number}
 
--- the written text is that of the transcript that was made
+-- the text that is written is that of the transcript that was made
 pub gives_back : (script : Script) (t made : List (List SeenLine)) → TranscriptFits made →
     IsTheTranscript script t made → GivesBack script t (transcript_text made)
 gives_back script t made fits is = record {
@@ -53,7 +53,7 @@ pair_said judge input script t pair ReadFault o said = absurd said
 pair_said judge input script t pair WriteFault o said = absurd said
 pair_said judge input script t pair NoMemory o said = absurd said
 
--- a transcript without the script's lines fails the second clause
+-- a transcript without the script's lines fails clause 2
 lacks_lines : (judge : Judge) (script : Script) (t : List (List SeenLine)) → (HasLines script t → ⊥) →
     Fails judge script t lines_clause
 lacks_lines Check script t fails = fails
@@ -72,7 +72,7 @@ clause_said judge input number fails = elim fails.clause [
   )
 ]
 
--- so the refusal of such a text is a right answer
+-- the refusal of a text that fails clause 1 or 2 is a right answer
 text_said : (judge : Judge) (input : List ℕ) (number : ℕ) → FailsAsText input number → (s : Status) (o : List ℕ) →
     (s ≡ No) × (o ≡ no_line number) → JudgeCalls judge input s o
 text_said judge input number is s o said = subst (λ status. JudgeCalls judge input status o) (sym said.0) (record {
@@ -84,7 +84,7 @@ text_said judge input number is s o said = subst (λ status. JudgeCalls judge in
   line = said.1;
 })
 
--- the refusal of an input that is not read is an answer for its text
+-- the refusal of an input that is not read is a right answer for its text
 pub none_said : (judge : Judge) (input : List ℕ) (why : NotRead) → IsNoPair input why → (s : Status) (o : List ℕ) →
     RefusalOf why s o → JudgeCalls judge input s o
 none_said judge input SourceFails is s o said = absurd is
@@ -94,7 +94,7 @@ none_said judge input NoTranscript is s o said = text_said judge input 1 is s o 
 none_said judge input TooManyLines is s o said = text_said judge input 2 is.0 s o said
 none_said judge input Unread is s o said = absurd said
 
--- a text that is all of a run's output is that of a lawful transcript
+-- if the text after a script is all of a run's output, `yes` is the right answer
 pub run_said : (judge : Judge) (input : List ℕ) (script : Script) (text : Behind) → IsApart input script text →
     IfSome (compared_with text) (λ t. (judge ≡ Check) × RunOf script (transcript_text t)) → IsWhole text →
     JudgeCalls judge input Done yes_line
@@ -108,7 +108,7 @@ run_said judge input script (Compared comparison) apart made whole =
     })
 run_said judge input script (Fed reader) apart made whole = absurd whole
 
--- the refusal of a text that is not read is one of the input
+-- if the text after a script is not read, its refusal is one of the input
 pub refusal_said : (judge : Judge) (input : List ℕ) (why : NotRead) → IsNoPair input why → (status : Status)
     (held held_after : Option (List ℕ)) → RefusalEnds why status held held_after →
     WritesEnds (JudgeCalls judge input) status held held_after

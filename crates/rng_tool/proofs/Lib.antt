@@ -8,3 +8,11 @@ pub mod Unread
 pub mod VforkWords
 pub mod WrittenLines
 pub mod Running
+pub mod LiveTexts
+pub mod LiveLines
+pub mod LiveRoom
+pub mod LiveRuns
+pub mod LiveGoes
+pub mod LiveEvents
+pub mod LiveSessions
+pub mod LiveAnswers

@@ -1,7 +1,7 @@
--- A transcript has one verdict, and the line of a load has it.
+-- A transcript has at most one verdict, and the line of a load states it.
 use Rattle.std.proofs.Common.{ℕ, ◌≡◌, List, length, ap, subst, ◌∙◌}
 use Rattle.std.specs.List.{sum_by}
-use Rattle.key_names.specs.SeenLine.{SeenLine, bytes_shown}
+use Rattle.key_names.specs.Transcripts.SeenLine.{SeenLine, bytes_shown}
 use Rattle.key_names.specs.Texts.ScriptGrammar.{Script}
 use Rattle.key_names.specs.Texts.TranscriptGrammar.{all_lines}
 use Rattle.event_script.specs.LoadScript.{load_script}

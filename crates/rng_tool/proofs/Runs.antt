@@ -2,9 +2,9 @@
 use Rattle.std.proofs.Common.{◌≡◌, ℕ, suc, refl, List, [], ◌∷◌, length, arith}
 use Rattle.std.specs.List.{AllByRecursion}
 use Rattle.key_names.specs.declared.events.Event.{Event}
-use Rattle.key_names.specs.IsTranscript.{LinesFit}
+use Rattle.key_names.specs.Transcripts.IsTranscript.{LinesFit}
 use Rattle.key_names.specs.Texts.ScriptGrammar.{Script, WellFormed}
-use Rattle.key_names.specs.SeenLine.{SeenLine}
+use Rattle.key_names.specs.Transcripts.SeenLine.{SeenLine}
 use Rattle.key_names.specs.Texts.TranscriptGrammar.{UnderOwnNumber}
 use Rattle.key_names.proofs.Samples.Lines.{AllFit}
 use Rattle.lane_table.specs.declared.view.View.{View}

@@ -1,4 +1,4 @@
--- How many bytes lines show, by their data.
+-- How many bytes lines show, counted by their data.
 use Rattle.std.proofs.Common.{◌≡◌, ℕ, List, [], ◌∷◌, length, drop, refl, ap, sym, ◌∙◌, All, arith}
 use Rattle.std.specs.List.{sum_by, AllByRecursion}
 use Rattle.std.proofs.lemmas.List.{length-append, length-drop, length-take}
@@ -10,7 +10,7 @@ use Rattle.key_names.specs.declared.lines.Data.{Data}
 use Rattle.key_names.specs.declared.lines.Data.TheVariants.{None as NoData, Bytes, Count}
 use Rattle.key_names.specs.declared.lines.Line.{Line}
 use Rattle.key_names.specs.declared.names.Step.{Step}
-use Rattle.key_names.specs.SeenLine.{SeenLine, bytes_in, bytes_shown, shown_in, seen_lines}
+use Rattle.key_names.specs.Transcripts.SeenLine.{SeenLine, bytes_in, bytes_shown, shown_in, seen_lines}
 use Rattle.key_names.specs.Texts.TranscriptGrammar.{all_lines}
 use Rattle.transcript_text.specs.Gathered.{IsWithin, LineWithin}
 use Rattle.rng_tool.specs.LoadOutcome.{data_len}
@@ -34,7 +34,7 @@ length-shown_lines kept steps (line ∷ lines) within = omega (
   length-shown_lines kept steps lines within.1,
 )
 
--- the lines of a caller that has these bytes and steps
+-- the lengths of a caller's data add up to the number of bytes that its lines show
 pub sum_of_data : (kept : List ℕ) (steps : List Step) (raw : List Line) (lines : List SeenLine)
     → seen_lines kept steps raw ≡ lines → All (LineWithin (length kept) (length steps)) raw
     → sum_by (λ line. data_len line.shown) raw ≡ length (bytes_shown lines)
@@ -42,7 +42,7 @@ sum_of_data kept steps raw lines seen within =
     sym (length-shown_lines kept steps raw (recursion_from_All (LineWithin (length kept) (length steps)) raw within))
     ∙ ap (λ (ls : List SeenLine). length (bytes_shown ls)) seen
 
--- the lines of all callers
+-- the numbers of bytes of all callers add up to that of all lines
 pub sum_of_callers : (t : List (List SeenLine))
     → sum_by (λ lines. length (bytes_shown lines)) t ≡ length (bytes_shown (all_lines t))
 sum_of_callers [] = refl

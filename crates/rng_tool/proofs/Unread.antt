@@ -1,9 +1,10 @@
 -- A command whose memory ran out before it read any input.
-use Rattle.std.proofs.Common.{ℕ, ◌≤◌, List, [], Option, None, arith}
+use Rattle.std.proofs.Common.{ℕ, List, [], Option, None, arith, inl, refl}
 use Rattle.std.proofs.KnownBytes.{Consumes-nil}
 use Rattle.tool_ends.specs.Reads.{WasGivenUp}
 use Rattle.tool_ends.specs.declared.status.Status.TheVariants.{NoMemory}
 use Rattle.rng_tool.specs.JudgeOutcome.{JudgeEnds}
+use Rattle.rng_tool.specs.LiveOutcome.{LiveEnds}
 use Rattle.rng_tool.specs.Outcome.{RunEnds}
 use Rattle.rng_tool.specs.declared.judge.Judge.{Judge}
 
@@ -17,3 +18,17 @@ unread_run left = (None, None, nothing_taken 16777216 left)
 pub unread_judge : (judge : Judge) (left : Option (List ℕ))
     → (held : Option (List ℕ)) × (held_after : Option (List ℕ)) × JudgeEnds judge NoMemory left left held held_after
 unread_judge judge left = (None, None, nothing_taken 100663296 left)
+
+pub unread_live : (left : Option (List ℕ))
+    → (held : Option (List ℕ)) × (held_after : Option (List ℕ)) × LiveEnds NoMemory left left held held_after
+unread_live left = (
+  None,
+  None,
+  record {
+    text = [];
+    output = [];
+    taken = record { read = Consumes-nil left; few = omega arith };
+    is = record { front = []; rest = []; parts = refl; told = inl refl };
+    written = tt;
+  },
+)

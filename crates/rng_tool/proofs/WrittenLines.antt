@@ -1,23 +1,25 @@
 -- The transcript of a script's only caller, as far as it was written.
-use Rattle.std.proofs.Common.{◌≡◌, ℕ, List, [], ◌∷◌, ◌++◌, length, refl, sym, ap, ◌∙◌, subst, append_assoc, append-nil, arith}
+use Rattle.std.proofs.Common.{◌≡◌, ℕ, ◌+◌, ◌≤◌, List, [], ◌∷◌, ◌++◌, drop, get_or, length, refl, sym, ap, ◌∙◌, subst, append_assoc, append-nil, arith}
 use Rattle.std.specs.Prelude.{Option, Result, Ok, Err, OnOk, OnErr, is_ok, true, false, ◌<◌, codes}
 use Rattle.std.specs.Io.KnownBytes.{Appends}
 use Rattle.std.specs.List.{AllByRecursion}
 use Rattle.std.proofs.KnownBytes.{Appends-trans}
 use Rattle.std.proofs.lemmas.Grind.{flat_map-append}
-use Rattle.std.proofs.lemmas.List.{length-append, take-append-le}
+use Rattle.std.proofs.lemmas.List.{drop_all, drop_more, length-append, take-append-le}
 use Rattle.io_edges.specs.Faults.{Rose}
 use Rattle.io_edges.specs.Pieces.{AppendsPrefix}
 use Rattle.io_edges.specs.declared.edges.Failed.{Failed}
-use Rattle.key_names.specs.SeenLine.{SeenLine}
+use Rattle.key_names.specs.Transcripts.SeenLine.{SeenLine}
 use Rattle.key_names.specs.Texts.ScriptGrammar.{Script, WellFormed}
 use Rattle.key_names.specs.Texts.TranscriptGrammar.{LineFits, transcript_text}
 use Rattle.transcript_text.specs.Lines.{text_of, whole_line}
 use Rattle.transcript_text.proofs.PuttingOn.{breaks_off}
 use Rattle.transcript_text.proofs.WholeTexts.{transcript_text-parts}
 use Rattle.key_names.specs.declared.events.Event.{Event}
+use Rattle.key_names.proofs.Lists.Each.{each_more}
 use Rattle.key_names.proofs.Samples.Lines.{AllFit}
-use Rattle.caller_run.specs.Alone.{IsLawful}
+use Rattle.caller_run.specs.Alone.{IsGoing, IsLawful}
+use Rattle.caller_run.specs.declared.alone.LoneRun.{LoneRun}
 use Rattle.caller_run.proofs.Planning.Slots.{fit_long}
 use Rattle.rng_tool.specs.Outcome.{RunOf}
 use Rattle.tool_ends.specs.Reads.{WasWritten}
@@ -41,12 +43,12 @@ pub record Wrote (written : Result (Unit {0}) Failed) (held held_now : Known) (f
 -- ---- more of it
 
 -- a prefix of a text is one of a longer text
-prefix_longer : (a b : Known) (text more : List ℕ) → AppendsPrefix a b text → AppendsPrefix a b (text ++ more)
+pub prefix_longer : (a b : Known) (text more : List ℕ) → AppendsPrefix a b text → AppendsPrefix a b (text ++ more)
 prefix_longer a b text more p =
     (p.0, omega (arith, p.1, length-append text more), subst (Appends a b) (sym (take-append-le p.0 text more p.1)) p.2)
 
 -- after a text a prefix of more was put
-prefix_behind : (a b c : Known) (text more : List ℕ) → Appends a b text → AppendsPrefix b c more
+pub prefix_behind : (a b c : Known) (text more : List ℕ) → Appends a b text → AppendsPrefix b c more
     → AppendsPrefix a c (text ++ more)
 prefix_behind a b c text more first rest =
     breaks_off a b c (text ++ more) more more [] (record { front = text; whole = refl; appends = first })
@@ -93,6 +95,24 @@ module _ (script : Script) (a b : Known) (f g : ℕ) (text : List ℕ) (run : Ru
   was_cut (Ok u) k = tt
   was_cut (Err e) k = (text, run, k.prefix)
 
+  -- a failure is handed on
+  pub was_cut_before : (w v : Result (Unit {0}) Failed) → Wrote w a b f g text
+      → OnErr v ((text : List ℕ) × RunOf script text × AppendsPrefix a b text)
+  was_cut_before w (Ok u) k = tt
+  was_cut_before w (Err e) k = (text, run, k.prefix)
+
+-- ---- the events
+
+module _ {script : Script} {run : LoneRun} {lines : List SeenLine} (events : List Event) (i : ℕ) where
+  pub next_event : (event : Event) → i < length events → event ≡ get_or events i event
+      → IsGoing script (drop i events) run lines → IsGoing script (event ∷ drop (i + 1) events) run lines
+  next_event event low is =
+      subst (λ (rest : List Event). IsGoing script rest run lines)
+      (drop_more events i event low ∙ ap (λ (e : Event). e ∷ drop (i + 1) events) (sym is))
+
+  pub no_event : length events ≤ i → IsGoing script (drop i events) run lines → IsGoing script [] run lines
+  no_event last = subst (λ (rest : List Event). IsGoing script rest run lines) (drop_all i events last)
+
 -- ---- the lines
 
 pub next_line : (lines : List SeenLine) (line : SeenLine) →
@@ -101,6 +121,24 @@ next_line lines line =
     ap (λ (t : List ℕ). codes "rngtranscript 1\n" ++ t)
     (flat_map-append whole_line lines (line ∷ []) ∙ ap (λ (t : List ℕ). text_of lines ++ t) (append-nil (whole_line line)))
     ∙ sym (append_assoc (codes "rngtranscript 1\n") (text_of lines) (whole_line line))
+
+-- one more line was put, which shows this one
+pub wrote_line : {shown : SeenLine} (w v : Result (Unit {0}) Failed) (a b c : Known) (f g h : ℕ) (lines : List SeenLine)
+    (line : SeenLine) → is_ok w ≡ true → Wrote w a b f g (text_so_far lines) → shown ≡ line →
+    OnOk v (Appends b c (whole_line shown)) → AppendsPrefix b c (whole_line shown) → OnErr v (Rose g h) →
+    OnOk v (h ≡ g) → Wrote v a c f h (text_so_far (lines ++ line ∷ []))
+wrote_line w v a b c f g h lines line ok k is whole prefix cause same =
+    subst (Wrote v a c f h) (sym (next_line lines line))
+    (wrote_more w v a b c f g h (text_so_far lines) (whole_line line) ok k
+    (subst (λ (l : SeenLine). OnOk v (Appends b c (whole_line l))) is whole)
+    (subst (λ (l : SeenLine). AppendsPrefix b c (whole_line l)) is prefix) cause same)
+
+-- or a call had failed before it
+pub wrote_no_line : (w : Result (Unit {0}) Failed) (a b : Known) (f g : ℕ) (lines : List SeenLine) (line : SeenLine) →
+    is_ok w ≡ false → Wrote w a b f g (text_so_far lines) → Wrote w a b f g (text_so_far (lines ++ line ∷ []))
+wrote_no_line w a b f g lines line failed k =
+    subst (Wrote w a b f g) (sym (next_line lines line))
+    (wrote_no_more w a b f g (text_so_far lines) (whole_line line) failed k)
 
 last_line : (lines : List SeenLine) → text_so_far lines ++ codes "end\n" ≡ transcript_text (lines ∷ [])
 last_line lines =
@@ -128,3 +166,10 @@ alone_run script well lines fits is = let fit = is.1.transcript.lines in record 
     spelled = last_line lines;
   };
 }
+
+-- the run ended, and its last line is shown
+pub ended_run : {script : Script} {run : LoneRun} {shown : SeenLine} (lines : List SeenLine) (line : SeenLine) →
+    IsGoing script [] run lines → AllByRecursion LineFits lines → shown ≡ line → LineFits shown →
+    IsLawful script (lines ++ line ∷ []) → RunOf script (text_so_far (lines ++ line ∷ []) ++ codes "end\n")
+ended_run {script = script} lines line g fits is fit lawful =
+    alone_run script g.well (lines ++ line ∷ []) (each_more LineFits lines line fits (subst LineFits is fit)) lawful

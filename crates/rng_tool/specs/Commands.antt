@@ -5,16 +5,18 @@ use Rattle.vdso_state.specs.declared.place.Turn.{Turn}
 use Rattle.rng_tool.specs.DrawOutcome.{IsDraw}
 use Rattle.rng_tool.specs.FeedOutcome.{IsFeed}
 use Rattle.rng_tool.specs.JudgeOutcome.{IsJudge}
+use Rattle.rng_tool.specs.LiveOutcome.{IsLive}
 use Rattle.rng_tool.specs.LoadOutcome.{IsLoad}
 use Rattle.rng_tool.specs.Outcome.{IsRun}
 use Rattle.rng_tool.specs.VforkOutcome.{IsVfork}
 use Rattle.rng_tool.specs.declared.command.Command.{Command}
 use Rattle.rng_tool.specs.declared.judge.Judge.{Judge}
-use Rattle.rng_tool.specs.declared.command.Command.TheVariants.{Run, Judge as Judges, Load, Draw, Vfork, Feed}
+use Rattle.rng_tool.specs.declared.command.Command.TheVariants.{Run, Live, Judge as Judges, Load, Draw, Vfork, Feed}
 
 -- the words are a form of the command
 abbrev pub Asks : {A : Type 0} → List (String A) → Command → Type 0
 Asks words Run = IsRun words
+Asks words Live = IsLive words
 Asks words (Judges judge) = IsJudge words judge
 Asks words (Load load) = IsLoad words load.start load.callers load.events
 Asks words (Draw draw) = IsDraw words draw.bound draw.count
@@ -24,6 +26,7 @@ Asks words (Feed feed) = IsFeed words feed.start feed.feeders feed.samples
 -- the words are no form of the command line
 pub record IsNoForm {A : Type 0} (words : List (String A)) : Type 0 where
   pub no_run : IsRun words → ⊥
+  pub no_live : IsLive words → ⊥
   pub no_judge : (judge : Judge) → IsJudge words judge → ⊥
   pub no_load : (start callers events : ℕ) → IsLoad words start callers events → ⊥
   pub no_draw : (bound count : ℕ) → IsDraw words bound count → ⊥
@@ -32,4 +35,4 @@ pub record IsNoForm {A : Type 0} (words : List (String A)) : Type 0 where
 
 -- the words are a form of a command that reads the input
 abbrev pub TakesInput : {A : Type 0} → List (String A) → Type 0
-TakesInput words = IsRun words ⊎ (judge : Judge) × IsJudge words judge
+TakesInput words = IsRun words ⊎ IsLive words ⊎ (judge : Judge) × IsJudge words judge

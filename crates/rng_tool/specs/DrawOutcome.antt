@@ -12,15 +12,15 @@ pub record AskDraw (texts : List (List ℕ)) (bound count : ℕ) : Type 0 where
   pub bound_fits : bound < 2 ^ 32
   pub count_fits : (1 ≤ count) × (count ≤ 1000)
 
--- draws within the limits
+-- the numbers of draws are within the limits
 pub record IsSmallDraw (draw : Draw) : Type 0 where
   pub count : (1 ≤ draw.count) × (draw.count ≤ 1000)
 
--- the words of draws
+-- the words are `draw` with these numbers
 abbrev pub IsDraw : {A : Type 0} → List (String A) → ℕ → ℕ → Type 0
 IsDraw words bound count = AskDraw (map string_bytes words) bound count
 
--- the line of a draw: its answer, or that it was spent
+-- the line of a draw: its answer, or `spent` if its words were all rejected
 abbrev pub draw_line : Option ℕ → List ℕ
 draw_line (Some answer) = decimal answer ++ 10 ∷ []
 draw_line None = codes "spent" ++ 10 ∷ []
@@ -28,12 +28,12 @@ draw_line None = codes "spent" ++ 10 ∷ []
 abbrev pub draw_text : List (Option ℕ) → List ℕ
 draw_text draws = flat_map draw_line draws
 
--- the output has a line for each of `count` draws below the bound, out of the words of the one book of a new table
+-- the output has a line for each of `count` draws below the bound; their words come from the only book of a new table
 pub record DrawOf (bound count : ℕ) (output : List ℕ) : Type 0 where
   pub draws : List (Option ℕ)
   pub drawn : AreTableDraws bound count draws
   pub told : output ≡ draw_text draws
 
--- the status of draws, and the content of the sink
+-- how draws end: the status, and the content of the sink
 abbrev pub DrawEnds : ℕ → ℕ → Status → Option (List ℕ) → Option (List ℕ) → Type 0
 DrawEnds bound count = EndsWith (DrawOf bound count)

@@ -1,9 +1,9 @@
 -- The outcome of `check` and `replay`, for a script and a transcript after it.
 use Rattle.std.specs.Prelude.{ℕ, ◌≡◌, ◌⊎◌, ◌≤◌, List, [], ◌∷◌, ◌++◌, Option, String, string_bytes, codes, length, map}
-use Rattle.key_names.specs.IsTranscript.{Clause, FirstFails, clause_number}
+use Rattle.key_names.specs.Transcripts.IsTranscript.{Clause, FirstFails, clause_number}
 use Rattle.key_names.specs.Texts.ScriptFaults.{front}
 use Rattle.key_names.specs.Texts.ScriptGrammar.{Script, IsScript}
-use Rattle.key_names.specs.SeenLine.{SeenLine}
+use Rattle.key_names.specs.Transcripts.SeenLine.{SeenLine}
 use Rattle.key_names.specs.Texts.TranscriptGrammar.{IsTranscriptText}
 use Rattle.transcript_check.specs.Judged.{IsSound}
 use Rattle.serial_replay.specs.Replayed.{IsTheTranscript, StepsFail}
@@ -19,12 +19,12 @@ use Rattle.rng_tool.specs.declared.judge.Judge.TheVariants.{Check, Replay}
 abbrev pub yes_line : List ℕ
 yes_line = codes "yes" ++ 10 ∷ []
 
--- the line of a check that finds no fault
+-- the output is the line of a check that finds no fault
 pub record SaysYes (script : Script) (t : List (List SeenLine)) (output : List ℕ) : Type 0 where
   pub sound : IsSound script t
   pub line : output ≡ yes_line
 
--- the text of the lawful transcript with these steps; there is only one
+-- the output is the text of the lawful transcript with these steps; there is only one
 pub record GivesBack (script : Script) (t : List (List SeenLine)) (output : List ℕ) : Type 0 where
   pub made : List (List SeenLine)
   pub is : IsTheTranscript script t made
@@ -41,15 +41,14 @@ Fails Replay = StepsFail
 
 -- ---- for an input
 
--- a script with a transcript after it, and the output for them
+-- the input is a script with a transcript after it, and the output is for them
 pub record JudgeAnswer (judge : Judge) (input output : List ℕ) : Type 0 where
   pub script : Script
   pub lines : List (List SeenLine)
   pub pair : IsPair input script lines
   pub says : Says judge script lines output
 
--- the text after the script is no transcript's, which fails clause 1, or that of a transcript that fails the clause of
--- this number
+-- the text after the script is no transcript's and fails clause 1, or its transcript fails the clause with this number
 abbrev pub IsClause : Judge → Script → List ℕ → ℕ → Type 0
 IsClause judge script text number =
     (number ≡ 1) × IsNoTranscript text
@@ -64,7 +63,7 @@ pub record JudgeVerdict (judge : Judge) (input output : List ℕ) : Type 0 where
   pub clause : IsClause judge script (behind input) number
   pub line : output ≡ no_line number
 
--- the output for a transcript, and its status
+-- the output and the status for a transcript
 abbrev pub SaidOf : Judge → Script → List (List SeenLine) → Status → List ℕ → Type 0
 SaidOf judge script t Done output = Says judge script t output
 SaidOf judge script t No output = (clause : Clause) × Fails judge script t clause × (output ≡ no_line (clause_number clause))
@@ -74,7 +73,7 @@ SaidOf judge script t ReadFault output = ⊥
 SaidOf judge script t WriteFault output = ⊥
 SaidOf judge script t NoMemory output = ⊥
 
--- the output for an input, and its status
+-- the output and the status for an input
 abbrev pub JudgeCalls : Judge → List ℕ → Status → List ℕ → Type 0
 JudgeCalls judge input Done output = JudgeAnswer judge input output
 JudgeCalls judge input No output = JudgeVerdict judge input output
@@ -84,7 +83,7 @@ JudgeCalls judge input ReadFault output = ⊥
 JudgeCalls judge input WriteFault output = ⊥
 JudgeCalls judge input NoMemory output = ⊥
 
--- the status of the command, the rest of the source, and the content of the sink
+-- how the command ends: its status, the rest of the source, and the content of the sink
 abbrev pub JudgeEnds : Judge → Status → Option (List ℕ) → Option (List ℕ) → Option (List ℕ) → Option (List ℕ) → Type 0
 JudgeEnds judge = ReadsEnds most_input (JudgeCalls judge)
 

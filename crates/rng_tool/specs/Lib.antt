@@ -1,4 +1,6 @@
 pub mod Outcome
+pub mod LiveOutcome
+pub mod LiveSteps
 pub mod LoadOutcome
 pub mod DrawOutcome
 pub mod FeedOutcome

@@ -2,11 +2,11 @@
 use Rattle.std.specs.Prelude.{ℕ, ◌≡◌, ◌<◌, ◌≤◌, ◌^◌, List, [], ◌∷◌, Option, ◌++◌, String, string_bytes, codes, decimal, length, map, sum_by}
 use Rattle.key_names.specs.declared.lines.Data.{Data}
 use Rattle.key_names.specs.declared.lines.Data.TheVariants.{Bytes}
-use Rattle.key_names.specs.SeenLine.{SeenLine, bytes_shown}
+use Rattle.key_names.specs.Transcripts.SeenLine.{SeenLine, bytes_shown}
 use Rattle.key_names.specs.Texts.TranscriptGrammar.{all_lines}
 use Rattle.event_script.specs.LoadScript.{load_script}
-use Rattle.key_names.specs.IsTranscript.{clause_number}
-use Rattle.line_orders.specs.Clauses.{clause_of}
+use Rattle.key_names.specs.Transcripts.IsTranscript.{clause_number}
+use Rattle.judge_lines.specs.Clauses.{clause_of}
 use Rattle.transcript_check.specs.Judged.{IsSound}
 use Rattle.transcript_check.specs.declared.check.Verdict.{Verdict}
 use Rattle.transcript_check.specs.declared.check.Verdict.TheVariants.{Yes, No}
@@ -21,16 +21,16 @@ pub record AskLoad (texts : List (List ℕ)) (start callers events : ℕ) : Type
   pub callers_fit : (1 ≤ callers) × (callers ≤ 64)
   pub events_fit : (1 ≤ events) × (events ≤ 1000)
 
--- a load within the limits
+-- the numbers of a load are within the limits
 pub record IsSmall (load : Load) : Type 0 where
   pub callers : (1 ≤ load.callers) × (load.callers ≤ 64)
   pub events : (1 ≤ load.events) × (load.events ≤ 1000)
 
--- the words of a load
+-- the words are `load` with these numbers
 abbrev pub IsLoad : {A : Type 0} → List (String A) → ℕ → ℕ → ℕ → Type 0
 IsLoad words start callers events = AskLoad (map string_bytes words) start callers events
 
--- the words of a check's verdict
+-- the words for the verdict of a check
 abbrev pub check_words : Verdict → List ℕ
 check_words Yes = codes " check yes\n"
 check_words (No clause) = codes " check no " ++ decimal (clause_number (clause_of clause)) ++ codes "\n"
@@ -45,14 +45,14 @@ abbrev pub data_len : Data → ℕ
 data_len (Bytes len start) = len
 data_len _ = 0
 
--- the output has the number of events of the load's script, the number of bytes that the lines of a lawful transcript
--- for it show, and that this transcript is lawful
+-- the output contains how many events the load's script has, and how many bytes the lines of a transcript show; this
+-- transcript is lawful for the script
 pub record LoadOf (start callers events : ℕ) (output : List ℕ) : Type 0 where
   pub lines : List (List SeenLine)
   pub run : IsSound (load_script start callers events) lines
   pub told : output ≡ load_line callers (sum_by length (load_script start callers events).callers)
       (length (bytes_shown (all_lines lines))) Yes
 
--- the status of a load, and the content of the sink
+-- how a load ends: the status, and the content of the sink
 abbrev pub LoadEnds : ℕ → ℕ → ℕ → Status → Option (List ℕ) → Option (List ℕ) → Type 0
 LoadEnds start callers events = EndsWith (LoadOf start callers events)

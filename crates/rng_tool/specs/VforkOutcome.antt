@@ -2,7 +2,7 @@
 use Rattle.std.specs.Prelude.{ℕ, ◌≡◌, ◌≤◌, ◌^◌, ◌++◌, List, [], ◌∷◌, Option, String, string_bytes, codes, decimal, map}
 use Rattle.hex.specs.Hex.{encode_lower}
 use Rattle.key_names.specs.declared.point.Point.{Point}
-use Rattle.key_names.specs.Points.{number_of}
+use Rattle.key_names.specs.Kernel.Points.{number_of}
 use Rattle.vdso_state.specs.declared.place.Turn.{Turn}
 use Rattle.vdso_state.specs.Turns.{turn_number}
 use Rattle.fork_runs.specs.TableForks.{AreForkedBytes}
@@ -15,28 +15,28 @@ pub record AskVfork (texts : List (List ℕ)) (point : Point) (attempt : Turn) (
   pub spelt : texts ≡ codes "vfork" ∷ decimal (number_of point) ∷ decimal (turn_number attempt) ∷ decimal n ∷ []
   pub fits : (1 ≤ n) × (n ≤ 2 ^ 20)
 
--- a fork within the limits
+-- the length of a fork's call is within the limits
 pub record IsSmallVfork (vfork : Vfork) : Type 0 where
   pub fits : (1 ≤ vfork.len) × (vfork.len ≤ 2 ^ 20)
 
--- the words of a fork
+-- the words are `vfork` with these numbers
 abbrev pub IsVfork : {A : Type 0} → List (String A) → Point → Turn → ℕ → Type 0
 IsVfork words point attempt n = AskVfork (map string_bytes words) point attempt n
 
--- the line of an end: its name, and its bytes in hex
+-- the line of one end of a fork: its name, and its bytes in hex
 abbrev pub end_line : List ℕ → List ℕ → List ℕ
 end_line name bytes = name ++ (encode_lower bytes ++ 10 ∷ [])
 
 abbrev pub vfork_text : List ℕ → List ℕ → List ℕ
 vfork_text parent child = end_line (codes "parent ") parent ++ end_line (codes "child ") child
 
--- the output has the bytes that parent and child give out, by the one book of a new table
+-- the output has the bytes that parent and child give out, by the only book of a new table
 pub record VforkOf (point : Point) (attempt : Turn) (n : ℕ) (output : List ℕ) : Type 0 where
   pub parent : List ℕ
   pub child : List ℕ
   pub forked : AreForkedBytes attempt point n parent child
   pub told : output ≡ vfork_text parent child
 
--- the status of a fork, and the content of the sink
+-- how a fork ends: the status, and the content of the sink
 abbrev pub VforkEnds : Point → Turn → ℕ → Status → Option (List ℕ) → Option (List ℕ) → Type 0
 VforkEnds point attempt n = EndsWith (VforkOf point attempt n)

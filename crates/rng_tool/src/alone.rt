@@ -2,17 +2,18 @@
 ghost use Rattle.std.specs.Prelude.{◌≡◌, [], ℕ, List, OnOk, OnErr};
 ghost use Rattle.io_edges.specs.Faults.{Rose};
 ghost use Rattle.io_edges.specs.Pieces.{AppendsPrefix};
-ghost use Rattle.caller_run.specs.Alone.{HasTold};
-ghost use Rattle.key_names.specs.Texts.ScriptGrammar.{Script, WellFormed};
+ghost use Rattle.caller_run.specs.Alone.{IsGoing};
+ghost use Rattle.key_names.specs.Texts.ScriptGrammar.{Script};
 ghost use Rattle.rng_tool.specs.Outcome.{RunOf};
 ghost use Rattle.tool_ends.specs.Reads.{WasWritten};
 
 use caller_run::LoneRun;
 use io_edges::{Failed, Gate, Sink};
+use key_names::Event;
 use std::sync::Wait;
 use transcript_text::LineWriter;
 
-/// Runs a script's only caller to its end, and writes each line as it is made. If the sink fails, no more is written,
+/// Hands a script's only caller its events, and writes each line as it is made. If the sink fails, no more is written,
 /// and the caller still makes all of its lines.
 ///
 /// # Errors
@@ -21,28 +22,32 @@ use transcript_text::LineWriter;
 /// transcript's text.
 pub(crate) fn write_alone<R: Wait, K: Sink, G: Gate>(
     rt: &R,
-    mut run: LoneRun<'_>,
+    mut run: LoneRun,
+    events: &[Event],
     sink: &mut K,
     gate: &G,
 ) -> Result<(), Failed>
-    requires new { (script : Script) × WellFormed script × HasTold script run [] }
-    ensures whole { (script : Script) → WellFormed script → HasTold script run.entry [] → OnOk result (WasWritten (RunOf script)
+    requires { (script : Script) × IsGoing script events.now run [] }
+    ensures whole { (script : Script) → IsGoing script events.now run [] → OnOk result (WasWritten (RunOf script)
         (K.held sink.old) (K.held sink.new)) }
-    ensures prefix { (script : Script) → WellFormed script → HasTold script run.entry [] → OnErr result ((text : List ℕ)
+    ensures prefix { (script : Script) → IsGoing script events.now run [] → OnErr result ((text : List ℕ)
         × RunOf script text × AppendsPrefix (K.held sink.old) (K.held sink.new) text) }
     ensures cause { OnErr result (Rose (K.faults sink.old) (K.faults sink.new)) }
     ensures not_counted { OnOk result (K.faults sink.new ≡ K.faults sink.old) }
 {
     let mut writer = LineWriter::new();
     let mut written = LineWriter::begin(sink);
-    while run.step(rt, gate) {
+    for event in events {
+        run.make(rt, gate, event);
         let line = run.line();
-        if written.is_ok() {
-            written = writer.write(sink, line);
+        if written.is_err() {
+            continue;
         }
+        written = writer.write(sink, line);
     }
-    if written.is_err() {
-        return written;
-    }
+    run.end(rt);
+    let line = run.line();
+    written?;
+    writer.write(sink, line)?;
     LineWriter::end(sink)
 }

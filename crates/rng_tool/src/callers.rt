@@ -12,7 +12,7 @@ use std::sync::Wait;
 use std::thread::Threads;
 use transcript_text::Transcript;
 
-// Where the callers of a script run (tested; each answer is right). A lone one forks no caller, and so it needs no
+// The place where a script's callers run (tested; each answer is right). A single caller forks no other, so it needs no
 // thread.
 fn children_of(script: &Script) -> Children {
     if script.callers() == 1 {
@@ -22,11 +22,11 @@ fn children_of(script: &Script) -> Children {
     }
 }
 
-/// The transcript of a script's run. Several callers run in threads, a lone one in this thread.
+/// The transcript of a script's run. Several callers run in threads, and a single one in this thread.
 ///
 /// # Errors
 ///
-/// `NoMemory` if there is none for the run, before the first caller starts.
+/// `NoMemory` if there is no memory for the run. This is known before the first caller starts.
 pub(crate) fn transcript_of<R: Threads + Wait + Sync, G: Gate>(
     rt: &R,
     alloc: Global,

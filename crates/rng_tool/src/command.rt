@@ -1,11 +1,12 @@
 //! The commands that the words of a command line name.
-ghost use Rattle.std.specs.Prelude.{◌≡◌, ◌↔◌, ℕ, Some, IsTrue, IfSome};
+ghost use Rattle.std.specs.Prelude.{◌≡◌, ◌↔◌, ◌∷◌, [], ℕ, Some, IsTrue, IfSome, map, string_bytes};
 ghost use Rattle.key_names.specs.declared.point.Point.{Point};
 ghost use Rattle.vdso_state.specs.declared.place.Turn.{Turn};
 ghost use Rattle.rng_tool.specs.Commands.{Asks};
 ghost use Rattle.rng_tool.specs.DrawOutcome.{IsDraw};
 ghost use Rattle.rng_tool.specs.FeedOutcome.{IsFeed};
 ghost use Rattle.rng_tool.specs.JudgeOutcome.{IsJudge};
+ghost use Rattle.rng_tool.specs.LiveOutcome.{IsLive};
 ghost use Rattle.rng_tool.specs.LoadOutcome.{IsLoad};
 ghost use Rattle.rng_tool.specs.Outcome.{IsRun};
 ghost use Rattle.rng_tool.specs.VforkOutcome.{IsVfork};
@@ -18,13 +19,15 @@ use crate::vfork::{Vfork, vfork_of};
 
 /// The forms of the command line, as they are printed for any other words.
 pub(crate) const USAGE: &str =
-    "usage: rng run | rng check | rng load START CALLERS EVENTS | rng vfork POINT ATTEMPT N | rng draw C K | rng feed START FEEDERS SAMPLES | rng replay";
+    "usage: rng run | rng live | rng check | rng load START CALLERS EVENTS | rng vfork POINT ATTEMPT N | rng draw C K | rng feed START FEEDERS SAMPLES | rng replay";
 
 /// A command, with the numbers in its words.
 #[derive(Clone, Copy, Debug, PartialEq, Eq)]
 pub(crate) enum Command {
     /// `run`
     Run,
+    /// `live`
+    Live,
     /// `check` or `replay`
     Judge(Judge),
     /// `load START CALLERS EVENTS`
@@ -37,12 +40,12 @@ pub(crate) enum Command {
     Feed(Feed),
 }
 
-/// Whether the words are those of a run.
-fn is_run(words: &[String]) -> bool
-    ensures { IsTrue result ↔ IsRun words.now }
+/// Whether the words are this one alone.
+fn is_only(words: &[String], word: &str) -> bool
+    ensures { IsTrue result ↔ (map string_bytes words.now ≡ word.now ∷ []) }
 {
     match words {
-        [word] => word.as_str() == "run",
+        [only] => only.as_str() == word,
         _ => false,
     }
 }
@@ -52,6 +55,7 @@ impl Command {
     pub(crate) fn of(words: &[String]) -> Option<Command>
         ensures found { IfSome result (Asks words.now) }
         ensures run { IsRun words.now → result ≡ Some Command.Run }
+        ensures live { IsLive words.now → result ≡ Some Command.Live }
         ensures judge { (judge : Judge) → IsJudge words.now judge → result ≡ Some (Command.Judge judge) }
         ensures load { (start callers events : ℕ) → IsLoad words.now start callers events
             → result ≡ Some (Command.Load (record { start = start; callers = callers; events = events })) }
@@ -62,8 +66,11 @@ impl Command {
         ensures feed { (start feeders samples : ℕ) → IsFeed words.now start feeders samples
             → result ≡ Some (Command.Feed (record { start = start; feeders = feeders; samples = samples })) }
     {
-        if is_run(words) {
+        if is_only(words, "run") {
             return Some(Command::Run);
+        }
+        if is_only(words, "live") {
+            return Some(Command::Live);
         }
         if let Some(judge) = judge_of(words) {
             return Some(Command::Judge(judge));

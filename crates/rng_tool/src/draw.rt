@@ -19,14 +19,14 @@ const MOST_BYTES: usize = 11_006;
 /// The lines of draws.
 type DrawText = ArrayString<MOST_BYTES>;
 
-/// This many numbers below a bound, or words if the bound is 0.
+/// How many numbers are drawn, and their bound. If the bound is 0, whole words are drawn.
 #[derive(Clone, Copy, Debug, PartialEq, Eq)]
 pub(crate) struct Draw {
     pub(crate) bound: u32,
     pub(crate) count: u32,
 }
 
-/// The draws of three words.
+/// The draws that three words name.
 fn draw_by(command: &str, bound: &str, count: &str) -> Option<Draw>
     ensures found { IfSome result (λ draw.
         AskDraw (command.now ∷ bound.now ∷ count.now ∷ []) draw.bound draw.count) }
@@ -41,7 +41,7 @@ fn draw_by(command: &str, bound: &str, count: &str) -> Option<Draw>
     Some(Draw { bound, count })
 }
 
-/// The draws of the words, if they name some.
+/// The draws that the words name, if they name draws.
 pub(crate) fn draw_of(words: &[String]) -> Option<Draw>
     ensures found { IfSome result (λ draw. IsDraw words.now draw.bound draw.count) }
     ensures only { (bound count : ℕ) → IsDraw words.now bound count
@@ -64,7 +64,7 @@ fn add_answer(text: &mut DrawText, answer: u32)
     text.push_str("\n");
 }
 
-// The lines of some draws.
+// The lines of draws.
 fn draw_text(drawn: &Drawn) -> DrawText
     ensures { result.bytes ≡ draw_text (ends_of drawn.now) }
 {
@@ -79,7 +79,7 @@ fn draw_text(drawn: &Drawn) -> DrawText
     text
 }
 
-// The lines of draws that were made.
+// Makes draws, and returns their lines.
 fn lines_of<R: Wait>(rt: &R, alloc: Global, draw: Draw) -> Result<DrawText, NoMemory>
     requires { IsSmallDraw draw }
     ensures { IfOk result (λ text. DrawOf draw.bound draw.count text.bytes) }

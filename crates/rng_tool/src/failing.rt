@@ -1,11 +1,11 @@
-//! The message on standard error for a transcript that is not lawful: the line at which its clause fails first, and the
-//! expected one. No function here has a clause: all of it is only tested.
+//! The message on standard error for a transcript that is not lawful: the first line at which its clause fails, and
+//! what was expected there. No function here has a clause, so all of it is only tested.
 
 use crate::told::{MOST_SHOWN, shown_line};
 use event_script::{Script, read_front};
 use hex::encode;
+use judge_lines::clause::Clause;
 use key_names::{Answer, LaneId, Mark, Word};
-use line_orders::clause::Clause;
 use std::alloc::{AllocError, Global};
 use transcript_check::failing::first_failing_line;
 use transcript_check::place::{Expected, Place};
@@ -26,7 +26,7 @@ const CLAUSES: [Clause; 6] = [
     Clause::Looks,
 ];
 
-/// A line of a transcript, by its number from 1, and the expected one.
+/// A line of a transcript, by its number from 1, and what was expected there.
 #[derive(Drop)]
 struct Failing {
     number: usize,
@@ -42,7 +42,7 @@ fn clause_of(number: u8) -> Option<Clause> {
     None
 }
 
-/// The name of the clause of this number (tested).
+/// The name of the clause with this number (tested).
 pub(crate) fn clause_name(clause: u8) -> &'static str {
     match clause {
         1 => "text",
@@ -77,7 +77,7 @@ fn mark_text(alloc: Global, mark: Mark) -> Result<String, AllocError> {
     }
 }
 
-// How many bytes are the same at the front.
+// How many bytes at the front are equal.
 fn same_front(left: &[u8], right: &[u8]) -> usize {
     for (count, (one, other)) in left.iter().zip(right).enumerate() {
         if one != other {
@@ -87,7 +87,8 @@ fn same_front(left: &[u8], right: &[u8]) -> usize {
     left.len().min(right.len())
 }
 
-// The bytes that were expected instead of those that are shown, at most 32: of more, from the first that differs on.
+// The bytes that were expected instead of the shown ones, at most 32. If there are more, they begin with the first that
+// differs.
 fn bytes_text(alloc: Global, bytes: &[u8], shown: &[u8]) -> Result<String, AllocError> {
     if bytes.is_empty() {
         return format!(in alloc; "data -");
@@ -110,7 +111,7 @@ fn event_text(alloc: Global, caller: u32, event: usize, word: Word) -> Result<St
     format!(in alloc; "line {caller}.{event} {word}")
 }
 
-// The expected part or line, as a text. `line` is the one that the transcript has, if it has one.
+// What was expected, as a text. `line` is the line that the transcript has there, if it has one.
 fn expected_text(
     alloc: Global,
     expected: &Expected,
@@ -145,7 +146,8 @@ fn expected_text(
     }
 }
 
-// The number of the line in the text: the first has no event, and the callers' lines follow one after the other.
+// The number of the line in the text. The first line of the text has no event, and the callers' lines follow it, one
+// caller after the other.
 fn number_of(t: &Transcript, place: &Place) -> usize {
     let mut number = place.line.saturating_add(2);
     for caller in 0..t.callers() {
@@ -167,7 +169,7 @@ fn line_of<'a>(t: &'a Transcript, place: &Place) -> Option<LineView<'a>> {
     Some(lines.line(place.line))
 }
 
-// The line of a text that is no transcript's.
+// The faulty line of a text that is no transcript's.
 fn of_text(alloc: Global, line: u32) -> Result<Failing, AllocError> {
     let expected = match line {
         1 => format!(in alloc; "rngtranscript 1")?,
@@ -202,7 +204,7 @@ fn of_transcript(
     }))
 }
 
-// The line of this number as it is shown: its front, if it is printable.
+// The line with this number as it is shown: its first bytes, if they are printable.
 fn shown_of(text: &[u8], number: usize) -> Option<&str> {
     let before = number.checked_sub(1)?;
     let line = text.split(|byte| *byte == b'\n').nth(before)?;
@@ -224,8 +226,8 @@ fn told(alloc: Global, clause: u8, failing: &Failing, text: &[u8]) -> Result<Str
     }
 }
 
-/// The first line of a script's transcript at which this clause fails, and the expected one, if the line is in the
-/// input (tested). The clause is the first that fails.
+/// The first line of a script's transcript at which this clause fails, and what was expected there (tested). `None` if
+/// the input does not have the line. The clause must be the first that fails.
 ///
 /// # Errors
 ///

@@ -17,10 +17,10 @@ use tool_ends::{Status, put_line};
 /// The most feeders of one run.
 const MOST_FEEDERS: u32 = 16;
 
-/// The most samples of each of them.
+/// The most samples of each feeder.
 const MOST_SAMPLES: u32 = 10_000;
 
-/// Samples from `start` on: this many from each of this many feeders.
+/// Each of this many feeders has this many samples, numbered from `start` on.
 #[derive(Clone, Copy, Debug, PartialEq, Eq)]
 pub(crate) struct Feed {
     pub(crate) start: u32,
@@ -28,7 +28,7 @@ pub(crate) struct Feed {
     pub(crate) samples: u32,
 }
 
-/// The feeders of the words, if they name some.
+/// The feeders that the words name, if they name feeders.
 pub(crate) fn feed_of(words: &[String]) -> Option<Feed>
     ensures found { IfSome result (λ feed. IsFeed words.now feed.start feed.feeders feed.samples) }
     ensures only { (start feeders samples : ℕ) → IsFeed words.now start feeders samples
@@ -48,7 +48,7 @@ pub(crate) fn feed_of(words: &[String]) -> Option<Feed>
     })
 }
 
-// The line of these sums.
+// The line with these sums.
 fn feed_line(feeders: u32, sums: &FeedSums) -> ShortLine
     ensures { result.bytes ≡ feed_line feeders sums.now }
 {
@@ -61,7 +61,7 @@ fn feed_line(feeders: u32, sums: &FeedSums) -> ShortLine
     line
 }
 
-// The line of feeders that ran. It takes no memory after their run.
+// Runs feeders, and returns their line. It allocates nothing after the run.
 fn summary<R: Threads + Wait + Sync, G: Gate>(
     rt: &R,
     alloc: Global,

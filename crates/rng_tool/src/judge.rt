@@ -1,4 +1,4 @@
-//! The commands `check` and `replay`: they take a script and a transcript after it, and give the answer.
+//! The commands `check` and `replay`. They take a script and a transcript after it, and write an answer.
 ghost use Rattle.std.specs.Prelude.{◌≡◌, ◌⊎◌, ◌≤◌, ◌^◌, List, ℕ, length, IfSome, Some};
 ghost use Rattle.key_names.specs.Texts.ScriptGrammar.{WellFormed};
 ghost use Rattle.key_names.specs.Texts.TranscriptGrammar.{transcript_text};
@@ -23,7 +23,8 @@ use tool_ends::{Status, put_line, put_refusal};
 use transcript_check::check::{Verdict, check};
 use transcript_text::{Transcript, write_all};
 
-/// A command about a script and a transcript: whether the transcript is lawful, or its answers and data made again.
+/// A command about a script and a transcript: check whether the transcript is lawful, or make its answers and data
+/// again.
 #[derive(Clone, Copy, Debug, PartialEq, Eq)]
 pub(crate) enum Judge {
     /// `check`
@@ -32,7 +33,7 @@ pub(crate) enum Judge {
     Replay,
 }
 
-// The command of one word.
+// The command that one word names.
 fn judge_by(word: &str) -> Option<Judge>
     ensures found { IfSome result (λ judge. word.now ≡ word_of judge) }
     ensures only { (judge : Judge) → word.now ≡ word_of judge → result ≡ Some judge }
@@ -46,7 +47,7 @@ fn judge_by(word: &str) -> Option<Judge>
     None
 }
 
-/// The command of the words, if it is one of the two.
+/// The command that the words name, if it is one of the two.
 pub(crate) fn judge_of(words: &[String]) -> Option<Judge>
     ensures found { IfSome result (λ judge. IsJudge words.now judge) }
     ensures only { (judge : Judge) → IsJudge words.now judge → result ≡ Some judge }
@@ -65,7 +66,7 @@ fn yes_line() -> ShortLine
     line
 }
 
-// Whether the transcript is lawful.
+// Answers whether the transcript is lawful.
 fn say_checked<K: Sink>(alloc: Global, script: &Script, t: &Transcript, sink: &mut K) -> Status
     requires { WellFormed script.now }
     ensures ends { WritesEnds (SaidOf Judge.Check script.now t.now) result (K.held sink.old) (K.held sink.new) }
@@ -79,7 +80,7 @@ fn say_checked<K: Sink>(alloc: Global, script: &Script, t: &Transcript, sink: &m
     }
 }
 
-// The transcript with its answers and data made again.
+// Answers with the transcript, its answers and data made again.
 fn say_replayed<K: Sink>(alloc: Global, script: &Script, t: &Transcript, sink: &mut K) -> Status
     requires { WellFormed script.now }
     ensures ends { WritesEnds (SaidOf Judge.Replay script.now t.now) result (K.held sink.old) (K.held sink.new) }
@@ -96,7 +97,7 @@ fn say_replayed<K: Sink>(alloc: Global, script: &Script, t: &Transcript, sink: &
     }
 }
 
-// The answer about a transcript.
+// Answers about a transcript.
 fn say<K: Sink>(
     alloc: Global,
     judge: Judge,
@@ -115,7 +116,7 @@ fn say<K: Sink>(
     }
 }
 
-// The answer about a script and the text after it, which was compared with that of a run.
+// Answers about a script and the text after it. The text was compared with that of a run.
 fn say_of_text<K: Sink>(
     alloc: Global,
     judge: Judge,
@@ -142,7 +143,8 @@ fn say_of_text<K: Sink>(
     }
 }
 
-/// Writes the answer about the script and the transcript that the source gives, or refuses the script.
+/// Writes the answer about the script and the transcript that the source gives. If the script is refused, writes the
+/// refusal.
 pub(crate) fn judge_input<R: Threads + Wait + Sync, S: Source, K: Sink>(
     rt: &R,
     alloc: Global,

@@ -1,7 +1,7 @@
 //! A load: its words, its run, and the line that sums it up.
 ghost use Rattle.std.specs.Prelude.{◌≡◌, ◌<◌, ◌≤◌, ◌*◌, ◌^◌, ◌∷◌, [], ℕ, Some, IfOk, IfSome, decimal, length, sum_by};
 ghost use Rattle.key_names.specs.Texts.ScriptGrammar.{WellFormed};
-ghost use Rattle.key_names.specs.SeenLine.{bytes_shown};
+ghost use Rattle.key_names.specs.Transcripts.SeenLine.{bytes_shown};
 ghost use Rattle.key_names.specs.Texts.TranscriptGrammar.{all_lines};
 ghost use Rattle.transcript_check.specs.Judged.{IsJudged};
 ghost use Rattle.rng_tool.specs.LoadOutcome.{IsLoad, IsSmall, LoadEnds, LoadOf, data_len, load_line};
@@ -35,7 +35,7 @@ pub(crate) struct Load {
     pub(crate) events: u32,
 }
 
-/// The load of the words, if they name one.
+/// The load that the words name, if they name one.
 pub(crate) fn load_of(words: &[String]) -> Option<Load>
     ensures found { IfSome result (λ load. IsLoad words.now load.start load.callers load.events) }
     ensures only { (start callers events : ℕ) → IsLoad words.now start callers events
@@ -72,7 +72,7 @@ fn load_line(callers: u32, events: u64, bytes: u64, verdict: Verdict) -> ShortLi
     line
 }
 
-// How many events a script has.
+// The number of events in a script.
 fn event_count(script: &Script) -> u64
     requires { WellFormed script.now }
     ensures { result ≡ sum_by length script.now.callers }
@@ -119,7 +119,7 @@ fn shown_len(transcript: &Transcript) -> u64
     sum
 }
 
-// The line that sums up any transcript of a script, with the verdict on it.
+// The line that sums up a transcript of a script, lawful or not, with the verdict on it.
 fn checked_line(
     alloc: Global,
     callers: u32,
@@ -136,7 +136,7 @@ fn checked_line(
     Ok(line)
 }
 
-// The line of a load that was run and checked.
+// Runs a load, checks its transcript, and returns the line that sums it up.
 fn summary<R: Threads + Wait + Sync, G: Gate>(
     rt: &R,
     alloc: Global,

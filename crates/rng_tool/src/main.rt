@@ -12,6 +12,7 @@ ghost use Rattle.std.specs.Prelude.{◌≡◌, ◌⊎◌, ℕ, List, Option};
 ghost use Rattle.io_edges.specs.Faults.{Rose};
 ghost use Rattle.rng_tool.specs.Commands.{IsNoForm, TakesInput};
 ghost use Rattle.rng_tool.specs.JudgeOutcome.{IsJudge, JudgeEnds};
+ghost use Rattle.rng_tool.specs.LiveOutcome.{IsLive, LiveEnds};
 ghost use Rattle.rng_tool.specs.Outcome.{IsRun, RunEnds};
 
 mod alone;
@@ -21,10 +22,13 @@ mod draw;
 mod failing;
 mod feed;
 mod judge;
+mod live;
 mod load;
 mod rerun;
 mod run;
 mod run_script;
+mod stop;
+mod teller;
 #[cfg(test)]
 mod tests;
 mod told;
@@ -45,7 +49,7 @@ use tool_ends::{Status, words};
 /// How many bytes of output are gathered to one write.
 const GATHERED: usize = 64 * 1024;
 
-/// The most bytes of a script: 16 MiB. Of a run all of it is kept, to show the line of a fault.
+/// The most bytes of a script: 16 MiB. Of a run or a session all of it is kept, to show the line of a fault.
 const MOST_OF_RUN: usize = 16 * 1024 * 1024;
 
 /// The most bytes of a script and its transcript that are kept, to find the line at which a clause fails: 4 MiB.
@@ -54,14 +58,14 @@ const MOST_OF_PAIR: usize = 4 * 1024 * 1024;
 // How many bytes of the input are kept for these words (tested).
 fn most_kept(words: &[String]) -> usize {
     match words {
-        [word] if word.as_str() == "run" => MOST_OF_RUN,
+        [word] if word.as_str() == "run" || word.as_str() == "live" => MOST_OF_RUN,
         _ => MOST_OF_PAIR,
     }
 }
 
 /// Runs the command of the words over this source, and gathers its output for the writer. Returns the status, and the
 /// reason in a short answer (tested).
-#[tactic(auto, using(crate::proofs::Unread::unread_judge, crate::proofs::Unread::unread_run))]
+#[tactic(auto, using(crate::proofs::Unread::unread_judge, crate::proofs::Unread::unread_live, crate::proofs::Unread::unread_run))]
 fn run_gathered<R: Threads + Wait + Sync, S: Source, O: Write + Drop>(
     rt: &R,
     alloc: Global,
@@ -75,6 +79,8 @@ fn run_gathered<R: Threads + Wait + Sync, S: Source, O: Write + Drop>(
     ensures read_fault { result.0 ≡ Status.ReadFault → Rose (S.faults source.old) (S.faults source.new) }
     ensures ran { IsRun words.now → (held : Option (List ℕ)) × (held_after : Option (List ℕ))
         × RunEnds result.0 (S.left source.old) (S.left source.new) held held_after }
+    ensures lived { IsLive words.now → (held : Option (List ℕ)) × (held_after : Option (List ℕ))
+        × LiveEnds result.0 (S.left source.old) (S.left source.new) held held_after }
     ensures judged { (judge : Judge) → IsJudge words.now judge → (held : Option (List ℕ)) × (held_after : Option (List ℕ))
         × JudgeEnds judge result.0 (S.left source.old) (S.left source.new) held held_after }
     ensures verdict { result.0 ≡ Status.No → (judge : Judge) × IsJudge words.now judge }
@@ -84,7 +90,7 @@ fn run_gathered<R: Threads + Wait + Sync, S: Source, O: Write + Drop>(
     };
     let mut sink = TeeSink::of(StdSink::of(output));
     let status = run(rt, alloc, words, source, &mut sink, &OpenGate);
-    (status, reason_of(sink.front()))
+    (status, reason_of(sink.last()))
 }
 
 fn main(rt: HostRuntime) -> ExitCode {

@@ -1,4 +1,4 @@
-//! A second run of a script that is checked.
+//! A second run of a script, for the check of a transcript.
 ghost use Rattle.std.specs.Prelude.{◌≡◌};
 ghost use Rattle.key_names.specs.Texts.TranscriptGrammar.{transcript_text};
 ghost use Rattle.rng_tool.specs.Outcome.{RunOf};
@@ -14,9 +14,9 @@ use std::thread::Threads;
 use tool_ends::maker::Maker;
 use transcript_text::Transcript;
 
-/// Makes a run of the script if the command is `check` and the script has one caller, since the text of each such run
-/// is the same. A run's output is the text of a lawful transcript, and so need not be read. If there is no memory for
-/// the run, none is made.
+/// Makes a run of the script if the command is `check` and the script has a single caller, since all of its runs have
+/// the same text. A run's output is the text of a lawful transcript, so a text that equals it need not be read. If
+/// there is no memory for the run, none is made.
 #[derive(Drop)]
 pub(crate) struct Rerun<'a, R: Threads + Wait + Sync> {
     pub(crate) rt: &'a R,

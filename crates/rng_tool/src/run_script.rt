@@ -57,7 +57,7 @@ fn run_script<R: Threads + Wait + Sync, K: Sink, G: Gate>(
         Ok(None) => return run_together(rt, alloc, script, sink, gate),
         Err(_) => return Status::NoMemory,
     };
-    match write_alone(rt, run, sink, gate) {
+    match write_alone(rt, run, script.events(0), sink, gate) {
         Ok(()) => Status::Done,
         Err(Failed) => Status::WriteFault,
     }

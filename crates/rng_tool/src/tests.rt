@@ -231,6 +231,79 @@ fn a_sink_that_fails_at_each_call(rt: HostRuntime) -> Result<(), Fail> {
     Ok(())
 }
 
+// The first lines of a text.
+fn first_lines(text: &[u8], lines: usize) -> &[u8] {
+    let mut ends = 0;
+    for (place, byte) in text.iter().enumerate() {
+        if *byte == b'\n' {
+            ends += 1;
+            if ends == lines {
+                let (front, _) = text.split_at(place + 1);
+                return front;
+            }
+        }
+    }
+    b""
+}
+
+// One byte a call. After line 3 there is a line for each event that was read, and after the last line all of them.
+#[test]
+fn a_session_whose_source_fails_at_each_call(rt: HostRuntime) -> Result<(), Fail> {
+    let calls = READY_SCRIPT.len() as u64 + 1;
+    for failing_take in 1..=calls {
+        let edges = Edges {
+            failing_take,
+            ..SMALL
+        };
+        let (ended, sink) = run_over(&rt, rt.alloc(), &["live"], READY_SCRIPT, edges, &OpenGate)?;
+        let (read, _) = READY_SCRIPT.split_at(failing_take as usize - 1);
+        let lines = read.iter().filter(|byte| **byte == b'\n').count();
+        let told = match lines {
+            0..=2 => 0,
+            12 => 11,
+            _ => lines - 2,
+        };
+        assert_eq!(rt; ended, Status::ReadFault, "call {failing_take}");
+        assert_eq!(rt;
+            sink.held(),
+            first_lines(READY_TRANSCRIPT, told),
+            "call {failing_take}"
+        );
+    }
+    Ok(())
+}
+
+// One byte a call, and the flushes fail after all was put.
+#[test]
+fn a_session_whose_sink_fails_at_each_call(rt: HostRuntime) -> Result<(), Fail> {
+    for puts in 0..=READY_TRANSCRIPT.len() {
+        let edges = Edges {
+            failing_put: puts as u64 + 1,
+            ..SMALL
+        };
+        let (ended, sink) = run_over(&rt, rt.alloc(), &["live"], READY_SCRIPT, edges, &OpenGate)?;
+        let wanted = if puts < READY_TRANSCRIPT.len() {
+            Status::WriteFault
+        } else {
+            Status::Done
+        };
+        assert_eq!(rt; ended, wanted, "{puts} puts");
+        assert_eq!(rt;
+            Some(sink.held()),
+            READY_TRANSCRIPT.get(..puts),
+            "{puts} puts"
+        );
+    }
+    let edges = Edges {
+        flush_fails: true,
+        ..WHOLE
+    };
+    let (ended, sink) = run_over(&rt, rt.alloc(), &["live"], READY_SCRIPT, edges, &OpenGate)?;
+    assert_eq!(rt; ended, Status::WriteFault);
+    assert_eq!(rt; sink.held(), READY_TRANSCRIPT);
+    Ok(())
+}
+
 // The ends of the pieces in which a sink takes a text: each line in its own put, and at most `step` bytes a call.
 fn piece_ends(alloc: Global, text: &[u8], step: usize) -> Result<Vec<usize>, AllocError> {
     let mut ends = Vec::new(alloc);
@@ -306,7 +379,7 @@ impl Gate for Counter {
 // A command that wrote its line without its calls or samples would come to the gate less often.
 #[test]
 fn the_gate_is_called_before_each_event(rt: HostRuntime) -> Result<(), Fail> {
-    let rows: [(&[&str], &[u8], u64, Status, u64); 6] = [
+    let rows: [(&[&str], &[u8], u64, Status, u64); 9] = [
         (&["run"], READS_SCRIPT, 0, Status::Done, 5),
         (&["run"], READS_SCRIPT, 1, Status::ReadFault, 0),
         (
@@ -316,6 +389,9 @@ fn the_gate_is_called_before_each_event(rt: HostRuntime) -> Result<(), Fail> {
             Status::Refused,
             0,
         ),
+        (&["live"], READY_SCRIPT, 0, Status::Done, 8),
+        (&["live"], READY_SCRIPT, 2, Status::ReadFault, 8),
+        (&["live"], READS_SCRIPT, 0, Status::Refused, 1),
         (&["load", "1", "1", "8"], b"", 0, Status::Done, 10),
         (&["load", "1", "8", "400"], b"", 0, Status::Done, 3216),
         (&["feed", "1", "4", "1000"], b"", 0, Status::Done, 4000),

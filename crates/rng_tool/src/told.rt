@@ -3,6 +3,8 @@
 
 use crate::command::USAGE;
 use crate::failing::{clause_name, failing_line};
+use crate::stop::not_alone_line;
+use event_script::numbers::number_up_to;
 use io_edges::Source;
 use key_names::{FaultKind, ScriptFault};
 use std::alloc::Global;
@@ -13,19 +15,38 @@ use tool_ends::tee::TeeSource;
 /// The most bytes of a line that are shown.
 pub(crate) const MOST_SHOWN: usize = 80;
 
-/// The reason in a short answer: the fault of a script, or the clause that a transcript fails.
+/// Kind 13 in words, which only a session has.
+const NOT_ALONE: &str = "a session has one caller, who forks nobody and acts inside no call";
+
+/// The reason in a short answer: the fault of a script, the line of an event that no session takes, or the clause that a
+/// transcript fails.
 #[derive(Clone, Copy)]
 pub(crate) enum Why {
     Fault(ScriptFault),
+    NotAlone(u32),
     Clause(u8),
     /// It is no such answer.
     Unsaid,
 }
 
-/// The reason in this front of an answer (tested).
+// The number in the refusal of an event that no session takes.
+fn not_alone_in(answer: &[u8]) -> Option<u32> {
+    let word = answer.split(|byte| *byte == b' ').nth(1)?;
+    let number = number_up_to(u64::from(u32::MAX), word)? as u32;
+    if not_alone_line(number).as_str().as_bytes() == answer {
+        Some(number)
+    } else {
+        None
+    }
+}
+
+/// The reason in the last line of an output (tested).
 pub(crate) fn reason_of(answer: &[u8]) -> Why {
     if let Some(fault) = fault_in(answer) {
         return Why::Fault(fault);
+    }
+    if let Some(number) = not_alone_in(answer) {
+        return Why::NotAlone(number);
     }
     match clause_in(answer) {
         Some(clause) => Why::Clause(clause),
@@ -62,9 +83,14 @@ pub(crate) fn shown_line(line: &[u8]) -> Option<&str> {
     str::from_utf8(line).ok()
 }
 
-fn tell_fault<R: Eprint, S: Source + Drop>(rt: &R, fault: ScriptFault, input: &TeeSource<S>) {
-    let ScriptFault { line, kind } = fault;
-    let (number, name) = (kind.number(), name_of(kind));
+// Writes the line of a script that was refused, with the kind of its fault.
+fn tell_line<R: Eprint, S: Source + Drop>(
+    rt: &R,
+    line: u32,
+    number: u8,
+    name: &str,
+    input: &TeeSource<S>,
+) {
     let _told = match input.line(line).and_then(shown_line) {
         Some(text) => eprintln!(rt; "rng: line {line}, kind {number}, {name}: {text}"),
         None => eprintln!(rt; "rng: line {line}, kind {number}, {name}"),
@@ -97,7 +123,10 @@ fn tell_clause<R: Eprint, S: Source + Drop>(
 // Writes the reason why an input was refused, or the line at which a transcript fails.
 fn tell_why<R: Eprint, S: Source + Drop>(rt: &R, alloc: Global, why: Why, input: &TeeSource<S>) {
     match why {
-        Why::Fault(fault) => tell_fault(rt, fault, input),
+        Why::Fault(ScriptFault { line, kind }) => {
+            tell_line(rt, line, kind.number(), name_of(kind), input);
+        }
+        Why::NotAlone(line) => tell_line(rt, line, 13, NOT_ALONE, input),
         Why::Clause(clause) => tell_clause(rt, alloc, clause, input),
         Why::Unsaid => {}
     }

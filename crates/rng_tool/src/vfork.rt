@@ -15,7 +15,7 @@ use std::sync::Wait;
 use tool_ends::numbers::Form;
 use tool_ends::{Status, put_answer};
 
-/// The most bytes that each end gives.
+/// The most bytes that each end of the fork gives out.
 const MOST_BYTES: u32 = 1 << 20;
 
 const PARENT: &[u8] = b"parent ";
@@ -30,7 +30,7 @@ pub(crate) struct Vfork {
     pub(crate) len: u32,
 }
 
-/// The attempt of this number.
+/// The attempt with this number.
 fn attempt_of(number: u32) -> Turn
     requires { (1 ≤ number) × (number ≤ 2) }
     ensures { turn_number result ≡ number }
@@ -41,7 +41,7 @@ fn attempt_of(number: u32) -> Turn
     }
 }
 
-/// The fork of the words, if they name one.
+/// The fork that the words name, if they name one.
 #[tactic(auto, using(crate::proofs::VforkWords::point_range, crate::proofs::VforkWords::turn_range, key_names::proofs::Points::numbered, key_names::proofs::Points::point_again))]
 pub(crate) fn vfork_of(words: &[String]) -> Option<Vfork>
     ensures found { IfSome result (λ vfork. IsVfork words.now vfork.point vfork.attempt vfork.len) }
@@ -63,7 +63,7 @@ pub(crate) fn vfork_of(words: &[String]) -> Option<Vfork>
     })
 }
 
-// Writes the line of an end: its name, and its bytes in hex.
+// Writes the line of one end of a fork: its name, and its bytes in hex.
 fn write_end(out: &mut [u8], name: &[u8], bytes: &[u8])
     requires fits { length out.old ≡ length name.now + 2 * length bytes.now + 1 }
     requires short { length bytes.now ≤ 2 ^ 20 }
@@ -78,7 +78,7 @@ fn write_end(out: &mut [u8], name: &[u8], bytes: &[u8])
     };
 }
 
-// The lines of a fork that was made. Their memory is taken first.
+// Forks inside a call, and returns the line of each end. Memory for the lines is taken before the fork.
 fn lines_of<R: Wait>(rt: &R, alloc: Global, vfork: Vfork) -> Result<Vec<u8>, NoMemory>
     requires { IsSmallVfork vfork }
     ensures { IfOk result (λ text. VforkOf vfork.point vfork.attempt vfork.len text.items) }

@@ -4,9 +4,9 @@ use Rattle.std.proofs.Math.Nat.{pow-suc}
 use Rattle.std.proofs.lemmas.Int.Digits.{length-digits_of_step}
 use Rattle.std.proofs.lemmas.Nat.{leading_length, pow_pos}
 use Rattle.std.specs.Int.Count.{count_leading_zeros}
-use Rattle.key_names.specs.InputTimer.{binary_digits}
+use Rattle.key_names.specs.Kernel.InputTimer.{binary_digits}
 
--- a number between two powers of two
+-- a number n has m binary digits if n is below 2^m and 2 n + 1 is not
 pub binary_digits-between : (m n : ℕ) → n < 2 ^ m → 2 ^ m ≤ 2 * n + 1 → binary_digits n ≡ m
 binary_digits-between zero zero below above = refl
 binary_digits-between zero (suc n) below above = absurd (omega arith)
@@ -16,7 +16,7 @@ binary_digits-between (suc m) n below above =
     let half = binary_digits-between m (n / 2) (omega (arith, power)) (omega (arith, power)) in
     omega (arith, length-digits_of_step 2 n (omega arith) some, half)
 
--- k digits without the leading zeros are the binary digits
+-- a number below 2^k has k binary digits, less the leading zeros of its k digits
 pub binary_digits-leading : (k n : ℕ) → n < 2 ^ k → k - count_leading_zeros k n ≡ binary_digits n
 binary_digits-leading k n fits =
     let found = leading_length k n fits in

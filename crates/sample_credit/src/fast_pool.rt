@@ -1,7 +1,7 @@
 //! A CPU's fast pool. Interrupts are mixed into it until there are enough of them for the input pool.
 
 ghost use Rattle.std.specs.Prelude.{◌≡◌};
-ghost use Rattle.key_names.specs.FastPool.{dump_bits, dump_bytes, fast_start, fast_step, makes_due, sip_round, word_mixed};
+ghost use Rattle.key_names.specs.Kernel.FastPool.{dump_bits, dump_bytes, fast_start, fast_step, makes_due, sip_round, word_mixed};
 ghost use Rattle.key_names.specs.declared.entries.CpuEntry.TheVariants.{Irq, Dump as Dumped, Online};
 
 use byteorder::{ByteOrder, LittleEndian};
@@ -27,7 +27,7 @@ struct Words {
 }
 
 impl Model for Words {
-    ghost use Rattle.key_names.specs.FastPool.{FastWords};
+    ghost use Rattle.key_names.specs.Kernel.FastPool.{FastWords};
 
     ghost Value = { FastWords };
 
@@ -98,7 +98,7 @@ pub struct FastPool {
 }
 
 impl Model for FastPool {
-    ghost use Rattle.key_names.specs.FastPool.{FastPool as FastPoolState};
+    ghost use Rattle.key_names.specs.Kernel.FastPool.{FastPool as FastPoolState};
 
     ghost Value = { FastPoolState };
 

@@ -2,7 +2,7 @@
 
 ghost use Rattle.std.specs.Prelude.{◌≡◌, ◌≢◌, ◌↔◌, ◌/◌, ◌%◌, ◌^◌, ◌<◌, ◌++◌, IsTrue, min, nat_abs};
 ghost use Rattle.std.specs.Int.{w32, w64, to_le_bytes};
-ghost use Rattle.key_names.specs.InputTimer.{binary_digits, input_number, input_timer_after, timer_bits, timer_start};
+ghost use Rattle.key_names.specs.Kernel.InputTimer.{binary_digits, input_number, input_timer_after, timer_bits, timer_start};
 
 use std::marker::Model;
 

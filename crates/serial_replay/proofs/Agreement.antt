@@ -1,32 +1,31 @@
--- The clauses on answers and data hold exactly if the lines agree with the made ones.
+-- The clauses on answers and data hold exactly if the lines agree with the lines that were made.
 use Rattle.std.proofs.Common.{◌≡◌, ℕ, zero, suc, ◌+◌, ◌<◌, Option, Some, List, [], ◌∷◌, length, sym, subst, ap, ◌∙◌, arith}
 use Rattle.std.specs.Prelude.{◌↔◌, ⊤, slice_get}
 use Rattle.std.specs.List.{AllByRecursion}
 use Rattle.key_names.specs.declared.events.Event.{Event}
-use Rattle.key_names.specs.Book.{list_at}
-use Rattle.key_names.specs.Calls.{Call, alone, vread_call, unbound, ending, BoundAct, calls_of, all_calls}
-use Rattle.key_names.specs.Meaning.{LineMeaning, CallMeaning}
+use Rattle.key_names.specs.Lanes.Book.{list_at}
+use Rattle.key_names.specs.Callers.Calls.{Call, alone, vread_call, unbound, ending, BoundAct, calls_of, all_calls}
+use Rattle.key_names.specs.Callers.Meaning.{LineMeaning, CallMeaning}
 use Rattle.key_names.specs.Texts.ScriptGrammar.{Script}
-use Rattle.key_names.specs.SeenLine.{SeenLine}
-use Rattle.key_names.specs.IsTranscript.{LinesFit, HasLines, EachCaller, EachAct, EachOfCall, EachLine, script_calls}
-use Rattle.key_names.specs.IsTranscript.{AnswersStand, DataStand}
+use Rattle.key_names.specs.Transcripts.SeenLine.{SeenLine}
+use Rattle.key_names.specs.Transcripts.IsTranscript.{LinesFit, HasLines, EachCaller, EachAct, EachOfCall, EachLine, script_calls}
+use Rattle.key_names.specs.Transcripts.IsTranscript.{AnswersStand, DataStand}
 use Rattle.key_names.proofs.Unique.UniqueMeanings.{OfCall}
 use Rattle.key_names.proofs.Unique.UniqueLines.{Covers, calls_cover}
-use Rattle.caller_answers.specs.declared.said.Said.{Said}
-use Rattle.caller_answers.specs.Said.{shown_by, NotedAt, SaysIt, itself}
+use Rattle.judge_log.specs.declared.said.Said.{Said}
+use Rattle.judge_log.specs.Said.{shown_by, NotedAt, SaysIt, itself}
 use Rattle.serial_replay.specs.Agreement.{Agrees, AllAgree, SameAnswer, SameShown}
 use Rattle.serial_replay.specs.Remade.{said_of_caller}
 
 pub some_one : {X : Type 0} (o : Option X) (a b : X) → o ≡ Some a → o ≡ Some b → a ≡ b
 some_one o a b p q = cc
 
--- a fact of the lines of each caller
+-- each caller's lines have the property Is
 abbrev pub AllAre : (ℕ → SeenLine → Type 0) → ℕ → List (List SeenLine) → Type 0
 AllAre Is c [] = ⊤
 AllAre Is c (lines ∷ t) = AllByRecursion (Is c) lines × AllAre Is (suc c) t
 
--- a line has its meaning's answer or data exactly if it agrees with its note; the proof may use that Is holds of each
--- line
+-- a line has its meaning's answer or data exactly if it agrees with its note, provided that Is holds of the line
 module _ {Noted : Type 0} (IsNoted : ℕ → ℕ → Said → Noted → Type 0) (Same : SeenLine → Noted → Type 0)
     (Means : SeenLine → LineMeaning → Type 0) (Is : ℕ → SeenLine → Type 0)
     (means_same : (c : ℕ) (notes : List Noted) (line : SeenLine) (m : LineMeaning) → Is c line →
@@ -118,7 +117,7 @@ module _ {Noted : Type 0} (IsNoted : ℕ → ℕ → Said → Noted → Type 0) 
           first here rest (suc d) low =
               subst (λ n. AllByRecursion (Agrees Same (notes n)) (list_at t d)) (omega arith) (rest d (omega arith))
 
-    -- for all lines of a transcript
+    -- the equivalence holds for all lines of a transcript
     pub all_both : (script : Script) (t : List (List SeenLine)) (mss : List (List CallMeaning)) (notes : List (List Noted)) →
         HasLines script t → AllAre Is 0 t →
         EachCaller (λ c calls ms. EachLine (SaysIt (said_of_caller IsNoted notes c)) calls ms) 0 (script_calls script t) mss →

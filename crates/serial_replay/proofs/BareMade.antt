@@ -1,29 +1,29 @@
--- The results for bare lines are those for the lines themselves.
+-- The results for bare lines are those for the lines that they come from.
 use Rattle.std.proofs.Common.{◌≡◌, ℕ, suc, List, [], ◌∷◌, map, sym, subst, ap, ◌∙◌}
 use Rattle.std.specs.Prelude.{Result, Ok, Err, IfOk}
 use Rattle.key_names.specs.Texts.TranscriptGrammar.{StepFits, LineFits}
 use Rattle.std.specs.List.{AllByRecursion}
 use Rattle.std.proofs.lemmas.List.{length-map}
 use Rattle.key_names.specs.declared.names.Step.{Step}
-use Rattle.key_names.specs.BaseList.{base_after}
-use Rattle.key_names.specs.Book.{Book, lists_of}
-use Rattle.key_names.specs.Calls.{Call, alone, vread_call, unbound, ending, BoundAct}
-use Rattle.key_names.specs.Deeds.{deeds_of}
-use Rattle.key_names.specs.History.{LooksStand, caller_orders}
-use Rattle.key_names.specs.Meaning.{LineMeaning, CallMeaning}
+use Rattle.key_names.specs.Lanes.BaseList.{base_after}
+use Rattle.key_names.specs.Lanes.Book.{Book, lists_of}
+use Rattle.key_names.specs.Callers.Calls.{Call, alone, vread_call, unbound, ending, BoundAct}
+use Rattle.key_names.specs.Callers.Deeds.{deeds_of}
+use Rattle.key_names.specs.Callers.History.{LooksStand, caller_orders}
+use Rattle.key_names.specs.Callers.Meaning.{LineMeaning, CallMeaning}
 use Rattle.key_names.specs.Texts.ScriptGrammar.{Script}
-use Rattle.key_names.specs.SeenLine.{SeenLine}
-use Rattle.key_names.specs.SameSteps.{bare, SameSteps}
-use Rattle.key_names.specs.IsTranscript.{EachCaller, EachAct, EachOfCall, EachLine, script_calls, SeenStands}
-use Rattle.key_names.specs.IsTranscript.{FirstFails}
-use Rattle.line_orders.specs.Clauses.{clause_of}
-use Rattle.line_orders.specs.declared.clause.Clause.{Clause}
-use Rattle.line_orders.specs.declared.clause.Clause.TheVariants.{Lines, Marks, Forms}
+use Rattle.key_names.specs.Transcripts.SeenLine.{SeenLine}
+use Rattle.key_names.specs.Transcripts.SameSteps.{bare, SameSteps}
+use Rattle.key_names.specs.Transcripts.IsTranscript.{EachCaller, EachAct, EachOfCall, EachLine, script_calls, SeenStands}
+use Rattle.key_names.specs.Transcripts.IsTranscript.{FirstFails}
+use Rattle.judge_lines.specs.Clauses.{clause_of}
+use Rattle.judge_lines.specs.declared.clause.Clause.{Clause}
+use Rattle.judge_lines.specs.declared.clause.Clause.TheVariants.{Lines, Marks, Forms}
 use Rattle.key_names.proofs.Unique.BareLines.{bare_act, bare_call, bare_all}
 use Rattle.key_names.proofs.Unique.BareMeanings.{steps_make_the_book}
-use Rattle.line_orders.proofs.BareStands.{lines_both, marks_both, orders_both, same_bare}
-use Rattle.caller_answers.specs.declared.said.Said.{Said}
-use Rattle.caller_answers.specs.Said.{SaysIt}
+use Rattle.judge_lines.proofs.BareStands.{lines_both, marks_both, orders_both, same_bare}
+use Rattle.judge_log.specs.declared.said.Said.{Said}
+use Rattle.judge_log.specs.Said.{SaysIt}
 use Rattle.serial_replay.specs.declared.remake.Made.{Made}
 use Rattle.serial_replay.specs.declared.remake.Remade.{Remade}
 use Rattle.serial_replay.specs.declared.remake.Remade.TheVariants.{Made as MadeAll, No}
@@ -62,7 +62,7 @@ callers_say saids c (calls ∷ callers) [] all = absurd all
 callers_say saids c (calls ∷ callers) (ms ∷ mss) all =
     (calls_say (saids c) calls ms all.0, callers_say saids (suc c) callers mss all.1)
 
--- lines with the same steps have the same lawful looks
+-- if lines have the same steps, their looks are lawful alike
 pub same_looks : (script : Script) (t u : List (List SeenLine)) → SameSteps t u → (one other : Book) → one ≡ other →
     SeenStands script t (lists_of one) ≡ SeenStands script u (lists_of other)
 same_looks script t u same one other books =

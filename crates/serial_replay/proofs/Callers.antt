@@ -2,14 +2,14 @@
 use Rattle.std.proofs.Common.{ℕ, zero, suc, ◌+◌, ◌<◌, List, [], ◌∷◌, length, refl, subst, arith}
 use Rattle.std.specs.List.{AllByRecursion}
 use Rattle.key_names.specs.declared.events.Event.{Event}
-use Rattle.key_names.specs.Book.{Lists, list_at}
-use Rattle.key_names.specs.Calls.{Setting, Call, all_calls}
-use Rattle.key_names.specs.SeenLine.{SeenLine}
+use Rattle.key_names.specs.Lanes.Book.{Lists, list_at}
+use Rattle.key_names.specs.Callers.Calls.{Setting, Call, all_calls}
+use Rattle.key_names.specs.Transcripts.SeenLine.{SeenLine}
 use Rattle.key_names.specs.Texts.TranscriptGrammar.{StepFits}
-use Rattle.key_names.specs.Meaning.{CallMeaning}
-use Rattle.key_names.specs.IsTranscript.{LinesFit, EachCaller, EachLine, CallerMeans}
-use Rattle.caller_answers.specs.declared.said.Said.{Said}
-use Rattle.caller_answers.specs.Said.{SaysIt, IsSaid, AreCallsOf}
+use Rattle.key_names.specs.Callers.Meaning.{CallMeaning}
+use Rattle.key_names.specs.Transcripts.IsTranscript.{LinesFit, EachCaller, EachLine, CallerMeans}
+use Rattle.judge_log.specs.declared.said.Said.{Said}
+use Rattle.judge_log.specs.Said.{SaysIt, IsSaid, AreCallsOf}
 use Rattle.serial_replay.specs.Remade.{MeansSome}
 
 pub each_caller : {A B : Type 0} (P Q : ℕ → A → B → Type 0) → ((c : ℕ) (x : A) (y : B) → P c x y → Q c x y) → (c : ℕ)
@@ -30,7 +30,7 @@ caller_means lists settings c (calls ∷ callers) (ms ∷ mss) all (suc d) low =
     subst (λ n. MeansSome lists (settings n) (list_at callers d)) (omega arith)
     (caller_means lists settings (suc c) callers mss all.1 d (omega arith))
 
--- the meanings, answers and data of all callers
+-- the calls of all callers have meanings, answers and data
 pub record SaidByAll (lists : Lists) (settings : ℕ → Setting) (saids : ℕ → ℕ → Said → Type 0) (c : ℕ)
     (callers : List (List Call)) : Type 0 where
   pub mss : List (List CallMeaning)
@@ -49,7 +49,7 @@ said_by_all lists settings saids c (calls ∷ callers) each =
     (each (suc d) (omega arith))) in
     record { mss = first.meanings ∷ rest.mss; means = (first.mean, rest.means); says = (first.says, rest.says) }
 
--- the events and the lines of a caller's calls
+-- a caller's calls are made of these events and lines
 pub record CallsOf (calls : List Call) : Type 0 where
   pub events : List Event
   pub lines : List SeenLine

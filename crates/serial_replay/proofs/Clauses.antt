@@ -1,9 +1,9 @@
--- A clause of the code is determined by the clause of the definitions that it is.
+-- Equal clauses in the definitions are equal clauses in the code.
 use Rattle.std.proofs.Common.{◌≡◌, refl, sym, ap, ◌∙◌}
-use Rattle.key_names.specs.IsTranscript as laws
-use Rattle.line_orders.specs.Clauses.{clause_of}
-use Rattle.line_orders.specs.declared.clause.Clause.{Clause}
-use Rattle.line_orders.specs.declared.clause.Clause.TheVariants.{Lines, Marks, Forms, Answers, Data, Looks}
+use Rattle.key_names.specs.Transcripts.IsTranscript as laws
+use Rattle.judge_lines.specs.Clauses.{clause_of}
+use Rattle.judge_lines.specs.declared.clause.Clause.{Clause}
+use Rattle.judge_lines.specs.declared.clause.Clause.TheVariants.{Lines, Marks, Forms, Answers, Data, Looks}
 
 abbrev judged_as : laws.Clause → Clause
 judged_as laws.lines_clause = Lines

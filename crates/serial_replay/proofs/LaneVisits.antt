@@ -1,4 +1,4 @@
--- A book from lists and sorted marks: its visits are the marks, each at its place.
+-- A book is made from lists and sorted marks. Its visits are the marks, each at its place.
 use Rattle.std.proofs.Common.{◌≡◌, ℕ, zero, suc, ◌+◌, Bool, true, false, Some, List, [], ◌∷◌, ◌++◌, length, map, refl, sym, subst, ap, ◌∙◌, arith, append_assoc, length-append}
 use Rattle.std.specs.Prelude.{if◌then◌else◌, IsPermutation}
 use Rattle.std.specs.List.{AllByRecursion, sum_by}
@@ -9,14 +9,14 @@ use Rattle.key_names.specs.declared.names.LaneId.{LaneId}
 use Rattle.key_names.specs.declared.names.LaneId.TheVariants.{Pool as PoolLane, Base as BaseLane, Cpu as CpuLane}
 use Rattle.key_names.specs.declared.entries.CpuEntry.{CpuEntry}
 use Rattle.key_names.specs.declared.entries.VEntry.{VEntry}
-use Rattle.key_names.specs.Book.{Book, Visit, Lists, lists_of, entries_of, list_at, cpu_list}
-use Rattle.key_names.specs.IsTranscript.{MarkBy, is_same_lane, lane_marks, stamped, stamped_at, VisitsAre}
-use Rattle.key_names.specs.PlacesInOrder.{InOrder}
+use Rattle.key_names.specs.Lanes.Book.{Book, Visit, Lists, lists_of, entries_of, list_at, cpu_list}
+use Rattle.key_names.specs.Transcripts.IsTranscript.{MarkBy, is_same_lane, lane_marks, stamped, stamped_at, VisitsAre}
+use Rattle.key_names.specs.Transcripts.PlacesInOrder.{InOrder}
 use Rattle.key_names.proofs.Lists.Each.{each_both, each_weaker}
 use Rattle.key_names.proofs.Transcripts.LaneCounts.{lane_itself, same_lane}
 use Rattle.serial_replay.proofs.MarksCounted.{marks_counted}
 
--- the marks of a lane, with the callers that made them
+-- the marks of a lane, each with the caller that made it
 abbrev pub of_lane : LaneId → List MarkBy → List MarkBy
 of_lane lane [] = []
 of_lane lane (by ∷ marks) = if is_same_lane by.mark.lane lane then by ∷ of_lane lane marks else of_lane lane marks
@@ -31,7 +31,7 @@ marks_alone lane (by ∷ marks) = go (is_same_lane by.mark.lane lane) (marks_alo
     go true rest = ap (λ ms. by.mark ∷ ms) rest
     go false rest = rest
 
--- they are of the lane
+-- the marks of a lane are on that lane
 are_there : (lane : LaneId) (marks : List MarkBy) → AllByRecursion (λ by. by.mark.lane ≡ lane) (of_lane lane marks)
 are_there lane [] = tt
 are_there lane (by ∷ marks) = go (is_same_lane by.mark.lane lane) refl (are_there lane marks)
@@ -42,7 +42,7 @@ are_there lane (by ∷ marks) = go (is_same_lane by.mark.lane lane) refl (are_th
     go true is rest = (same_lane by.mark.lane lane is, rest)
     go false is rest = rest
 
--- a fact of each lane's marks is one of all marks
+-- a fact of the marks of each lane holds of all marks
 by_lanes : (P : MarkBy → Type 0) (marks : List MarkBy) → ((lane : LaneId) → AllByRecursion P (of_lane lane marks)) →
     AllByRecursion P marks
 by_lanes P [] each = tt
@@ -78,7 +78,7 @@ at_end : {E : Type 0} (front : List (Visit E)) (v : Visit E) (rest : List (Visit
 at_end [] v rest = refl
 at_end (x ∷ front) v rest = at_end front v rest
 
--- each is at its place
+-- the visit of each mark is at the mark's place
 placed : {E : Type 0} (front : List (Visit E)) (es : List E) (bys : List MarkBy) (i : ℕ) → length front ≡ i →
     InOrder i (map (λ by. by.mark) bys) → length bys ≡ length es →
     AllByRecursion (λ by. stamped (front ++ visits es bys) by.mark.place ≡ Some (by.mark.stamp, by.who)) bys
@@ -129,7 +129,7 @@ module _ (marks : List MarkBy) where
     callers = states;
   }
 
-  -- each lane of the lists has an entry for each of its marks, and the marks are in order
+  -- in the lists, each lane has an entry for each of its marks, and the marks are in order
   pub record Laid (lists : Lists) : Type 0 where
     pub pool : length (lane_marks PoolLane marks) ≡ length lists.pool
     pub base : length (lane_marks BaseLane marks) ≡ length lists.base
@@ -156,7 +156,7 @@ module _ (marks : List MarkBy) where
     cpu_long_0 : (c : ℕ) → length (of_lane (CpuLane (0 + c)) marks) ≡ length (list_at lists.cpus c)
     cpu_long_0 c = ap (λ n. length (of_lane (CpuLane n) marks)) (omega arith) ∙ cpu_long c
 
-    -- the book's lists are the lists
+    -- the lists of the book that is made are the given lists
     pub lists_back : lists_of (book_of lists states) ≡ record lists { callers = states }
     lists_back = λ i. record {
       pool = entries_back lists.pool (of_lane PoolLane marks) pool_long i;

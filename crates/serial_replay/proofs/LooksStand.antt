@@ -1,4 +1,4 @@
--- Looks are lawful by the data kept of the lanes exactly if they are lawful in the lists.
+-- Looks are lawful by the data that are kept of the lanes exactly if they are lawful in the lists.
 use Rattle.std.proofs.Common.{◌≡◌, ℕ, zero, suc, ◌<◌, ◌-◌, Option, Some, None, List, [], ◌∷◌, length, map, max, take, refl, sym, subst, ap, ◌∙◌, arith}
 use Rattle.std.specs.Prelude.{◌↔◌, slice_get, unwrap_or, option_map}
 use Rattle.std.specs.List.{fold, AllByRecursion}
@@ -10,24 +10,24 @@ use Rattle.key_names.specs.declared.names.Step.TheVariants.{Look, Visit as Marke
 use Rattle.key_names.specs.declared.entries.PoolEntry.{PoolEntry}
 use Rattle.key_names.specs.declared.entries.BaseEntry.{BaseEntry}
 use Rattle.key_names.specs.declared.entries.CpuEntry.{CpuEntry}
-use Rattle.key_names.specs.BaseList.{BaseState, base_after, base_step, base_start}
-use Rattle.key_names.specs.Book.{Lists, list_at, cpu_list}
-use Rattle.key_names.specs.KeyInUse.{base_used_at, cpu_used_at}
-use Rattle.key_names.specs.Deeds.{Deed, at_pool, at_base, at_cpu, deed_or, deed_at, deed_of, deeds_of}
-use Rattle.key_names.specs.Deeds.{pool_visit, base_visit, cpu_visit}
-use Rattle.key_names.specs.History.{seen_after, LookStands, LooksStand}
-use Rattle.key_names.specs.CallerOrders.{LooksFrom}
+use Rattle.key_names.specs.Lanes.BaseList.{BaseState, base_after, base_step, base_start}
+use Rattle.key_names.specs.Lanes.Book.{Lists, list_at, cpu_list}
+use Rattle.key_names.specs.Keys.KeyInUse.{base_used_at, cpu_used_at}
+use Rattle.key_names.specs.Callers.Deeds.{Deed, at_pool, at_base, at_cpu, deed_or, deed_at, deed_of, deeds_of}
+use Rattle.key_names.specs.Callers.Deeds.{pool_visit, base_visit, cpu_visit}
+use Rattle.key_names.specs.Callers.History.{seen_after, LookStands, LooksStand}
+use Rattle.key_names.specs.Callers.CallerOrders.{LooksFrom}
 use Rattle.key_names.proofs.History.CallerOrders.{looks_are_counted}
 use Rattle.key_names.proofs.Lists.Each.{each_weaker}
-use Rattle.line_orders.specs.Along.{Along}
-use Rattle.list_replay.specs.declared.kept.KeptBase.{KeptBase}
-use Rattle.list_replay.specs.declared.kept.KeptCpu.{KeptCpu}
-use Rattle.list_replay.specs.declared.kept.Lists.{Lists as KeptLists}
-use Rattle.list_replay.specs.Places.{AllKept}
-use Rattle.list_replay.specs.Kept.{Keeps, KeepsBase, KeepsCpu, KeepsCpuLane}
+use Rattle.judge_lines.specs.Along.{Along}
+use Rattle.judge_log.specs.declared.kept.KeptBase.{KeptBase}
+use Rattle.judge_log.specs.declared.kept.KeptCpu.{KeptCpu}
+use Rattle.judge_log.specs.declared.kept.Lists.{Lists as KeptLists}
+use Rattle.judge_log.specs.Places.{AllKept}
+use Rattle.judge_log.specs.Kept.{Keeps, KeepsBase, KeepsCpu, KeepsCpuLane}
 use Rattle.serial_replay.specs.Seen.{lane_of, left_at, seen_more, seen_behind, MayLook, reseeds_in}
 
--- the data kept of a place, if it has a visit
+-- the data that are kept of the visit at a place
 pub record KeptAt {K E : Type 0} (S : ℕ → K → E → Type 0) (kept : List K) (i : ℕ) (e : E) : Type 0 where
   pub k : K
   pub here : slice_get kept i ≡ Some k
@@ -56,7 +56,7 @@ at_place : {K E : Type 0} (S : ℕ → K → E → Type 0) (kept : List K) (list
     AtPlace S kept i (slice_get list i)
 at_place S kept list i all = kept_there S kept list i all.count (all.each i)
 
--- a lane without a list is empty on both sides
+-- if a lane has no list, both of its lists are empty
 lane_there : {K E : Type 0} (kept : List (List K)) (lists : List (List E)) (c : ℕ) (o : Option (List E)) →
     slice_get lists c ≡ o → length kept ≡ length lists → (S : ℕ → List K → List E → Type 0) →
     AtPlace S kept c o → S c [] [] → S c (list_at kept c) (list_at lists c)
@@ -130,7 +130,7 @@ module _ (kept : KeptLists) (lists : Lists) (keeps : Keeps kept lists) where
   step_left seen (Look g) = refl
   step_left seen (Marked mark) = lane_left seen mark.lane mark.place
 
-  -- a visit is no wrong look
+  -- any visit is lawful as a step, since only looks can be wrong
   visit_stands : {E : Type 0} (reseeds seen : ℕ) (deed : E → Deed) → ((e : E) → LookStands reseeds seen (deed e)) →
       (o : Option E) → LookStands reseeds seen (deed_or deed o)
   visit_stands reseeds seen deed each None = tt
@@ -194,7 +194,7 @@ module _ (kept : KeptLists) (lists : Lists) (keeps : Keeps kept lists) where
       by [] (k ∷ ks) long each = absurd (omega arith)
       by (e ∷ es) ks long each = reseeds_from ks (e ∷ es) base_start 0 long each (omega arith)
 
-  -- all looks of all orders
+  -- by the kept data, all looks of all orders are lawful exactly if they are in the lists
   pub looks_stand : (reseeds : ℕ) → reseeds ≡ reseeds_in kept.base.items → (orders : List (List Step)) →
       AllByRecursion (Along (seen_behind kept) (MayLook reseeds) None) orders
       ↔ AllByRecursion (λ order. LooksStand (base_after lists.base).generation [] (deeds_of lists order)) orders

@@ -1,5 +1,5 @@
--- The book that a transcript's steps make, from the lists that match the inferred entries; without such lists no book
--- is made.
+-- A transcript's steps make a book from the lists that match the inferred entries. If no lists match, they make no
+-- book.
 use Rattle.std.proofs.Common.{◌≡◌, ℕ, Bool, List, [], map, refl, sym, subst, ap, ◌∙◌}
 use Rattle.std.specs.Prelude.{◌↔◌, IsTrue}
 use Rattle.std.specs.List.{AllByRecursion}
@@ -7,37 +7,37 @@ use Rattle.key_names.specs.declared.names.LaneId.{LaneId}
 use Rattle.key_names.specs.declared.names.LaneId.TheVariants.{Pool as PoolLane, Base as BaseLane, Cpu as CpuLane}
 use Rattle.key_names.specs.declared.names.Step.{Step}
 use Rattle.key_names.specs.declared.entries.VEntry.{VEntry}
-use Rattle.key_names.specs.BaseList.{base_after}
-use Rattle.key_names.specs.Book.{Book, Lists, lists_of}
-use Rattle.key_names.specs.Calls.{Call}
-use Rattle.key_names.specs.Deeds.{Deed, deeds_of}
-use Rattle.key_names.specs.History.{LooksStand, caller_orders}
+use Rattle.key_names.specs.Lanes.BaseList.{base_after}
+use Rattle.key_names.specs.Lanes.Book.{Book, Lists, lists_of}
+use Rattle.key_names.specs.Callers.Calls.{Call}
+use Rattle.key_names.specs.Callers.Deeds.{Deed, deeds_of}
+use Rattle.key_names.specs.Callers.History.{LooksStand, caller_orders}
 use Rattle.key_names.specs.Texts.ScriptGrammar.{Script}
-use Rattle.key_names.specs.SeenLine.{SeenLine}
-use Rattle.key_names.specs.IsTranscript.{MadeBook, MarkBy, all_marks, lane_marks, script_calls, start_setting, state_lists}
-use Rattle.key_names.specs.IsTranscript.{CallerMeans, SeenStands}
-use Rattle.key_names.specs.PlacesInOrder.{InOrder}
+use Rattle.key_names.specs.Transcripts.SeenLine.{SeenLine}
+use Rattle.key_names.specs.Transcripts.IsTranscript.{MadeBook, MarkBy, all_marks, lane_marks, script_calls, start_setting, state_lists}
+use Rattle.key_names.specs.Transcripts.IsTranscript.{CallerMeans, SeenStands}
+use Rattle.key_names.specs.Transcripts.PlacesInOrder.{InOrder}
 use Rattle.key_names.proofs.Transcripts.PlacesInOrder.{places_count_up}
-use Rattle.line_orders.specs.declared.begin.Parts.{Parts}
-use Rattle.line_orders.specs.Begun.{PartsStand}
-use Rattle.line_orders.specs.Marks.{seen_mark}
-use Rattle.line_orders.proofs.MarksMoved.{lane_moved, same_long}
-use Rattle.line_orders.proofs.Runs.{lane_sorted}
-use Rattle.list_replay.specs.Tables.{Tables}
-use Rattle.list_replay.specs.Fills.{Fills}
-use Rattle.list_replay.specs.Lawful.{Lawful}
-use Rattle.told_entries.specs.Filled.{AllCallsFill}
-use Rattle.told_entries.specs.Gathered.{IsBookOf, AllMean, IsGathered}
-use Rattle.told_entries.proofs.MadeIsTold.{all_told}
-use Rattle.caller_answers.specs.declared.said.Said.{Said}
-use Rattle.line_orders.specs.declared.clause.Clause.TheVariants.{Forms}
+use Rattle.judge_lines.specs.declared.begin.Parts.{Parts}
+use Rattle.judge_lines.specs.Begun.{PartsStand}
+use Rattle.judge_lines.specs.Marks.{seen_mark}
+use Rattle.judge_lines.proofs.MarksMoved.{lane_moved, same_long}
+use Rattle.judge_lines.proofs.Runs.{lane_sorted}
+use Rattle.judge_log.specs.Tables.{Tables}
+use Rattle.judge_log.specs.Fills.{Fills}
+use Rattle.judge_log.specs.Lawful.{Lawful}
+use Rattle.judge_log.specs.Filled.{AllCallsFill}
+use Rattle.judge_log.specs.Gathered.{IsBookOf, AllMean, IsGathered}
+use Rattle.judge_log.proofs.Tables.MadeIsTold.{all_told}
+use Rattle.judge_log.specs.declared.said.Said.{Said}
+use Rattle.judge_lines.specs.declared.clause.Clause.TheVariants.{Forms}
 use Rattle.serial_replay.specs.Remade.{FailsEarly}
 use Rattle.serial_replay.proofs.Callers.{each_caller, SaidByAll}
 use Rattle.serial_replay.proofs.LaneVisits.{Laid, book_of, lists_back, as_many_cpus, visits_are}
 use Rattle.serial_replay.proofs.StatesAside.{aside, deeds_same, fills_aside, lawful_aside, means_aside}
 
 module _ (script : Script) (t : List (List SeenLine)) (parts : Parts) (stand : PartsStand script t parts) where
-  -- the forms fail first if no book is made
+  -- if the steps make no book, the clause on forms fails first
   pub stops : (MadeBook script t → ⊥) → FailsEarly script t Forms
   stops none = record {
     early = tt;
@@ -58,7 +58,7 @@ module _ (script : Script) (t : List (List SeenLine)) (parts : Parts) (stand : P
     book_is : (made : MadeBook script t) → IsBookOf script t made.book
     book_is made = record { cpus = made.forms.cpus; visits = made.forms.visits }
 
-    -- the lists of a book that is made match the inferred entries and are lawful
+    -- if the steps make a book, its lists match the inferred entries and are lawful
     pub made_fills : (made : MadeBook script t) → Fills told (lists_of made.book)
     made_fills made = (gathered.fills made.book (book_is made)).0
         (all_told script t made.book made.meanings made.lines made.forms.callers made.forms.lanes
@@ -139,7 +139,7 @@ module _ (script : Script) (t : List (List SeenLine)) (parts : Parts) (stand : P
         abbrev Of : ℕ → (List Step → List Deed) → Type 0
         Of n deeds = AllByRecursion (λ order. LooksStand n [] (deeds order)) (caller_orders calls)
 
-        -- the book, with its meanings and the result for its looks
+        -- the book with its meanings, and whether its looks are lawful
         pub record OfLists : Type 0 where
           pub made : MadeBook script t
           pub meanings : made.meanings ≡ said.mss

@@ -6,8 +6,8 @@ use Rattle.std.proofs.lemmas.List.Sums.{sum_by-cons}
 use Rattle.std.proofs.lemmas.Bool.Decides.{nat_tests}
 use Rattle.key_names.specs.declared.names.LaneId.{LaneId}
 use Rattle.key_names.specs.declared.names.LaneId.TheVariants.{Pool as PoolLane, Base as BaseLane, Cpu as CpuLane}
-use Rattle.key_names.specs.Book.{list_at}
-use Rattle.key_names.specs.IsTranscript.{MarkBy, is_same_lane, lane_marks}
+use Rattle.key_names.specs.Lanes.Book.{list_at}
+use Rattle.key_names.specs.Transcripts.IsTranscript.{MarkBy, is_same_lane, lane_marks}
 use Rattle.key_names.proofs.History.SortedVisits.{one_if}
 use Rattle.key_names.proofs.Lists.ListFacts.{list_beyond}
 
@@ -16,7 +16,7 @@ abbrev on_cpus : ℕ → ℕ → List MarkBy → ℕ
 on_cpus c zero marks = 0
 on_cpus c (suc n) marks = length (lane_marks (CpuLane c) marks) + on_cpus (suc c) n marks
 
--- a mark of CPU e is counted once, if e is one of them
+-- a mark of CPU e counts once if e is one of the n CPUs from c on, and otherwise not
 abbrev one_of : ℕ → ℕ → ℕ → ℕ
 one_of c zero e = 0
 one_of c (suc n) e = one_if (e == c) + one_of (suc c) n e
@@ -69,7 +69,7 @@ one_among c (suc n) e from low = go (e == c) refl (λ above. one_among (suc c) n
         let here : one_if (e == c) ≡ 0 = ap one_if is in
         let rest : one_of (suc c) n e ≡ 1 = later above in omega arith
 
--- a visited CPU exists
+-- if the lane is a CPU's, its number is below n
 abbrev IsThere : ℕ → LaneId → Type 0
 IsThere n PoolLane = 0 ≤ n
 IsThere n BaseLane = 0 ≤ n
@@ -116,7 +116,7 @@ all_counted n (by ∷ marks) all = go by.mark.lane refl all.0 (all_counted n mar
         let one : one_of 0 n c ≡ 1 = one_among 0 n c (omega arith) (omega arith) in
         let z : on_cpus 0 n (by ∷ marks) ≡ one_of 0 n c + on_cpus 0 n marks = cpu_more 0 n c by marks is in omega arith
 
--- all marks are of existing CPUs, if the others have none
+-- if no CPU from n on has a mark, the CPU of each mark is below n
 below_all : (n : ℕ) (marks : List MarkBy) → ((c : ℕ) → n ≤ c → length (lane_marks (CpuLane c) marks) ≡ 0) →
     AllByRecursion (λ by. IsThere n by.mark.lane) marks
 below_all n [] none = tt

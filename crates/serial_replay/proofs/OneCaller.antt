@@ -1,4 +1,4 @@
--- One caller's calls and settings, by its number.
+-- The calls and settings of one caller, by its number.
 use Rattle.std.proofs.Common.{◌≡◌, ℕ, zero, suc, ◌+◌, ◌<◌, Some, List, [], ◌∷◌, ◌++◌, length, get_or, map, sym, subst, ap, ◌∙◌, arith}
 use Rattle.std.specs.Prelude.{slice_get}
 use Rattle.std.specs.List.{AllByRecursion}
@@ -6,19 +6,19 @@ use Rattle.std.specs.Global.{Vec}
 use Rattle.std.proofs.lemmas.List.{map-append, length-map}
 use mathlib.Core.Logic.{dite}
 use native.Mathlib.Decide.{ℕ_discrete}
-use Rattle.key_names.specs.Book.{Lists, list_at}
-use Rattle.key_names.specs.Calls.{Setting, Call}
-use Rattle.key_names.specs.IsTranscript.{start_setting, script_calls}
+use Rattle.key_names.specs.Lanes.Book.{Lists, list_at}
+use Rattle.key_names.specs.Callers.Calls.{Setting, Call}
+use Rattle.key_names.specs.Transcripts.IsTranscript.{start_setting, script_calls}
 use Rattle.key_names.specs.Texts.ScriptGrammar.{Script}
-use Rattle.key_names.specs.SeenLine.{SeenLine}
+use Rattle.key_names.specs.Transcripts.SeenLine.{SeenLine}
 use Rattle.key_names.proofs.History.CallerOrders.{list_front, list_last}
 use Rattle.key_names.proofs.Lists.ListFacts.{at_list}
-use Rattle.line_orders.specs.declared.called.Called.{Called}
-use Rattle.line_orders.specs.Called.{seen_call, seen_calls}
-use Rattle.line_orders.specs.Settings.{settings_from}
-use Rattle.line_orders.proofs.SettingsFound.{list_found}
-use Rattle.caller_answers.specs.declared.said.Said.{Said}
-use Rattle.caller_answers.specs.Said.{NotedAt, CallInRange, IsSaid}
+use Rattle.judge_lines.specs.declared.called.Called.{Called}
+use Rattle.judge_lines.specs.Called.{seen_call, seen_calls}
+use Rattle.judge_lines.specs.Settings.{settings_from}
+use Rattle.judge_lines.proofs.SettingsFound.{list_found}
+use Rattle.judge_log.specs.declared.said.Said.{Said}
+use Rattle.judge_log.specs.Said.{NotedAt, CallInRange, IsSaid}
 use Rattle.serial_replay.specs.Remade.{CallersStand, said_lists}
 use Rattle.serial_replay.proofs.Callers.{CallsOf, calls_of_caller}
 
@@ -57,7 +57,7 @@ module _ (callers : List (Vec Called)) (settings : List (Vec Setting)) (c : ℕ)
         stand.found.each c found (found_at settings c found (omega arith) found_is)
         ∙ ap (settings_from (start_setting (seen_calls callers) c)) (sym here)
 
--- one more caller with its notes
+-- the notes of one more caller are added
 module _ {Noted : Type 0} (IsNoted : ℕ → ℕ → Said → Noted → Type 0) (lists : Lists) (callers : List (List Call))
     (said : List (Vec Noted)) (n : ℕ) (more : Vec Noted) (long : length said ≡ n) where
   abbrev IsSaidBy : ℕ → List Noted → Type 0

@@ -1,14 +1,14 @@
--- A replay is unique: at most one clause can stop it, and no clause stops the replay of a lawful transcript's steps.
+-- A replay is unique: at most one clause can stop it, and none does if the transcript is lawful.
 use Rattle.std.proofs.Common.{◌≡◌, ◌⊎◌, List, inl, inr, refl, sym, subst, ap, ◌∙◌}
 use Rattle.key_names.specs.Texts.ScriptGrammar.{Script}
-use Rattle.key_names.specs.SeenLine.{SeenLine}
-use Rattle.key_names.specs.SameSteps.{SameSteps}
-use Rattle.key_names.specs.IsTranscript.{IsTranscript, MadeBook, FirstFails, Clause}
-use Rattle.key_names.specs.IsTranscript.{lines_clause, marks_clause, forms_clause, answers_clause, data_clause, looks_clause}
+use Rattle.key_names.specs.Transcripts.SeenLine.{SeenLine}
+use Rattle.key_names.specs.Transcripts.SameSteps.{SameSteps}
+use Rattle.key_names.specs.Transcripts.IsTranscript.{IsTranscript, MadeBook, FirstFails, Clause}
+use Rattle.key_names.specs.Transcripts.IsTranscript.{lines_clause, marks_clause, forms_clause, answers_clause, data_clause, looks_clause}
 use Rattle.key_names.proofs.Unique.BareMeanings.{steps_make_the_book}
 use Rattle.key_names.proofs.Unique.UniqueBook.{book_is_unique, first_fail_is_unique}
-use Rattle.line_orders.specs.Clauses.{clause_of}
-use Rattle.line_orders.specs.declared.clause.Clause as judged
+use Rattle.judge_lines.specs.Clauses.{clause_of}
+use Rattle.judge_lines.specs.declared.clause.Clause as judged
 use Rattle.serial_replay.specs.declared.replay.Replayed.{Replayed}
 use Rattle.serial_replay.specs.declared.replay.Replayed.TheVariants.{Made, No}
 use Rattle.serial_replay.specs.Replayed.{IsReplay, StepsFail}
@@ -17,7 +17,7 @@ use Rattle.serial_replay.proofs.Clauses.{same_clause}
 use Rattle.serial_replay.proofs.Replays.{lawful_book}
 
 module _ (script : Script) (t : List (List SeenLine)) where
-  -- a book is made, or an earlier clause fails
+  -- if a clause stops the steps, it fails first, or a book is made
   before_book : (c : Clause) → StepsFail script t c → FirstFails script t c ⊎ MadeBook script t
   before_book lines_clause f = inl f
   before_book marks_clause f = inl f
@@ -26,7 +26,7 @@ module _ (script : Script) (t : List (List SeenLine)) where
   before_book data_clause f = absurd f
   before_book looks_clause f = inr f.0
 
-  -- if a book is made, only looks can fail
+  -- if the steps make a book, only the clause on looks can stop them
   at_looks : (c : Clause) → MadeBook script t → StepsFail script t c → c ≡ looks_clause
   at_looks lines_clause made f = absurd (f made.lines)
   at_looks marks_clause made f = absurd (f.1 made.marks)

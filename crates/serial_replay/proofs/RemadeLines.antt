@@ -4,33 +4,33 @@ use Rattle.std.specs.Prelude.{◌↔◌, IsTrue}
 use Rattle.std.specs.List.{AllByRecursion}
 use Rattle.std.specs.Global.{Vec}
 use Rattle.std.proofs.lemmas.List.{length-map}
-use Rattle.key_names.specs.Book.{Book, Lists, LawfulLanes, lists_of, list_at}
-use Rattle.key_names.specs.Calls.{Call}
-use Rattle.key_names.specs.History.{caller_orders}
+use Rattle.key_names.specs.Lanes.Book.{Book, Lists, LawfulLanes, lists_of, list_at}
+use Rattle.key_names.specs.Callers.Calls.{Call}
+use Rattle.key_names.specs.Callers.History.{caller_orders}
 use Rattle.key_names.specs.Texts.ScriptGrammar.{Script, WellFormed}
-use Rattle.key_names.specs.SeenLine.{SeenLine}
-use Rattle.key_names.specs.IsTranscript.{MadeBook, script_calls, start_setting, EachCaller, EachLine}
-use Rattle.line_orders.specs.declared.begin.Parts.{Parts}
-use Rattle.line_orders.specs.declared.called.Called.{Called}
-use Rattle.line_orders.specs.declared.order.Fork.{Fork}
-use Rattle.line_orders.specs.Along.{Along}
-use Rattle.line_orders.specs.Begun.{IsEarlyFault, PartsStand}
-use Rattle.line_orders.specs.declared.clause.Clause.{Clause}
-use Rattle.line_orders.specs.declared.clause.Clause.TheVariants.{Lines, Marks, Forms}
-use Rattle.line_orders.specs.Called.{seen_call, seen_calls}
-use Rattle.line_orders.specs.Orders.{all_forks}
-use Rattle.line_orders.proofs.AllCalls.{calls_long}
-use Rattle.line_orders.proofs.ForksRise.{all_rise}
-use Rattle.line_orders.proofs.LineFits.{callers_long}
-use Rattle.list_replay.specs.Tables.{Tables}
-use Rattle.list_replay.specs.Fills.{Fills}
-use Rattle.list_replay.specs.Kept.{Keeps}
-use Rattle.list_replay.specs.Lawful.{Lawful}
-use Rattle.told_entries.specs.Filled.{AllCallsFill}
-use Rattle.told_entries.specs.Gathered.{IsBookOf, IsGathered}
-use Rattle.caller_answers.specs.declared.said.Said.{Said}
-use Rattle.caller_answers.specs.Said.{CallInRange, IsSaid, SaysIt}
-use Rattle.caller_answers.proofs.CallsRange.{all_in_range}
+use Rattle.key_names.specs.Transcripts.SeenLine.{SeenLine}
+use Rattle.key_names.specs.Transcripts.IsTranscript.{MadeBook, script_calls, start_setting, EachCaller, EachLine}
+use Rattle.judge_lines.specs.declared.begin.Parts.{Parts}
+use Rattle.judge_lines.specs.declared.called.Called.{Called}
+use Rattle.judge_lines.specs.declared.order.Fork.{Fork}
+use Rattle.judge_lines.specs.Along.{Along}
+use Rattle.judge_lines.specs.Begun.{IsEarlyFault, PartsStand}
+use Rattle.judge_lines.specs.declared.clause.Clause.{Clause}
+use Rattle.judge_lines.specs.declared.clause.Clause.TheVariants.{Lines, Marks, Forms}
+use Rattle.judge_lines.specs.Called.{seen_call, seen_calls}
+use Rattle.judge_lines.specs.Orders.{all_forks}
+use Rattle.judge_lines.proofs.AllCalls.{calls_long}
+use Rattle.judge_lines.proofs.ForksRise.{all_rise}
+use Rattle.judge_lines.proofs.LineFits.{callers_long}
+use Rattle.judge_log.specs.Tables.{Tables}
+use Rattle.judge_log.specs.Fills.{Fills}
+use Rattle.judge_log.specs.Kept.{Keeps}
+use Rattle.judge_log.specs.Lawful.{Lawful}
+use Rattle.judge_log.specs.Filled.{AllCallsFill}
+use Rattle.judge_log.specs.Gathered.{IsBookOf, IsGathered}
+use Rattle.judge_log.specs.declared.said.Said.{Said}
+use Rattle.judge_log.specs.Said.{CallInRange, IsSaid, SaysIt}
+use Rattle.judge_log.proofs.AnswersMade.CallsRange.{all_in_range}
 use Rattle.serial_replay.specs.declared.lists.Basis.{Basis}
 use Rattle.serial_replay.specs.declared.remake.Made.{Made}
 use Rattle.serial_replay.specs.Found.{BasisStands}
@@ -67,12 +67,12 @@ module _ (script : Script) (t : List (List SeenLine)) (parts : Parts) (stand : P
   in_range = subst (λ (calls : List (List Call)). AllByRecursion (AllByRecursion CallInRange) calls) (sym stand.calls)
       (all_in_range script.version script.cpus script.callers t well.ranges)
 
-  -- a line visits a CPU that does not exist
+  -- if no book has these visits, the clause on forms fails first, since a line visits a CPU that does not exist
   pub none_gathered : ((book : Book) → IsBookOf script t book → ⊥) → FailsEarly script t Forms
   none_gathered none = stops script t parts stand
       (λ m. none m.book (record { cpus = m.forms.cpus; visits = m.forms.visits }))
 
-  -- no lawful lists match the inferred entries
+  -- if no lawful lists match the inferred entries, the clause on forms fails first
   pub none_replayed : (told : Tables) → IsGathered script t told →
       ((lists : Lists) → Fills told lists → Lawful told lists → ⊥) → FailsEarly script t Forms
   none_replayed told gathered none = stops script t parts stand
@@ -83,7 +83,7 @@ module _ (script : Script) (t : List (List SeenLine)) (basis : Basis) (stand : B
   abbrev calls : List (List Call)
   calls = script_calls script t
 
-  -- the kept data are also those of the lists of a book that is made
+  -- the kept data are those of the book's lists, if the steps make a book
   pub keeps_made : (m : MadeBook script t) → Keeps basis.lists (lists_of m.book)
   keeps_made m = stand.keeps (lists_of m.book)
       (made_fills script t basis.parts stand.parts stand.told stand.gathered m)
@@ -97,7 +97,7 @@ module _ (script : Script) (t : List (List SeenLine)) (basis : Basis) (stand : B
     found = stand.settings;
   }
 
-  -- the steps of some line are no form
+  -- if the steps of some line are no form, the clause on forms fails first
   pub none_said :
       ((lists : Lists) → Keeps basis.lists lists → LawfulLanes lists →
       AllMeanSome lists (seen_calls basis.parts.calls.items) → ⊥) →

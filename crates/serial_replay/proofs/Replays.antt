@@ -1,19 +1,19 @@
--- A transcript is written from the results, and it is the only one.
+-- A lawful transcript is written from the results, and it is the only one.
 use Rattle.std.proofs.Common.{◌≡◌, ℕ, zero, suc, ◌<◌, Option, Some, None, List, [], ◌∷◌, length, map, refl, sym, subst, ap, ◌∙◌, arith}
 use Rattle.std.specs.Prelude.{slice_get, IsTrue}
 use Rattle.std.specs.List.{AllByRecursion}
-use Rattle.key_names.specs.Book.{list_at}
+use Rattle.key_names.specs.Lanes.Book.{list_at}
 use Rattle.key_names.specs.Texts.ScriptGrammar.{Script}
-use Rattle.key_names.specs.SeenLine.{SeenLine}
-use Rattle.key_names.specs.SameSteps.{bare, SameSteps}
-use Rattle.key_names.specs.IsTranscript.{MadeBook, AnswersStand, DataStand, IsTranscript}
-use Rattle.key_names.specs.IsTranscript.{looks_clause}
+use Rattle.key_names.specs.Transcripts.SeenLine.{SeenLine}
+use Rattle.key_names.specs.Transcripts.SameSteps.{bare, SameSteps}
+use Rattle.key_names.specs.Transcripts.IsTranscript.{MadeBook, AnswersStand, DataStand, IsTranscript}
+use Rattle.key_names.specs.Transcripts.IsTranscript.{looks_clause}
 use Rattle.key_names.proofs.Unique.UniqueBook.{book_is_unique}
-use Rattle.line_orders.specs.Clauses.{clause_of}
-use Rattle.line_orders.specs.declared.clause.Clause.{Clause}
-use Rattle.line_orders.specs.declared.clause.Clause.TheVariants.{Lines, Marks, Forms}
-use Rattle.caller_answers.specs.declared.said.Said.{Said}
-use Rattle.caller_answers.specs.Said.{shown_by, itself}
+use Rattle.judge_lines.specs.Clauses.{clause_of}
+use Rattle.judge_lines.specs.declared.clause.Clause.{Clause}
+use Rattle.judge_lines.specs.declared.clause.Clause.TheVariants.{Lines, Marks, Forms}
+use Rattle.judge_log.specs.declared.said.Said.{Said}
+use Rattle.judge_log.specs.Said.{shown_by, itself}
 use Rattle.serial_replay.specs.declared.remake.Made.{Made}
 use Rattle.serial_replay.specs.Agreement.{Agrees, SameAnswer, SameShown, AllAgree}
 use Rattle.serial_replay.specs.Remade.{AllMade, FailsEarly, made_by}
@@ -22,7 +22,7 @@ use Rattle.serial_replay.specs.Written.{said_of, lines_said, said_into, MayShow}
 use Rattle.serial_replay.proofs.Agreement.{some_one, answers_both, data_both}
 use Rattle.serial_replay.proofs.BareMade.{all_made}
 
--- the written lines have the same steps
+-- the written lines have the steps of the given lines
 
 bare_of : (line : SeenLine) (o : Option Said) → bare line ≡ bare (said_of line o)
 bare_of line None = refl
@@ -38,7 +38,7 @@ same_steps (said ∷ saids) [] = refl
 same_steps [] (lines ∷ t) = ap (λ (u : List (List SeenLine)). map bare lines ∷ u) (same_steps [] t)
 same_steps (said ∷ saids) (lines ∷ t) = λ i. bare_lines said lines i ∷ same_steps saids t i
 
--- they agree with the answers and data that were made
+-- the written lines agree with the answers and data that were made
 
 module _ (Same : SeenLine → Said → Type 0) (fits : (line : SeenLine) (s : Said) → Same (said_of line (Some s)) s) where
   of_same : (said : List Said) (line : SeenLine) (o : Option Said) → slice_get said line.event ≡ o →
@@ -60,7 +60,7 @@ module _ (Same : SeenLine → Said → Type 0) (fits : (line : SeenLine) (s : Sa
   all_agree (said ∷ saids) (lines ∷ t) long all (suc c) low =
       all_agree saids t (omega arith) (λ d lower. all (suc d) (omega arith)) c (omega arith)
 
--- lines with the same steps are equal if they agree with the same answers and data
+-- if two lines have the same steps and agree with the same answers and data, they are equal
 
 same_line : (said : List Said) (u v : SeenLine) → bare u ≡ bare v → Agrees SameAnswer said u → Agrees SameAnswer said v →
     Agrees SameShown said u → Agrees SameShown said v → u ≡ v
@@ -105,7 +105,7 @@ same_callers saids (u ∷ us) (v ∷ vs) e a b x y =
     (λ c low. b (suc c) (omega arith)) (λ c low. x (suc c) (omega arith)) (λ c low. y (suc c) (omega arith)) in
     λ i. one i ∷ more i
 
--- the book of a lawful transcript
+-- the book that a lawful transcript's steps make
 abbrev pub lawful_book : (script : Script) (t : List (List SeenLine)) → IsTranscript script t → MadeBook script t
 lawful_book script t is = record {
   book = is.0;
@@ -116,11 +116,11 @@ lawful_book script t is = record {
 }
 
 module _ (script : Script) (t : List (List SeenLine)) (m : Made Said) (of : AllMade itself script (map (map bare) t) m) where
-  -- the results for lines with the same steps
+  -- the results are also those of lines with the same steps
   made_for : (v : List (List SeenLine)) → SameSteps t v → AllMade itself script v m
   made_for v same = all_made script v itself m (subst (λ (u : List (List SeenLine)). AllMade itself script u m) same of)
 
-  -- all lines of a lawful transcript agree
+  -- all lines of a lawful transcript agree with the results
   module _ (v : List (List SeenLine)) (same : SameSteps t v) (is : IsTranscript script v) where
     a : AllMade itself script v m
     a = made_for v same
@@ -162,7 +162,7 @@ module _ (script : Script) (t : List (List SeenLine)) (m : Made Said) (of : AllM
             shown;
       }
 
--- a clause that fails before the answers stops the steps
+-- a clause that fails before the answers stops the replay
 pub early_stops : (script : Script) (t : List (List SeenLine)) (clause : Clause) → FailsEarly script t clause →
     StepsFail script t (clause_of clause)
 early_stops script t Lines f = f.fails
@@ -170,7 +170,7 @@ early_stops script t Marks f = f.fails
 early_stops script t Forms f = f.fails
 early_stops script t clause f = absurd f.early
 
--- some look is not lawful
+-- a look that is not lawful stops the replay
 pub looks_stop : (script : Script) (t : List (List SeenLine)) (m : Made Said) → AllMade itself script t m →
     (IsTrue m.looks_stand → ⊥) → StepsFail script t looks_clause
 looks_stop script t m a fall = (a.made, (λ stand. fall (a.looks.1 stand)))

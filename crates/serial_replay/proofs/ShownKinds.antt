@@ -1,4 +1,4 @@
--- Only a line of bits has a number, and only other lines have bytes.
+-- Only a line of bits shows a number, and only other lines show bytes.
 use Rattle.std.proofs.Common.{◌≡◌, ℕ, suc, Bool, true, false, List, [], ◌∷◌, ◌++◌, refl, sym, subst, ap, ◌∙◌}
 use Rattle.std.specs.Prelude.{◌≢◌, MatchBool, if◌then◌else◌}
 use Rattle.std.specs.List.{AllByRecursion}
@@ -10,26 +10,26 @@ use Rattle.key_names.specs.declared.events.InsideAct.{InsideAct}
 use Rattle.key_names.specs.declared.events.InsideAct.TheVariants.{Wipe as WipeAct, Vread as VreadAct, Reseed as ReseedAct}
 use Rattle.key_names.specs.declared.events.Word.{Word}
 use Rattle.key_names.specs.declared.events.Word.TheVariants.{Bits as BitsWord, Vread as VreadWord, Inside as InsideWord, End as EndWord}
-use Rattle.key_names.specs.Answers.{shown_of, bits_read, served_bytes}
-use Rattle.key_names.specs.Calls.{Setting, Call, alone, vread_call, unbound, ending, BoundAct, has_vread, calls_from, calls_of}
-use Rattle.key_names.specs.Calls.{all_calls}
-use Rattle.key_names.specs.Deeds.{Deed, looked, at_pool, at_base, at_cpu, nothing_there}
-use Rattle.key_names.specs.Forms.{Looked}
-use Rattle.key_names.specs.Meaning.{LineMeaning, CallMeaning, ActMeans, ActsMean, ByLocalCopy, ByVgetrandom, LocalOrCall}
-use Rattle.key_names.specs.Meaning.{tries_local, Means, VreadMeans, unused_line, current_state, CallerState}
-use Rattle.key_names.specs.BatchCopy.{serves_locally, copy_bytes}
+use Rattle.key_names.specs.Callers.Answers.{shown_of, bits_read, served_bytes}
+use Rattle.key_names.specs.Callers.Calls.{Setting, Call, alone, vread_call, unbound, ending, BoundAct, has_vread, calls_from, calls_of}
+use Rattle.key_names.specs.Callers.Calls.{all_calls}
+use Rattle.key_names.specs.Callers.Deeds.{Deed, looked, at_pool, at_base, at_cpu, nothing_there}
+use Rattle.key_names.specs.Callers.Forms.{Looked}
+use Rattle.key_names.specs.Callers.Meaning.{LineMeaning, CallMeaning, ActMeans, ActsMean, ByLocalCopy, ByVgetrandom, LocalOrCall}
+use Rattle.key_names.specs.Callers.Meaning.{tries_local, Means, VreadMeans, unused_line, current_state, CallerState}
+use Rattle.key_names.specs.Kernel.BatchCopy.{serves_locally, copy_bytes}
 use Rattle.key_names.specs.Texts.ScriptGrammar.{Script, event_word}
-use Rattle.key_names.specs.SeenLine.{SeenLine, Shown, no_data, bytes_or_none}
-use Rattle.key_names.specs.Vgetrandom.{Ending, no_bytes, by_batch, by_system, read, failed}
-use Rattle.key_names.specs.VreadSteps.{published_by, is_reached, points_of, ending_shown}
-use Rattle.key_names.specs.IsTranscript.{LinesFit, EachCaller, EachAct, EachOfCall, EachLine, CallsMean, CallerMeans}
-use Rattle.key_names.specs.IsTranscript.{script_calls, start_setting}
-use Rattle.key_names.specs.Meaning.{caller_start}
-use Rattle.key_names.specs.Book.{lists_of}
+use Rattle.key_names.specs.Transcripts.SeenLine.{SeenLine, Shown, no_data, bytes_or_none}
+use Rattle.key_names.specs.Kernel.Vgetrandom.{Ending, no_bytes, by_batch, by_system, read, failed}
+use Rattle.key_names.specs.Callers.VreadSteps.{published_by, is_reached, points_of, ending_shown}
+use Rattle.key_names.specs.Transcripts.IsTranscript.{LinesFit, EachCaller, EachAct, EachOfCall, EachLine, CallsMean, CallerMeans}
+use Rattle.key_names.specs.Transcripts.IsTranscript.{script_calls, start_setting}
+use Rattle.key_names.specs.Callers.Meaning.{caller_start}
+use Rattle.key_names.specs.Lanes.Book.{lists_of}
 use Rattle.serial_replay.proofs.Callers.{each_caller}
 use Rattle.key_names.proofs.Lists.Each.{each_append}
-use Rattle.caller_answers.specs.declared.said.Said.{Said}
-use Rattle.caller_answers.specs.Said.{shown_by, SaysIt, itself}
+use Rattle.judge_log.specs.declared.said.Said.{Said}
+use Rattle.judge_log.specs.Said.{shown_by, SaysIt, itself}
 use Rattle.serial_replay.specs.declared.remake.Made.{Made}
 use Rattle.serial_replay.specs.Agreement.{AllAgree}
 use Rattle.serial_replay.specs.Remade.{said_of_caller, AllMade, made_by}

@@ -9,20 +9,20 @@ use Rattle.key_names.specs.declared.names.Step.TheVariants.{Look, Visit as Marke
 use Rattle.key_names.specs.declared.entries.CpuEntry.{CpuEntry}
 use Rattle.key_names.specs.declared.entries.CpuEntry.TheVariants.{Read, Int, Irq, Dump, Prepare, Online}
 use Rattle.key_names.specs.declared.entries.VEntry.{VEntry}
-use Rattle.key_names.specs.Keystream.{keystream}
-use Rattle.key_names.specs.Batches.{Fill, batched_int}
-use Rattle.key_names.specs.CpuList.{CpuState, cpu_after, cpu_step, cpu_erases, base_refill_of}
-use Rattle.key_names.specs.KeyInUse.{zero_key, call_value_or, cpu_value_in_use, cpu_value_step, cpu_value_after}
-use Rattle.key_names.specs.KeyInUse.{cpu_value_at, cpu_used_at}
-use Rattle.key_names.specs.Book.{Lists, LawfulLanes, cpu_list}
-use Rattle.key_names.specs.Calls.{Setting, Call}
-use Rattle.key_names.specs.Deeds.{Deed, at_cpu, deed_or, deed_at, deed_of, deeds_of, cpu_visit, cpu_serves, int_of}
-use Rattle.key_names.specs.IsTranscript.{CallerMeans, EachLine}
-use Rattle.key_names.specs.Meaning.{CallMeaning}
-use Rattle.list_replay.specs.Tables.{Tables}
-use Rattle.list_replay.specs.Fills.{Fills}
-use Rattle.list_replay.specs.Lawful.{Lawful}
-use Rattle.line_forms.specs.Told.{FillsCpu}
+use Rattle.key_names.specs.Kernel.Keystream.{keystream}
+use Rattle.key_names.specs.Kernel.Batches.{Fill, batched_int}
+use Rattle.key_names.specs.Lanes.CpuList.{CpuState, cpu_after, cpu_step, cpu_erases, base_refill_of}
+use Rattle.key_names.specs.Keys.KeyInUse.{zero_key, call_value_or, cpu_value_in_use, cpu_value_step, cpu_value_after}
+use Rattle.key_names.specs.Keys.KeyInUse.{cpu_value_at, cpu_used_at}
+use Rattle.key_names.specs.Lanes.Book.{Lists, LawfulLanes, cpu_list}
+use Rattle.key_names.specs.Callers.Calls.{Setting, Call}
+use Rattle.key_names.specs.Callers.Deeds.{Deed, at_cpu, deed_or, deed_at, deed_of, deeds_of, cpu_visit, cpu_serves, int_of}
+use Rattle.key_names.specs.Transcripts.IsTranscript.{CallerMeans, EachLine}
+use Rattle.key_names.specs.Callers.Meaning.{CallMeaning}
+use Rattle.judge_log.specs.Tables.{Tables}
+use Rattle.judge_log.specs.Fills.{Fills}
+use Rattle.judge_log.specs.Lawful.{Lawful}
+use Rattle.judge_lines.specs.Told.{FillsCpu}
 
 or_same : {E : Type 0} (f g : E → Deed) → ((e : E) → f e ≡ g e) → (o : Option E) → deed_or f o ≡ deed_or g o
 or_same f g each None = refl

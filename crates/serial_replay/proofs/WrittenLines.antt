@@ -1,19 +1,19 @@
--- Lines that are written in sequence.
+-- Lines are written in sequence.
 use Rattle.std.proofs.Common.{◌≡◌, ℕ, zero, suc, ◌+◌, ◌<◌, ◌≤◌, Some, List, [], ◌∷◌, ◌++◌, length, get_or, drop, refl, sym, subst, ap, ◌∙◌, arith, append_assoc}
 use Rattle.std.specs.Prelude.{slice_get, slice_index_or}
 use Rattle.std.specs.List.{AllByRecursion}
 use Rattle.std.specs.Global.{Vec}
 use Rattle.std.proofs.lemmas.List.{at_drop_all, append-nil}
-use Rattle.key_names.specs.Book.{list_at}
-use Rattle.key_names.specs.SeenLine.{SeenLine}
+use Rattle.key_names.specs.Lanes.Book.{list_at}
+use Rattle.key_names.specs.Transcripts.SeenLine.{SeenLine}
 use Rattle.key_names.specs.Texts.TranscriptGrammar.{LastHasLines}
 use Rattle.key_names.proofs.Lists.ListFacts.{found_dropped}
-use Rattle.caller_answers.specs.declared.said.Said.{Said}
+use Rattle.judge_log.specs.declared.said.Said.{Said}
 use Rattle.serial_replay.specs.Agreement.{Agrees}
 use Rattle.serial_replay.specs.Remade.{said_lists}
 use Rattle.serial_replay.specs.Written.{said_of, lines_said, said_into, MayShow}
 
--- one more line of a caller
+-- one more line of a caller is written
 module _ (said : List Said) (lines : List SeenLine) (n : ℕ) (line : SeenLine) (is : slice_get lines n ≡ Some line) where
   rest_is : drop n lines ≡ line ∷ drop (n + 1) lines
   rest_is = found_dropped lines n line is
@@ -41,7 +41,7 @@ callers_end said t told n high so_far =
     ∙ sym (ap (λ (u : List (List SeenLine)). told ++ said_into (said_lists (drop n said)) u) (at_drop_all (λ x. x) t n high))
     ∙ so_far
 
--- the last caller still has a line
+-- a caller with lines has written lines
 many_lines : (said : List Said) (lines : List SeenLine) → 0 < length lines → 0 < length (lines_said said lines)
 many_lines said [] some = some
 many_lines said (line ∷ lines) some = omega arith
@@ -59,7 +59,7 @@ said_long saids [] = refl
 said_long [] (lines ∷ t) = ap suc (said_long [] t)
 said_long (said ∷ saids) (lines ∷ t) = ap suc (said_long saids t)
 
--- the lines at a caller's number
+-- both ways to find a caller's lines find the same ones
 pub lines_at : (t : List (List SeenLine)) (c : ℕ) → slice_index_or t c [] ≡ list_at t c
 lines_at [] c = refl
 lines_at (lines ∷ t) zero = refl

@@ -1,12 +1,12 @@
 -- Lines with the answers and data that were made.
 use Rattle.std.specs.Prelude.{ℕ, ◌≡◌, ◌<◌, Some, List, length, slice_get}
 use Rattle.std.specs.List.{AllByRecursion}
-use Rattle.key_names.specs.Book.{list_at}
-use Rattle.key_names.specs.SeenLine.{SeenLine}
-use Rattle.caller_answers.specs.declared.said.Said.{Said}
-use Rattle.caller_answers.specs.Said.{shown_by}
+use Rattle.key_names.specs.Lanes.Book.{list_at}
+use Rattle.key_names.specs.Transcripts.SeenLine.{SeenLine}
+use Rattle.judge_log.specs.declared.said.Said.{Said}
+use Rattle.judge_log.specs.Said.{shown_by}
 
--- the line agrees with the note at its number
+-- the line agrees with the note at its event's number
 pub record Agrees {Noted : Type 0} (Same : SeenLine → Noted → Type 0) (notes : List Noted)
     (line : SeenLine) : Type 0 where
   pub one : Noted
@@ -19,6 +19,6 @@ SameAnswer line one = line.answer ≡ one.answer
 abbrev pub SameShown : SeenLine → Said → Type 0
 SameShown line one = line.shown ≡ shown_by one.shows
 
--- so do the lines of each caller
+-- the lines of each caller agree with the caller's notes
 abbrev pub AllAgree : {Noted : Type 0} → (SeenLine → Noted → Type 0) → List (List Noted) → List (List SeenLine) → Type 0
 AllAgree Same notes t = (c : ℕ) → c < length t → AllByRecursion (Agrees Same (list_at notes c)) (list_at t c)

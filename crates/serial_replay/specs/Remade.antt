@@ -2,20 +2,20 @@
 use Rattle.std.specs.Prelude.{ℕ, ◌≡◌, ◌<◌, ◌↔◌, ⊤, IsTrue, List, length, map}
 use Rattle.std.specs.List.{AllByRecursion}
 use Rattle.std.specs.Global.{Vec}
-use Rattle.key_names.specs.Book.{Lists, lists_of, list_at}
-use Rattle.key_names.specs.Calls.{Setting, Call}
-use Rattle.key_names.specs.Meaning.{CallMeaning}
+use Rattle.key_names.specs.Lanes.Book.{Lists, lists_of, list_at}
+use Rattle.key_names.specs.Callers.Calls.{Setting, Call}
+use Rattle.key_names.specs.Callers.Meaning.{CallMeaning}
 use Rattle.key_names.specs.Texts.TranscriptGrammar.{StepFits}
 use Rattle.key_names.specs.Texts.ScriptGrammar.{Script}
-use Rattle.key_names.specs.SeenLine.{SeenLine}
-use Rattle.key_names.specs.IsTranscript.{MadeBook, SeenStands, FirstFails, EachCaller}
-use Rattle.key_names.specs.IsTranscript.{EachLine, script_calls, HasLines, CallerMeans, start_setting}
-use Rattle.line_orders.specs.Settings.{AreSettings}
-use Rattle.line_orders.specs.Clauses.{clause_of}
-use Rattle.line_orders.specs.declared.clause.Clause.{Clause}
-use Rattle.line_orders.specs.declared.clause.Clause.TheVariants.{Lines, Marks, Forms}
-use Rattle.caller_answers.specs.declared.said.Said.{Said}
-use Rattle.caller_answers.specs.Said.{NotedAt, SaysIt, IsSaid}
+use Rattle.key_names.specs.Transcripts.SeenLine.{SeenLine}
+use Rattle.key_names.specs.Transcripts.IsTranscript.{MadeBook, SeenStands, FirstFails, EachCaller}
+use Rattle.key_names.specs.Transcripts.IsTranscript.{EachLine, script_calls, HasLines, CallerMeans, start_setting}
+use Rattle.judge_lines.specs.Settings.{AreSettings}
+use Rattle.judge_lines.specs.Clauses.{clause_of}
+use Rattle.judge_lines.specs.declared.clause.Clause.{Clause}
+use Rattle.judge_lines.specs.declared.clause.Clause.TheVariants.{Lines, Marks, Forms}
+use Rattle.judge_log.specs.declared.said.Said.{Said}
+use Rattle.judge_log.specs.Said.{NotedAt, SaysIt, IsSaid}
 use Rattle.serial_replay.specs.declared.remake.Made.{Made}
 use Rattle.serial_replay.specs.declared.remake.Remade.{Remade}
 use Rattle.serial_replay.specs.declared.remake.Remade.TheVariants.{Made as MadeAll, No}
@@ -27,11 +27,11 @@ IsEarly Marks = ⊤
 IsEarly Forms = ⊤
 IsEarly _ = ⊥
 
--- the numbers in all steps are in a transcript's range
+-- the numbers in all steps are in the range of transcripts
 abbrev pub StepsFit : List (List SeenLine) → Type 0
 StepsFit t = AllByRecursion (AllByRecursion (λ line. AllByRecursion StepFits line.steps)) t
 
--- the callers have these calls and these settings
+-- these are the calls and the settings of the callers
 pub record CallersStand (script : Script) (t : List (List SeenLine)) (callers : List (List Call))
     (settings : List (Vec Setting)) : Type 0 where
   pub lines : HasLines script t
@@ -57,7 +57,7 @@ abbrev pub made_by : {Noted : Type 0} → Made Noted → List (List Noted)
 made_by m = said_lists m.callers.items
 
 module _ {Noted : Type 0} (IsNoted : ℕ → ℕ → Said → Noted → Type 0) where
-  -- the answer and data of a caller's event, by the notes of all callers
+  -- the answer and data of a caller's event, by the notes
   abbrev pub said_of_caller : List (List Noted) → ℕ → ℕ → Said → Type 0
   said_of_caller notes c = NotedAt (IsNoted c) (list_at notes c)
 
@@ -66,7 +66,7 @@ module _ {Noted : Type 0} (IsNoted : ℕ → ℕ → Said → Noted → Type 0) 
     pub each : (c : ℕ) → c < length callers →
         IsSaid lists (start_setting callers c) (list_at callers c) (said_of_caller (said_lists notes) c)
 
-  -- the steps make a book, each line's answer and data are noted at its event's number, and looks_stand is whether the
+  -- the steps make a book; each line's answer and data are noted at its event's number; and looks_stand is whether the
   -- looks are lawful
   pub record AllMade (script : Script) (t : List (List SeenLine)) (m : Made Noted) : Type 0 where
     pub made : MadeBook script t

@@ -2,12 +2,12 @@
 use Rattle.std.specs.Prelude.{ℕ, ◌≡◌, ◌≢◌, ⊤, Option, Some, None, List, [], ◌∷◌, map, slice_get}
 use Rattle.key_names.specs.declared.events.Word.{Word}
 use Rattle.key_names.specs.declared.events.Word.TheVariants.{Bits}
-use Rattle.key_names.specs.SeenLine.{SeenLine, Shown, no_data, bytes, count}
-use Rattle.caller_answers.specs.declared.said.Said.{Said}
-use Rattle.caller_answers.specs.declared.said.Shows.{Shows}
-use Rattle.caller_answers.specs.declared.said.Shows.TheVariants.{Nothing, Count, Served}
-use Rattle.caller_answers.specs.Said.{shown_by}
-use Rattle.vread_course.specs.Recipe.{bytes_made}
+use Rattle.key_names.specs.Transcripts.SeenLine.{SeenLine, Shown, no_data, bytes, count}
+use Rattle.judge_log.specs.declared.said.Said.{Said}
+use Rattle.judge_log.specs.declared.said.Shows.{Shows}
+use Rattle.judge_log.specs.declared.said.Shows.TheVariants.{Nothing, Count, Served}
+use Rattle.judge_log.specs.Said.{shown_by}
+use Rattle.judge_vread.specs.Recipe.{bytes_made}
 
 -- the bytes of the data
 abbrev pub bytes_said : Shows → List ℕ
@@ -27,7 +27,7 @@ said_into saids [] = []
 said_into [] (lines ∷ t) = lines ∷ said_into [] t
 said_into (said ∷ saids) (lines ∷ t) = lines_said said lines ∷ said_into saids t
 
--- only a line of bits has a number, and only other lines have bytes
+-- only a line of bits shows a number, and only other lines show bytes
 abbrev pub IsFor : Word → Shown → Type 0
 IsFor word no_data = ⊤
 IsFor word (bytes shown) = word ≢ Bits

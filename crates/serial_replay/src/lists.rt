@@ -1,18 +1,18 @@
 //! The lists of the lanes, made again from the lines and steps of a transcript.
 ghost use Rattle.std.specs.Prelude.{IfOk};
 ghost use Rattle.key_names.specs.Texts.ScriptGrammar.{WellFormed};
-ghost use Rattle.line_orders.specs.Seen.{seen_callers};
+ghost use Rattle.judge_lines.specs.Seen.{seen_callers};
 ghost use Rattle.serial_replay.specs.Found.{IsFound};
 
 use event_script::Script;
-use line_forms::setting::Setting;
-use line_orders::bare::BareLine;
-use line_orders::begin::{Begun, Parts, begin};
-use line_orders::clause::Clause;
-use line_orders::settings::all_settings;
-use list_replay::{Lists, replay_lists};
+use judge_lines::bare::BareLine;
+use judge_lines::begin::{Begun, Parts, begin};
+use judge_lines::clause::Clause;
+use judge_lines::setting::Setting;
+use judge_lines::settings::all_settings;
+use judge_log::gather::gather;
+use judge_log::{Lists, replay_lists};
 use std::alloc::{AllocError, Global};
-use told_entries::gather::gather;
 
 /// The basis for all answers and data of a transcript: its parts, the setting of each of its calls, and the data kept
 /// of the lists of its lanes.
@@ -32,7 +32,7 @@ pub enum Found<'a> {
 }
 
 /// Judges the lines and marks of a transcript, and makes the lists of its lanes from the entries inferred from its
-/// steps. If it returns lists, the steps of a line can still be no form.
+/// steps. Even if it returns lists, the steps of some line may be no form.
 ///
 /// # Errors
 ///

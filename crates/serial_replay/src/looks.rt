@@ -1,14 +1,14 @@
-//! Whether each look is lawful: it finds at least the greatest generation that its caller has seen, and at most the
-//! base's last.
+//! Whether each look is lawful. A lawful look finds at least the greatest generation that its caller has seen, and at
+//! most the base's last.
 ghost use Rattle.std.specs.Prelude.{◌≡◌, slice_get, option_map};
 ghost use Rattle.serial_replay.specs.Seen.{left_at, seen_more, seen_behind, MayLook, reseeds_in};
 
+use judge_lines::along::Carry;
+use judge_log::{KeptBase, KeptCpu, Lists};
 use key_names::{LaneId, Mark, Step};
-use line_orders::along::Carry;
-use list_replay::{KeptBase, KeptCpu, Lists};
 
-/// The generation that a caller has seen is carried along its order. It is the greatest of the caller's looks, and of
-/// the base's and the CPUs' generations after its visits.
+/// The generation that a caller has seen is carried along its order. It is the greatest of those that the caller's
+/// looks found and those that its visits of the base and of CPUs left.
 #[derive(Drop)]
 pub(crate) struct Looks<'a> {
     lists: &'a Lists,
@@ -35,7 +35,7 @@ impl<'a> Looks<'a> {
         }
     }
 
-    // The generation after a visit; none for a visit of the pool.
+    // The generation after a visit, or none for a visit of the pool.
     fn left_by(&self, mark: Mark) -> Option<u64>
         ensures { result ≡ left_at self.now.lists.now mark.lane mark.place }
     {

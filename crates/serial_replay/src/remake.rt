@@ -1,36 +1,36 @@
 //! Every answer and all data of a transcript, made again from its words and steps.
 ghost use Rattle.std.specs.Prelude.{◌≡◌, ◌≤◌, List, length, IfOk, IfSome, IsSome, map};
 ghost use Rattle.std.specs.List.{AllByRecursion};
-ghost use Rattle.key_names.specs.Book.{Lists as BookLists, LawfulLanes, list_at};
-ghost use Rattle.key_names.specs.IsTranscript.{start_setting};
-ghost use Rattle.key_names.specs.SameSteps.{bare};
+ghost use Rattle.key_names.specs.Lanes.Book.{Lists as BookLists, LawfulLanes, list_at};
+ghost use Rattle.key_names.specs.Transcripts.IsTranscript.{start_setting};
+ghost use Rattle.key_names.specs.Transcripts.SameSteps.{bare};
 ghost use Rattle.key_names.specs.Texts.ScriptGrammar.{Script as ScriptLines, WellFormed};
-ghost use Rattle.key_names.specs.SeenLine.{SeenLine};
-ghost use Rattle.line_orders.specs.Called.{seen_calls};
-ghost use Rattle.line_orders.specs.Seen.{seen_callers};
-ghost use Rattle.list_replay.specs.Kept.{Keeps};
-ghost use Rattle.told_entries.specs.Filled.{AllCallsFill};
-ghost use Rattle.caller_answers.specs.Said.{CallInRange, IsSaid};
+ghost use Rattle.key_names.specs.Transcripts.SeenLine.{SeenLine};
+ghost use Rattle.judge_lines.specs.Called.{seen_calls};
+ghost use Rattle.judge_lines.specs.Seen.{seen_callers};
+ghost use Rattle.judge_log.specs.Kept.{Keeps};
+ghost use Rattle.judge_log.specs.Filled.{AllCallsFill};
+ghost use Rattle.judge_log.specs.Said.{CallInRange, IsSaid};
 ghost use Rattle.serial_replay.specs.Found.{StandsOn};
 ghost use Rattle.serial_replay.specs.Remade.{IsRemade, CallersStand, StepsFit, AllMeanSome, AllSaid};
 
 use crate::lists::{Basis, Found, find_lists};
 use crate::looks::Looks;
-use caller_answers::calls::caller_said;
-use caller_answers::said::Note;
 use event_script::Script;
-use line_forms::setting::Setting;
-use line_orders::along::all_may_follow;
-use line_orders::bare::BareLine;
-use line_orders::called::Called;
-use line_orders::clause::Clause;
-use line_orders::seen::bare_callers;
-use list_replay::Lists;
+use judge_lines::along::all_may_follow;
+use judge_lines::bare::BareLine;
+use judge_lines::called::Called;
+use judge_lines::clause::Clause;
+use judge_lines::seen::bare_callers;
+use judge_lines::setting::Setting;
+use judge_log::Lists;
+use judge_log::calls::caller_said;
+use judge_log::said::Note;
 use std::alloc::{AllocError, Global};
 use transcript_text::Transcript;
 
-/// The notes of each caller's lines, by the numbers of their events, whether the looks of the transcript are lawful,
-/// and what all of it was made from.
+/// The notes of each caller's lines, by the numbers of their events; whether the looks of the transcript are lawful;
+/// and the basis from which all of it was made.
 #[derive(Drop)]
 pub struct Made<'a, T: Drop> {
     pub callers: Vec<Vec<T>>,
@@ -39,7 +39,7 @@ pub struct Made<'a, T: Drop> {
 }
 
 /// The result for a transcript's steps: notes of each caller's lines, or the first of the clauses on lines, marks and
-/// forms that fails. A wrong look does not stop the notes.
+/// forms that fails. A wrong look does not prevent the notes.
 #[derive(Drop)]
 pub enum Remade<'a, T: Drop> {
     Made(Made<'a, T>),
@@ -47,7 +47,7 @@ pub enum Remade<'a, T: Drop> {
     No(Clause),
 }
 
-// Notes of each caller's lines, if the steps of all are forms.
+// Notes of each caller's lines. `None` if the steps of some line are no form.
 fn all_said<N: Note>(
     alloc: Global,
     calls: &[Vec<Called<'_>>],
@@ -111,8 +111,8 @@ fn of_lines<'a, N: Note>(
     }))
 }
 
-/// Makes every answer and all data of a transcript again, from its words and steps alone, and keeps the chosen notes of
-/// them. It hands on the lists that they were made from.
+/// Makes every answer and all data of a transcript again, from its words and steps alone. `how` determines which notes
+/// of them it keeps. It hands on the lists from which they were made.
 ///
 /// # Errors
 ///
@@ -127,7 +127,7 @@ pub fn remake<'a, N: Note>(
     ensures of_steps { IfOk result (λ remade. IsRemade (N.IsNoted how.now) script.now (map (map bare) t.now) remade) }
     ensures basis { IfOk result (λ remade. StandsOn script.now (map (map bare) t.now) remade) }
 {
-    // Their contracts state facts of every script and of every transcript.
+    // The contracts of these two calls state facts of every script and of every transcript.
     let _version = script.version();
     let _callers = t.callers();
     let lines = bare_callers(alloc, t)?;

@@ -1,23 +1,23 @@
-//! A transcript from its steps.
+//! A transcript, made from its steps.
 ghost use Rattle.std.specs.Prelude.{◌≡◌, ◌^◌, ◌<◌, ◌∷◌, [], ◌++◌, List, length, Some, IfOk, OnOk, slice_get};
 ghost use Rattle.std.specs.List.{AllByRecursion};
-ghost use Rattle.key_names.specs.IsTranscript.{IsTranscript};
-ghost use Rattle.key_names.specs.SameSteps.{SameSteps};
-ghost use Rattle.key_names.specs.SeenLine.{SeenLine};
+ghost use Rattle.key_names.specs.Transcripts.IsTranscript.{IsTranscript};
+ghost use Rattle.key_names.specs.Transcripts.SameSteps.{SameSteps};
+ghost use Rattle.key_names.specs.Transcripts.SeenLine.{SeenLine};
 ghost use Rattle.key_names.specs.Texts.TranscriptGrammar.{LineFits, ShownFits};
 ghost use Rattle.key_names.specs.declared.events.Word.{Word as EventWord};
-ghost use Rattle.line_orders.specs.Clauses.{clause_of};
+ghost use Rattle.judge_lines.specs.Clauses.{clause_of};
 ghost use Rattle.transcript_text.specs.Views.{bytes_of, seen, seen_shown};
-ghost use Rattle.caller_answers.specs.Said.{shown_by};
+ghost use Rattle.judge_log.specs.Said.{shown_by};
 ghost use Rattle.serial_replay.specs.Agreement.{Agrees, AllAgree};
 ghost use Rattle.serial_replay.specs.Remade.{said_lists};
 ghost use Rattle.serial_replay.specs.Replayed.{IsReplay, StepsFail};
 ghost use Rattle.serial_replay.specs.Written.{bytes_said, said_of, lines_said, said_into, IsFor, MayShow};
 
 use crate::remake::{Remade, remake};
-use caller_answers::said::{Said, Shows, Whole};
 use event_script::Script;
-use line_orders::clause::Clause;
+use judge_lines::clause::Clause;
+use judge_log::said::{Said, Shows, Whole};
 use std::alloc::{AllocError, Global};
 use transcript_text::{CallerLines, LineView, Shown, Transcript};
 
@@ -25,7 +25,7 @@ use transcript_text::{CallerLines, LineView, Shown, Transcript};
 #[derive(Drop)]
 pub enum Replayed {
     Made(Transcript),
-    /// The first of the clauses on lines, marks, forms and looks that fails. Answers and data play no part in these.
+    /// The first clause on lines, marks, forms or looks that fails. None of these reads answers or data.
     No(Clause),
 }
 
@@ -164,13 +164,13 @@ fn replay_steps(alloc: Global, script: &Script, steps: &Transcript) -> Result<Re
     if !made.looks_stand {
         return Ok(Replayed::No(Clause::Looks));
     }
-    // The lists are given back before the lines are written.
+    // The memory of the lists is freed before the lines are written.
     drop(made.basis);
     Ok(Replayed::Made(all_lines(alloc, steps, &made.callers)?))
 }
 
 /// The transcript with these words and steps, and with its answers and data made again, or the first clause that fails.
-/// Answers and data of the argument are not read.
+/// The answers and data of `steps` are not read.
 ///
 /// # Errors
 ///

@@ -1,4 +1,4 @@
--- The places of a needle in the last part of some bytes, and in all of them.
+-- The places of a needle in all of some bytes, and in their last part.
 use Rattle.std.proofs.Common.{◌≡◌, ℕ, ◌+◌, ◌-◌, ◌≤◌, ◌⊎◌, inl, inr, List, ◌++◌, length, Option, None, Some, IsTrue}
 use Rattle.std.proofs.Common.{refl, sym, ap, ◌∙◌, arith, length-append, length-drop}
 use Rattle.std.specs.Prelude.{◌↔◌, drop, slice_index}
@@ -32,14 +32,14 @@ pub found_behind : (from : ℕ) (xs needle : List ℕ) (r : Option ℕ) → from
 found_behind from xs needle None le finds is = cc
 found_behind from xs needle (Some k) le finds is = (from + k, occurs_behind from xs needle k le finds.1)
 
--- a search finds a needle exactly if the bytes have it
+-- a search finds a needle exactly if the bytes contain it
 pub found_exactly : (xs needle : List ℕ) (r : Option ℕ) → FindsNeedle xs needle 0 r
     → IsTrue (is_some r) ↔ ((k : ℕ) × OccursAt xs needle k)
 found_exactly xs needle None nowhere =
     (λ is. cc, λ at. let fits = at.1.fits in absurd (nowhere at.0 (omega arith) (omega arith) at.1))
 found_exactly xs needle (Some k) finds = (λ is. (k, finds.1), λ at. refl)
 
--- a line `end` of more text was there before, or came with the last bytes
+-- if a longer text has a line `end`, it was there before or came with the last bytes
 end_line_comes : (text more : List ℕ) → HasEndLine (text ++ more)
     → HasEndLine text ⊎ HasEndLine (last_part (length more) (text ++ more))
 end_line_comes text more (place, at) =
@@ -56,7 +56,7 @@ end_line_comes text more (place, at) =
       )
     ]
 
--- a text has no line `end` if it had none and none came
+-- a longer text has no line `end` if there was none before and none came with the last bytes
 pub no_end_line : (text more : List ℕ) → (HasEndLine text → ⊥)
     → (HasEndLine (last_part (length more) (text ++ more)) → ⊥) → HasEndLine (text ++ more) → ⊥
 no_end_line text more none nowhere has = elim (end_line_comes text more has) [

@@ -1,4 +1,4 @@
--- More text after a line `end` leaves the front as it is.
+-- Text that comes after a line `end` does not change the front.
 use Rattle.std.proofs.Common.{◌≡◌, ℕ, ◌+◌, ◌==◌, Bool, true, false, cond, List, [], ◌∷◌, ◌++◌, take, drop, refl, sym}
 use Rattle.std.proofs.Common.{ap, ◌∙◌, append_assoc, arith, length-append}
 use Rattle.std.specs.List.{join_with_byte, onto_first}
@@ -12,14 +12,14 @@ use Rattle.tool_ends.specs.Intakes.{HasEndLine}
 
 -- ---- the parts of a text on both sides of a line feed
 
--- a byte before some lines changes only these, whatever lines follow
+-- a byte before some lines changes only the first of them, whatever lines follow
 onto_joined : (t : Bool) (b : ℕ) (lines more : List (List ℕ)) → HasFirst lines
     → cond t ([] ∷ lines ++ more) (onto_first b (lines ++ more)) ≡ cond t ([] ∷ lines) (onto_first b lines) ++ more
 onto_joined t b [] more some = absurd (let e = some.is in cc)
 onto_joined true b (line ∷ lines) more some = refl
 onto_joined false b (line ∷ lines) more some = refl
 
--- a line feed cuts a text in two, each with its own parts
+-- a line feed cuts a text in two, and the lines of both parts are its lines
 parts_joined : (a b : List ℕ) → parts 10 (a ++ 10 ∷ b) ≡ parts 10 a ++ parts 10 b
 parts_joined [] b = refl
 parts_joined (x ∷ a) b =
@@ -28,18 +28,18 @@ parts_joined (x ∷ a) b =
 
 -- ---- the front of lines
 
--- lines have a first one if the lines after them have
+-- if there is a line after some lines, they have a first one
 first_joined : (lines more : List (List ℕ)) → HasFirst more → HasFirst (lines ++ more)
 first_joined [] more some = some
 first_joined (line ∷ lines) more some = record { first = line; others = lines ++ more; is = refl }
 
--- the front ends at the first line if that is `end`, and goes on otherwise
+-- if the first line is `end`, the front ends with it, and otherwise goes on
 front_by : (line : List ℕ) (lines : List (List ℕ)) → HasFirst lines
     → front_lines (line ∷ lines) ≡ cond (bytes_eq line (codes "end")) (line ∷ [] ∷ []) (line ∷ front_lines lines)
 front_by line [] some = absurd (let e = some.is in cc)
 front_by line (next ∷ more) some = refl
 
--- the front ends at an end line, if not before, whatever lines follow
+-- lines after a line `end` do not change the front
 front_same : (lines a b : List (List ℕ)) → HasFirst a → HasFirst b
     → front_lines (lines ++ codes "end" ∷ a) ≡ front_lines (lines ++ codes "end" ∷ b)
 front_same [] a b some other = front_by (codes "end") a some ∙ sym (front_by (codes "end") b other)
@@ -53,7 +53,7 @@ front_same (line ∷ lines) a b some other =
 
 -- ---- more text
 
--- a text is the part before its end line, the end line, and the part after it
+-- a text consists of what comes before its line `end`, that line, and what comes after it
 cut_at_end : (text : List ℕ) (h : HasEndLine text)
     → text ≡ take h.0 text ++ 10 ∷ 101 ∷ 110 ∷ 100 ∷ 10 ∷ drop (h.0 + 5) text
 cut_at_end text h =
@@ -61,7 +61,7 @@ cut_at_end text h =
     ∙ ap (λ rest. take h.0 text ++ rest)
     (at_from_reads 0 text (10 ∷ 101 ∷ 110 ∷ 100 ∷ 10 ∷ []) h.0 h.1.fits h.1.reads)
 
--- texts that are the same up to an end line have one front
+-- if texts are the same up to a line `end`, they have the same front
 front_at_end : (a b c : List ℕ)
     → front (a ++ 10 ∷ 101 ∷ 110 ∷ 100 ∷ 10 ∷ b) ≡ front (a ++ 10 ∷ 101 ∷ 110 ∷ 100 ∷ 10 ∷ c)
 front_at_end a b c =
@@ -69,7 +69,7 @@ front_at_end a b c =
     ap (join_with_byte 10) (ap front_lines (parts_joined a (101 ∷ 110 ∷ 100 ∷ 10 ∷ b)) ∙ same
     ∙ sym (ap front_lines (parts_joined a (101 ∷ 110 ∷ 100 ∷ 10 ∷ c))))
 
--- an end line stays where it is
+-- a line `end` stays where it is if more text comes
 pub end_stays : (text more : List ℕ) → HasEndLine text → HasEndLine (text ++ more)
 end_stays text more (place, at) = (
   place,
@@ -80,7 +80,7 @@ end_stays text more (place, at) = (
   },
 )
 
--- and so does the front
+-- the front of a text with a line `end` stays the same if more text comes
 pub front_stays : (text more : List ℕ) → HasEndLine text → front (text ++ more) ≡ front text
 front_stays text more h =
     let cut = cut_at_end text h in

@@ -1,4 +1,4 @@
--- The part of an input that was read has the outputs of the whole input.
+-- An output for the part of an input that was read is one for the whole input.
 use Rattle.std.proofs.Common.{ℕ, ◌+◌, ◌≡◌, ◌≤◌, ◌<◌, ◌⊎◌, List, [], Option, None, Some, length, take, sym, ap, ◌∙◌, subst, arith, inl, inr}
 use Rattle.std.specs.Prelude.{IfSome}
 use Rattle.std.specs.Io.KnownBytes.{Consumes}
@@ -10,7 +10,7 @@ use Rattle.tool_ends.specs.Reads.{ReadsEnds, SomeAnswer, WasRead, WritesEnds}
 use Rattle.tool_ends.specs.declared.status.Status.{Status}
 use Rattle.tool_ends.specs.declared.status.Status.TheVariants.{Done, No, Usage, ReadFault, WriteFault, Refused, NoMemory}
 
--- an output of one kind is one of a wider kind
+-- if each output of one kind is of another kind, a command that ends with the first ends with the second
 pub wider : (Of Wide : Status → List ℕ → Type 0) → ((s : Status) (o : List ℕ) → Of s o → Wide s o) →
     (status : Status) (a b : Option (List ℕ)) → WritesEnds Of status a b → WritesEnds Wide status a b
 wider Of Wide is Done a b e = (e.0, is Done e.0 e.1, e.2)
@@ -21,7 +21,7 @@ wider Of Wide is NoMemory a b e = e
 wider Of Wide is Usage a b e = e
 wider Of Wide is ReadFault a b e = e
 
--- for outputs of this kind: each answered input is within the limit, and all inputs above it have the same refusals
+-- outputs of this kind answer no input above the limit, and refuse all inputs above it alike
 pub record IsLimited (limit : ℕ) (Of : List ℕ → Status → List ℕ → Type 0) : Type 0 where
   pub done : (input output : List ℕ) → Of input Done output → length input ≤ limit
   pub no : (input output : List ℕ) → Of input No output → length input ≤ limit
@@ -29,7 +29,7 @@ pub record IsLimited (limit : ℕ) (Of : List ℕ → Status → List ℕ → Ty
       Of input Refused output → Of all Refused output
 
 module _ (limit : ℕ) (Of : List ℕ → Status → List ℕ → Type 0) (limited : IsLimited limit Of) where
-  -- the part of an input that was read is all of it, or both are too long
+  -- the part that was read is the whole input, or both are above the limit
   read_or_too_long : (all input : List ℕ) → input ≡ take (limit + 1) all →
       (input ≡ all) ⊎ ((limit < length input) × (limit < length all))
   read_or_too_long all input is = elim (cases_lt limit (length all)) [
@@ -37,7 +37,7 @@ module _ (limit : ℕ) (Of : List ℕ → Status → List ℕ → Type 0) (limit
     | inr short ↦ inl (is ∙ take_all (limit + 1) all (omega arith))
   ]
 
-  -- an output of the part of an input that is read is one of all of it
+  -- an output for the part of a long input that was read is one for all of it
   of_long : (status : Status) → IsAnswered status → (input all output : List ℕ) → limit < length input →
       limit < length all → Of input status output → Of all status output
   of_long Done answered input all output long too is =
@@ -65,14 +65,14 @@ module _ (limit : ℕ) (Of : List ℕ → Status → List ℕ → Type 0) (limit
   some_of_all (Some all) input output front is =
       (is.0, is.1, of_all is.0 is.1 (Some all) input output front is.2)
 
-  -- at most as much was taken as of an input that is too long
+  -- of an input above the limit, at most one byte more than the limit was taken
   taken_at_most : (left left_after : Option (List ℕ)) (input : List ℕ) → Consumes left left_after input →
       IfSome left (λ all. input ≡ take (limit + 1) all) → ConsumesUpTo (limit + 1) left left_after
   taken_at_most None left_after input read front = ([], omega arith, tt)
   taken_at_most (Some all) left_after input read front =
       (input, omega (arith, ap length front, length-take (limit + 1) all), read)
 
-  -- the command ends with this read and this output
+  -- a command that read this and wrote this ends as its contract states
   pub reads_end : (left left_after held held_after : Option (List ℕ)) (input : List ℕ) →
       WasRead limit left left_after input → (status : Status) → WritesEnds (Of input) status held held_after →
       ReadsEnds limit Of status left left_after held held_after
@@ -115,7 +115,7 @@ module _ (limit : ℕ) (Of : List ℕ → Status → List ℕ → Type 0) (limit
 
 -- ---- one answer
 
--- an answer with its status
+-- if a text is an answer with this status, so is any equal answer with an equal status
 pub the_answer : (Of : Status → List ℕ → Type 0) (status : Status) (text : List ℕ) → Of status text →
     (s : Status) (o : List ℕ) → (s ≡ status) × (o ≡ text) → Of s o
 the_answer Of status text of s o is = subst (λ s. Of s o) (sym is.0) (subst (Of status) (sym is.1) of)

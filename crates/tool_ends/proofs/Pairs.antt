@@ -1,5 +1,5 @@
--- A script's transcript has exactly one line for each event and each caller; and the refusals of an input that is no
--- script with a transcript after it.
+-- A script's transcript has exactly one line for each event and one more for each caller. If an input is no script with
+-- a transcript after it, it is refused.
 use Rattle.std.proofs.Common.{◌≡◌, ◌<◌, ℕ, suc, ◌+◌, ◌≤◌, refl, List, [], ◌∷◌, length, sym, ◌∙◌, arith, inl, inr, true, ltb, Some}
 use Rattle.std.specs.List.{sum_by}
 use Rattle.std.proofs.lemmas.Bool.{lt-ltb}
@@ -7,10 +7,10 @@ use Rattle.std.proofs.lemmas.List.Concat.{length-flat_map}
 use Rattle.std.proofs.lemmas.List.Sums.{sum_by-cons}
 use Rattle.key_names.specs.declared.events.Event.{Event}
 use Rattle.key_names.specs.declared.faults.FaultKind.TheVariants.{TooLong}
-use Rattle.key_names.specs.IsTranscript.{HasLines}
+use Rattle.key_names.specs.Transcripts.IsTranscript.{HasLines}
 use Rattle.key_names.specs.Texts.ScriptFaults.{front}
 use Rattle.key_names.specs.Texts.ScriptGrammar.{Script, IsScript, WellFormed}
-use Rattle.key_names.specs.SeenLine.{SeenLine}
+use Rattle.key_names.specs.Transcripts.SeenLine.{SeenLine}
 use Rattle.key_names.proofs.Samples.Lines.{AllFit, fits_long}
 use Rattle.transcript_text.specs.ReadTexts.{HasMoreLines}
 use Rattle.tool_ends.specs.Pairs.{IsNoPair, IsNoText, LacksLines, RefusalOf, TellsFault, behind, no_line, pair_fault, refusal_line}
@@ -38,7 +38,7 @@ pub few_lines : (script : Script) (t : List (List SeenLine)) → WellFormed scri
     → sum_by length t ≤ 65600
 few_lines script t ok fit = omega (arith, ok.events, ok.callers.1, lines_of_all 0 script.callers t fit)
 
--- lines that are more than those of any script's transcript are not those of this script
+-- if a transcript has more lines than any script's, it lacks the lines of this script
 pub too_many : (script : Script) (text : List ℕ) → WellFormed script → HasMoreLines 65600 text → LacksLines script text
 too_many script text ok more = record {
   lines = more.callers;
@@ -51,11 +51,11 @@ too_many script text ok more = record {
   ));
 }
 
--- an input that is too long has its first fault at line 0
+-- an input above the limit has its first fault at line 0
 pub too_long : (input : List ℕ) → 100663296 < length input → pair_fault input ≡ Some (record { line = 0; kind = TooLong })
 too_long input long = let is : ltb 100663296 (length input) ≡ true = lt-ltb _ _ long in rw is refl
 
--- so the refusal of one such input is that of each
+-- all inputs above the limit have the same refusal
 pub too_long_alike : (input all output : List ℕ) → 100663296 < length input → 100663296 < length all →
     TellsFault input output → TellsFault all output
 too_long_alike input all output long too tells = record {
@@ -64,7 +64,7 @@ too_long_alike input all output long too tells = record {
   line = tells.line;
 }
 
--- a reason why the text after a script is not read is one why the input is not
+-- if the text after a script is not read for this reason, neither is the input
 pub no_pair : (input : List ℕ) (script : Script) → length input ≤ 100663296 → IsScript script (front input) →
     (why : NotRead) → IsNoText (behind input) why → IsNoPair input why
 no_pair input script short is ReadFault not = absurd not

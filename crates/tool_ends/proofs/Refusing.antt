@@ -11,12 +11,12 @@ use Rattle.tool_ends.proofs.Inputs.{IsLimited, reads_end, wider}
 
 module _ (most : ℕ) (Of : List ℕ → Status → List ℕ → Type 0) (limited : IsLimited most Of)
     (left left_after held held_after : Option (List ℕ)) where
-  -- the command that read an input ends with the output that was written for it
+  -- a command that read an input and wrote this output for it ends as its contract states
   pub said_of : (input : List ℕ) → WasRead most left left_after input → (status : Status) →
       WritesEnds (Of input) status held held_after → ReadsEnds most Of status left left_after held held_after
   said_of input read status e = reads_end most Of limited left left_after held held_after input read status e
 
-  -- without memory no output was written
+  -- if memory ran out, no output was written
   unread : (status : Status) → ConsumesUpTo (most + 1) left left_after →
       WritesEnds (RefusalOf Unread) status held held_after → ReadsEnds most Of status left left_after held held_after
   unread Done taken e = absurd e.1
@@ -27,7 +27,7 @@ module _ (most : ℕ) (Of : List ℕ → Status → List ℕ → Type 0) (limite
   unread Usage taken e = absurd e
   unread ReadFault taken e = absurd e
 
-  -- and it ends so with the refusal of an input that was not read
+  -- a command that refused an input for this reason ends as its contract states
   pub refused_of : (Is : List ℕ → NotRead → Type 0) (why : NotRead) →
       ((input : List ℕ) → Is input why → (s : Status) (o : List ℕ) → RefusalOf why s o → Of input s o) →
       GivesNone most Is left left_after why → (status : Status) → RefusalEnds why status held held_after →

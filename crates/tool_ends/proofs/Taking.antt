@@ -1,4 +1,4 @@
--- An input that is taken piece by piece.
+-- An input is taken piece by piece.
 use Rattle.std.proofs.Common.{◌≡◌, ℕ, ◌+◌, ◌≤◌, List, [], ◌++◌, Option, None, Some, length, sym, ap, subst, ◌∙◌, append-nil, arith}
 use Rattle.std.specs.Prelude.{Result, Ok, Err, IfErr, IfOk, IfSome, IsErrAnd, OnOk, drop, take}
 use Rattle.std.proofs.lemmas.List.{drop-append-le, length-append, take_all, take_at}
@@ -26,7 +26,7 @@ pub ok_both : {T E : Type 0} (A B : Type 0) (answer : Result T E) → OnOk answe
 ok_both A B (Ok x) a b = (a, b)
 ok_both A B (Err e) a b = tt
 
--- more of the text after a script
+-- after the script was found, one more piece joins the text after it
 pub found_on : (input piece : List ℕ) (script : Script) (text next : Behind) → HasEndLine input
     → IsFound input script text → HoldsText (behind input ++ piece) next → IsFound (input ++ piece) script next
 found_on input piece script text next end f holds =
@@ -43,7 +43,7 @@ pub fault_stays : (input piece : List ℕ) (fault : ScriptFault) → HasEndLine 
     → first_fault (front input) ≡ Some fault → first_fault (front (input ++ piece)) ≡ Some fault
 fault_stays input piece fault end is = ap first_fault (front_stays input piece end) ∙ is
 
--- this many bytes were taken from a source, and `Has` holds of them
+-- this many bytes were taken from a source, and `Has` holds of these bytes
 pub record TakenSoFar (left left_now : Option (List ℕ)) (Has : List ℕ → Type 0) (count : ℕ) : Type 0 where
   pub input : List ℕ
   pub read : Consumes left left_now input
@@ -72,7 +72,7 @@ module _ (most : ℕ) where
       let whole : all ≡ input = read ∙ ap (λ r. input ++ r) end ∙ append-nil input in
       sym whole ∙ sym (take_all (most + 1) all (omega (arith, ap length whole)))
 
-  -- the source is at its end
+  -- the source has reached its end, so the input is all of it
   pub ends_read : (left now after : Option (List ℕ)) (input : List ℕ) → Consumes left now input
       → Consumes now after [] → IsAtEnd after → length input ≤ most + 1 → WasRead most left after input
   ends_read left now after input read none end short =
@@ -87,7 +87,7 @@ module _ (most : ℕ) where
   front_read (Some all) (Some rest) input read len =
       sym (ap (take (most + 1)) read ∙ take_at input rest (most + 1) len)
 
-  -- more was read than is allowed
+  -- one byte more than is allowed was read
   pub long_read : (left now : Option (List ℕ)) (input : List ℕ) → Consumes left now input → length input ≡ most + 1
       → WasRead most left now input
   long_read left now input read len = record {
@@ -111,13 +111,13 @@ module _ (most : ℕ) where
     gives_none left after input (Ok x) read few not is = tt
     gives_none left after input (Err why) read few not is = no_input left after input why read few is not
 
-    -- the reason that ended the reading is the reason in the answer
+    -- an answer that has the reason why the reading ended satisfies its contract
     pub broken_off : {T : Type 0} (left after : Option (List ℕ)) (why : NotRead) (answer : Result T NotRead)
         → IsErrAnd answer (λ e. e ≡ why) → GivesNone most Is left after why → IfErr answer (GivesNone most Is left after)
     broken_off left after why (Ok x) is gives = absurd is
     broken_off left after why (Err e) is gives = subst (GivesNone most Is left after) (sym is) gives
 
-    -- if no text was read, no fact about one is needed
+    -- if no text was read, GivesNone holds without a fact about a text
     pub no_text : (left after : Option (List ℕ)) (why : NotRead) → GivesNoText most left after why
         → GivesNone most Is left after why
     no_text left after ReadFault gives = gives
@@ -126,7 +126,7 @@ module _ (most : ℕ) where
     no_text left after TooManyLines gives = absurd gives.2
     no_text left after NoMemory gives = gives
 
-    -- an input that was read was not left unread
+    -- if an input was read, no answer about it is a read fault
     pub no_read_fault : {T : Type 0} (Q : Type 0) (input : List ℕ) (answer : Result T NotRead)
         → (Is input ReadFault → ⊥) → IfErr answer (Is input) → IfErr answer (λ why. why ≡ ReadFault → Q)
     no_read_fault Q input (Ok x) not is = tt
@@ -144,7 +144,7 @@ pub gives_script : {E : Type 0} (left after : Option (List ℕ)) (input : List �
 gives_script left after input (Ok script) read is = (input, read, is)
 gives_script left after input (Err e) read is = tt
 
--- nor is one with a text after its script that is not read
+-- if the text after a script is not read, the answer has this reason for the input
 pub no_pair_for : {T : Type 0} (input : List ℕ) (script : Script) (why : NotRead) (answer : Result T NotRead)
     → length input ≤ most_input → IsScript script (front input) → IsNoText (behind input) why
     → IsErrAnd answer (λ e. e ≡ why) → IfErr answer (λ e. IsNoPair input e)

@@ -2,7 +2,7 @@
 use Rattle.std.specs.Prelude.{ℕ, ◌≡◌, ◌≤◌, List, Option, None, Some, length}
 use Rattle.key_names.specs.Texts.ScriptFaults.{front}
 use Rattle.key_names.specs.Texts.ScriptGrammar.{Script, IsScript}
-use Rattle.key_names.specs.SeenLine.{SeenLine}
+use Rattle.key_names.specs.Transcripts.SeenLine.{SeenLine}
 use Rattle.key_names.specs.Texts.TranscriptGrammar.{transcript_text}
 use Rattle.transcript_text.specs.Feeding.{HasFed, most_lines}
 use Rattle.tool_ends.specs.Pairs.{behind, most_input, most_script_lines}
@@ -10,7 +10,7 @@ use Rattle.tool_ends.specs.Reads.{WasRead}
 use Rattle.tool_ends.specs.declared.behind.Behind.{Behind}
 use Rattle.tool_ends.specs.declared.behind.Behind.TheVariants.{Compared, Fed}
 
--- it is this text
+-- the text is the one that was compared, or the one that was fed
 abbrev pub HoldsText : List ℕ → Behind → Type 0
 HoldsText text (Compared comparison) = text ≡ comparison.text
 HoldsText text (Fed reader) = HasFed text reader × (most_lines reader ≡ most_script_lines)
@@ -20,7 +20,7 @@ abbrev pub compared_with : Behind → Option (List (List SeenLine))
 compared_with (Compared comparison) = Some comparison.made
 compared_with (Fed reader) = None
 
--- the text is all of that transcript's
+-- the text was compared, and is all of the transcript's text
 abbrev pub IsWhole : Behind → Type 0
 IsWhole (Compared comparison) = comparison.text ≡ transcript_text comparison.made
 IsWhole (Fed reader) = ⊥

@@ -6,7 +6,7 @@ use Rattle.io_edges.specs.Pieces.{AppendsPrefix}
 use Rattle.tool_ends.specs.declared.status.Status.{Status}
 use Rattle.tool_ends.specs.declared.status.Status.TheVariants.{Done, No, Usage, ReadFault, WriteFault, Refused, NoMemory}
 
--- the exit codes
+-- the exit code of each status
 abbrev pub code_of : Status → ℕ
 code_of Done = 0
 code_of No = 1
@@ -16,7 +16,7 @@ code_of WriteFault = 4
 code_of Refused = 5
 code_of NoMemory = 6
 
--- `Of` gives the right outputs
+-- how a command with this status leaves the sink; `Of` holds of each right output
 abbrev pub EndsWith : (List ℕ → Type 0) → Status → Option (List ℕ) → Option (List ℕ) → Type 0
 EndsWith Of Done held held_after = (output : List ℕ) × Of output × Appends held held_after output
 EndsWith Of WriteFault held held_after = (output : List ℕ) × Of output × AppendsPrefix held held_after output
@@ -26,17 +26,17 @@ EndsWith Of Usage held held_after = ⊥
 EndsWith Of ReadFault held held_after = ⊥
 EndsWith Of Refused held held_after = ⊥
 
--- the sink counted a fault if it failed under the command, and none otherwise
+-- the sink counted a fault exactly if the command's result is a write fault
 pub record CountsWriteFault (result : Status) (faults faults_after : ℕ) : Type 0 where
   pub cut : result ≡ WriteFault → Rose faults faults_after
   pub not_counted : (result ≡ WriteFault → ⊥) → faults_after ≡ faults
 
--- the source counted a fault if it failed under the command, and none otherwise
+-- the source counted a fault exactly if the command's result is a read fault
 pub record CountsReadFault (result : Status) (faults faults_after : ℕ) : Type 0 where
   pub read_fault : result ≡ ReadFault → Rose faults faults_after
   pub no_read_fault : (result ≡ ReadFault → ⊥) → faults_after ≡ faults
 
--- the statuses of a command that put its whole answer
+-- a command with this status put its whole answer
 abbrev pub IsAnswered : Status → Type 0
 IsAnswered Done = ⊤
 IsAnswered No = ⊤
@@ -46,7 +46,8 @@ IsAnswered ReadFault = ⊥
 IsAnswered WriteFault = ⊥
 IsAnswered NoMemory = ⊥
 
--- the status and the sink's count of faults stay; or the sink could not hand on the rest of an answer, and counted that
+-- the status and the sink's count of faults stay; or the sink failed to hand on the rest of an answer, and counted this
+-- fault
 abbrev pub AtOutputEnd : Status → Status → ℕ → ℕ → Type 0
 AtOutputEnd status result faults faults_after =
     ((result ≡ status) × (faults_after ≡ faults))

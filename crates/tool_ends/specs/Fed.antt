@@ -4,7 +4,7 @@ use Rattle.tool_ends.specs.Pairs.{GivesNone}
 use Rattle.tool_ends.specs.Reads.{WasRead}
 use Rattle.tool_ends.specs.declared.pair.NotRead.{NotRead}
 
--- a text of this many bytes was read, up to the limit or one byte more, and `Has` holds of it
+-- a text of this many bytes was read, to its end or to one byte above the limit, and `Has` holds of it
 pub record GivesText (limit : ℕ) (left left_after : Option (List ℕ)) (Has : List ℕ → Type 0) (count : ℕ) : Type 0 where
   pub text : List ℕ
   pub read : WasRead limit left left_after text

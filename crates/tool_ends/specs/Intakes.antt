@@ -4,7 +4,7 @@ use Rattle.std.specs.Option.{option_map}
 use Rattle.key_names.specs.Texts.ScriptFaults.{first_fault, front}
 use Rattle.key_names.specs.Texts.ScriptGrammar.{Script, IsScript}
 use Rattle.memchr.specs.Find.{OccursAt}
-use Rattle.key_names.specs.SeenLine.{SeenLine}
+use Rattle.key_names.specs.Transcripts.SeenLine.{SeenLine}
 use Rattle.tool_ends.specs.Behind.{HoldsText, compared_with}
 use Rattle.tool_ends.specs.Pairs.{behind}
 use Rattle.tool_ends.specs.declared.behind.Behind.{Behind}
@@ -17,7 +17,7 @@ use Rattle.tool_ends.specs.declared.intake.Opened.TheVariants.{Script as Found, 
 abbrev pub HasEndLine : List ℕ → Type 0
 HasEndLine bytes = (place : ℕ) × OccursAt bytes (10 ∷ 101 ∷ 110 ∷ 100 ∷ 10 ∷ []) place
 
--- the last `count` of these bytes, and the four before them: a line `end` that came with the last is in these
+-- the last `count` of these bytes, and the four before them: a line `end` that came with the last `count` is in these
 abbrev pub last_part : ℕ → List ℕ → List ℕ
 last_part count bytes = drop (length bytes - count - 4) bytes
 
@@ -27,12 +27,12 @@ pub record IsFound (input : List ℕ) (script : Script) (text : Behind) : Type 0
   pub within : length (front input) ≤ length input
   pub holds : HoldsText (behind input) text
 
--- the result for the script at the front
+-- the result for the script at the start of the input
 abbrev pub IsOpened : List ℕ → Opened → Type 0
 IsOpened input (Found script text) = IsFound input script text
 IsOpened input (Faulty fault) = first_fault (front input) ≡ Some fault
 
--- the input that was taken; all of it is kept only as long as it has no line `end`
+-- the input was taken; as long as it has no line `end`, all of it is kept
 abbrev pub HasTaken : List ℕ → Intake → Type 0
 HasTaken input (Front bytes) = (input ≡ bytes.items) × (HasEndLine input → ⊥)
 HasTaken input (IsOpen opened) = HasEndLine input × IsOpened input opened
@@ -46,7 +46,7 @@ abbrev pub made_in : Intake → Option (Script × List (List SeenLine))
 made_in (Front bytes) = None
 made_in (IsOpen opened) = made_of opened
 
--- the input was taken, and the transcript that was made of its script is one that the maker makes
+-- the input was taken, and a transcript that was made for its script is one of the maker's
 pub record Fills (MayMake : Type 0) (Made : Script → List (List SeenLine) → Type 0) (input : List ℕ) (intake : Intake)
     : Type 0 where
   pub taken : HasTaken input intake

@@ -1,4 +1,4 @@
--- A script with a transcript after it as one input, and the answers for an input that is none.
+-- A script with a transcript after it as one input, and the answers for any other input.
 use Rattle.std.specs.Prelude.{ℕ, ◌≡◌, ◌⊎◌, ◌+◌, ◌≤◌, ⊤, List, [], ◌∷◌, Option, Some, codes, drop, length, nat_lt}
 use Rattle.std.specs.Prelude.{if◌then◌else◌}
 use Rattle.std.specs.Fmt.{decimal}
@@ -6,8 +6,8 @@ use Rattle.std.specs.Io.KnownBytes.{Keeps}
 use Rattle.io_edges.specs.Pieces.{ConsumesUpTo}
 use Rattle.key_names.specs.declared.faults.FaultKind.TheVariants.{TooLong}
 use Rattle.key_names.specs.declared.faults.ScriptFault.{ScriptFault}
-use Rattle.key_names.specs.IsTranscript.{HasLines}
-use Rattle.key_names.specs.SeenLine.{SeenLine}
+use Rattle.key_names.specs.Transcripts.IsTranscript.{HasLines}
+use Rattle.key_names.specs.Transcripts.SeenLine.{SeenLine}
 use Rattle.key_names.specs.Texts.ScriptFaults.{first_fault, front, kind_number}
 use Rattle.key_names.specs.Texts.ScriptGrammar.{Script, IsScript}
 use Rattle.key_names.specs.Texts.Spelling.{lined, spaced}
@@ -40,30 +40,30 @@ pub record IsPair (input : List ℕ) (script : Script) (t : List (List SeenLine)
   pub is_script : IsScript script (front input)
   pub text : IsTranscriptText (behind input) t
 
--- the first fault of an input: it is too long, or its script has one
+-- the first fault of an input: it is too long, or its script has a fault
 abbrev pub pair_fault : List ℕ → Option ScriptFault
 pair_fault input =
     if nat_lt most_input (length input) then Some (record { line = 0; kind = TooLong }) else first_fault (front input)
 
--- a text that is no transcript's
+-- the text is no transcript's
 abbrev pub IsNoTranscript : List ℕ → Type 0
 IsNoTranscript text = (lines : List (List SeenLine)) → IsTranscriptText text lines → ⊥
 
--- a text of a transcript without the lines of the script
+-- the text is that of a transcript, but the transcript lacks the lines of the script
 pub record LacksLines (script : Script) (text : List ℕ) : Type 0 where
   pub lines : List (List SeenLine)
   pub is_text : IsTranscriptText text lines
   pub fails : HasLines script lines → ⊥
 
--- the text after a script is no transcript's, which fails clause 1, or that of a transcript without the script's lines,
--- which fails clause 2
+-- the text after a script is no transcript's and fails clause 1, or its transcript lacks the script's lines and fails
+-- clause 2
 pub record FailsAsText (input : List ℕ) (number : ℕ) : Type 0 where
   pub short : length input ≤ most_input
   pub script : Script
   pub is_script : IsScript script (front input)
   pub clause : (number ≡ 1) × IsNoTranscript (behind input) ⊎ (number ≡ 2) × LacksLines script (behind input)
 
--- the reasons why a text is not read as a transcript
+-- this is the reason why a text is not read as a transcript
 abbrev pub IsNoText : List ℕ → NotRead → Type 0
 IsNoText text ReadFault = ⊥
 IsNoText text (Refused fault) = ⊥
@@ -71,7 +71,7 @@ IsNoText text NoTranscript = IsNoTranscript text
 IsNoText text TooManyLines = HasMoreLines most_script_lines text
 IsNoText text NoMemory = ⊤
 
--- the reasons why an input is not read as a script
+-- this is the reason why an input is not read as a script
 abbrev pub IsNoScript : List ℕ → NotRead → Type 0
 IsNoScript input ReadFault = ⊥
 IsNoScript input (Refused fault) = first_fault input ≡ Some fault
@@ -79,7 +79,7 @@ IsNoScript input NoTranscript = ⊥
 IsNoScript input TooManyLines = ⊥
 IsNoScript input NoMemory = ⊤
 
--- the reasons why an input is not read as a script with a transcript after it
+-- this is the reason why an input is not read as a script with a transcript after it
 abbrev pub IsNoPair : List ℕ → NotRead → Type 0
 IsNoPair input ReadFault = ⊥
 IsNoPair input (Refused fault) = pair_fault input ≡ Some fault
@@ -98,8 +98,8 @@ GivesScript left left_after script =
 abbrev pub GivesPair : Option (List ℕ) → Option (List ℕ) → Script → List (List SeenLine) → Type 0
 GivesPair left left_after script t = (input : List ℕ) × WasRead most_input left left_after input × IsPair input script t
 
--- an input was read, and `Is` gives the reason for its refusal; or the source failed or memory ran out, after at most
--- as many bytes as are taken of an input that is too long
+-- an input was read, and `Is` holds of it and the reason for its refusal. Or the source failed or memory ran out, after
+-- at most one byte more than is allowed was taken
 abbrev pub GivesNone : ℕ → (List ℕ → NotRead → Type 0) → Option (List ℕ) → Option (List ℕ) → NotRead → Type 0
 GivesNone most Is left left_after ReadFault = ConsumesUpTo (most + 1) left left_after
 GivesNone most Is left left_after (Refused fault) =
@@ -118,22 +118,22 @@ GivesNoPair = GivesNone most_input IsNoPair
 
 -- ---- the answers
 
--- the line of a fault has its line and its kind
+-- the line of a fault, with the number of its line and of its kind
 abbrev pub refusal_line : ScriptFault → List ℕ
 refusal_line fault =
     lined (spaced (codes "refused" ∷ decimal fault.line ∷ decimal (kind_number fault.kind) ∷ []) ∷ [])
 
--- the line of a failed clause has its number
+-- the line of a failed clause, with its number
 abbrev pub no_line : ℕ → List ℕ
 no_line number = lined (spaced (codes "no" ∷ decimal number ∷ []) ∷ [])
 
--- the line of an input's first fault
+-- the output is the line of the input's first fault
 pub record TellsFault (input output : List ℕ) : Type 0 where
   pub fault : ScriptFault
   pub first : pair_fault input ≡ Some fault
   pub line : output ≡ refusal_line fault
 
--- the line that gives the reason why an input is not read, and its status
+-- the output is the line that gives the reason why an input is not read, and the status is that of the reason
 abbrev pub RefusalOf : NotRead → Status → List ℕ → Type 0
 RefusalOf ReadFault status output = ⊥
 RefusalOf (Refused fault) status output = (status ≡ IsRefused) × (output ≡ refusal_line fault)
@@ -141,7 +141,7 @@ RefusalOf NoTranscript status output = (status ≡ IsNo) × (output ≡ no_line 
 RefusalOf TooManyLines status output = (status ≡ IsNo) × (output ≡ no_line 2)
 RefusalOf NoMemory status output = ⊥
 
--- the end of a command with such a line
+-- the end of a command that refuses an input for this reason
 abbrev pub RefusalEnds : NotRead → Status → Option (List ℕ) → Option (List ℕ) → Type 0
 RefusalEnds ReadFault status held held_after = (status ≡ Unread) × Keeps held held_after
 RefusalEnds (Refused fault) status held held_after = WritesEnds (RefusalOf (Refused fault)) status held held_after

@@ -6,11 +6,11 @@ use Rattle.tool_ends.specs.Ends.{IsAnswered}
 use Rattle.tool_ends.specs.declared.status.Status.{Status}
 use Rattle.tool_ends.specs.declared.status.Status.TheVariants.{Done, No, Usage, ReadFault, WriteFault, Refused, NoMemory}
 
--- an output of some status with an answer
+-- the output is an answer, with some status
 abbrev pub SomeAnswer : (Status → List ℕ → Type 0) → List ℕ → Type 0
 SomeAnswer Of output = (status : Status) × IsAnswered status × Of status output
 
--- outputs of one kind, with the status Done
+-- these outputs are those of one kind, with the status Done
 abbrev pub OnlyDone : (List ℕ → Type 0) → Status → List ℕ → Type 0
 OnlyDone Is Done output = Is output
 OnlyDone Is No output = ⊥
@@ -37,7 +37,7 @@ WritesEnds Of ReadFault held held_after = ⊥
 
 -- ---- with the reading, of at most `most` bytes and one more; `Of` gives the right outputs for an input
 
--- the input that was read from a source: all that was left, or one byte more than is allowed
+-- the input was read: it is all that was left in the source, or one byte more than is allowed
 pub record WasRead (most : ℕ) (left left_after : Option (List ℕ)) (input : List ℕ) : Type 0 where
   pub read : Consumes left left_after input
   pub whole : length input ≤ most → IsAtEnd left_after
@@ -53,7 +53,7 @@ pub record WasAnswered (most : ℕ) (Is : List ℕ → List ℕ → Type 0) (lef
   pub is : Is input output
   pub written : Appends held held_after output
 
--- the refusal of the input that was read was written; all that was left has the same refusal
+-- the input that was read was refused, and the refusal was written; all that was left has the same refusal
 pub record WasRefused (most : ℕ) (Is : List ℕ → List ℕ → Type 0) (left left_after held held_after : Option (List ℕ))
     : Type 0 where
   pub input : List ℕ
@@ -63,7 +63,7 @@ pub record WasRefused (most : ℕ) (Is : List ℕ → List ℕ → Type 0) (left
   pub of_all : IfSome left (λ all. Is all output)
   pub written : Appends held held_after output
 
--- the sink failed, and holds a prefix of an output for the input that was read; it is also an output for all that was
+-- the sink failed and holds a prefix of an output. It is an output for the input that was read, and for all that was
 -- left
 pub record WasCutShort (most : ℕ) (Is : List ℕ → List ℕ → Type 0) (left left_after held held_after : Option (List ℕ))
     : Type 0 where
@@ -74,7 +74,7 @@ pub record WasCutShort (most : ℕ) (Is : List ℕ → List ℕ → Type 0) (lef
   pub of_all : IfSome left (λ all. Is all output)
   pub written : AppendsPrefix held held_after output
 
--- no output was written, and at most as much was taken as of an input that is too long
+-- no output was written, and the bytes that were taken are at most one more than is allowed
 pub record WasGivenUp (most : ℕ) (left left_after held held_after : Option (List ℕ)) : Type 0 where
   pub taken : ConsumesUpTo (most + 1) left left_after
   pub kept : Keeps held held_after

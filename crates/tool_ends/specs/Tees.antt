@@ -1,4 +1,4 @@
--- The part of a text that a source or a sink has kept while the text passed through it.
+-- The part that a source or a sink has kept of what passed through it.
 use Rattle.std.specs.Prelude.{ℕ, ◌≡◌, ◌≤◌, ◌++◌, IsTrue, List, length, take}
 use Rattle.tool_ends.specs.declared.tee.TeeSource.{TeeSource}
 use Rattle.tool_ends.specs.declared.tee.TeeSink.{TeeSink}
@@ -9,13 +9,13 @@ tee_source tee = tee.source
 abbrev pub tee_sink : {K : Type 0} → TeeSink K → K
 tee_sink tee = tee.sink
 
--- this text was taken, and its front was kept, of at most `most` bytes
+-- this text was taken, and at most `most` of its first bytes were kept
 pub record HasGiven {S : Type 0} (text : List ℕ) (tee : TeeSource S) : Type 0 where
   pub behind : List ℕ
   pub front : text ≡ tee.front.items ++ behind
   pub whole : IsTrue tee.is_whole → text ≡ tee.front.items
   pub few : length tee.front.items ≤ tee.most
 
--- this text was put, and its first bytes were kept
+-- this piece was the last that was put, and its first bytes were kept
 abbrev pub HasGot : {K : Type 0} → List ℕ → TeeSink K → Type 0
-HasGot text tee = tee.front.items ≡ take 32 text
+HasGot piece tee = tee.last.items ≡ take 32 piece

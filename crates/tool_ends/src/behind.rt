@@ -1,4 +1,4 @@
-//! The text after a script: compared with a transcript's text as it comes, or read.
+//! The text after a script. It is compared with a transcript's text as it comes, or read.
 ghost use Rattle.std.specs.Prelude.{◌≡◌, ◌↔◌, ◌+◌, ◌≤◌, ◌^◌, ◌++◌, [], ℕ, List, Some, length, IfErr, IfOk, IfSome, IsTrue, OnOk};
 ghost use Rattle.key_names.specs.Texts.TranscriptGrammar.{IsTranscriptText};
 ghost use Rattle.transcript_text.specs.Feeding.{HasFed, most_lines};
@@ -15,9 +15,9 @@ const MOST_LINES: u32 = 65_600;
 /// The text after a script.
 #[derive(Drop)]
 pub enum Behind {
-    /// The text of a transcript so far, or all of it.
+    /// A text that so far equals that of a transcript.
     Compared(Comparison),
-    /// In a reader that it was fed to.
+    /// A text that was fed to a reader.
     Fed(Reader),
 }
 
@@ -37,7 +37,7 @@ fn transcript_of(reader: Reader) -> Result<Transcript, NotRead>
 }
 
 impl Behind {
-    // No text so far. If `made` is given, the text will be compared with that transcript's.
+    // The text before its first byte. If `made` is given, the text will be compared with that transcript's.
     pub(crate) fn nothing(alloc: Global, made: Option<Transcript>) -> Result<Behind, AllocError>
         ensures holds { IfOk result (HoldsText []) }
         ensures made { IfOk result (λ text. compared_with text ≡ made) }
@@ -48,7 +48,7 @@ impl Behind {
         }
     }
 
-    // One more piece of the text. As soon as the text differs from the transcript's, it is read.
+    // Takes one more piece of the text. As soon as the text differs from the transcript's, it is fed to a reader.
     pub(crate) fn take(&mut self, alloc: Global, piece: &[u8]) -> Result<(), AllocError>
         requires short { (text : List ℕ) × HoldsText text self.old × (length text + length piece.now ≤ 2 ^ 31) }
         ensures more { OnOk result ((text : List ℕ) → HoldsText text self.old
@@ -68,7 +68,7 @@ impl Behind {
         Ok(())
     }
 
-    /// Whether it was compared with the text of a transcript, and is all of it.
+    /// Whether the text was compared with that of a transcript, and is all of it.
     pub fn is_whole(&self) -> bool
         ensures { IsTrue result ↔ IsWhole self.now }
     {
@@ -82,8 +82,8 @@ impl Behind {
     ///
     /// # Errors
     ///
-    /// `NoTranscript` if it is no transcript's text, `TooManyLines` if it is that of one with more lines than a
-    /// script's transcript has, and `NoMemory` if there is no memory for the transcript.
+    /// `NoTranscript` if it is no transcript's text. `TooManyLines` if the transcript has more lines than any script's.
+    /// `NoMemory` if there is no memory for the transcript.
     pub fn transcript(self, alloc: Global) -> Result<Transcript, NotRead>
         requires short { (text : List ℕ) × HoldsText text self × (length text ≤ 2 ^ 31) }
         ensures read { (text : List ℕ) → HoldsText text self → IfOk result (λ t. IsTranscriptText text t) }

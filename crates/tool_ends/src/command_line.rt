@@ -9,7 +9,7 @@ use std::io;
 ///
 /// # Errors
 ///
-/// The status with which the program ends without them: `NoMemory`, or `Usage` if one of them is no text.
+/// The status of the program if there are no such words: `NoMemory`, or `Usage` if a word is no text.
 pub fn words<R: Env + AllocGlobal>(rt: &R) -> Result<Vec<String>, Status>
     ensures { IfErr result (λ status. (status ≡ Status.NoMemory) ⊎ (status ≡ Status.Usage)) }
 {

@@ -1,4 +1,4 @@
-//! A source that is read piece by piece, up to a limit. Each piece is fed to a reader of the text.
+//! A source is read piece by piece, up to a limit. Each piece is fed to a reader of the text.
 ghost use Rattle.std.specs.Prelude.{◌≡◌, ◌+◌, ◌<◌, ◌≤◌, ◌^◌, ◌++◌, [], ℕ, List, length, IfErr, IfOk, OnOk};
 ghost use Rattle.event_script.specs.Feeding.{HasFed};
 ghost use Rattle.io_edges.specs.Faults.{Rose};
@@ -13,14 +13,14 @@ use std::alloc::{AllocError, Global};
 /// The bytes of one piece.
 const PIECE: usize = 64 * 1024;
 
-/// A reader that a text is fed to. The text is compared with a maker's transcript.
+/// A reader to feed a text to. It may compare the text with a maker's transcript.
 pub(crate) trait Fed<M> {
     ghost use Rattle.std.specs.Prelude.{List, ℕ};
 
-    /// It was fed this text.
+    /// The reader was fed this text.
     ghost was_fed: { M → List ℕ → Self → Type 0 };
 
-    /// One more piece of the text.
+    /// Feeds one more piece of the text.
     ///
     /// # Errors
     ///
@@ -44,7 +44,7 @@ impl Fed<NoMaker> for Reader {
     }
 }
 
-/// Feeds the text that a source gives, to its end or to one byte after the limit, and returns the number of its bytes.
+/// Feeds the text that a source gives, to its end or to one byte above the limit. Returns how many bytes were fed.
 ///
 /// # Errors
 ///

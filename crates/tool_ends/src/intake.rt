@@ -1,4 +1,4 @@
-//! An input that is taken piece by piece: a script, and the text of a transcript after it.
+//! An input is taken piece by piece: a script, and the text of a transcript after it.
 ghost use Rattle.std.specs.Prelude.{◌≡◌, ◌+◌, ◌≤◌, ◌^◌, ◌++◌, ℕ, List, Some, length, IfErr, IfOk, IfSome, OnOk};
 ghost use Rattle.tool_ends.specs.Behind.{IsApart, compared_with};
 ghost use Rattle.tool_ends.specs.Intakes.{Fills, HasEndLine, HasTaken, IsOpened, made_in, made_of};
@@ -25,7 +25,7 @@ pub(crate) enum Opened {
 /// The part of an input that was taken.
 #[derive(Drop)]
 pub(crate) enum Intake {
-    /// All of it, as long as it has no end of a script.
+    /// The whole input, which has no end of a script yet.
     Front(Vec<u8>),
     Opened(Opened),
 }
@@ -47,7 +47,7 @@ fn open<M: Maker>(alloc: Global, maker: &M, input: &[u8]) -> Result<Opened, Allo
 }
 
 impl Opened {
-    // One more piece after the end of the script.
+    // Takes one more piece after the end of the script.
     fn take(&mut self, alloc: Global, piece: &[u8]) -> Result<(), AllocError>
         requires short { (input : List ℕ) × HasEndLine input × IsOpened input self.old
             × (length input + length piece.now ≤ 2 ^ 31) }
@@ -76,7 +76,7 @@ impl Opened {
 }
 
 impl Intake {
-    /// One more piece. After the script it is compared with the maker's transcript.
+    /// Takes one more piece. The text after the script is compared with the maker's transcript.
     pub(crate) fn take<M: Maker>(
         &mut self,
         alloc: Global,

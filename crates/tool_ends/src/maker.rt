@@ -9,13 +9,13 @@ use transcript_text::Transcript;
 /// A maker of a transcript for a script. The text after the script is compared with it as it comes.
 pub trait Maker {
     ghost use Rattle.std.specs.Prelude.{List};
-    ghost use Rattle.key_names.specs.SeenLine.{SeenLine};
+    ghost use Rattle.key_names.specs.Transcripts.SeenLine.{SeenLine};
     ghost use Rattle.key_names.specs.Texts.ScriptGrammar.{Script as ScriptValue};
 
-    /// Its own precondition for making transcripts.
+    /// The maker's own precondition for making transcripts.
     ghost may_make: { Self → Type 0 };
 
-    /// The fact about each transcript that it makes for a script.
+    /// A fact of each transcript that the maker makes for a script.
     ghost made: { Self → ScriptValue → List (List SeenLine) → Type 0 };
 
     /// A transcript of the script, or `None` if the text is to be read without a comparison.
@@ -25,7 +25,7 @@ pub trait Maker {
         ensures { IfSome result (λ t. made self.now script.now t) };
 }
 
-/// Makes none: each text is read.
+/// A maker of no transcript: each text is read.
 pub struct NoMaker;
 
 impl Maker for NoMaker {

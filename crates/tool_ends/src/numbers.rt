@@ -26,7 +26,7 @@ pub struct Form<'a> {
 }
 
 impl Form<'_> {
-    // The numbers of four words.
+    // The numbers of a command of four words.
     fn numbers_by(
         &self,
         command: &str,
@@ -48,7 +48,7 @@ impl Form<'_> {
         Some((first, second, third))
     }
 
-    /// The numbers of the words, if they are the command with three numbers in these bounds.
+    /// The numbers of the words, if these are the command's name and three numbers in its bounds.
     pub fn numbers(&self, words: &[String]) -> Option<(u32, u32, u32)>
         ensures found { IfSome result (λ n. Asks self.now (map string_bytes words.now) n.0 n.1 n.2) }
         ensures only { (a b c : ℕ) → Asks self.now (map string_bytes words.now) a b c → result ≡ Some (a, b, c) }

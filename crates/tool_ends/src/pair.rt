@@ -23,11 +23,11 @@ const MOST_PAIR_BYTES: usize = 100_663_296;
 pub enum NotRead {
     /// The source failed.
     ReadFault,
-    /// The input is too long, or its script has a fault: this is the first.
+    /// The input is too long, or its script has a fault. This is the first fault.
     Refused(ScriptFault),
     /// The text after the script is no transcript's: clause 1 fails.
     NoTranscript,
-    /// It is that of one with more lines than any script's transcript has: clause 2 fails.
+    /// The text after the script is that of a transcript with more lines than any script's: clause 2 fails.
     TooManyLines,
     /// Memory ran out.
     NoMemory,
@@ -50,13 +50,13 @@ impl From<AllocError> for NotRead {
 }
 
 /// The script that a source gives, and all of the text after it. The source is read to its end, or to one byte more
-/// than is allowed. If the maker makes a transcript of the script, the text is compared with that one's as it comes,
-/// and is not kept while it is the same. Any other text is read line by line: after the piece with the script's last
-/// line, only the lines so far and one incomplete line are kept.
+/// than is allowed. If the maker makes a transcript of the script, the text is compared with that transcript's as it
+/// comes, and is not kept as long as both are equal. Any other text is read line by line. After the piece with the
+/// script's last line, only the lines that were read and one incomplete line are kept.
 ///
 /// # Errors
 ///
-/// [`NotRead`] is the reason why the input was not read; the text after the script has no part in it. If the source
+/// [`NotRead`] is the reason why the input was not read. It does not depend on the text after the script. If the source
 /// failed or memory ran out, the bytes that were taken are lost.
 pub fn read_apart<S: Source, M: Maker>(
     alloc: Global,

@@ -1,4 +1,4 @@
-//! The fault, or the clause, in a short answer.
+//! The fault, or the clause, that a short answer contains.
 ghost use Rattle.std.specs.Prelude.{◌≡◌, IfSome};
 ghost use Rattle.tool_ends.specs.Pairs.{no_line, refusal_line};
 
@@ -21,7 +21,7 @@ const KINDS: [FaultKind; 12] = [
     FaultKind::Unfinished,
 ];
 
-/// The fault of this line, if it is a line `refused LINE KIND`. That each such line is found is tested.
+/// The fault in a text, if the text is a line `refused LINE KIND`. Tests cover that it is found in each such line.
 pub fn fault_in(text: &[u8]) -> Option<ScriptFault>
     ensures { IfSome result (λ fault. text.now ≡ refusal_line fault) }
 {
@@ -36,7 +36,7 @@ pub fn fault_in(text: &[u8]) -> Option<ScriptFault>
     None
 }
 
-/// The number of the clause of this line, if it is a line `no K`. That each such line is found is tested.
+/// The number of the clause in a text, if the text is a line `no K`. Tests cover that it is found in each such line.
 pub fn clause_in(text: &[u8]) -> Option<u8>
     ensures { IfSome result (λ clause. text.now ≡ no_line clause) }
 {

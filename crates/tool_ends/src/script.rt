@@ -32,7 +32,7 @@ fn script_of(reader: Reader) -> Result<Script, NotRead>
 }
 
 /// The script that a source gives. The source is read to its end, or to one byte more than is allowed. At most one line
-/// of the text is kept, which is incomplete or faulty.
+/// of the text is kept, if it is incomplete or faulty.
 ///
 /// # Errors
 ///

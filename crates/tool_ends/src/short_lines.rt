@@ -1,4 +1,4 @@
-//! The short lines that are the whole answer to an input. They are made without memory.
+//! The short lines that are the whole answer to an input. No memory is allocated for them.
 ghost use Rattle.std.specs.Prelude.{◌≡◌, ◌+◌, ◌≤◌, ◌++◌, decimal, length};
 ghost use Rattle.tool_ends.specs.Pairs.{no_line, refusal_line};
 

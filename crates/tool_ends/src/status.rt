@@ -2,7 +2,7 @@
 ghost use Rattle.std.specs.Prelude.{◌≡◌};
 ghost use Rattle.tool_ends.specs.Ends.{code_of};
 
-/// The way in which a program ended. The number of each is its exit code.
+/// How a program ended. The number of each status is its exit code.
 #[derive(Clone, Copy, Debug, PartialEq, Eq)]
 pub enum Status {
     /// The whole output was written.

@@ -1,4 +1,5 @@
-//! A source and a sink that keep the front of what passes through them, for the message of a refusal.
+//! A source that keeps the front of what was taken from it, and a sink that keeps the last piece that was put to it, for
+//! the message of a refusal.
 ghost use Rattle.std.specs.Prelude.{◌≡◌, ◌<◌, ◌≤◌, ◌++◌, [], ℕ, List, length, take, IfOk, IfSome, OnOk, OnErr};
 ghost use Rattle.std.specs.Io.{ReadsAtMost, WritesAtMost};
 ghost use Rattle.std.specs.Io.KnownBytes.{Keeps, Appends, Consumes, IsAtEnd};
@@ -19,12 +20,12 @@ pub struct TeeSource<S: Source + Drop> {
     // How many bytes are kept at most.
     most: usize,
     front: Vec<u8>,
-    // Whether the front is all that was taken.
+    // Whether `front` is all that was taken.
     is_whole: bool,
 }
 
 impl<S: Source + Drop> TeeSource<S> {
-    /// A source that takes from this one. It has kept nothing yet, and will keep `most` bytes at most.
+    /// A source that takes from this one. It has kept no byte yet, and will keep at most `most`.
     pub fn of(alloc: Global, source: S, most: usize) -> TeeSource<S>
         ensures source { tee_source result ≡ source }
         ensures given { HasGiven [] result }
@@ -37,7 +38,7 @@ impl<S: Source + Drop> TeeSource<S> {
         }
     }
 
-    // Keeps as much of a piece that was taken as there is room for, if all bytes before it were kept.
+    // Keeps as much of a piece that was taken as there is room for, unless an earlier byte was not kept.
     fn keep(&mut self, piece: &[u8])
         ensures source { tee_source self.new ≡ tee_source self.old }
         ensures given { (text : List ℕ) → HasGiven text self.old → HasGiven (text ++ piece.now) self.new }
@@ -54,7 +55,7 @@ impl<S: Source + Drop> TeeSource<S> {
         self.is_whole = left.is_empty();
     }
 
-    /// All that was taken, if it was kept whole.
+    /// All that was taken, if all of it was kept.
     pub fn whole(&self) -> Option<&[u8]>
         ensures { (text : List ℕ) → HasGiven text self.now → IfSome result (λ kept. kept.now ≡ text) }
     {
@@ -65,12 +66,12 @@ impl<S: Source + Drop> TeeSource<S> {
         }
     }
 
-    /// The line of this number, counted from 1, if the copy has all of it (tested).
+    /// The line of this number, counted from 1, if the whole line was kept (tested).
     pub fn line(&self, number: u32) -> Option<&[u8]> {
         let before = (number as usize).checked_sub(1)?;
         let mut lines = self.front.split(|byte| *byte == b'\n');
         let line = lines.nth(before)?;
-        // More of the last line may have come after the front.
+        // Unless the front is all that was taken, its last line may be incomplete.
         if self.is_whole || lines.next().is_some() {
             Some(line)
         } else {
@@ -89,7 +90,7 @@ impl<S: Source + Drop> Source for TeeSource<S> {
             → HasGiven (text ++ take n buf.new) self.new) }
         ensures none_given { OnErr result ((text : List ℕ) → HasGiven text self.old → HasGiven text self.new) }
 
-        // The contract of each source.
+        // The clauses of `Source`.
         ensures bound { ReadsAtMost result buf.new }
         ensures taken { IfOk result (λ n.
             Consumes (S.left (tee_source self.old)) (S.left (tee_source self.new)) (take n buf.new)) }
@@ -104,30 +105,30 @@ impl<S: Source + Drop> Source for TeeSource<S> {
     }
 }
 
-/// A sink that keeps a copy of the first 32 bytes that were put to it.
+/// A sink that keeps a copy of the first 32 bytes of the last piece that was put to it.
 #[derive(Drop)]
 pub struct TeeSink<K: Sink + Drop> {
     sink: K,
-    front: ArrayVec<u8, MOST_GOT>,
+    last: ArrayVec<u8, MOST_GOT>,
 }
 
 impl<K: Sink + Drop> TeeSink<K> {
-    /// A sink that puts to this one, and has kept nothing.
+    /// A sink that puts to this one. It has kept no byte yet.
     pub fn of(sink: K) -> TeeSink<K>
         ensures sink { tee_sink result ≡ sink }
         ensures got { HasGot [] result }
     {
         TeeSink {
             sink,
-            front: ArrayVec::new(),
+            last: ArrayVec::new(),
         }
     }
 
-    /// The first bytes that were put, at most 32.
-    pub fn front(&self) -> &[u8]
-        ensures { (text : List ℕ) → HasGot text self.now → result.now ≡ take 32 text }
+    /// The first bytes of the last piece that was put, at most 32. A short line that was put in one piece is whole.
+    pub fn last(&self) -> &[u8]
+        ensures { (piece : List ℕ) → HasGot piece self.now → result.now ≡ take 32 piece }
     {
-        self.front.as_slice()
+        self.last.as_slice()
     }
 }
 
@@ -140,11 +141,10 @@ impl<K: Sink + Drop> Sink for TeeSink<K> {
 
     #[inline(always)]
     fn put(&mut self, piece: &[u8]) -> Result<usize, Failed>
-        ensures got { IfOk result (λ n. (text : List ℕ) → HasGot text self.old
-            → HasGot (text ++ take n piece.now) self.new) }
-        ensures none_got { OnErr result ((text : List ℕ) → HasGot text self.old → HasGot text self.new) }
+        ensures got { IfOk result (λ n. HasGot (take n piece.now) self.new) }
+        ensures none_got { OnErr result ((before : List ℕ) → HasGot before self.old → HasGot before self.new) }
 
-        // The contract of each sink.
+        // The clauses of `Sink`.
         ensures bound { WritesAtMost result piece.now }
         ensures some { IfOk result (λ n. 0 < length piece.now → 0 < n) }
         ensures appended { IfOk result (λ n.
@@ -154,17 +154,16 @@ impl<K: Sink + Drop> Sink for TeeSink<K> {
         ensures cause { OnErr result (Rose (K.faults (tee_sink self.old)) (K.faults (tee_sink self.new))) }
     {
         let count = self.sink.put(piece)?;
-        let kept = count.min(self.front.remaining_capacity());
-        if kept > 0 {
-            let _kept = self.front.try_extend_from_slice(&piece[..kept]);
-        }
+        let kept = count.min(MOST_GOT);
+        self.last.clear();
+        let _kept = self.last.try_extend_from_slice(&piece[..kept]);
         Ok(count)
     }
 
     fn flush(&mut self) -> Result<(), Failed>
-        ensures got { (text : List ℕ) → HasGot text self.old → HasGot text self.new }
+        ensures got { (before : List ℕ) → HasGot before self.old → HasGot before self.new }
 
-        // The contract of each sink.
+        // The clauses of `Sink`.
         ensures handed_on { OnOk result (K.kept_back (tee_sink self.new) ≡ []) }
         ensures kept { Keeps (K.held (tee_sink self.old)) (K.held (tee_sink self.new)) }
         ensures not_counted { OnOk result (K.faults (tee_sink self.new) ≡ K.faults (tee_sink self.old)) }

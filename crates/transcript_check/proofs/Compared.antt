@@ -1,15 +1,15 @@
--- Lines compared with the answers and data that follow from their steps, each at its place.
+-- Lines are compared with the answers and data that follow from their steps, each line with those at its place.
 use Rattle.std.proofs.Common.{◌≡◌, ℕ, zero, suc, ◌+◌, ◌≤◌, Some, List, [], ◌∷◌, length, refl, sym, subst, ap, ◌∙◌, arith}
 use Rattle.std.specs.Prelude.{◌↔◌, IsTrue, slice_get}
 use Rattle.std.specs.List.{AllByRecursion}
 use Rattle.key_names.specs.declared.events.Event.{Event}
-use Rattle.key_names.specs.Book.{list_at}
-use Rattle.key_names.specs.IsTranscript.{LinesFit, EachCaller, HasLines, AnswersStand, DataStand, script_calls, EachLine}
-use Rattle.key_names.specs.Meaning.{CallMeaning}
-use Rattle.key_names.specs.SeenLine.{SeenLine}
+use Rattle.key_names.specs.Lanes.Book.{list_at}
+use Rattle.key_names.specs.Transcripts.IsTranscript.{LinesFit, EachCaller, HasLines, AnswersStand, DataStand, script_calls, EachLine}
+use Rattle.key_names.specs.Callers.Meaning.{CallMeaning}
+use Rattle.key_names.specs.Transcripts.SeenLine.{SeenLine}
 use Rattle.key_names.specs.Texts.ScriptGrammar.{Script}
 use Rattle.std.proofs.lemmas.Option.{same_Some}
-use Rattle.caller_answers.specs.Said.{SaysIt}
+use Rattle.judge_log.specs.Said.{SaysIt}
 use Rattle.serial_replay.specs.Agreement.{AllAgree}
 use Rattle.serial_replay.specs.Remade.{said_of_caller}
 use Rattle.serial_replay.proofs.Agreement.{AllAre, all_both}

@@ -1,10 +1,10 @@
--- A fact about all calls holds of the first of them, and of each caller's.
+-- A fact of all calls holds of the first few of them, and of the calls of each caller.
 use Rattle.std.proofs.Common.{◌≡◌, ℕ, zero, suc, ◌<◌, List, [], ◌∷◌, length, get_or, map, take, sym, subst, arith}
 use Rattle.std.specs.List.{AllByRecursion}
 use Rattle.std.specs.Global.{Vec}
-use Rattle.line_orders.specs.declared.called.Called.{Called}
-use Rattle.line_orders.specs.Called.{seen_call, seen_calls}
-use Rattle.caller_answers.specs.Said.{CallInRange}
+use Rattle.judge_lines.specs.declared.called.Called.{Called}
+use Rattle.judge_lines.specs.Called.{seen_call, seen_calls}
+use Rattle.judge_log.specs.Said.{CallInRange}
 
 pub front_in_range : (n : ℕ) (calls : List Called) → AllByRecursion CallInRange (map seen_call calls) →
     AllByRecursion CallInRange (map seen_call (take n calls))

@@ -1,13 +1,13 @@
--- A line that differs from the result of its steps is in no lawful transcript with the same steps.
+-- If a line differs from the result of its steps, no lawful transcript with the same steps contains it.
 use Rattle.std.proofs.Common.{◌≡◌, ℕ, zero, suc, Some, List, [], ◌∷◌, length, sym, subst, ◌∙◌, inl, inr}
 use Rattle.std.specs.Prelude.{slice_get}
 use Rattle.std.specs.List.{AllByRecursion}
 use Rattle.std.proofs.lemmas.Bool.{cases_lt}
 use Rattle.std.proofs.lemmas.Option.{same_Some}
-use Rattle.key_names.specs.Book.{list_at}
-use Rattle.key_names.specs.SeenLine.{SeenLine}
+use Rattle.key_names.specs.Lanes.Book.{list_at}
+use Rattle.key_names.specs.Transcripts.SeenLine.{SeenLine}
 use Rattle.key_names.specs.Texts.ScriptGrammar.{Script}
-use Rattle.caller_answers.specs.declared.said.Said.{Said}
+use Rattle.judge_log.specs.declared.said.Said.{Said}
 use Rattle.serial_replay.specs.Agreement.{Agrees, AllAgree, SameAnswer, SameShown}
 use Rattle.serial_replay.specs.Remade.{made_by}
 use Rattle.serial_replay.proofs.Replays.{answers_agree, data_agree}
@@ -20,7 +20,7 @@ each_found P [] n x all is = cc
 each_found P (y ∷ xs) zero x all is = subst P (same_Some y x is) all.0
 each_found P (y ∷ xs) (suc n) x all is = each_found P xs n x all.1 is
 
--- one line among lines that all agree
+-- a line that differs from its result is not among lines that all agree with theirs
 none_of : (IsSaid : SeenLine → Said → Type 0) (script : Script) (t u : List (List SeenLine)) (c n : ℕ)
     (has : HasOther IsSaid script t c n) → AllAgree IsSaid (made_by has.made) u →
     slice_get (list_at t c) n ≡ slice_get (list_at u c) n → ⊥

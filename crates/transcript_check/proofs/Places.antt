@@ -1,4 +1,4 @@
--- A fact about a place holds of a place that is found.
+-- A fact of each place holds of the place that is found.
 use Rattle.std.proofs.Common.{Option, Some, None}
 use Rattle.std.specs.Prelude.{Result, Ok, Err, IfOk, IfSome}
 use Rattle.transcript_check.specs.declared.place.Place.{Place}

@@ -1,11 +1,11 @@
--- The first of some inferred rows are in the same ranges as all of them.
+-- If all inferred rows are in range, the first few of them are.
 use Rattle.std.proofs.Common.{◌≡◌, ◌<◌, ◌^◌, List, [], length, map, sym, subst, ◌∙◌, arith}
 use Rattle.std.specs.Prelude.{All}
 use Rattle.std.specs.Global.{Vec}
 use Rattle.std.proofs.lemmas.List.{length-map, get_or-map}
 use Rattle.std.proofs.lemmas.List.Elements.{All-get_or}
-use Rattle.list_replay.specs.Tables.{CpuIsWide}
-use Rattle.list_replay.specs.declared.told.ToldCpu.{ToldCpu}
+use Rattle.judge_log.specs.Tables.{CpuIsWide}
+use Rattle.judge_log.specs.declared.told.ToldCpu.{ToldCpu}
 use Rattle.transcript_check.specs.Rows.{AreWide}
 
 abbrev pub items : Vec ToldCpu → List ToldCpu

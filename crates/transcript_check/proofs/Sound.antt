@@ -1,26 +1,26 @@
--- The verdict of a check, out of the lists that were made of the lines.
+-- The verdict of a check is right, by the lists that were made of the lines.
 use Rattle.std.proofs.Common.{◌≡◌, ℕ, ◌≤◌, List, [], ◌∷◌, max, refl, subst, ap, arith}
 use Rattle.std.specs.Prelude.{◌↔◌, IsTrue}
-use Rattle.key_names.specs.BaseList.{base_after}
-use Rattle.key_names.specs.Book.{Book, lists_of}
-use Rattle.key_names.specs.Deeds.{Deed, looked, at_pool, at_base, at_cpu, nothing_there, deeds_of}
-use Rattle.key_names.specs.History.{LooksStand, caller_orders}
-use Rattle.key_names.specs.CallerOrders.{LooksFrom}
-use Rattle.key_names.specs.IsTranscript.{IsTranscript, IsTranscriptBy, FirstFails}
-use Rattle.key_names.specs.IsTranscript.{answers_clause, data_clause, looks_clause}
-use Rattle.key_names.specs.IsTranscript.{AnswersStand, DataStand, script_calls}
-use Rattle.key_names.specs.Meaning.{CallMeaning}
+use Rattle.key_names.specs.Lanes.BaseList.{base_after}
+use Rattle.key_names.specs.Lanes.Book.{Book, lists_of}
+use Rattle.key_names.specs.Callers.Deeds.{Deed, looked, at_pool, at_base, at_cpu, nothing_there, deeds_of}
+use Rattle.key_names.specs.Callers.History.{LooksStand, caller_orders}
+use Rattle.key_names.specs.Callers.CallerOrders.{LooksFrom}
+use Rattle.key_names.specs.Transcripts.IsTranscript.{IsTranscript, IsTranscriptBy, FirstFails}
+use Rattle.key_names.specs.Transcripts.IsTranscript.{answers_clause, data_clause, looks_clause}
+use Rattle.key_names.specs.Transcripts.IsTranscript.{AnswersStand, DataStand, script_calls}
+use Rattle.key_names.specs.Callers.Meaning.{CallMeaning}
 use Rattle.key_names.specs.Texts.ScriptGrammar.{Script, WellFormed}
-use Rattle.key_names.specs.SeenLine.{SeenLine}
-use Rattle.key_names.specs.VreadSteps.{NeverFall, looks_of}
+use Rattle.key_names.specs.Transcripts.SeenLine.{SeenLine}
+use Rattle.key_names.specs.Callers.VreadSteps.{NeverFall, looks_of}
 use Rattle.key_names.proofs.Lists.Each.{each_weaker}
 use Rattle.key_names.proofs.Uses.BookUses.{lawful_is_disjoint}
 use Rattle.key_names.proofs.History.CallerOrders.{looks_are_counted}
 use Rattle.key_names.proofs.Values.PrintedNamed.{transcript_prints_named}
 use Rattle.key_names.proofs.Transcripts.TranscriptLaws.{transcript_is_lawful}
 use Rattle.key_names.proofs.Unique.UniqueBook.{first_fail_is_unique}
-use Rattle.line_orders.specs.Clauses.{clause_of}
-use Rattle.line_orders.specs.declared.clause.Clause.{Clause}
+use Rattle.judge_lines.specs.Clauses.{clause_of}
+use Rattle.judge_lines.specs.declared.clause.Clause.{Clause}
 use Rattle.serial_replay.specs.declared.remake.Made.{Made}
 use Rattle.serial_replay.specs.Agreement.{AllAgree}
 use Rattle.serial_replay.specs.Remade.{AllMade, made_by}
@@ -32,7 +32,7 @@ use Rattle.transcript_check.specs.Compared.{IsCompared}
 use Rattle.transcript_check.specs.Judged.{IsSound, IsJudged}
 use Rattle.transcript_check.proofs.Compared.{AnswerSame, DataSame, answers_same, data_same}
 
--- if each look of an order is at least the generation seen before it, the looks never fall
+-- the looks of an order never fall, if each finds at least the generation that was seen before it
 
 lower : (a b : ℕ) (xs : List ℕ) → a ≤ b → NeverFall (b ∷ xs) → NeverFall (a ∷ xs)
 lower a b [] le h = tt
@@ -111,7 +111,7 @@ module _ (script : Script) (t : List (List SeenLine)) (well : WellFormed script)
       looks = a.looks.0 stand;
     })
 
--- the verdict is the only one
+-- at most one verdict is right
 
 pub yes_of : (script : Script) (t : List (List SeenLine)) (v : Verdict) → IsJudged script t v → IsTranscript script t → v ≡ Yes
 yes_of script t Yes j is = refl

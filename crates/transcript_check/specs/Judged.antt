@@ -1,17 +1,17 @@
--- The verdict of a check, and the promise about the lines of a run.
+-- The verdict of a check, and what a lawful transcript's lines have.
 use Rattle.std.specs.Prelude.{⊤, List}
 use Rattle.std.specs.List.{AllByRecursion}
-use Rattle.key_names.specs.Book.{Book, lists_of}
-use Rattle.key_names.specs.Deeds.{deeds_of}
-use Rattle.key_names.specs.History.{caller_orders}
-use Rattle.key_names.specs.IsTranscript.{IsTranscriptBy, FirstFails, script_calls}
-use Rattle.key_names.specs.Meaning.{CallMeaning}
-use Rattle.key_names.specs.PrintedBytes.{PrintsNamed}
+use Rattle.key_names.specs.Lanes.Book.{Book, lists_of}
+use Rattle.key_names.specs.Callers.Deeds.{deeds_of}
+use Rattle.key_names.specs.Callers.History.{caller_orders}
+use Rattle.key_names.specs.Transcripts.IsTranscript.{IsTranscriptBy, FirstFails, script_calls}
+use Rattle.key_names.specs.Callers.Meaning.{CallMeaning}
+use Rattle.key_names.specs.Transcripts.PrintedBytes.{PrintsNamed}
 use Rattle.key_names.specs.Texts.ScriptGrammar.{Script}
-use Rattle.key_names.specs.SeenLine.{SeenLine}
-use Rattle.key_names.specs.Uses.{IsDisjoint}
-use Rattle.key_names.specs.VreadSteps.{NeverFall, looks_of}
-use Rattle.line_orders.specs.Clauses.{clause_of}
+use Rattle.key_names.specs.Transcripts.SeenLine.{SeenLine}
+use Rattle.key_names.specs.Keys.Uses.{IsDisjoint}
+use Rattle.key_names.specs.Callers.VreadSteps.{NeverFall, looks_of}
+use Rattle.judge_lines.specs.Clauses.{clause_of}
 use Rattle.serial_replay.specs.Found.{BasisStands}
 use Rattle.transcript_check.specs.declared.check.Judged.{Judged}
 use Rattle.transcript_check.specs.declared.check.Judged.TheVariants.{Lawful, Unlawful}
@@ -19,7 +19,7 @@ use Rattle.transcript_check.specs.declared.check.Verdict.{Verdict}
 use Rattle.transcript_check.specs.declared.check.Verdict.TheVariants.{Yes, No}
 
 -- the transcript is lawful with its book, which uses no byte of a key twice. The lines show bytes of named keys, each
--- at most once; and along each caller's order no look is below an earlier one
+-- byte at most once. Along each caller's order no look is below an earlier one
 pub record IsSound (script : Script) (t : List (List SeenLine)) : Type 0 where
   pub book : Book
   pub meanings : List (List CallMeaning)
@@ -37,7 +37,7 @@ abbrev pub verdict_of : Judged → Verdict
 verdict_of (Lawful basis) = Yes
 verdict_of (Unlawful clause) = No clause
 
--- the lists of a lawful transcript are made of these lines
+-- if the transcript is lawful, the lists are made of its lines
 abbrev pub HasLists : Script → List (List SeenLine) → Judged → Type 0
 HasLists script t (Lawful basis) = BasisStands script t basis
 HasLists script t (Unlawful clause) = ⊤

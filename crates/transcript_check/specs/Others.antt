@@ -1,16 +1,16 @@
 -- A line of a transcript that differs from the result of its steps.
 use Rattle.std.specs.Prelude.{ℕ, ◌≡◌, ◌≢◌, Some, List, slice_get, map}
-use Rattle.key_names.specs.Book.{list_at}
-use Rattle.key_names.specs.IsTranscript.{IsTranscript}
-use Rattle.key_names.specs.SameSteps.{SameSteps, bare}
-use Rattle.key_names.specs.SeenLine.{SeenLine}
+use Rattle.key_names.specs.Lanes.Book.{list_at}
+use Rattle.key_names.specs.Transcripts.IsTranscript.{IsTranscript}
+use Rattle.key_names.specs.Transcripts.SameSteps.{SameSteps, bare}
+use Rattle.key_names.specs.Transcripts.SeenLine.{SeenLine}
 use Rattle.key_names.specs.Texts.ScriptGrammar.{Script}
-use Rattle.caller_answers.specs.declared.said.Said.{Said}
-use Rattle.caller_answers.specs.Said.{itself}
+use Rattle.judge_log.specs.declared.said.Said.{Said}
+use Rattle.judge_log.specs.Said.{itself}
 use Rattle.serial_replay.specs.declared.remake.Made.{Made}
 use Rattle.serial_replay.specs.Remade.{AllMade, made_by}
 
--- the line differs from the result with its number
+-- the line differs from the result at its event's number
 pub record IsOther (IsSaid : SeenLine → Said → Type 0) (notes : List Said) (line : SeenLine) : Type 0 where
   pub one : Said
   pub said : slice_get notes line.event ≡ Some one
@@ -22,7 +22,7 @@ pub record IsOtherAt (IsSaid : SeenLine → Said → Type 0) (notes : List Said)
   pub there : slice_get lines number ≡ Some line
   pub is : IsOther IsSaid notes line
 
--- this line of this caller differs from the result of the transcript's steps
+-- the caller's line with this number differs from the result of the transcript's steps
 pub record HasOther (IsSaid : SeenLine → Said → Type 0) (script : Script) (t : List (List SeenLine))
     (caller number : ℕ) : Type 0 where
   pub made : Made Said

@@ -1,14 +1,14 @@
 //! The check of a transcript.
 ghost use Rattle.std.specs.Prelude.{◌≡◌, IfOk, map};
 ghost use Rattle.key_names.specs.Texts.ScriptGrammar.{WellFormed};
-ghost use Rattle.key_names.specs.IsTranscript.{IsTranscript, FirstFails};
-ghost use Rattle.key_names.specs.SameSteps.{bare};
-ghost use Rattle.line_orders.specs.Clauses.{clause_of};
+ghost use Rattle.key_names.specs.Transcripts.IsTranscript.{IsTranscript, FirstFails};
+ghost use Rattle.key_names.specs.Transcripts.SameSteps.{bare};
+ghost use Rattle.judge_lines.specs.Clauses.{clause_of};
 ghost use Rattle.transcript_check.specs.Judged.{HasLists, IsJudged, verdict_of};
 
 use crate::compare::{Answers, Compare, Data, all_agree};
 use event_script::Script;
-use line_orders::clause::Clause;
+use judge_lines::clause::Clause;
 use serial_replay::lists::Basis;
 use serial_replay::remake::{Remade, remake};
 use std::alloc::{AllocError, Global};
@@ -22,7 +22,7 @@ pub enum Verdict {
     No(Clause),
 }
 
-/// A lawful transcript's lists, or the reason why it is not lawful.
+/// The lists of a lawful transcript, or the reason why the transcript is not lawful.
 #[derive(Drop)]
 pub enum Judged<'a> {
     Lawful(Basis<'a>),
@@ -42,7 +42,7 @@ impl Judged<'_> {
     }
 }
 
-// The lists, or the first clause that fails.
+// The lists of a lawful transcript, or the first clause that fails.
 fn judge<'a>(alloc: Global, script: &'a Script, t: &'a Transcript) -> Result<Judged<'a>, AllocError>
     requires { WellFormed script.now }
     ensures judged { IfOk result (λ judged. IsJudged script.now t.now (verdict_of judged)) }
@@ -65,8 +65,8 @@ fn judge<'a>(alloc: Global, script: &'a Script, t: &'a Transcript) -> Result<Jud
     }
 }
 
-/// Whether a transcript is lawful for a script, with the lists of its lanes if it is. The answers and data were
-/// compared with these lists, which are made only of the words and steps.
+/// Whether a transcript is lawful for a script. If it is, returns the lists of its lanes, which are made only of the
+/// words and steps. The answers and data agree with these lists.
 ///
 /// # Errors
 ///
@@ -79,7 +79,7 @@ pub fn check_lists<'a>(
     ensures judged { IfOk result (λ judged. IsJudged script.now t.now (verdict_of judged)) }
     ensures lists { IfOk result (λ judged. HasLists script.now (map (map bare) t.now) judged) }
 {
-    // Its contract gives the facts that hold of every script.
+    // The contract of this call gives the facts that hold of every script.
     let _version = script.version();
     judge(alloc, script, t)
 }

@@ -1,20 +1,20 @@
-//! Compares lines with the answers and data of their steps as soon as these are made, and notes whether all agree, part
-//! by part.
+//! Compares lines with the answers and data of their steps as soon as these are made. Notes, part by part, whether each
+//! line agrees.
 ghost use Rattle.std.specs.Prelude.{◌≡◌, ◌↔◌, IsTrue, Some, length, slice_get, MatchOption};
 ghost use Rattle.std.specs.List.{AllByRecursion};
-ghost use Rattle.key_names.specs.Book.{list_at};
-ghost use Rattle.key_names.specs.SeenLine.{SeenLine, no_data, count, bytes_or_none};
+ghost use Rattle.key_names.specs.Lanes.Book.{list_at};
+ghost use Rattle.key_names.specs.Transcripts.SeenLine.{SeenLine, no_data, count, bytes_or_none};
 ghost use Rattle.transcript_text.specs.Views.{seen, seen_shown};
-ghost use Rattle.vread_course.specs.Recipe.{bytes_made};
-ghost use Rattle.caller_answers.specs.Said.{shown_by};
+ghost use Rattle.judge_vread.specs.Recipe.{bytes_made};
+ghost use Rattle.judge_log.specs.Said.{shown_by};
 ghost use Rattle.serial_replay.specs.Agreement.{Agrees, SameAnswer, SameShown, AllAgree};
 ghost use Rattle.serial_replay.specs.Remade.{said_lists};
 ghost use Rattle.transcript_check.specs.declared.compare.Same.{Same as IsLineSame};
 ghost use Rattle.transcript_check.specs.Compared.{IsCompared};
 
-use caller_answers::said::{Note, Said, Shows};
+use judge_log::said::{Note, Said, Shows};
+use judge_vread::served::Served;
 use transcript_text::{CallerLines, LineView, Shown, Transcript};
-use vread_course::served::Served;
 
 /// Whether the parts of a line agree with those of its steps.
 #[derive(Clone, Copy, Drop)]
@@ -31,7 +31,7 @@ pub(crate) struct Compare<'a> {
 
 /// A part of a line.
 pub(crate) trait Part {
-    /// This part of the line agrees, by its note.
+    /// By this note, this part of the line agrees.
     ghost IsSame: { Self → IsLineSame → Type 0 };
 
     fn is_same(&self, same: Same) -> bool

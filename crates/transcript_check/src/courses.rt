@@ -1,24 +1,24 @@
-//! The first line that has a step which may not follow the earlier steps of its caller.
+//! The first line with a step that may not follow its caller's earlier steps.
 
 ghost use Rattle.std.specs.Prelude.{◌≤◌, length};
 
 use crate::place::{Expected, Place};
 use event_script::Script;
+use judge_lines::bare::BareLine;
+use judge_log::Lists;
 use key_names::{Event, LaneId, Mark, Point, Step};
-use line_orders::bare::BareLine;
-use list_replay::Lists;
 use std::alloc::{AllocError, Global};
 
 /// The value that is carried along a caller's steps, and compared with each of them.
 #[derive(Clone, Copy)]
 pub(crate) enum Carried<'a> {
-    /// The stamp of its last visit.
+    /// The stamp of the caller's last visit.
     Stamp,
-    /// The greatest generation that it has seen. `reseeds` is the number of the base's reseeds.
+    /// The greatest generation that the caller has seen. `reseeds` is the number of the base's reseeds.
     Seen { lists: &'a Lists, reseeds: u64 },
 }
 
-// The generation that a visit left; a visit of the pool has none.
+// The generation that a visit left, or none for a visit of the pool.
 fn left_by(lists: &Lists, mark: Mark) -> Option<u64> {
     let place = mark.place as usize;
     match mark.lane {
@@ -29,7 +29,7 @@ fn left_by(lists: &Lists, mark: Mark) -> Option<u64> {
 }
 
 impl Carried<'_> {
-    // The step that was expected instead of one that may not follow.
+    // If the step may not follow, the step that was expected instead.
     fn expected(&self, carried: Option<u64>, step: Step) -> Option<Expected> {
         match (*self, step) {
             (Carried::Stamp, Step::Visit(mark)) => {
@@ -128,7 +128,7 @@ fn is_visit(step: Step) -> bool {
     matches!(step, Step::Visit(_))
 }
 
-// How many of a `vread`'s steps from the third on come before its points `Serve` and `End`.
+// How many of a `vread`'s steps, from the third on, come before its points `Serve` and `End`.
 fn rekey_end(steps: &[Step]) -> usize
     ensures { result ≤ length steps.now }
 {
@@ -179,7 +179,7 @@ fn start_of(starts: &[Start], caller: u32) -> Option<u64> {
     None
 }
 
-// Goes along the lines of a caller, and notes the values that the children that it forks begin with.
+// Goes along the lines of a caller, and notes the values that its children begin with.
 fn go_along(
     alloc: Global,
     course: &mut Course<'_>,
@@ -214,8 +214,8 @@ fn go_along(
     Ok(())
 }
 
-/// The first line of a caller, of those of the first such caller, that has a step which may not follow the value that
-/// is carried to it (tested). Each caller has its lines.
+/// The first line with a step that may not follow the value carried to it (tested). The callers are searched in order.
+/// Each caller must have its lines.
 pub(crate) fn first_off_course(
     alloc: Global,
     script: &Script,

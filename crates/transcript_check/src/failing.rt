@@ -12,14 +12,14 @@ use crate::other_lines::first_other;
 use crate::place::Place;
 use crate::uncounted::first_uncounted;
 use event_script::Script;
-use line_orders::bare::BareLine;
-use line_orders::clause::Clause;
-use line_orders::seen::bare_callers;
+use judge_lines::bare::BareLine;
+use judge_lines::clause::Clause;
+use judge_lines::seen::bare_callers;
 use serial_replay::lists::{Found, find_lists};
 use std::alloc::{AllocError, Global};
 use transcript_text::Transcript;
 
-// The first line with a visit out of the count, or with a stamp that does not rise.
+// The first line with a visit at the wrong place, or with a stamp that does not rise.
 fn first_other_mark(
     alloc: Global,
     script: &Script,
@@ -51,19 +51,18 @@ fn first_other_look(
     first_off_course(alloc, script, lines, Carried::Seen { lists, reseeds })
 }
 
-/// The first failing line of a transcript for a script, if this clause is the first that fails, with the value that was
-/// expected there.
+/// The first line of a transcript at which this clause fails, and what was expected there. The clause must be the first
+/// that fails.
 ///
 /// - Lines: the first line that is not the one of its event, or that is missing.
-/// - Marks: the first line that has a visit at another place than its number in the lane by stamps; without one, the
-///   first line with a stamp that does not rise along its caller's steps.
-/// - Forms: the first line that visits an absent CPU; without one, the line of the first visit, by stamps, with steps
-///   that fit no entry of its lane there; without one, the first line with steps that are no form.
-/// - Answers and data: the first line with another answer, or with other data, than its steps give.
+/// - Marks: the first line with a visit at another place than its number in the lane by stamps. Otherwise, the first
+///   line with a stamp that does not rise along its caller's steps.
+/// - Forms: the first line that visits an absent CPU. Otherwise, the line of the first visit, by stamps, at which the
+///   lane allows no entry that fits the line's steps. Otherwise, the first line with steps that are no form.
+/// - Answers and data: the first line with an answer, or with data, that its steps do not give.
 /// - Looks: the first line with a look below the generation that its caller had seen, or above all reseeds.
 ///
-/// The contract is only about answers and data. That the line is the first, and the lines for other clauses, are
-/// tested.
+/// The contract is only about answers and data. Tests cover the other clauses, and that the line is the first.
 ///
 /// # Errors
 ///
@@ -79,7 +78,7 @@ pub fn first_failing_line(
     ensures data { clause ≡ Clause.Data → IfOk result (λ o. IfSome o (λ p.
         HasOther SameShown script.now t.now p.caller p.line)) }
 {
-    // Its contract gives the facts that hold of every script.
+    // The contract of this call gives the facts that hold of every script.
     let _version = script.version();
     match clause {
         Clause::Lines => Ok(first_other_event(script, &bare_callers(alloc, t)?)),

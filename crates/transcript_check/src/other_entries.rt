@@ -1,17 +1,17 @@
-//! The first line with a visit that continues no list of its lane.
+//! The first line with a visit that no list of its lane can contain after the visits before it.
 ghost use Rattle.std.specs.Prelude.{◌≡◌, ℕ, IfOk, length, take};
-ghost use Rattle.list_replay.specs.Tables.{InRange, tables_of};
+ghost use Rattle.judge_log.specs.Tables.{InRange, tables_of};
 ghost use Rattle.transcript_check.specs.Rows.{AreWide};
 
 use crate::place::{Expected, Place};
 use crate::uncounted::{VisitOf, all_visits};
+use judge_lines::bare::BareLine;
+use judge_lines::told::BaseTold;
+use judge_log::{Told, ToldCpu, ToldPool, replay_lists};
 use key_names::{BaseEntry, LaneId, PoolNote};
-use line_forms::told::BaseTold;
-use line_orders::bare::BareLine;
-use list_replay::{Told, ToldCpu, ToldPool, replay_lists};
 use std::alloc::{AllocError, Global};
 
-/// How many rows of each lane count.
+/// How many rows of each lane are looked at.
 #[derive(Drop)]
 struct Ends {
     pool: usize,
@@ -20,7 +20,7 @@ struct Ends {
 }
 
 impl Ends {
-    // Those of the first visits.
+    // The rows of the first visits.
     fn of(alloc: Global, cpus: usize, visits: &[VisitOf]) -> Result<Ends, AllocError> {
         let mut ends = Ends {
             pool: 0,
@@ -42,14 +42,14 @@ impl Ends {
         self.cpus.get(cpu).copied().unwrap_or(0)
     }
 
-    // Counts the row of a CPU at this place too.
+    // Also looks at the row of a CPU at this place.
     fn reach(&mut self, cpu: u32, place: usize) {
         if let Some(end) = self.cpus.get_mut(cpu as usize) {
             *end = (*end).max(place.saturating_add(1));
         }
     }
 
-    // Counts with each extraction and each refill the visit that it names.
+    // Also looks at the visit that each extraction and each refill names.
     fn reach_named(&mut self, told: &Told<'_>) {
         for row in told.pool.iter().take(self.pool) {
             if let ToldPool::Is(PoolNote::Extract { base_place, .. }) = row {
@@ -90,7 +90,7 @@ fn cut_lanes(
     Ok(cut)
 }
 
-// Whether the first rows of each lane begin some lists.
+// Whether some lists begin with the first rows of each lane.
 fn begins(alloc: Global, told: &Told<'_>, visits: &[VisitOf]) -> Result<bool, AllocError>
     requires { InRange (tables_of told.now) }
 {
@@ -105,7 +105,7 @@ fn begins(alloc: Global, told: &Told<'_>, visits: &[VisitOf]) -> Result<bool, Al
     Ok(lists.is_some())
 }
 
-// How many of the first visits begin some lists: with one more they do not. Bisection finds it.
+// How many of the first visits some lists begin with. No lists begin with one visit more. Bisection finds the number.
 fn most_visits(alloc: Global, told: &Told<'_>, visits: &[VisitOf]) -> Result<usize, AllocError>
     requires { InRange (tables_of told.now) }
 {
@@ -122,8 +122,8 @@ fn most_visits(alloc: Global, told: &Told<'_>, visits: &[VisitOf]) -> Result<usi
     Ok(least)
 }
 
-/// The line of the first visit, in the order of stamps, with inferred rows up to it that begin no lists (tested). The
-/// tables are those of no lists.
+/// The line of the first visit, in the order of stamps, such that no lists begin with the inferred rows up to it
+/// (tested). No lists match the whole tables.
 pub(crate) fn first_other_entry(
     alloc: Global,
     told: &Told<'_>,

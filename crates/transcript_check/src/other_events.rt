@@ -1,11 +1,11 @@
-//! The first line that is not the one of its event.
+//! The first line that differs from the line of its event.
 
 use crate::place::{Expected, Place};
 use event_script::Script;
+use judge_lines::bare::BareLine;
 use key_names::Word;
-use line_orders::bare::BareLine;
 
-// The word of a caller's line of this number, if the script has an event or the end for it.
+// The word of a caller's line with this number, if the script has an event or the end there.
 fn word_at(script: &Script, caller: u32, number: usize) -> Option<Word> {
     if caller >= script.callers() {
         return None;
@@ -22,7 +22,7 @@ fn is_line(line: &BareLine<'_>, caller: u32, event: usize, word: Word) -> bool {
     line.caller == caller && line.event as usize == event && line.word == word
 }
 
-// The expectation for a caller's line of this number, if the line does not meet it.
+// What was expected of a caller's line with this number, if the line differs from it.
 fn expected_at(
     script: &Script,
     caller: u32,
@@ -55,7 +55,7 @@ fn first_of_caller(script: &Script, caller: u32, lines: &[BareLine<'_>]) -> Opti
     None
 }
 
-/// The first line that is not the one of its event, or that is missing (tested).
+/// The first line that differs from the line of its event, or that is missing (tested).
 pub(crate) fn first_other_event(script: &Script, callers: &[Vec<BareLine<'_>>]) -> Option<Place> {
     for caller in 0..script.callers() {
         let Some(lines) = callers.get(caller as usize) else {

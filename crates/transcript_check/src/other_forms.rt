@@ -1,24 +1,24 @@
-//! The first line with steps that are no form of its event, in one book with all others.
+//! The first line with steps that are no form of its event in a book with all other lines.
 ghost use Rattle.std.specs.Prelude.{◌≡◌, map};
 ghost use Rattle.std.specs.List.{AllByRecursion};
 ghost use Rattle.key_names.specs.Texts.ScriptGrammar.{WellFormed};
-ghost use Rattle.line_orders.specs.Called.{seen_call, seen_calls};
-ghost use Rattle.caller_answers.specs.Said.{CallInRange};
+ghost use Rattle.judge_lines.specs.Called.{seen_call, seen_calls};
+ghost use Rattle.judge_log.specs.Said.{CallInRange};
 
 use crate::other_entries::first_other_entry;
 use crate::place::{Expected, Place};
-use caller_answers::calls::caller_said;
-use caller_answers::said::Whole;
 use event_script::Script;
+use judge_lines::bare::BareLine;
+use judge_lines::begin::{Begun, begin};
+use judge_lines::called::Called;
+use judge_lines::setting::Setting;
+use judge_lines::settings::all_settings;
+use judge_log::calls::caller_said;
+use judge_log::gather::gather;
+use judge_log::said::Whole;
+use judge_log::{Lists, replay_lists};
 use key_names::{LaneId, Step};
-use line_forms::setting::Setting;
-use line_orders::bare::BareLine;
-use line_orders::begin::{Begun, begin};
-use line_orders::called::Called;
-use line_orders::settings::all_settings;
-use list_replay::{Lists, replay_lists};
 use std::alloc::{AllocError, Global};
-use told_entries::gather::gather;
 
 fn has_absent(cpus: u32, steps: &[Step]) -> bool {
     for step in steps {
@@ -49,7 +49,7 @@ fn first_absent(cpus: u32, callers: &[Vec<BareLine<'_>>]) -> Option<Place> {
     None
 }
 
-// Whether the steps of these calls are forms. The answers and data that follow from them are dropped, and the number of
+// Whether the steps of these calls are forms. The answers and data that follow from them are dropped, so the number of
 // their caller does not matter.
 fn are_forms(
     alloc: Global,
@@ -63,7 +63,8 @@ fn are_forms(
     Ok(said.is_some())
 }
 
-// How many of a caller's first calls have steps that are forms: with one more call they have not. Bisection finds it.
+// How many of a caller's first calls have steps that are forms. The next call's steps are no form. Bisection finds the
+// number.
 fn most_forms(
     alloc: Global,
     calls: &[Called<'_>],
@@ -85,7 +86,7 @@ fn most_forms(
     Ok(least)
 }
 
-// The line of a call. For a `vread` with acts inside it, it is that of the `vread`.
+// The line of a call. For a `vread` with acts inside it, it is the line of the `vread`.
 fn line_of<'a>(call: &Called<'a>) -> BareLine<'a> {
     match call {
         Called::Alone { line, .. } | Called::Vread { line, .. } | Called::Ending(line) => *line,
@@ -137,8 +138,9 @@ fn first_of_all(
     Ok(None)
 }
 
-/// The first line that visits an absent CPU; or else the one of the first visit with steps that fit no entry of its
-/// lane there; or else the first with steps that are no form (tested). Lines and marks hold.
+/// The first line that visits an absent CPU. Otherwise, the line of the first visit at which the lane allows no entry
+/// that fits the line's steps. Otherwise, the first line with steps that are no form (tested). The clauses on lines and
+/// marks must hold.
 ///
 /// # Errors
 ///

@@ -1,8 +1,8 @@
-//! The first line that has another answer, or other data, than its steps give.
+//! The first line with an answer, or with data, that its steps do not give.
 ghost use Rattle.std.specs.Prelude.{◌≡◌, ◌↔◌, IsTrue, IfOk, IfSome, length};
-ghost use Rattle.key_names.specs.Book.{list_at};
-ghost use Rattle.key_names.specs.SeenLine.{SeenLine};
-ghost use Rattle.caller_answers.specs.declared.said.Said.{Said as SaidOfLine};
+ghost use Rattle.key_names.specs.Lanes.Book.{list_at};
+ghost use Rattle.key_names.specs.Transcripts.SeenLine.{SeenLine};
+ghost use Rattle.judge_log.specs.declared.said.Said.{Said as SaidOfLine};
 ghost use Rattle.serial_replay.specs.Agreement.{SameAnswer, SameShown};
 ghost use Rattle.serial_replay.specs.Remade.{said_lists};
 ghost use Rattle.transcript_text.specs.Views.{seen};
@@ -10,13 +10,13 @@ ghost use Rattle.transcript_check.specs.Others.{HasOther, IsOther, IsOtherAt};
 
 use crate::compare::{Answers, Data, compared};
 use crate::place::{Expected, Place};
-use caller_answers::said::{Said, Shows, Whole};
 use event_script::Script;
+use judge_log::said::{Said, Shows, Whole};
 use serial_replay::remake::{Remade, remake};
 use std::alloc::{AllocError, Global};
 use transcript_text::{CallerLines, LineView, Transcript};
 
-/// A part of a line that its steps decide.
+/// A part of a line that its steps determine.
 pub(crate) trait SaidPart {
     /// The part of the line agrees with the result of its steps.
     ghost IsSaid: { Self → SeenLine → SaidOfLine → Type 0 };
@@ -69,7 +69,7 @@ fn is_other<P: SaidPart>(part: &P, line: LineView<'_>, said: &[Said]) -> bool
     }
 }
 
-// The first line of a caller that differs from the result with its number.
+// The first line of a caller that differs from the result at its number.
 fn first_of_caller<P: SaidPart>(part: &P, lines: &CallerLines, said: &[Said]) -> Option<usize>
     ensures { IfSome result (IsOtherAt (P.IsSaid part.now) said.now lines.now.lines) }
 {
@@ -81,7 +81,7 @@ fn first_of_caller<P: SaidPart>(part: &P, lines: &CallerLines, said: &[Said]) ->
     None
 }
 
-// The expected part of a caller's line of this number.
+// The expected part of a caller's line.
 fn expected_of<P: SaidPart>(
     alloc: Global,
     part: &P,
@@ -119,8 +119,8 @@ fn first_of_all<P: SaidPart>(
     Ok(None)
 }
 
-/// The first line that has another answer than its steps give, or other data. There is none if lines, marks or forms
-/// fail. That no line before it differs is tested.
+/// The first line with an answer, or with data, that its steps do not give. `None` if the clause on lines, marks or
+/// forms fails. Tests cover that no line before it differs.
 ///
 /// # Errors
 ///

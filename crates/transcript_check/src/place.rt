@@ -13,13 +13,13 @@ pub enum Expected {
     },
     /// No line: the script has no such event.
     NoLine,
-    /// A visit at this place, instead of the one that the line has; the stamp is the visit's own.
+    /// A visit at this place instead of the line's own visit, with the same stamp.
     Place(Mark),
     /// A visit with a stamp above this one.
     StampAbove(u64),
     /// A CPU below this number.
     CpuBelow(u32),
-    /// Another entry at this visit: the line's steps fit none of its lane there.
+    /// Another entry at this visit: the line's steps fit no entry that its lane allows there.
     Entry(Mark),
     /// Other steps.
     Steps,
@@ -42,7 +42,8 @@ pub enum Expected {
 #[derive(Drop)]
 pub struct Place {
     pub caller: u32,
-    /// The number of the line among those of the caller, from 0. It is their count if a line is missing after the last.
+    /// The number of the line among those of the caller, from 0. If a line is missing at the end, it is the number of
+    /// the caller's lines.
     pub line: usize,
     pub expected: Expected,
 }

@@ -1,8 +1,8 @@
-//! The first line that has a visit at another place than its number in the lane.
+//! The first line with a visit at another place than its number in the lane.
 
 use crate::place::{Expected, Place};
+use judge_lines::bare::BareLine;
 use key_names::{LaneId, Mark, Step};
-use line_orders::bare::BareLine;
 use std::alloc::{AllocError, Global};
 
 /// A visit, and its line.
@@ -13,7 +13,7 @@ pub(crate) struct VisitOf {
     pub(crate) line: usize,
 }
 
-// The pool, the base, and then the CPUs.
+// The rank of a lane: the pool, the base, and then the CPUs.
 fn lane_rank(lane: LaneId) -> u64 {
     match lane {
         LaneId::Pool => 0,
@@ -37,7 +37,7 @@ fn push_visits(visits: &mut Vec<VisitOf>, lines: &[BareLine<'_>]) -> Result<(), 
     Ok(())
 }
 
-/// All visits, as the lines have them.
+/// All visits, in the order of the lines.
 pub(crate) fn all_visits(
     alloc: Global,
     callers: &[Vec<BareLine<'_>>],
@@ -49,7 +49,7 @@ pub(crate) fn all_visits(
     Ok(visits)
 }
 
-// The expected visit after another in its lane, or as its lane's first.
+// The visit that was expected after another in its lane, or as the lane's first.
 fn expected_behind(last: Option<Mark>, place: u64, mark: Mark) -> Option<Expected> {
     if let Some(last) = last {
         if mark.stamp <= last.stamp {
@@ -70,7 +70,7 @@ fn is_before(visit: VisitOf, found: &Option<Place>) -> bool {
     }
 }
 
-/// The first line that has a visit at another place than its number by stamps in the lane, or with the stamp of another
+/// The first line with a visit at another place than its number by stamps in the lane, or with the stamp of another
 /// visit of the lane (tested).
 pub(crate) fn first_uncounted(
     alloc: Global,

@@ -1,4 +1,4 @@
--- From each caller's lines to all of them.
+-- Facts about each caller's lines are facts about all lines.
 use Rattle.std.proofs.Common.{◌≤◌, List, length, map, All, arith}
 use Rattle.std.specs.List.{AllByRecursion}
 use Rattle.std.proofs.lemmas.List.{length-map}

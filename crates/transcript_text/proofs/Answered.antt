@@ -1,4 +1,4 @@
--- The answer is none if the text spells no value.
+-- If a text spells no value, the answer is none.
 use Rattle.std.proofs.Common.{◌≡◌, ℕ, List, Option, Some, None}
 use Rattle.std.specs.Prelude.{MatchOption}
 use Rattle.transcript_text.specs.Reading.{Reads}

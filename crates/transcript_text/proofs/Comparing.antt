@@ -1,8 +1,8 @@
--- A text, compared with the text of a transcript.
+-- A text is compared with the text of a transcript.
 use Rattle.std.proofs.Common.{◌≡◌, ◌≢◌, ℕ, ◌+◌, ◌-◌, ◌<◌, ◌≤◌, List, [], ◌++◌, length, drop, take, refl, ap, sym, subst, ◌∙◌, append_assoc, append-nil, arith, min}
 use Rattle.std.proofs.Math.Seq.{take-add}
 use Rattle.std.proofs.lemmas.List.{drop_all, drop_at, drop-append-le, drop-drop, length-append, length-drop, length-take, take-append-drop, take-append-le, take_at}
-use Rattle.key_names.specs.SeenLine.{SeenLine}
+use Rattle.key_names.specs.Transcripts.SeenLine.{SeenLine}
 use Rattle.key_names.specs.Texts.TranscriptGrammar.{transcript_text}
 use Rattle.transcript_text.specs.Comparing.{IsBefore, IsOther}
 use Rattle.transcript_text.specs.Feeding.{HasFed}
@@ -10,7 +10,7 @@ use Rattle.transcript_text.specs.Places.{IsIn, text_left}
 use Rattle.transcript_text.specs.declared.place.Place.{Place}
 use Rattle.transcript_text.specs.declared.reader.Reader.{Reader}
 
--- after a whole piece, the rest of the text is the text after the piece
+-- once a piece is used up, the rest of the text is the text after the piece
 behind_piece : (made : List (List SeenLine)) (same from : ℕ) (piece : List ℕ) (place : Place)
     → IsBefore made same piece from place → from ≡ length piece → drop same (transcript_text made) ≡ text_left place made
 behind_piece made same from piece place b over =
@@ -26,7 +26,7 @@ next_piece made same from piece next place behind b over is within = record {
   next = behind_piece made same from piece place b over ∙ is;
 }
 
--- nothing comes after the compared part
+-- if nothing comes after the compared part, that part is the whole text
 all_same : (same : ℕ) (text : List ℕ) → drop same text ≡ [] → take same text ≡ text
 all_same same text none =
     sym (append-nil (take same text)) ∙ ap (λ behind. take same text ++ behind) (sym none) ∙ take-append-drop same text
@@ -44,7 +44,7 @@ front_of_length most text front is =
     sym (take_at front (drop most text) (length front) refl)
     ∙ ap (take (length front)) (ap (λ f. f ++ drop most text) is ∙ take-append-drop most text)
 
--- the next bytes of the piece, as many as are compared, are the next ones of the text
+-- the bytes of the piece that are compared next are the next ones of the text
 is_next : (made : List (List SeenLine)) (same from : ℕ) (piece bytes next : List ℕ) (place : Place)
     → IsBefore made same piece from place → next ≡ take (length bytes) (drop from piece)
     → next ≡ take (length next) (drop same (transcript_text made))
@@ -82,7 +82,7 @@ text_on made same from piece bytes next front place b is front_is alike =
     take-add same (length next) text ∙ ap (λ more. take same text ++ more)
     (sym (is_next made same from piece bytes next place b is) ∙ sym alike ∙ front_is)
 
--- or they differ
+-- if the compared bytes differ from the next ones of the piece, no text that goes on with them is the transcript's
 pub other : (made : List (List SeenLine)) (same from : ℕ) (piece bytes next front : List ℕ) (place : Place)
     → IsBefore made same piece from place → next ≡ take (length bytes) (drop from piece)
     → front ≡ take (length next) bytes → front ≢ next
@@ -98,7 +98,7 @@ other made same from piece bytes next front place b next_is front_is differ behi
     differ (front_is ∙ sym (take-append-le (length next) bytes behind few) ∙ ap (take (length next)) (sym rest_is)
     ∙ sym (is_next made same from piece bytes next place b next_is))
 
--- if the text is whole, all its bytes were compared
+-- if the text so far is the whole text, no bytes of it are left
 pub none_left : (made : List (List SeenLine)) (same from : ℕ) (piece : List ℕ) (place : Place)
     → IsBefore made same piece from place → take same (transcript_text made) ≡ transcript_text made
     → (from ≡ length piece) × (length (text_left place made) ≡ 0)
@@ -120,7 +120,7 @@ none_left made same from piece place b whole =
 
 -- ---- reading the text again
 
--- the bytes of the text that are still to be read; the next of them come after this place
+-- the reader was fed all but the last `left` bytes of the compared text, and these begin at the place
 pub record FedSoFar (made : List (List SeenLine)) (same left : ℕ) (place : Place) (reader : Reader) : Type 0 where
   pub within : IsIn place made
   pub few : left ≤ same

@@ -1,14 +1,14 @@
 -- Lines of a text that are read in sequence, and not kept.
 use Rattle.std.proofs.Common.{◌≡◌, ℕ, zero, suc, ◌+◌, ◌-◌, ◌<◌, List, [], ◌∷◌, ◌++◌, length, refl, sym, ap, subst, ◌∙◌, arith}
 use Rattle.std.proofs.lemmas.List.{length_push}
-use Rattle.key_names.specs.SeenLine.{SeenLine}
+use Rattle.key_names.specs.Transcripts.SeenLine.{SeenLine}
 use Rattle.transcript_text.specs.Feeding.{CountedSoFar, line_end}
 use Rattle.transcript_text.specs.Grouping.{Groups, Gives}
 use Rattle.transcript_text.specs.ReadTexts.{HasMoreLines, IsPassed}
 use Rattle.transcript_text.proofs.GroupedLines.{groups_next, groups_push}
 use Rattle.transcript_text.proofs.ReadingOn.{goes_on, gives_so_far, found}
 
--- the callers up to a later one
+-- the finished callers, after empty ones were added up to a later caller
 record Grown (done : List (List SeenLine)) (current : List SeenLine) (caller : ℕ) : Type 0 where
   next : List (List SeenLine)
   last : List SeenLine
@@ -49,7 +49,7 @@ passes text rest line behind least number caller s cut a =
       many = g.many;
     }
 
--- the text ends with these lines, and they exceed the limit
+-- if the text ends with these lines and they exceed the limit, it has more lines than the limit
 pub more_lines : (text : List ℕ) (least count most : ℕ) → CountedSoFar text least (line_end ++ 10 ∷ []) (count + 1)
     → most < count → HasMoreLines most text
 more_lines text least count most s more =

@@ -38,7 +38,7 @@ same_cut byte (a ∷ as') (b ∷ bs) x y p q e =
     let front : as' ≡ bs = rest.0 in
     (cc, rest.1)
 
--- no digit is this byte
+-- no digit equals this byte
 abbrev pub IsNoDigit : ℕ → Type 0
 IsNoDigit byte = (d : ℕ) → d < 10 → ((48 + d) == byte) ≡ false
 

@@ -21,7 +21,7 @@ digits_counted (suc k) n low high fits =
     let front = digits_counted k (n / 10) (omega arith) (omega arith) (omega arith) in
     ap length (decimal_step n (omega arith) fits) ∙ length-append (decimal (n / 10)) ((48 + n % 10) ∷ []) ∙ omega (arith, front)
 
--- a text with digits written over the bytes after its first ones
+-- digits are written over the bytes of a text from len on
 pub written_on : (len : ℕ) (digits old new rest : List ℕ) → take len new ≡ take len old → drop len new ≡ digits ++ rest
     → take (len + length digits) new ≡ take len old ++ digits
 written_on len digits old new rest before behind =

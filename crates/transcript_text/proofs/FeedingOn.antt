@@ -2,7 +2,7 @@
 use Rattle.std.proofs.Common.{◌≡◌, ℕ, ◌+◌, ◌<◌, ◌≤◌, Bool, true, false, List, [], ◌∷◌, ◌++◌, length, refl, sym, ap, subst, ◌∙◌, append_assoc, append-nil, arith}
 use Rattle.std.specs.Prelude.{vec_len, Result, Ok, Err, IfOk, MatchBool}
 use Rattle.std.proofs.lemmas.List.{length-append, length-map}
-use Rattle.key_names.specs.SeenLine.{SeenLine}
+use Rattle.key_names.specs.Transcripts.SeenLine.{SeenLine}
 use Rattle.key_names.specs.Texts.Spelling.{lined}
 use Rattle.key_names.specs.Texts.TranscriptGrammar.{IsFirstFault, IsTranscriptText, all_lines}
 use Rattle.transcript_text.specs.Feeding.{CountedSoFar, HasFed, HasTold, IsBehind, IsUnread, ReadSoFar, StandsAs, StandsAt, front_of, with_line, head_line, line_end}
@@ -87,7 +87,7 @@ pub ended : (s : SoFar) (text line behind : List ℕ) → HasTold s text (line +
 ended s text line behind t is = subst (λ x. HasTold s text (x ++ 10 ∷ behind)) is t
 
 module _ (s next : SoFar) (line : List ℕ) (most : next.most ≡ s.most) (lines : next.lines ≡ s.lines) where
-  -- the line was kept
+  -- a line that is kept is read and counted
   kept_line : s.lines < s.most
       → AddsLine line (seen_callers s.done.items) (seen_callers next.done.items) s.current.lines next.current.lines
       → (text behind : List ℕ) → HasTold s text (line ++ 10 ∷ behind) → HasTold (with_line next) text behind
@@ -106,7 +106,7 @@ module _ (s next : SoFar) (line : List ℕ) (most : next.most ≡ s.most) (lines
         kept = λ _. read;
       }
 
-  -- the line was counted and not kept, since the limit was reached
+  -- a line after the limit is counted, and not kept
   passed_line : s.most ≤ s.lines → IsPassed line (vec_len s.done) (vec_len next.done)
       → (text behind : List ℕ) → HasTold s text (line ++ 10 ∷ behind) → HasTold (with_line next) text behind
   passed_line many passed text behind t = record {
@@ -135,7 +135,7 @@ module _ (s next : SoFar) (line : List ℕ) (most : next.most ≡ s.most) (lines
   passed_or_none (Ok false) many none = none
   passed_or_none (Err e) many none = tt
 
--- the text has a fault there, whatever follows
+-- the text has a fault in this line, whatever follows
 pub no_line : (s next : SoFar) (text line behind : List ℕ) → HasTold s text (line ++ 10 ∷ behind)
     → lacks 10 line ≡ true → (line ≡ line_end → ⊥) → IsNoLine line (vec_len s.done) → next.lines ≡ s.lines
     → StandsAs (Faulty (next.lines + 2)) next text behind
@@ -146,7 +146,7 @@ no_line s next text line behind t clean not none lines = λ more.
     (fault_line (text ++ more) ((line ++ 10 ∷ behind) ++ more) line (behind ++ more) c.done c.current (s.lines + 1)
     (vec_len s.done) c.read (append_assoc line (10 ∷ behind) more) clean not (sym c.many) none)
 
--- more text comes after the end
+-- more text after the last line is a fault
 goes_past : (s : SoFar) (text rest : List ℕ) → HasTold s text (line_end ++ 10 ∷ rest) → (rest ≡ [] → ⊥)
     → IsFirstFault text (s.lines + 3)
 goes_past s text rest t some =
@@ -171,7 +171,7 @@ stays_past s next text line behind at is = λ more.
 
 -- ---- a reader, and the rest of a piece
 
--- before a piece is read
+-- a reader that was fed the earlier text has the new piece unread
 pub piece_begins : (text piece : List ℕ) (r : Reader) → HasFed text r → IsBehind (text ++ piece) r piece
 piece_begins text piece r fed = record {
   stands = subst (StandsAt r.so_far (text ++ piece)) (ap (λ x. x ++ piece) (append-nil r.rest.items))
@@ -180,7 +180,7 @@ piece_begins text piece r fed = record {
   bound = omega (arith, fed.bound, length-append text piece);
 }
 
--- the rest of a piece is the start of a line
+-- the unread rest of a piece is the start of a line
 pub rest_kept : (text unread : List ℕ) (r next : Reader) → IsBehind text r unread → lacks 10 unread ≡ true
     → next.so_far ≡ r.so_far → next.rest.items ≡ r.rest.items ++ unread → HasFed text next
 rest_kept text unread r next at clean same rest = record {
@@ -189,7 +189,7 @@ rest_kept text unread r next at clean same rest = record {
   bound = omega (arith, at.bound, ap (λ s. s.lines) same, ap length rest, length-append r.rest.items unread);
 }
 
--- a line ends; the reader had the start of it
+-- a line ends in this piece; the reader had the line's start
 pub line_ends : (text behind end line : List ℕ) (r next : Reader) → IsBehind text r (end ++ 10 ∷ behind)
     → lacks 10 end ≡ true → line ≡ r.rest.items ++ end → next.rest.items ≡ []
     → next.so_far.lines ≤ r.so_far.lines + 1

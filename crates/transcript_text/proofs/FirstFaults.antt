@@ -4,7 +4,7 @@ use Rattle.std.specs.Prelude.{codes}
 use Rattle.std.specs.List.{AllByRecursion}
 use Rattle.std.proofs.lemmas.Bool.{cases_lt}
 use Rattle.std.proofs.lemmas.List.{length-append, length-map}
-use Rattle.key_names.specs.SeenLine.{SeenLine}
+use Rattle.key_names.specs.Transcripts.SeenLine.{SeenLine}
 use Rattle.key_names.specs.Texts.Spelling.{lined}
 use Rattle.key_names.specs.Texts.TranscriptGrammar.{line_text, all_lines, transcript_lines, transcript_text, LineFits, TranscriptFits, UnderOwnNumber, IsTranscriptText, BeginsTranscript, IsFirstFault}
 use Rattle.transcript_text.specs.Feeding.{Rising, last_caller, head_line, line_end, front_of}
@@ -19,7 +19,7 @@ use Rattle.transcript_text.proofs.RisingLines.{all_lines_rise, same_callers}
 tail_of : (x : List ℕ) (a b : List (List ℕ)) → x ∷ a ≡ x ∷ b → a ≡ b
 tail_of x a b e = cc
 
--- the possible lines after lines of a transcript
+-- the line after some lines of a transcript is its last line, or a line of the same caller or of a later one
 pub next_is : (least : ℕ) (lines others : List SeenLine) (line : List ℕ) (more : List (List ℕ)) → Rising least lines
     → Rising least others
     → (map line_text lines ++ line ∷ []) ++ more ≡ map line_text others ++ line_end ∷ []
@@ -101,7 +101,7 @@ pub rises : (callers : List (List SeenLine)) → TranscriptFits callers → Unde
     → Rising 0 (all_lines callers)
 rises callers fits own = all_lines_rise 0 0 callers (omega arith) (omega (arith, fits.few_callers)) own fits.lines
 
--- the rest does not begin with a whole line that can follow the lines so far
+-- the rest does not begin with a whole line that can follow these lines
 unfoldable pub NoNext : List SeenLine → List ℕ → Type 0
 NoNext lines rest = (line more : List ℕ) → rest ≡ line ++ 10 ∷ more → lacks 10 line ≡ true
     → (line ≡ line_end → ⊥) × ((l : SeenLine) → LineFits l → last_caller 0 lines ≤ l.caller → l.caller < 64
@@ -146,7 +146,7 @@ none_behind text front rest lack parts stops unended callers t =
               append_assoc front (x ∷ []) behind ∙ sym whole;
         })
 
--- the lines so far, and a next one that no transcript has
+-- if no transcript has the next line after these lines, the next line is the first fault
 pub fault_here : (text rest : List ℕ) (lines : List SeenLine) (number : ℕ) (callers : List (List SeenLine))
     → Gives callers lines → Rising 0 lines
     → text ≡ lined (front_of lines) ++ rest → number ≡ length lines + 2 → NoNext lines rest → IsFirstFault text number
@@ -169,7 +169,7 @@ fault_here text rest lines number callers gives rising parts is not = record {
       (tail_of head_line (map line_text lines) (map line_text (all_lines others) ++ line_end ∷ []) e));
 }
 
--- more text comes after the end
+-- more text after the last line is the first fault
 pub fault_behind : (text rest : List ℕ) (lines : List SeenLine) (number : ℕ) (callers : List (List SeenLine))
     → Gives callers lines → Rising 0 lines
     → text ≡ lined (transcript_lines callers) ++ rest → (rest ≡ [] → ⊥) → number ≡ length lines + 3
@@ -205,7 +205,7 @@ fault_behind text rest lines number callers gives rising parts some is =
           (whole_lacks callers (rises callers gives.fits gives.own)) parts stops (λ others nothing e. some nothing);
     }
 
--- the text does not begin with the head
+-- a text without the first line has its first fault there
 pub no_head : (text : List ℕ) → ((line more : List ℕ) → text ≡ line ++ 10 ∷ more → line ≡ head_line → ⊥)
     → IsFirstFault text 1
 unfolding Stops
@@ -266,7 +266,7 @@ one_transcript text a b s t =
 
 -- ---- one first fault
 
--- the line after the shorter of two prefixes of a text
+-- of two prefixes of a text, the longer one contains the line after the shorter one
 next_front : (a b : List (List ℕ)) (r s : List ℕ) → AllLack a → AllLack b → lined a ++ r ≡ lined b ++ s
     → length a < length b
     → (line : List ℕ) × ((more : List (List ℕ)) × ((b ≡ a ++ line ∷ more)

@@ -151,7 +151,7 @@ no_empty_front text none =
 
 -- ---- steps in a row
 
--- a step, and after it the end or a comma
+-- the rest begins with a step, which the end or a comma follows
 record BeginsSo (rest : List ℕ) : Type 0 where
   step : Step
   other : List ℕ
@@ -189,12 +189,12 @@ module _ (text rest : List ℕ) (read : List Step) (so_far : StepsRead text read
   begins_next all fits e =
       let b = behind_read text rest read all so_far fits e in begins_behind rest b.behind b.some b.fits b.spelt
 
-  -- no step comes next
+  -- a text whose rest begins with no step spells no steps
   pub no_next_front : NoFront step_text StepFits rest → (all : List Step) → StepsFit all → text ≡ steps_text all → ⊥
   no_next_front none all fits e =
       let b = begins_next all fits e in none b.step b.other b.fits (ends_step b.other b.after) b.whole
 
-  -- another byte than a comma follows the next step
+  -- a text spells no steps if another byte than a comma follows the next step
   pub no_comma : (step : Step) (behind : List ℕ) → IsFront step_text StepFits rest step behind → (behind ≡ [] → ⊥)
       → ((r : List ℕ) → behind ≡ 44 ∷ r → ⊥) → (all : List Step) → StepsFit all → text ≡ steps_text all → ⊥
   no_comma step behind f some other all fits e =

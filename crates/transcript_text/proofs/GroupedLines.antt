@@ -1,7 +1,7 @@
 -- Lines in sequence, grouped by their callers.
 use Rattle.std.proofs.Common.{◌≡◌, ℕ, suc, ◌+◌, ◌<◌, List, [], ◌∷◌, ◌++◌, length, refl, sym, ap, subst, ◌∙◌, append_assoc, append-nil, arith}
 use Rattle.std.proofs.lemmas.List.{flat_map_more, map_push}
-use Rattle.key_names.specs.SeenLine.{SeenLine}
+use Rattle.key_names.specs.Transcripts.SeenLine.{SeenLine}
 use Rattle.key_names.specs.Texts.TranscriptGrammar.{all_lines, LastHasLines, TranscriptFits, UnderOwnNumber}
 use Rattle.key_names.proofs.Lists.Each.{each_more}
 use Rattle.transcript_text.specs.Grouping.{OfCaller, Groups, Gives, seen_callers}
@@ -61,7 +61,7 @@ finished callers done current lines is fits g = record {
   all = ap all_lines is ∙ all_lines-push done current ∙ g.whole;
 }
 
--- one more caller
+-- one more caller is finished, with these lines
 pub seen_callers-push : (old new : List CallerLines) (caller : CallerLines) (lines : List SeenLine)
     → new ≡ old ++ caller ∷ [] → caller.lines ≡ lines
     → seen_callers new ≡ seen_callers old ++ lines ∷ []

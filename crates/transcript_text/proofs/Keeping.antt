@@ -1,4 +1,4 @@
--- More bytes and steps after those of some lines leave these lines as they are, and a new line refers to its own.
+-- Bytes and steps that are appended do not change the earlier lines, and a new line refers to its own.
 use Rattle.std.proofs.Common.{◌≡◌, ℕ, zero, suc, ◌+◌, ◌<◌, ◌≤◌, List, [], ◌∷◌, ◌++◌, length, take, drop, set, map, get_or, refl, ap, sym, subst, ◌∙◌, append-nil, All, arith}
 use Rattle.std.specs.List.{AllByRecursion}
 use Rattle.std.proofs.lemmas.List.{length-append, length-drop, take-append-drop, take-append-le, drop-append-le, take_all, drop_at, map_push, map-set}
@@ -8,7 +8,7 @@ use Rattle.key_names.specs.declared.lines.Data.{Data}
 use Rattle.key_names.specs.declared.lines.Data.TheVariants.{None as NoData, Bytes, Count}
 use Rattle.key_names.specs.declared.lines.Line.{Line}
 use Rattle.key_names.specs.declared.names.Step.{Step}
-use Rattle.key_names.specs.SeenLine.{SeenLine, bytes, shown_in, seen_line, seen_lines, bytes_or_none}
+use Rattle.key_names.specs.Transcripts.SeenLine.{SeenLine, bytes, shown_in, seen_line, seen_lines, bytes_or_none}
 use Rattle.key_names.specs.Texts.TranscriptGrammar.{LineFits}
 use Rattle.transcript_text.specs.declared.view.LineView.{LineView}
 use Rattle.transcript_text.specs.declared.view.Shown.{Shown}
@@ -18,7 +18,7 @@ use Rattle.transcript_text.specs.declared.line.ReadLine.{ReadLine}
 use Rattle.transcript_text.specs.ReadLines.{seen_read}
 use Rattle.transcript_text.specs.Views.{bytes_of, seen, seen_shown}
 
--- items within a list stay when more is appended
+-- a part of a list does not change when more items are appended
 part_more : {X : Type 0} (start len : ℕ) (kept more : List X) → start + len ≤ length kept
     → take len (drop start (kept ++ more)) ≡ take len (drop start kept)
 part_more start len kept more within =
@@ -91,7 +91,7 @@ module _ (bs more : List ℕ) (steps others : List Step) where
     fits = rw (seen_lines-more lines old.within) old.fits;
   }
 
--- one more line with this content
+-- a line that is appended has this content
 seen_one : (bs : List ℕ) (steps : List Step) (lines : List Line) (line : Line) (now : SeenLine) (before : List SeenLine)
     → seen_line bs steps line ≡ now → seen_lines bs steps lines ≡ before
     → seen_lines bs steps (lines ++ line ∷ []) ≡ before ++ now ∷ []
@@ -106,7 +106,7 @@ kept_one bs steps lines line now is within fits old = record {
       (each_more LineFits (seen_lines bs steps lines) now old.fits fits);
 }
 
--- a line of a caller whose bytes and steps were kept last
+-- a caller's line whose bytes and steps were kept last has its content
 module _ (bs after_bs : List ℕ) (steps after_steps : List Step) (line : LineView) (named : Line)
     (bytes_are : after_bs ≡ bs ++ bytes_of line.shown) (steps_are : after_steps ≡ steps ++ line.steps.now)
     (named_is : named ≡ kept_line (length steps) (length bs) line) where
@@ -141,11 +141,11 @@ module _ (bs after_bs : List ℕ) (steps after_steps : List Step) (line : LineVi
         (seen line) old.fits fits);
   }
 
--- a list that begins with the old bytes is these and the rest after them
+-- a list that begins with the old bytes is the old bytes and the rest after them
 grown : (bs after : List ℕ) → take (length bs) after ≡ bs → bs ++ drop (length bs) after ≡ after
 grown bs after e = ap (λ x. x ++ drop (length bs) after) (sym e) ∙ take-append-drop (length bs) after
 
--- a line that was read: its steps were kept last, and its data refer to bytes that begin with the old ones
+-- a line was read: its steps were kept last, and its data refer to bytes that begin with the old ones
 module _ (bs after : List ℕ) (steps : List Step) (begins : take (length bs) after ≡ bs) where
   pub seen_grown : (others : List Step) (lines : List Line) → IsKept bs steps lines
       → seen_lines after (steps ++ others) lines ≡ seen_lines bs steps lines

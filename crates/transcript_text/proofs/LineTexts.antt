@@ -1,4 +1,4 @@
--- The spelling of a line is that of no other line.
+-- No two lines have the same spelling.
 use Rattle.std.proofs.Common.{◌≡◌, ℕ, ◌-◌, ◌^◌, ◌<◌, ◌≤◌, ◌==◌, true, false, List, [], ◌∷◌, ◌++◌, length, refl, sym, ap, subst, ◌∙◌, append_assoc, append-nil, arith}
 use Rattle.std.specs.Prelude.{codes, decimal}
 use Rattle.std.specs.List.{AllByRecursion, flat_map}
@@ -11,7 +11,7 @@ use Rattle.std.proofs.lemmas.Fmt.{decimal_injective}
 use Rattle.key_names.specs.declared.events.Answer.{Answer}
 use Rattle.key_names.specs.declared.events.Word.{Word}
 use Rattle.key_names.specs.declared.names.Step.{Step}
-use Rattle.key_names.specs.SeenLine.{Shown, no_data, bytes, count, SeenLine}
+use Rattle.key_names.specs.Transcripts.SeenLine.{Shown, no_data, bytes, count, SeenLine}
 use Rattle.key_names.specs.Texts.Spelling.{AllLower, is_lower_digit, word_text, spaced}
 use Rattle.key_names.specs.Texts.TranscriptGrammar.{answer_text, steps_text, step_text, shown_text, line_text, StepFits, ShownFits, LineFits}
 use Rattle.transcript_text.specs.declared.line.Numbers.{Numbers}
@@ -103,7 +103,7 @@ uncut_fourth line x r y q z p cut lack cut2 lack2 cut3 lack3 lack4 a b c d e s =
     not_lacking 32 d e (subst (λ (w : List ℕ). lacks 32 w ≡ true)
     (behind_third line x r y q z p cut lack cut2 lack2 cut3 lack3 a b c d e s).1 lack4)
 
--- the same five fields
+-- two texts have the same five fields
 pub record SameFields (a b c d e v w x y z : List ℕ) : Type 0 where
   pub first : a ≡ v
   pub second : b ≡ w
@@ -159,7 +159,7 @@ line_splits text line fits e = record {
   fourth = steps_lack 32 space_outside refl refl line.steps fits.steps;
 }
 
--- the fields of a text that spells a line
+-- a text that spells a line has the fields of that line
 pub spells_line : (text a b c d e : List ℕ) → IsSplit text a b c d e → (line : SeenLine) → LineFits line
     → text ≡ line_text line
     → SameFields a b c d e (numbers_text (numbers_in line)) (word_text line.word) (answer_text line.answer)
@@ -259,7 +259,7 @@ last_short text a b c d e s =
       length-append d (32 ∷ e),
     )
 
--- the line of these fields
+-- five fields that are spelt right make a line
 pub is_read : (text a b c d : List ℕ) (read : ReadLine) → IsSplit text a b c d read.shown.now
     → a ≡ numbers_text (record { caller = read.caller; event = read.event })
     → NumbersFit (record { caller = read.caller; event = read.event })

@@ -4,7 +4,7 @@ use Rattle.std.specs.Prelude.{codes, IfSome}
 use Rattle.std.specs.List.{flat_map}
 use Rattle.std.proofs.lemmas.List.{length-append, drop-drop}
 use Rattle.hex.specs.Hex.{encode_lower}
-use Rattle.key_names.specs.SeenLine.{SeenLine, Shown, bytes, bytes_in, bytes_or_none}
+use Rattle.key_names.specs.Transcripts.SeenLine.{SeenLine, Shown, bytes, bytes_in, bytes_or_none}
 use Rattle.key_names.specs.Texts.TranscriptGrammar.{shown_text, transcript_text}
 use Rattle.key_names.proofs.Lists.ListFacts.{found_dropped}
 use Rattle.transcript_text.specs.Heads.{head_text}
@@ -19,11 +19,11 @@ use Rattle.transcript_text.proofs.WholeTexts.{line_is, transcript_text-parts}
 
 -- ---- a line
 
--- before any of its data
+-- before any byte is put, all data are left
 pub none_shown : (n : ℕ) (shown : Shown) → n ≡ 0 → data_left n shown ≡ shown_text shown
 none_shown n shown e = rw e refl
 
--- the head was put, and the data are still to come
+-- after the head of a line is put, its data and line feed are left
 pub head_put : (line : LineView) (n : ℕ) (head : List ℕ) → n ≡ 0
     → head ≡ head_text line.caller line.event line.word line.answer line.steps.now
     → (head ++ data_left n (seen_shown line.shown)) ++ codes "\n" ≡ line_left n (seen line)
@@ -33,7 +33,7 @@ pub begun : (n : ℕ) (line : SeenLine) → 0 < n → data_left n line.shown ++ 
 begun zero line some = absurd (omega (arith, some))
 begun (suc n) line some = refl
 
--- of bytes
+-- of bytes, the hex of those that were not put is left
 pub bytes_left : (n : ℕ) (shown : List ℕ) → data_left n (bytes shown) ≡ encode_lower (drop n shown)
 unfolding shown_text
 bytes_left zero shown = refl
@@ -47,7 +47,7 @@ pub left_of_bytes : (n : ℕ) (shown : List ℕ) → 0 < length shown
     → data_left n (bytes_or_none shown) ≡ encode_lower (drop n shown)
 left_of_bytes n shown some = ap (data_left n) (some_bytes shown some) ∙ bytes_left n shown
 
--- the next bytes were put, and the others are still to come
+-- after the next bytes are put, the others are left
 pub bytes_on : (n count : ℕ) (shown rest front piece new : List ℕ) → rest ≡ drop n shown → front ≡ take count rest
     → new ≡ piece ++ encode_lower front
     → new ++ encode_lower (drop (n + count) shown) ≡ piece ++ encode_lower (drop n shown)
@@ -74,11 +74,11 @@ pub has_shown : (n i : ℕ) (lines : List SeenLine) (line : SeenLine) → slice_
     → n ≤ length (bytes_in line.shown) → HasShown n (drop i lines)
 has_shown n i lines line at few = subst (HasShown n) (sym (found_dropped lines i line at)) few
 
--- the part of a begun line that was put
+-- the piece and the data that are left spell what is left of the line
 abbrev pub Begins : ℕ → List ℕ → Option SeenLine → Type 0
 Begins n piece found = IfSome found (λ line. (piece ++ data_left n line.shown) ++ codes "\n" ≡ line_left n line)
 
--- the rest of it was put
+-- after the rest of a line is put, the lines after it are left
 pub line_ended : (n i : ℕ) (lines : List SeenLine) (line : SeenLine) (head piece new : List ℕ)
     → slice_get lines i ≡ Some line → Begins n head (slice_get lines i) → piece ≡ head ++ data_left n line.shown
     → new ≡ piece ++ codes "\n"
@@ -88,7 +88,7 @@ line_ended n i lines line head piece new at begins is end =
     from_line n i lines line at ∙ ap (λ text. text ++ text_of (drop (i + 1) lines)) (sym whole)
     ∙ ap (λ text. new ++ text) (sym (lines_whole (drop (i + 1) lines)))
 
--- more of it was put, but not all
+-- after a part of the rest is put, some of the line is left
 pub line_goes_on : (n more i : ℕ) (lines : List SeenLine) (line : SeenLine) (head piece : List ℕ)
     → slice_get lines i ≡ Some line → Begins n head (slice_get lines i) → 0 < more
     → piece ++ data_left more line.shown ≡ head ++ data_left n line.shown
@@ -110,7 +110,7 @@ callers_whole (lines ∷ callers) =
     ap (λ text. text ++ callers_text callers) (lines_whole lines)
     ∙ sym (append_assoc (text_of lines) (flat_map text_of callers) (codes "end\n"))
 
--- the first line was put
+-- after the first line is put, the callers' lines are left
 pub head_done : (place : Place) (callers : List (List SeenLine)) (piece : List ℕ) → place.coming ≡ Head
     → IsIn place callers → piece ≡ codes "rngtranscript 1\n"
     → text_left place callers ≡ piece ++ callers_left place.line place.shown (drop place.caller callers)
@@ -121,7 +121,7 @@ head_done place callers piece is within put =
     ap (λ coming. left_from coming place callers) is ∙ transcript_text-parts callers
     ∙ ap (λ text. text ++ callers_text callers) (sym put) ∙ ap (λ text. piece ++ text) (sym left)
 
--- fewer pieces come after one that has some bytes
+-- fewer pieces are left after one that has a byte
 pub fewer_pieces : (old new : Place) (callers : List (List SeenLine)) (piece : List ℕ)
     → text_left old callers ≡ piece ++ text_left new callers → 0 < length piece → new.caller ≡ old.caller
     → most_pieces new callers < most_pieces old callers
@@ -132,7 +132,7 @@ fewer_pieces old new callers piece is some same =
     ap (λ caller. length (drop caller callers)) same in
     omega (arith, text, rest, some)
 
--- the last line is still to come
+-- before the end, the last line is left
 pub some_left : (line shown : ℕ) (callers : List (List SeenLine)) → 0 < length (callers_left line shown callers)
 some_left line shown [] = omega arith
 some_left line shown (lines ∷ callers) =
@@ -140,7 +140,7 @@ some_left line shown (lines ∷ callers) =
     let b = length-append (flat_map text_of callers) (codes "end\n") in
     omega (arith, a, b)
 
--- and the text ends with it
+-- a transcript's text has at least one byte, since it ends with the last line
 pub text_ends : (callers : List (List SeenLine)) → 0 < length (transcript_text callers)
 text_ends callers =
     let a = length-append (codes "rngtranscript 1\n") (callers_text callers) in

@@ -9,7 +9,7 @@ use Rattle.transcript_text.specs.Putting.{PutSoFar}
 abbrev Known : Type 0
 Known = Option (List ℕ)
 
--- a part put of the front of the rest is a part put of the whole
+-- a part that is put of the front of the rest is put of the whole
 goes_on : (a b c : Known) (whole x y rest : List ℕ) → PutSoFar a b whole (x ++ y) → PutSoFar b c x rest
     → PutSoFar a c whole (rest ++ y)
 goes_on a b c whole x y rest p q = record {
@@ -20,7 +20,7 @@ goes_on a b c whole x y rest p q = record {
   appends = Appends-trans a b c p.front q.front p.appends q.appends;
 }
 
--- a piece of it was put
+-- a piece of the rest was put
 pub piece_put : (a b c : Known) (whole left piece rest : List ℕ) → PutSoFar a b whole left → left ≡ piece ++ rest
     → Appends b c piece → PutSoFar a c whole rest
 piece_put a b c whole left piece rest p is put = goes_on a b c whole piece rest [] (subst (PutSoFar a b whole) is p)
@@ -38,7 +38,7 @@ prefix_of a b whole rest p = (
 from_prefix : (a b : Known) (whole : List ℕ) (p : AppendsPrefix a b whole) → PutSoFar a b whole (drop p.0 whole)
 from_prefix a b whole p = record { front = take p.0 whole; whole = take-append-drop p.0 whole; appends = p.2 }
 
--- a piece of it was put in part
+-- if the sink fails within a piece, it has a prefix of the whole
 pub breaks_off : (a b c : Known) (whole left piece rest : List ℕ) → PutSoFar a b whole left → left ≡ piece ++ rest
     → AppendsPrefix b c piece → AppendsPrefix a c whole
 breaks_off a b c whole left piece rest p is q = prefix_of a c whole (drop q.0 piece ++ rest)

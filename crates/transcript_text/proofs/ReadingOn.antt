@@ -3,7 +3,7 @@ use Rattle.std.proofs.Common.{◌≡◌, ℕ, ◌+◌, ◌<◌, ◌≤◌, Bool,
 use Rattle.std.specs.Prelude.{codes, Result, Ok, Err, IfOk, MatchBool}
 use Rattle.std.specs.List.{AllByRecursion}
 use Rattle.std.proofs.lemmas.List.{length-append, length-map, length_push, map_push, flat_map_more}
-use Rattle.key_names.specs.SeenLine.{SeenLine}
+use Rattle.key_names.specs.Transcripts.SeenLine.{SeenLine}
 use Rattle.key_names.specs.Texts.Spelling.{lined}
 use Rattle.key_names.specs.Texts.TranscriptGrammar.{line_text, all_lines, transcript_lines, transcript_text, LineFits, IsTranscriptText, IsFirstFault}
 use Rattle.transcript_text.specs.Feeding.{ReadSoFar, Rising, last_caller, head_line, line_end, front_of}
@@ -156,7 +156,7 @@ fault_line text rest line behind done current number least r cut clean end is no
     ) in
     fault_here text rest r.lines (number + 1) g.0 g.1 r.rising r.parts (omega (arith, r.count)) not
 
--- the text up to and including the end
+-- the text up to and including the last line is the text of a transcript
 whole_text : (callers : List (List SeenLine)) (lines : List SeenLine) (text rest behind : List ℕ)
     → all_lines callers ≡ lines → text ≡ lined (front_of lines) ++ rest
     → rest ≡ line_end ++ 10 ∷ behind → text ≡ lined (transcript_lines callers) ++ behind

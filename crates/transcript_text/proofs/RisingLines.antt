@@ -1,8 +1,8 @@
--- The lines of a transcript in sequence: their callers' numbers never fall, and they determine the transcript.
+-- The lines of a transcript in sequence: the callers' numbers never fall, and the lines determine the transcript.
 use Rattle.std.proofs.Common.{◌≡◌, ℕ, suc, ◌+◌, ◌<◌, ◌≤◌, List, [], ◌∷◌, ◌++◌, length, refl, sym, ap, ◌∙◌, append-nil, arith}
 use Rattle.std.specs.List.{AllByRecursion}
 use Rattle.std.proofs.lemmas.List.{length-append, nil_from_length}
-use Rattle.key_names.specs.SeenLine.{SeenLine}
+use Rattle.key_names.specs.Transcripts.SeenLine.{SeenLine}
 use Rattle.key_names.specs.Texts.TranscriptGrammar.{all_lines, LineFits, LastHasLines, UnderOwnNumber}
 use Rattle.transcript_text.specs.Feeding.{Rising, last_caller}
 use Rattle.transcript_text.specs.Grouping.{OfCaller}
@@ -44,7 +44,7 @@ all_lines_rise least first (lines ∷ callers) low few own fits =
 
 -- ---- from lines to callers
 
--- lines of callers from a number on
+-- each line is of caller `first` or a later one
 From : ℕ → List SeenLine → Type 0
 From first lines = AllByRecursion (λ line. first ≤ line.caller) lines
 
@@ -62,7 +62,7 @@ from_all least first [] low own = tt
 from_all least first (lines ∷ callers) low own = from_lines least first lines (all_lines callers) low own.0
     (from_all least (suc first) callers (omega arith) own.1)
 
--- the lines of the first caller, and those of the others
+-- equal sequences have the same lines of the first caller, and the same lines of the others
 same_first : (caller : ℕ) (a b more rest : List SeenLine) → OfCaller caller a → OfCaller caller b
     → From (suc caller) more → From (suc caller) rest
     → a ++ more ≡ b ++ rest → (a ≡ b) × (more ≡ rest)

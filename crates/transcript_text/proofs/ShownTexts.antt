@@ -6,7 +6,7 @@ use Rattle.hex.specs.Hex.{IsBytes}
 use Rattle.key_names.specs.declared.events.Word.{Word}
 use Rattle.key_names.specs.declared.events.Word.TheVariants.{Bits}
 use Rattle.key_names.specs.declared.lines.Data.{Data}
-use Rattle.key_names.specs.SeenLine.{Shown, no_data, bytes, count, bytes_or_none, shown_in}
+use Rattle.key_names.specs.Transcripts.SeenLine.{Shown, no_data, bytes, count, bytes_or_none, shown_in}
 use Rattle.key_names.specs.Texts.ScriptFaults.{bytes_of}
 use Rattle.key_names.specs.Texts.Spelling.{hex}
 use Rattle.key_names.specs.Texts.TranscriptGrammar.{shown_text, ShownFits}
@@ -33,7 +33,7 @@ spelt_bytes word text (bytes []) not fits e none = omega (arith, fits.1)
 spelt_bytes word text (bytes (b ∷ shown)) not fits e none = let p = ap bytes_of e ∙ bytes_again (b ∷ shown) fits.2 in cc
 spelt_bytes word text (count n) not fits e none = not fits.0
 
--- on the line of a word other than bits
+-- on the line of any word but bits, the data are bytes or none
 pub reads_bytes : (word : Word) (text : List ℕ) (shown : List ℕ) → (word ≡ Bits → ⊥) → Some shown ≡ bytes_of text
     → ShownFits word (bytes_or_none shown) × (text ≡ shown_text (bytes_or_none shown))
 reads_bytes word text shown not e =
@@ -43,7 +43,7 @@ pub reads_no_bytes : (word : Word) (text : List ℕ) → (word ≡ Bits → ⊥)
     → ShownFits word shown → text ≡ shown_text shown → ⊥
 reads_no_bytes word text not e shown fits is = spelt_bytes word text shown not fits is (sym e)
 
--- on the line of bits
+-- on the line of bits, the data are a number
 pub reads_count : (word : Word) (text : List ℕ) (n : ℕ) → word ≡ Bits → n < 2 ^ 32 → text ≡ decimal n
     → ShownFits word (count n) × (text ≡ shown_text (count n))
 unfolding shown_text

@@ -1,4 +1,4 @@
--- Digits of bytes, read piece by piece.
+-- Hex digits are read piece by piece.
 use Rattle.std.proofs.Common.{◌≡◌, ℕ, zero, suc, ◌+◌, ◌-◌, ◌*◌, ◌/◌, ◌%◌, ◌<◌, ◌≤◌, Option, Some, None, List, [], ◌∷◌, ◌++◌, length, take, drop, refl, ap, sym, subst, ◌∙◌, append_assoc, append-nil, length-append, arith}
 use Rattle.std.proofs.lemmas.List.{take-append-drop}
 use Rattle.hex.specs.Hex.{IsBytes, encode_with, encode_lower, lower_digits}
@@ -11,7 +11,8 @@ use Rattle.key_names.proofs.Script.HexFields.{bytes_takes, bytes_again}
 use Rattle.transcript_text.specs.Gathered.{bytes_from}
 use Rattle.transcript_text.specs.Shows.{AppendsSpelt, NamesSpelt}
 
--- the text is the digits of these bytes, and then the rest; if it is the digits of some bytes, so is the rest
+-- the text is the digits of these bytes, and then the rest; if the whole text is the digits of some bytes, the rest is
+-- too
 pub record SpeltSoFar (text bytes rest : List ℕ) : Type 0 where
   pub whole : text ≡ encode_lower bytes ++ rest
   pub small : IsBytes bytes
@@ -19,7 +20,7 @@ pub record SpeltSoFar (text bytes rest : List ℕ) : Type 0 where
   pub even : length rest ≡ 2 * half
   pub only : (all : List ℕ) → bytes_of text ≡ Some all → (last : List ℕ) × (rest ≡ encode_lower last) × IsBytes last
 
--- a text of digits in two parts, the first of them with whole bytes
+-- a text of digits is in two parts, and the first spells whole bytes
 record Split (front behind : List ℕ) : Type 0 where
   first : List ℕ
   last : List ℕ
@@ -130,13 +131,13 @@ module _ (text bytes rest front behind : List ℕ) (k : ℕ) (so_far : SpeltSoFa
       again front s.first (omega (arith, long, some)) s.first_is s.first_small in
       absurd cc)
 
--- the whole text was read
+-- if no rest is left, the text is the digits of these bytes
 pub spelt_whole : (text bytes rest : List ℕ) → SpeltSoFar text bytes rest → rest ≡ [] → 0 < length text
     → Some bytes ≡ bytes_of text
 spelt_whole text bytes rest s done some =
     sym (again text bytes some (s.whole ∙ ap (λ r. encode_lower bytes ++ r) done ∙ append-nil (encode_lower bytes)) s.small)
 
--- the same, with the bytes appended
+-- like SpeltSoFar, and the bytes are appended to old
 pub record AppendedSoFar (text old new rest : List ℕ) : Type 0 where
   pub bytes : List ℕ
   pub whole : new ≡ old ++ bytes
@@ -167,7 +168,7 @@ names_bytes text old new start len a from_here long some = record {
     named start len [] e some = absurd (omega arith)
     named start len (b ∷ bytes) e some = ap (λ (n : ℕ). Bytes n start) e
 
--- a text has at least as many digits as bytes
+-- a text has at least as many digits as its bytes
 pub spelt_short : (text old new : List ℕ) → AppendsSpelt text old new → length new ≤ length old + length text
 spelt_short text old new a =
     let is = (bytes_takes text a.bytes a.spelt).0 in

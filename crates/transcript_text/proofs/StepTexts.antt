@@ -1,4 +1,4 @@
--- The spelling of a step is that of no other step.
+-- No two steps have the same spelling.
 use Rattle.std.proofs.Common.{◌≡◌, ℕ, ◌+◌, ◌^◌, ◌<◌, ◌≤◌, ◌⊎◌, inl, inr, true, suc, ◌-◌, length, take, drop, List, [], ◌∷◌, ◌++◌, get_or, refl, sym, ap, subst, ◌∙◌, append_assoc, arith}
 use Rattle.std.specs.Prelude.{codes, decimal}
 use Rattle.std.specs.List.{flat_map, AllByRecursion}
@@ -21,7 +21,7 @@ no_digit_below byte low = λ d small. false_from_ne_true _ (λ e. omega (arith, 
 pub no_digit_above : (byte : ℕ) → 57 < byte → IsNoDigit byte
 no_digit_above byte high = λ d small. false_from_ne_true _ (λ e. omega (arith, eqb-true (48 + d) byte e))
 
--- no step has this byte in it
+-- no step contains this byte
 pub record IsOutside (byte : ℕ) : Type 0 where
   pub digits : IsNoDigit byte
   pub tilde : lacks byte (codes "~") ≡ true
@@ -116,7 +116,7 @@ same_lane (Cpu a) (Cpu b) f g e =
     let digits : decimal a ≡ decimal b = cc in
     ap Cpu (decimal_injective a b (omega arith) (omega arith) digits)
 
--- the parts of a text that spells a mark
+-- the parts of a text spell a mark
 pub record SpellsMark (lane place stamp : List ℕ) (mark : Mark) : Type 0 where
   pub lane_is : lane ≡ lane_text mark.lane
   pub place_is : place ≡ decimal mark.place
@@ -151,7 +151,7 @@ same_mark a b f g e =
     ∙ ap (λ (s : ℕ). made_mark b.lane b.place s) (decimal_injective a.stamp b.stamp (omega (arith, f.stamp))
     (omega (arith, g.stamp)) parts.stamp_is)
 
--- a lane begins with one of its three letters
+-- the name of a lane begins with a letter from b to p
 lane_begins : (lane : LaneId) (rest : List ℕ) → (98 ≤ first_byte (lane_text lane ++ rest))
     × (first_byte (lane_text lane ++ rest) ≤ 112)
 unfolding lane_text first_byte
@@ -202,7 +202,7 @@ no_mark_behind text other mark e =
 
 -- ---- steps in a row
 
--- each step with a comma after it
+-- each step is followed by a comma
 abbrev pub commas : List Step → List ℕ
 commas steps = flat_map (λ step. step_text step ++ codes ",") steps
 
@@ -215,7 +215,7 @@ steps_text-push (s ∷ t ∷ steps) step = ap (λ (x : List ℕ). step_text s ++
     (steps_text-push (t ∷ steps) step) ∙ sym (append_assoc (step_text s ++ codes ",") (commas (t ∷ steps))
     (step_text step))
 
--- the steps after those that were read
+-- some steps come after those that were read
 pub record StepsBehind (read all : List Step) (rest : List ℕ) : Type 0 where
   pub behind : List Step
   pub some : 0 < length behind
@@ -273,7 +273,7 @@ pub behind_read : (text rest : List ℕ) (read all : List Step) → StepsRead te
 behind_read text rest read all so_far fits e =
     steps_behind read all rest so_far.each fits.each (some_steps text all so_far.some e) (sym so_far.whole ∙ e)
 
--- there are too many steps
+-- if twenty steps with a comma after each were read, the text spells too many steps
 pub too_many : (text rest : List ℕ) (read : List Step) → StepsRead text read rest → 20 ≤ length read
     → (all : List Step) → StepsFit all → text ≡ steps_text all → ⊥
 too_many text rest read so_far many all fits e =

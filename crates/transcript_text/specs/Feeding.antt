@@ -1,6 +1,6 @@
 -- How far the text of a transcript was read, and which lines were read.
 use Rattle.std.specs.Prelude.{ℕ, ◌≡◌, ◌+◌, ◌<◌, ◌≤◌, ⊤, true, List, [], ◌∷◌, ◌++◌, codes, length, map, vec_len}
-use Rattle.key_names.specs.SeenLine.{SeenLine}
+use Rattle.key_names.specs.Transcripts.SeenLine.{SeenLine}
 use Rattle.key_names.specs.Texts.Spelling.{lined}
 use Rattle.key_names.specs.Texts.TranscriptGrammar.{line_text, LineFits, IsFirstFault}
 use Rattle.transcript_text.specs.Grouping.{Groups, seen_callers}
@@ -12,7 +12,7 @@ use Rattle.transcript_text.specs.declared.so_far.Stage.TheVariants.{Head, Lines,
 
 -- ---- the lines of a text
 
--- lines that fit, of callers from a number on and below 64; the callers' numbers never fall
+-- the callers' numbers never fall; they are at least `least`, and below 64; and each line fits
 abbrev pub Rising : ℕ → List SeenLine → Type 0
 Rising least [] = ⊤
 Rising least (line ∷ lines) = (least ≤ line.caller) × (line.caller < 64) × LineFits line × Rising line.caller lines
@@ -27,7 +27,7 @@ head_line = codes "rngtranscript 1"
 abbrev pub line_end : List ℕ
 line_end = codes "end"
 
--- the first line, and these after it
+-- the transcript's first line, and then these lines
 abbrev pub front_of : List SeenLine → List (List ℕ)
 front_of lines = head_line ∷ map line_text lines
 
@@ -42,7 +42,7 @@ pub record ReadSoFar (text : List ℕ) (done : List (List SeenLine)) (current : 
   pub count : number ≡ length lines + 1
   pub begun : current ≡ [] → lines ≡ []
 
--- the lines that were read, kept or not; the last one is of this caller
+-- the lines that were read, kept or not; the last one is of caller `least`
 pub record CountedSoFar (text : List ℕ) (least : ℕ) (rest : List ℕ) (number : ℕ) : Type 0 where
   pub done : List (List SeenLine)
   pub current : List SeenLine
@@ -62,11 +62,11 @@ pub record HasTold (s : SoFar) (text rest : List ℕ) : Type 0 where
   pub counted : CountedSoFar text (vec_len s.done) rest (s.lines + 1)
   pub kept : s.lines ≤ s.most → ReadSoFar text (seen_callers s.done.items) s.current.lines rest (s.lines + 1)
 
--- with one more line
+-- the state after one more line
 abbrev pub with_line : SoFar → SoFar
 with_line s = record s { lines = s.lines + 1 }
 
--- at this stage the text is the lines that were read, and then this rest
+-- at this stage, the text is the lines that were read and then this rest
 abbrev pub StandsAs : Stage → SoFar → List ℕ → List ℕ → Type 0
 StandsAs Head s text rest = IsUnread s × (text ≡ rest)
 StandsAs Lines s text rest = HasTold s text rest
@@ -76,7 +76,7 @@ StandsAs (Faulty line) s text rest = (more : List ℕ) → IsFirstFault (text ++
 abbrev pub StandsAt : SoFar → List ℕ → List ℕ → Type 0
 StandsAt s text rest = StandsAs s.stage s text rest
 
--- the reader was fed the text up to its unread last part
+-- the reader was fed the text, all but its unread last part
 pub record IsBehind (text : List ℕ) (reader : Reader) (unread : List ℕ) : Type 0 where
   pub stands : StandsAt reader.so_far text (reader.rest.items ++ unread)
   pub clean : lacks 10 reader.rest.items ≡ true

@@ -5,13 +5,13 @@ use Rattle.key_names.specs.declared.lines.Data.{Data}
 use Rattle.key_names.specs.declared.lines.Data.TheVariants.{None as NoData, Bytes, Count}
 use Rattle.key_names.specs.declared.lines.Line.{Line}
 use Rattle.key_names.specs.declared.names.Step.{Step}
-use Rattle.key_names.specs.SeenLine.{SeenLine, seen_lines}
+use Rattle.key_names.specs.Transcripts.SeenLine.{SeenLine, seen_lines}
 use Rattle.key_names.specs.Texts.TranscriptGrammar.{LineFits}
 use Rattle.transcript_text.specs.declared.view.Shown.{Shown}
 use Rattle.transcript_text.specs.declared.view.Shown.TheVariants.{None as ShowsNone, Bytes as ShowsBytes, Count as ShowsCount}
 use Rattle.transcript_text.specs.declared.view.LineView.{LineView}
 
--- the lines so far, their bytes and steps in the order in which they were added, and the room for more of each
+-- the lines that were added, their bytes and steps in the order in which they were added, and the room for more of each
 pub record Gathered : Type 0 where
   pub lines : List SeenLine
   pub bytes : List ℕ
@@ -25,12 +25,12 @@ abbrev pub IsWithin : ℕ → Data → Type 0
 IsWithin n (Bytes len start) = (0 < len) × (start + len ≤ n)
 IsWithin n _ = ⊤
 
--- the bytes and steps of a line are among the first ones
+-- the bytes and steps of a line are among the first `bytes` bytes and the first `steps` steps
 pub record LineWithin (bytes steps : ℕ) (line : Line) : Type 0 where
   pub shown : IsWithin bytes line.shown
   pub steps' : line.first_step + line.step_count ≤ steps
 
--- the lines refer to places in the kept bytes and steps, and with their content they fit a transcript
+-- the lines refer to places in the kept bytes and steps, and with the content there they fit a transcript
 pub record IsKept (bytes : List ℕ) (steps : List Step) (lines : List Line) : Type 0 where
   pub within : AllByRecursion (LineWithin (length bytes) (length steps)) lines
   pub fits : AllByRecursion LineFits (seen_lines bytes steps lines)
@@ -39,7 +39,7 @@ abbrev pub bytes_from : ℕ → List ℕ → Data
 bytes_from start [] = NoData
 bytes_from start (b ∷ bs) = Bytes (length (b ∷ bs)) start
 
--- the data of a line, with its bytes kept from start on
+-- the data of a line whose bytes are kept from start on
 abbrev pub data_from : ℕ → Shown → Data
 data_from start ShowsNone = NoData
 data_from start (ShowsBytes shown) = bytes_from start shown.now

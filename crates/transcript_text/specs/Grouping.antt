@@ -1,7 +1,7 @@
 -- Lines in sequence, and their callers.
 use Rattle.std.specs.Prelude.{ℕ, ◌≡◌, List, ◌++◌, length, map}
 use Rattle.std.specs.List.{AllByRecursion}
-use Rattle.key_names.specs.SeenLine.{SeenLine}
+use Rattle.key_names.specs.Transcripts.SeenLine.{SeenLine}
 use Rattle.key_names.specs.Texts.TranscriptGrammar.{all_lines, TranscriptFits, UnderOwnNumber}
 use Rattle.transcript_text.specs.declared.caller_lines.CallerLines.{CallerLines}
 

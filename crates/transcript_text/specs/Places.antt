@@ -2,7 +2,7 @@
 use Rattle.std.specs.Prelude.{ℕ, zero, suc, ◌≡◌, ◌+◌, ◌≤◌, ⊤, List, [], ◌∷◌, ◌++◌, codes, drop, length}
 use Rattle.std.specs.List.{flat_map}
 use Rattle.hex.specs.Hex.{encode_lower}
-use Rattle.key_names.specs.SeenLine.{SeenLine, Shown, bytes_in}
+use Rattle.key_names.specs.Transcripts.SeenLine.{SeenLine, Shown, bytes_in}
 use Rattle.key_names.specs.Texts.TranscriptGrammar.{shown_text, transcript_text}
 use Rattle.transcript_text.specs.Lines.{text_of, whole_line}
 use Rattle.transcript_text.specs.declared.place.Place.{Place}
@@ -18,22 +18,22 @@ abbrev pub data_left : ℕ → Shown → List ℕ
 data_left zero shown = shown_text shown
 data_left (suc n) shown = encode_lower (drop (suc n) (bytes_in shown))
 
--- the rest of a line after the first bytes that were put: all of it, if none was
+-- the rest of a line after its first bytes were put, or the whole line if no byte was put
 abbrev pub line_left : ℕ → SeenLine → List ℕ
 line_left zero line = whole_line line
 line_left (suc n) line = data_left (suc n) line.shown ++ codes "\n"
 
--- the rest of lines, of which the first has put some of its bytes
+-- the rest of lines, of which the first has put some of its bytes already
 abbrev pub lines_left : ℕ → List SeenLine → List ℕ
 lines_left shown [] = []
 lines_left shown (line ∷ lines) = line_left shown line ++ text_of lines
 
--- the first line has at least as many bytes as were put
+-- the first line has at least as many bytes as it has put
 abbrev pub HasShown : ℕ → List SeenLine → Type 0
 HasShown shown [] = shown ≡ 0
 HasShown shown (line ∷ lines) = shown ≤ length (bytes_in line.shown)
 
--- the rest of callers, of which the first has put some of its lines
+-- the rest of callers, of which the first has put some of its lines already
 abbrev pub callers_left : ℕ → ℕ → List (List SeenLine) → List ℕ
 callers_left line shown [] = codes "end\n"
 callers_left line shown (lines ∷ callers) = lines_left shown (drop line lines) ++ callers_text callers

@@ -1,6 +1,6 @@
--- A line and its fields, read.
+-- A line that was read, and its fields.
 use Rattle.std.specs.Prelude.{ℕ, ◌≡◌, ◌<◌, ◌≤◌, ◌^◌, true, List, [], ◌∷◌, ◌++◌, length, codes, decimal}
-use Rattle.key_names.specs.SeenLine.{SeenLine, Shown}
+use Rattle.key_names.specs.Transcripts.SeenLine.{SeenLine, Shown}
 use Rattle.key_names.specs.Texts.Spelling.{spaced}
 use Rattle.key_names.specs.Texts.TranscriptGrammar.{line_text, shown_text, LineFits, ShownFits}
 use Rattle.transcript_text.specs.declared.line.Numbers.{Numbers}
@@ -33,12 +33,12 @@ seen_read read shown = record {
   shown = shown;
 }
 
--- with any data that its last field spells, the line fits a transcript
+-- the line fits a transcript with any data that its last field spells
 abbrev pub FitsShowing : ReadLine → Type 0
 FitsShowing read = (shown : Shown) → ShownFits read.word shown → read.shown.now ≡ shown_text shown
     → LineFits (seen_read read shown)
 
--- the text is that of the line, with data that its last field spells, and of no other line
+-- the text is the spelling of this line with the data in its last field, and of no other line
 pub record IsRead (text : List ℕ) (read : ReadLine) : Type 0 where
   pub fits : FitsShowing read
   pub spelt : (shown : Shown) → read.shown.now ≡ shown_text shown → text ≡ line_text (seen_read read shown)

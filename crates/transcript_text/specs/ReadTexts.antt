@@ -1,6 +1,6 @@
 -- The answer of reading a text.
 use Rattle.std.specs.Prelude.{ℕ, ◌≡◌, ◌<◌, ◌≤◌, ⊤, List, [], ◌∷◌, ◌++◌, length, Result, Ok, Err}
-use Rattle.key_names.specs.SeenLine.{SeenLine}
+use Rattle.key_names.specs.Transcripts.SeenLine.{SeenLine}
 use Rattle.key_names.specs.Texts.TranscriptGrammar.{all_lines, line_text, LineFits, IsTranscriptText, IsFirstFault}
 use Rattle.transcript_text.specs.declared.error.TextError.{TextError}
 use Rattle.transcript_text.specs.declared.error.TextError.TheVariants.{Fault, NoMemory, TooManyLines}
@@ -14,21 +14,21 @@ pub record HasMoreLines (most : ℕ) (text : List ℕ) : Type 0 where
   pub is_text : IsTranscriptText text callers
   pub many : most < length (all_lines callers)
 
--- the transcript of the text, unless it has too many lines; or the first faulty line; or memory ran out
+-- the transcript of the text, if it has at most `most` lines; or the first faulty line; or too many lines; or no memory
 abbrev pub Answers : ℕ → List ℕ → Result (List (List SeenLine)) TextError → Type 0
 Answers most text (Ok callers) = IsTranscriptText text callers × (length (all_lines callers) ≤ most)
 Answers most text (Err (Fault line)) = IsFirstFault text line
 Answers most text (Err TooManyLines) = HasMoreLines most text
 Answers most text (Err NoMemory) = ⊤
 
--- this transcript, unless memory ran out
+-- the answer is this transcript, unless memory ran out
 abbrev pub IsReadAs : List (List SeenLine) → Result (List (List SeenLine)) TextError → Type 0
 IsReadAs callers (Ok found) = found ≡ callers
 IsReadAs callers (Err (Fault line)) = ⊥
 IsReadAs callers (Err TooManyLines) = ⊥
 IsReadAs callers (Err NoMemory) = ⊤
 
--- the text is one more line, of the current caller or of a later one
+-- the text is the spelling of one more line, of the current caller or of a later one
 pub record AddsLine (text : List ℕ) (old new : List (List SeenLine)) (current next : List SeenLine) : Type 0 where
   pub line : SeenLine
   pub fits : LineFits line
@@ -39,18 +39,18 @@ pub record AddsLine (text : List ℕ) (old new : List (List SeenLine)) (current 
   pub some : 0 < length next
   pub groups : (lines : List SeenLine) → Groups old current lines → Groups new next (lines ++ line ∷ [])
 
--- the text is no line of a caller from a number on
+-- the text spells no line of a caller from `least` on
 abbrev pub IsNoLine : List ℕ → ℕ → Type 0
 IsNoLine text least = (line : SeenLine) → LineFits line → least ≤ line.caller → line.caller < 64
     → text ≡ line_text line → ⊥
 
--- the text is that of this line, of a caller from a number on, with data that its last field spells
+-- the text spells this line, of a caller from `least` on, with the data in its last field
 pub record IsReadFrom (text : List ℕ) (least : ℕ) (read : ReadLine) : Type 0 where
   pub is : IsRead text read
   pub later : least ≤ read.caller
   pub below : read.caller < 64
 
--- the text is a line of the caller with this number, which is not below the least
+-- the text spells a line of this caller, whose number is at least `least`
 pub record IsPassed (text : List ℕ) (least caller : ℕ) : Type 0 where
   pub line : SeenLine
   pub fits : LineFits line

@@ -4,7 +4,7 @@ use Rattle.std.specs.List.{AllByRecursion}
 use Rattle.key_names.specs.declared.names.Step.{Step}
 use Rattle.key_names.specs.Texts.TranscriptGrammar.{StepFits}
 
--- no byte of the text is this one
+-- whether no byte of the text equals this one
 abbrev pub lacks : ℕ → List ℕ → Bool
 lacks byte [] = true
 lacks byte (b ∷ text) = not (b == byte) && lacks byte text

@@ -2,7 +2,7 @@
 use Rattle.std.specs.Prelude.{ℕ, ◌≡◌, ◌≢◌, List, ◌++◌, length, Option, Some, None}
 use Rattle.key_names.specs.declared.events.Word.{Word}
 use Rattle.key_names.specs.declared.lines.Data.{Data}
-use Rattle.key_names.specs.SeenLine.{Shown}
+use Rattle.key_names.specs.Transcripts.SeenLine.{Shown}
 use Rattle.key_names.specs.Texts.ScriptFaults.{bytes_of}
 use Rattle.key_names.specs.Texts.TranscriptGrammar.{shown_text, ShownFits}
 use Rattle.transcript_text.specs.Gathered.{bytes_from}
@@ -13,12 +13,12 @@ pub record AppendsSpelt (text old new : List ℕ) : Type 0 where
   pub spelt : bytes_of text ≡ Some bytes
   pub whole : new ≡ old ++ bytes
 
--- the same, and these data refer to them
+-- the text spells bytes, they are appended, and the data refer to them
 pub record NamesSpelt (text old new : List ℕ) (named : Data) : Type 0 where
   pub appends : AppendsSpelt text old new
   pub named_is : named ≡ bytes_from (length old) appends.bytes
 
--- these data refer to the bytes that the text spells; no data if it spells none
+-- if there are data, they refer to the bytes that the text spells; otherwise the text spells none
 abbrev pub KeepsSpelt : List ℕ → List ℕ → List ℕ → Option Data → Type 0
 KeepsSpelt text old new (Some named) = NamesSpelt text old new named
 KeepsSpelt text old new None = bytes_of text ≡ None

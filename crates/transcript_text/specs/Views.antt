@@ -1,6 +1,6 @@
--- A line by reference, in contracts.
+-- Lines by reference, in contracts.
 use Rattle.std.specs.Prelude.{ℕ, List, []}
-use Rattle.key_names.specs.SeenLine.{Shown as SeenShown, no_data, count, bytes_or_none, SeenLine}
+use Rattle.key_names.specs.Transcripts.SeenLine.{Shown as SeenShown, no_data, count, bytes_or_none, SeenLine}
 use Rattle.transcript_text.specs.declared.view.Shown.{Shown}
 use Rattle.transcript_text.specs.declared.view.Shown.TheVariants.{None as NoData, Bytes, Count}
 use Rattle.transcript_text.specs.declared.view.LineView.{LineView}

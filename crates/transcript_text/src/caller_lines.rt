@@ -1,7 +1,7 @@
 //! The lines of one caller, with their steps and bytes.
 ghost use Rattle.std.specs.Prelude.{◌≡◌, ◌==◌, ◌+◌, ◌<◌, ◌≤◌, ◌^◌, ◌∷◌, ◌++◌, [], Some, length, All, vec_len, vec_capacity, slice_get, slice_set, IfOk, OnOk, MatchBool};
 ghost use Rattle.std.specs.List.{AllByRecursion};
-ghost use Rattle.key_names.specs.SeenLine.{seen_lines, shown_in};
+ghost use Rattle.key_names.specs.Transcripts.SeenLine.{seen_lines, shown_in};
 ghost use Rattle.key_names.specs.Texts.TranscriptGrammar.{LineFits};
 ghost use Rattle.transcript_text.specs.Gathered.{bytes_from, data_from, kept_line, IsWithin, LineWithin};
 ghost use Rattle.transcript_text.specs.ReadLines.{FitsShowing, PushesRead};
@@ -15,8 +15,8 @@ use key_names::{Data, Line, Step};
 use std::alloc::{AllocError, Global};
 use std::marker::Model;
 
-/// The lines of one caller so far, and room for more of them. The steps and bytes of the lines are kept in the order in
-/// which they were added. In contracts each line has its steps and bytes itself.
+/// The lines of one caller that were added, and room for more of them. The lines' steps and bytes are kept in the order
+/// in which they were added. In contracts each line has its steps and bytes itself.
 #[derive(Drop)]
 pub struct CallerLines {
     lines: Vec<Line>,
@@ -26,7 +26,7 @@ pub struct CallerLines {
 
 impl Model for CallerLines {
     ghost use Rattle.std.specs.Prelude.{◌-◌, vec_len, vec_capacity};
-    ghost use Rattle.key_names.specs.SeenLine.{seen_lines};
+    ghost use Rattle.key_names.specs.Transcripts.SeenLine.{seen_lines};
     ghost use Rattle.transcript_text.specs.Gathered.{Gathered, IsKept};
 
     ghost Value = { Gathered };
@@ -43,7 +43,7 @@ impl Model for CallerLines {
     ghost invariant = { λ c. IsKept c.bytes.items c.steps.items c.lines.items };
 }
 
-// Appends bytes, which must have room, and returns the data of a line that has them.
+// Appends bytes, and returns the data of a line that has them. The caller must have made room for them.
 fn keep_bytes(kept: &mut Vec<u8>, shown: &[u8]) -> Data
     requires room { vec_len kept.old + length shown.now ≤ vec_capacity kept.old }
     requires short { length shown.now < 2 ^ 32 }
@@ -80,7 +80,8 @@ fn keep_shown(kept: &mut Vec<u8>, shown: Shown<'_>) -> Data
     }
 }
 
-// Appends steps, which must have room, and returns the place of the first. They are few, so each is pushed singly.
+// Appends steps, and returns the place of the first. The caller must have made room for them. They are few, so each is
+// pushed singly.
 #[inline(always)]
 fn keep_steps(kept: &mut Vec<Step>, steps: &[Step]) -> u64
     requires room { vec_len kept.old + length steps.now ≤ vec_capacity kept.old }
@@ -122,7 +123,7 @@ impl CallerLines {
         })
     }
 
-    /// Makes room for this line. No room is lost.
+    /// Makes room for this line, and keeps all earlier room.
     ///
     /// # Errors
     ///
@@ -189,8 +190,8 @@ impl CallerLines {
         self.lines.push_reserved(kept);
     }
 
-    /// Adds a line that was read, and decodes its bytes directly into the kept ones. Returns whether the line's last
-    /// field spells data; otherwise no line is added.
+    /// Adds a line that was read, and decodes its bytes directly into the kept ones. Returns whether the last field
+    /// spells data. If it spells none, no line is added.
     pub(crate) fn push_read(
         &mut self,
         alloc: Global,
@@ -219,8 +220,8 @@ impl CallerLines {
         Ok(true)
     }
 
-    /// Replaces line `number`, counted from 0. It allocates nothing: there must be room for the new line's steps and
-    /// bytes, as for `push`, since those of the old line are kept.
+    /// Replaces line `number`, counted from 0. It allocates nothing, and keeps the steps and bytes of the old line. So
+    /// those of the new line need room, as for `push`.
     pub fn replace(&mut self, number: usize, line: LineView<'_>)
         requires number { number < length self.old.lines }
         requires step_room { length line.steps.now ≤ self.old.step_room }
@@ -294,14 +295,14 @@ impl CallerLines {
         &self.lines
     }
 
-    /// The steps of the lines, in the order in which they were added, with those of lines that were replaced.
+    /// The steps of the lines, in the order in which they were added. Those of replaced lines are still among them.
     pub fn steps(&self) -> &[Step]
         ensures { result.now ≡ self.now.steps }
     {
         &self.steps
     }
 
-    /// The bytes of the lines, in the order in which they were added, with those of lines that were replaced.
+    /// The bytes of the lines, in the order in which they were added. Those of replaced lines are still among them.
     pub fn bytes(&self) -> &[u8]
         ensures { result.now ≡ self.now.bytes }
     {

@@ -11,13 +11,15 @@ use crate::transcript::Transcript;
 use std::alloc::{AllocError, Global};
 use std::marker::Model;
 
-/// A transcript, and how far a text that comes piece by piece equals its text. No byte of that text is kept.
+/// A transcript, and how many bytes of another text equal those of its text. The other text comes piece by piece, and
+/// no byte of it is kept.
 #[derive(Drop)]
 pub struct Comparison {
     made: Transcript,
     // The number of bytes that were found equal.
     same: usize,
-    // The piece of the transcript's text that has the next byte, the byte's place in it, and the place after the piece.
+    // The piece of the transcript's text that has the next byte, that byte's position in it, and the place after the
+    // piece.
     piece: Piece,
     from: usize,
     place: Place,
@@ -61,8 +63,8 @@ impl Comparison {
         }
     }
 
-    // Compares the first bytes, up to the end of one piece of the transcript's text. Returns how many were found equal:
-    // 0 if any of them differs.
+    // Compares the first bytes, up to the end of one piece of the transcript's text. Returns how many were found equal,
+    // or 0 if any of them differs.
     fn compare_front(&mut self, bytes: &[u8]) -> usize
         requires some { 0 < length bytes.now }
         requires short { length self.old.text + length bytes.now ≤ 2 ^ 31 }
@@ -89,8 +91,8 @@ impl Comparison {
         0
     }
 
-    /// Compares more bytes of the text, which has at most 2^31 in all. Returns how many were found equal: all of them,
-    /// unless they differ from the transcript's text.
+    /// Compares more bytes of the text, which has at most 2^31 bytes in all. Returns how many were found equal. These
+    /// are all of them, unless the text differs.
     pub fn compare(&mut self, bytes: &[u8]) -> usize
         requires short { length self.old.text + length bytes.now ≤ 2 ^ 31 }
         ensures few { result ≤ length bytes.now }
@@ -109,7 +111,7 @@ impl Comparison {
         bytes.len() - rest.len()
     }
 
-    /// Whether the text so far is the whole text of the transcript.
+    /// Whether the text that was compared is the whole text of the transcript.
     pub fn is_whole(&self) -> bool
         ensures { IsTrue result ↔ (self.now.text ≡ transcript_text self.now.made) }
     {

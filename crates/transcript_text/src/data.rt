@@ -1,7 +1,7 @@
 //! Reading the data of a line.
 ghost use Rattle.std.specs.Prelude.{◌≡◌, ◌<◌, ◌^◌, ◌↔◌, length, take, IsTrue, IfOk, IfSome, MatchBool};
 ghost use Rattle.std.specs.Option.{option_map};
-ghost use Rattle.key_names.specs.SeenLine.{shown_in};
+ghost use Rattle.key_names.specs.Transcripts.SeenLine.{shown_in};
 ghost use Rattle.key_names.specs.declared.events.Word.TheVariants.{Bits};
 ghost use Rattle.key_names.specs.Texts.ScriptFaults.{bytes_of as bytes_spelt};
 ghost use Rattle.key_names.specs.Texts.TranscriptGrammar.{shown_text, ShownFits};
@@ -23,8 +23,8 @@ fn is_bits(word: Word) -> bool
     matches!(word, Word::Bits)
 }
 
-/// Appends the bytes that a text of digits spells, a piece at a time, so that no byte is stored twice. If the text
-/// spells none, some bytes may be appended.
+/// Appends the bytes that a text of digits spells, a piece at a time, so that no byte is stored twice. It may also
+/// append some bytes of a text that spells none.
 fn append_bytes(alloc: Global, kept: &mut Vec<u8>, text: &[u8]) -> Result<bool, AllocError>
     ensures spelt { IfOk result (λ spells. MatchBool spells (AppendsSpelt text.now kept.old.items kept.new.items)
         (bytes_spelt text.now ≡ None)) }
@@ -72,7 +72,7 @@ fn keep_bytes(alloc: Global, kept: &mut Vec<u8>, text: &[u8]) -> Result<Option<D
     }))
 }
 
-/// The data that a text spells on a line with this word. Their bytes are appended to the kept ones.
+/// The data that a text spells on a line with this word. Bytes are appended to the kept ones.
 pub(crate) fn keep_data(
     alloc: Global,
     kept: &mut Vec<u8>,

@@ -7,8 +7,8 @@ use std::alloc::AllocError;
 /// Why a text could not be read as a transcript.
 #[derive(Clone, Copy, Debug, PartialEq, Eq)]
 pub enum TextError {
-    /// The first faulty line, counted from 1: the lines before it begin some transcript, and with it they begin none.
-    /// If the text ends too early, this is the incomplete line, or the missing one.
+    /// The number of the first faulty line, counted from 1. The lines before it are the start of some transcript, but
+    /// with it of none. If the text ends too early, this is the incomplete line, or the missing one.
     Fault { line: u32 },
     /// The text is a transcript's, with more lines than the limit.
     TooManyLines,

@@ -1,6 +1,6 @@
 //! Lines in sequence, grouped by their callers.
 ghost use Rattle.std.specs.Prelude.{◌≡◌, ◌<◌, ◌≤◌, [], List, vec_len, OnOk, IfOk};
-ghost use Rattle.key_names.specs.SeenLine.{SeenLine};
+ghost use Rattle.key_names.specs.Transcripts.SeenLine.{SeenLine};
 ghost use Rattle.transcript_text.specs.Grouping.{Groups, Gives, seen_callers};
 
 use crate::caller_lines::CallerLines;
@@ -8,7 +8,7 @@ use crate::transcript::Transcript;
 use std::alloc::{AllocError, Global};
 use std::mem;
 
-/// Goes on to a caller. A caller other than the current one has no lines yet.
+/// Goes on to a line's caller. If it is not the current one, it has no lines yet.
 pub(crate) fn go_on_to(
     alloc: Global,
     done: &mut Vec<CallerLines>,

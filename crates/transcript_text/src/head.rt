@@ -88,7 +88,7 @@ fn append_steps(piece: &mut Piece, steps: &[Step])
 }
 
 /// The line up to the space before its data.
-// Without the hint, a program that writes to two kinds of sinks calls it for each line.
+// Without the hint, a program that writes to two kinds of sinks makes a call for each line.
 #[inline(always)]
 #[tactic(auto, unfolding(crate::specs::Heads::head_text))]
 pub(crate) fn append_head(piece: &mut Piece, line: LineView<'_>)

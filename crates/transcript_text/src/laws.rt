@@ -1,6 +1,6 @@
 //! Laws of the definitions of a transcript's text.
 ghost use Rattle.std.specs.Prelude.{◌≡◌, ℕ, List};
-ghost use Rattle.key_names.specs.SeenLine.{SeenLine};
+ghost use Rattle.key_names.specs.Transcripts.SeenLine.{SeenLine};
 ghost use Rattle.key_names.specs.Texts.TranscriptGrammar.{transcript_text, TranscriptFits, UnderOwnNumber, IsTranscriptText, IsFirstFault};
 
 /// A text is the text of at most one transcript.
@@ -14,8 +14,8 @@ pub fn one_first_fault()
     ensures { (text : List ℕ) (m n : ℕ) → IsFirstFault text m → IsFirstFault text n → m ≡ n }
 {}
 
-/// The text written for lines under their own callers' numbers is the text of that transcript, so it is read as the
-/// same lines.
+/// If lines are under their own callers' numbers, the text written for them is the text of that transcript, so it is
+/// read as the same lines.
 pub fn written_text()
     ensures { (callers : List (List SeenLine)) → TranscriptFits callers → UnderOwnNumber 0 callers
         → IsTranscriptText (transcript_text callers) callers }

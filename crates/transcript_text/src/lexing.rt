@@ -5,13 +5,13 @@ ghost use Rattle.transcript_text.specs.Reading.{lacks, Reads};
 use event_script::numbers::number_up_to;
 use memchr::memchr;
 
-/// This many bytes are compared one by one.
+/// `cut_near` compares this many bytes one by one.
 const NEAR: usize = 8;
 
 /// Numbers of callers, events and CPUs, and counts of bits, are at most this.
 pub(crate) const MOST_U32: u64 = u32::MAX as u64;
 
-/// Whether a text equals this one. Most texts have another length, and that is checked without a call.
+/// Whether a text equals `name`. Most texts have another length, which is checked without a call.
 #[inline(always)]
 pub(crate) fn spells(text: &[u8], name: &[u8]) -> bool
     ensures { IsTrue result ↔ (text.now ≡ name.now) }
@@ -37,7 +37,7 @@ pub(crate) fn cut(byte: u8, text: &[u8]) -> Option<(&[u8], &[u8])>
     }
 }
 
-/// The same for a short front: the first bytes are compared one by one, which is faster than starting a search.
+/// Cuts as `cut` does. It compares the first bytes one by one, which is faster than a search if the front is short.
 pub(crate) fn cut_near(byte: u8, text: &[u8]) -> Option<(&[u8], &[u8])>
     ensures { MatchOption result (lacks byte text.now ≡ true)
         (λ both. (text.now ≡ both.0.now ++ byte ∷ both.1.now) × (lacks byte both.0.now ≡ true)) }

@@ -1,9 +1,9 @@
 //! The text of a transcript, written and read.
 //!
-//! A reader returns a transcript exactly if the text is the text of one, and otherwise the first faulty line.
-//! [`Reader`] reads the text piece by piece; [`read`] reads a whole text. A writer puts the text of the lines, or a
-//! prefix of it if the sink counted a fault. Lines under their own callers' numbers are read again as they were
-//! written. [`CallerLines`] keeps the lines of a caller in memory that was allocated before.
+//! A reader returns a transcript if the text is the text of one, and otherwise the first faulty line. [`Reader`] reads
+//! the text piece by piece; [`read`] reads a whole text. A writer puts the text of the lines, or a prefix of it if the
+//! sink counted a fault. If lines are under their own callers' numbers, they are read again as they were written.
+//! [`CallerLines`] keeps the lines of a caller in memory that was allocated before.
 //!
 //! The contracts use the grammar of `key_names` (`specs/Texts`). The code uses the readers of words and numbers of
 //! `event_script`, and the sinks of `io_edges`. Whether a transcript is lawful is not checked here.

@@ -1,6 +1,6 @@
 //! Reading one line.
 ghost use Rattle.std.specs.Prelude.{◌≢◌, List, ℕ, MatchOption};
-ghost use Rattle.key_names.specs.SeenLine.{SeenLine};
+ghost use Rattle.key_names.specs.Transcripts.SeenLine.{SeenLine};
 ghost use Rattle.key_names.specs.Texts.TranscriptGrammar.{line_text, LineFits};
 ghost use Rattle.transcript_text.specs.ReadLines.{IsRead, IsSplit, numbers_text, NumbersFit};
 ghost use Rattle.transcript_text.specs.Reading.{Reads};

@@ -61,7 +61,7 @@ impl Piece {
         requires { length self.old < 4096 }
         ensures { self.new ≡ self.old ++ byte ∷ [] }
     {
-        // The old length is kept: after the store of a byte it would have to be loaded again.
+        // The old length is kept in a variable: after a byte was stored it would have to be loaded again.
         let len = self.len;
         self.bytes[len] = byte;
         self.len = len + 1;

@@ -12,13 +12,13 @@ use crate::place::{Coming, Place};
 use crate::view::LineView;
 use io_edges::{Failed, Sink, put_all};
 
-/// Writes lines one by one, and keeps none of them. No put has bytes of two lines, or more than 4,096 bytes (tested).
+/// Writes lines one by one, and keeps none of them. Each put has at most 4,096 bytes, of one line (tested).
 ///
-/// A call returns `Failed` if the sink failed, and the sink has counted that fault. Then the sink got a prefix of this
-/// call's text, and the next call writes its own text from the start.
+/// A call returns `Failed` if the sink failed and counted the fault. The sink then has a prefix of this call's text.
+/// The next call writes its own text from the start.
 #[derive(Drop)]
 pub struct LineWriter {
-    // Room for the bytes of one put. What remains here of an earlier line is never put again.
+    // Room for the bytes of one put. Bytes of an earlier line that remain here are never put again.
     piece: Piece,
 }
 

@@ -1,7 +1,7 @@
 //! Places in the text of a transcript, which is made piece by piece.
 ghost use Rattle.std.specs.Prelude.{◌≡◌, ◌<◌, ◌≤◌, ◌^◌, ◌++◌, [], List, codes, drop, length, slice_get, IfSome, IsTrue, IsFalse, MatchBool};
 ghost use Rattle.hex.specs.Hex.{encode_lower};
-ghost use Rattle.key_names.specs.SeenLine.{SeenLine, bytes_in};
+ghost use Rattle.key_names.specs.Transcripts.SeenLine.{SeenLine, bytes_in};
 ghost use Rattle.key_names.specs.Texts.TranscriptGrammar.{transcript_text};
 ghost use Rattle.transcript_text.specs.Places.{HasShown, HasShownOf, IsIn, data_left, line_left, lines_left, most_pieces, text_left};
 ghost use Rattle.transcript_text.specs.Views.{seen_shown};
@@ -26,8 +26,8 @@ pub(crate) enum Coming {
 #[derive(Clone, Copy)]
 pub(crate) struct Place {
     pub(crate) coming: Coming,
-    // The caller of the next lines, the number of the next line, and how many of its bytes were put. A line that was
-    // begun has put at least one byte.
+    // The caller of the next lines, the number of its next line, and how many bytes of that line were put. A line that
+    // was begun has put at least one byte.
     pub(crate) caller: u32,
     pub(crate) line: usize,
     pub(crate) shown: usize,
@@ -72,7 +72,7 @@ impl Place {
         }
     }
 
-    // Puts the rest of a line's bytes, as far as there is room. Returns whether that is all of it.
+    // Puts as many of the remaining bytes of a line as there is room for. Returns whether these are all.
     fn show_bytes(&mut self, bytes: &[u8], piece: &mut Piece) -> bool
         requires room { length piece.old ≤ 2048 }
         requires within { self.old.shown ≤ length bytes.now }
@@ -96,7 +96,7 @@ impl Place {
         count == rest.len() && piece.room() > 0
     }
 
-    // Puts the rest of a line's data, as far as there is room. Returns whether that is all of it.
+    // Puts as much of the remaining data of a line as there is room for. Returns whether this is all.
     #[tactic(auto, using(crate::proofs::Places::left_of_bytes, crate::proofs::Places::none_shown), unfolding(key_names::specs::Texts::TranscriptGrammar::shown_text))]
     #[inline(always)]
     pub(crate) fn show(&mut self, shown: Shown<'_>, piece: &mut Piece) -> bool
@@ -142,7 +142,7 @@ impl Place {
         ensures caller { self.new.caller ≡ self.old.caller }
     {
         self.begin(lines, piece);
-        // The data are looked up only here, so that they are not kept while the head is written.
+        // The data are looked up only here, so that they are not held while the head is written.
         if self.show(lines.line(self.line).shown, piece) {
             piece.push(b'\n');
             self.line += 1;
@@ -176,7 +176,7 @@ impl Place {
     }
 
     /// Goes on to the next place, and replaces the content of the piece by the text between the two places. Returns
-    /// whether there was a next place. A piece has no bytes of two lines, and may be empty.
+    /// whether there was a next place. A piece has bytes of at most one line, and may be empty.
     #[inline(always)]
     pub(crate) fn go_on(&mut self, t: &Transcript, piece: &mut Piece) -> bool
         requires { IsIn self.old t.now }

@@ -14,7 +14,7 @@ use std::alloc::{AllocError, Global};
 #[derive(Drop)]
 pub struct Reader {
     so_far: SoFar,
-    // The start of a line without its end.
+    // The start of a line that has not ended yet.
     rest: Vec<u8>,
 }
 
@@ -56,8 +56,7 @@ impl Reader {
     ///
     /// # Errors
     ///
-    /// `AllocError` if there is no memory for its lines, or for an incomplete one. The reader must not be used after
-    /// that.
+    /// `AllocError` if there is no memory for a line. The reader must not be used after this error.
     pub fn feed(&mut self, alloc: Global, piece: &[u8]) -> Result<(), AllocError>
         requires short { (text : List ℕ) × HasFed text self.old × (length text + length piece.now ≤ 2 ^ 31) }
         ensures fed { OnOk result ((text : List ℕ) → HasFed text self.old → HasFed (text ++ piece.now) self.new) }

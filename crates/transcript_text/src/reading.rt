@@ -1,6 +1,6 @@
 //! Reading the text of a transcript.
 ghost use Rattle.std.specs.Prelude.{◌≡◌, ◌≤◌, ◌^◌, ℕ, List, length, IfOk};
-ghost use Rattle.key_names.specs.SeenLine.{SeenLine};
+ghost use Rattle.key_names.specs.Transcripts.SeenLine.{SeenLine};
 ghost use Rattle.key_names.specs.Texts.TranscriptGrammar.{IsTranscriptText, IsFirstFault};
 ghost use Rattle.transcript_text.specs.ReadTexts.{IsReadAs};
 

@@ -23,11 +23,11 @@ pub(crate) enum Stage {
     Lines,
     /// The last line was read.
     Ended,
-    /// The text is no transcript's, whatever follows: this is its first faulty line.
+    /// The text is no transcript's, whatever follows. This is its first faulty line.
     Faulty { line: u32 },
 }
 
-/// The lines of a text so far. Lines after the first `most` are not kept.
+/// The lines of a text that were read. Lines after the first `most` are counted and not kept.
 #[derive(Drop)]
 pub(crate) struct SoFar {
     pub(crate) stage: Stage,
@@ -68,7 +68,7 @@ impl SoFar {
         })
     }
 
-    // Whether a line is a caller's and may follow the others. If so, it is kept, unless the limit is reached.
+    // Whether a line is a caller's and may follow the earlier ones. If so, it is kept, unless the limit is reached.
     fn takes(&mut self, alloc: Global, line: &[u8]) -> Result<bool, AllocError>
         requires short { length line.now < 2 ^ 31 }
         ensures taken { IfOk result (λ is_line. MatchBool is_line

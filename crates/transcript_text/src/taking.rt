@@ -13,7 +13,7 @@ use std::alloc::{AllocError, Global};
 /// The most callers of a transcript.
 const MOST_CALLERS: u32 = 64;
 
-// The line that a text spells, of a caller from `least` on, if its last field spells data.
+// The line that a text spells, if it is of a caller from `least` on. Its last field may still spell no data.
 fn line_from<'a>(least: usize, text: &'a [u8], trace: &'a mut Trace) -> Option<ReadLine<'a>>
     ensures { MatchOption result (IsNoLine text.now least) (IsReadFrom text.now least) }
 {
@@ -27,8 +27,8 @@ fn line_from<'a>(least: usize, text: &'a [u8], trace: &'a mut Trace) -> Option<R
     Some(read)
 }
 
-/// Adds the line that a text spells. Returns whether it is a line of the current caller or of a later one. The trace
-/// holds its steps, so that no line has to clear or move any.
+/// Adds the line that a text spells. Returns whether the text is a line of the current caller or of a later one. The
+/// trace holds the line's steps, so no line has to clear or move any.
 pub(crate) fn take_line(
     alloc: Global,
     done: &mut Vec<CallerLines>,
@@ -49,7 +49,7 @@ pub(crate) fn take_line(
     current.push_read(alloc, &read)
 }
 
-/// The same for a line that is not kept.
+/// Reads a line as `take_line` does, but does not keep it.
 pub(crate) fn pass_line(
     alloc: Global,
     done: &mut Vec<CallerLines>,

@@ -5,8 +5,8 @@ ghost use Rattle.key_names.specs.Texts.TranscriptGrammar.{LastHasLines, Transcri
 use crate::caller_lines::CallerLines;
 use std::marker::Model;
 
-/// The lines of at most 64 callers; the last caller has at least one. In contracts it is the list of each caller's
-/// lines.
+/// The lines of at most 64 callers, of which the last has at least one line. In contracts it is the list of each
+/// caller's lines.
 #[derive(Drop)]
 pub struct Transcript {
     callers: Vec<CallerLines>,
@@ -14,7 +14,7 @@ pub struct Transcript {
 
 impl Model for Transcript {
     ghost use Rattle.std.specs.Prelude.{List, map};
-    ghost use Rattle.key_names.specs.SeenLine.{SeenLine};
+    ghost use Rattle.key_names.specs.Transcripts.SeenLine.{SeenLine};
     ghost use Rattle.key_names.specs.Texts.TranscriptGrammar.{TranscriptFits};
 
     ghost Value = { List (List SeenLine) };
@@ -33,7 +33,7 @@ impl Transcript {
         ensures lines { result ≡ map (λ c. c.lines) callers.items }
         ensures fits { TranscriptFits result }
     {
-        // `lines` ensures that the lines of each caller fit, which is an invariant of this type.
+        // By the contract of `lines` the lines of a caller fit, as the invariant of this type requires.
         for caller in &callers {
             let _lines = caller.lines();
         }

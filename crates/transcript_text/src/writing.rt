@@ -10,13 +10,11 @@ use crate::place::Place;
 use crate::transcript::Transcript;
 use io_edges::{Failed, Sink, put_all};
 
-/// Writes the text of a transcript without allocating. No put has bytes of two lines, or more than 4,096 bytes
-/// (tested).
+/// Writes the text of a transcript without allocating. Each put has at most 4,096 bytes, of one line (tested).
 ///
 /// # Errors
 ///
-/// `Failed` if the sink failed, which the sink has counted as a fault. Then the sink got a prefix of the text in this
-/// call.
+/// `Failed` if the sink failed and counted the fault. The sink then has a prefix of the text.
 pub fn write_all<K: Sink>(sink: &mut K, transcript: &Transcript) -> Result<(), Failed>
     ensures whole { OnOk result (Appends (K.held sink.old) (K.held sink.new) (transcript_text transcript.now)) }
     ensures prefix { AppendsPrefix (K.held sink.old) (K.held sink.new) (transcript_text transcript.now) }

@@ -7,10 +7,10 @@ use Rattle.key_names.specs.declared.entries.VEntry.{VEntry}
 use Rattle.key_names.specs.declared.entries.VEntry.TheVariants.{Wipe}
 use Rattle.key_names.specs.declared.point.Point.{Point}
 use Rattle.key_names.specs.declared.point.Point.TheVariants.{Start, Written, Serve, End}
-use Rattle.key_names.specs.BatchCopy.{state_after_copy, copy_bytes, block_after_copy, copy_entries}
-use Rattle.key_names.specs.Vgetrandom.{SystemAnswer, read, failed, HostStep, publishes, system_call, at_point, Attempt, AttemptEnd, holds, outdated, not_keyed, attempt_behind, wipe_entry, rekey_entry, Outcome, outcome_behind, by_batch, by_system, AtPoint, FromEnd, FromServe, FromWritten, FromStart, IsAttempt, AfterAttempt, AfterKeyRead, AfterBoth, BySystem, SecondAttempt, state_after_call}
-use Rattle.key_names.specs.VgetrandomState.{VgetrandomState, wiped_state, state_left}
-use Rattle.key_names.specs.Points.{is_same_point}
+use Rattle.key_names.specs.Kernel.BatchCopy.{state_after_copy, copy_bytes, block_after_copy, copy_entries}
+use Rattle.key_names.specs.Kernel.Vgetrandom.{SystemAnswer, read, failed, HostStep, publishes, system_call, at_point, Attempt, AttemptEnd, holds, outdated, not_keyed, attempt_behind, wipe_entry, rekey_entry, Outcome, outcome_behind, by_batch, by_system, AtPoint, FromEnd, FromServe, FromWritten, FromStart, IsAttempt, AfterAttempt, AfterKeyRead, AfterBoth, BySystem, SecondAttempt, state_after_call}
+use Rattle.key_names.specs.Kernel.VgetrandomState.{VgetrandomState, wiped_state, state_left}
+use Rattle.key_names.specs.Kernel.Points.{is_same_point}
 use Rattle.key_names.proofs.Vgetrandom.CopiesKeep.{copy_keeps_generation}
 use Rattle.vdso_state.specs.declared.place.Turn.{Turn}
 use Rattle.vdso_state.specs.declared.place.Turn.TheVariants.{First, Second}
@@ -44,7 +44,7 @@ takes_append taken (system_call n flags (failed errno) ∷ xs) ys = takes_append
 takes_append taken (at_point point wiped ∷ xs) ys =
     takes_append (if is_same_point point Start then false else taken) xs ys
 
--- the state's generation is one that will not be published again, or its key was read, and the generation is the
+-- the state's generation will not be published again; or the state's key was read, and the generation is at most the
 -- last one
 abbrev IsFresh : Bool → ℕ → VgetrandomState → Type 0
 IsFresh taken low s = (s.generation < low) ⊎ ((taken ≡ true) × (s.generation ≤ low))

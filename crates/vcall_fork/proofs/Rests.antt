@@ -7,11 +7,11 @@ use Rattle.key_names.specs.declared.entries.VEntry.{VEntry}
 use Rattle.key_names.specs.declared.entries.VEntry.TheVariants.{Rekey, Blocks, Refill, Serve as Served, Wipe}
 use Rattle.key_names.specs.declared.point.Point.{Point}
 use Rattle.key_names.specs.declared.point.Point.TheVariants.{Start, Written, Serve, End}
-use Rattle.key_names.specs.Book.{Lists}
-use Rattle.key_names.specs.LawfulList.{LawfulFrom}
-use Rattle.key_names.specs.StateList.{NamedState, Expected, MayStart, MayRefill, MayFollow, OrderedStateList, state_start, state_step}
-use Rattle.key_names.specs.Vgetrandom.{SystemAnswer, HostStep, holds, outdated, Attempt, AfterBoth, IsAttempt, Outcome, by_system}
-use Rattle.key_names.specs.VgetrandomState.{VgetrandomState, wiped_state}
+use Rattle.key_names.specs.Lanes.Book.{Lists}
+use Rattle.key_names.specs.Lanes.LawfulList.{LawfulFrom}
+use Rattle.key_names.specs.Lanes.StateList.{NamedState, Expected, MayStart, MayRefill, MayFollow, OrderedStateList, state_start, state_step}
+use Rattle.key_names.specs.Kernel.Vgetrandom.{SystemAnswer, HostStep, holds, outdated, Attempt, AfterBoth, IsAttempt, Outcome, by_system}
+use Rattle.key_names.specs.Kernel.VgetrandomState.{VgetrandomState, wiped_state}
 use Rattle.key_names.proofs.Vgetrandom.AskedSystem.{EndsAsked, asked, tried_asked}
 use Rattle.key_names.proofs.Vgetrandom.KeyTakes.{takes, Bounded, OutcomeBounded, start_bounded, written_bounded, serve_bounded, second_bounded, system_bounded, tried_bounded}
 use Rattle.key_names.proofs.Vgetrandom.StatesReplay.{Good}
@@ -21,7 +21,7 @@ use Rattle.vdso_state.specs.declared.place.Place.{Place}
 use Rattle.vdso_state.specs.declared.place.Turn.{Turn}
 use Rattle.vdso_state.specs.declared.place.Turn.TheVariants.{First, Second}
 use Rattle.vdso_state.specs.Places.{FromPoint, IfOutdated, BehindPlace}
-use Rattle.key_names.specs.Vgetrandom.{state_after_call}
+use Rattle.key_names.specs.Kernel.Vgetrandom.{state_after_call}
 
 -- c and p are a place of a CPU: entries take its read at most as often as the steps have it
 module _ (c p : ℕ) where
@@ -48,7 +48,7 @@ module _ (c p : ℕ) where
       (λ tried attempt. point_bounded place.point n place.next_block place.published out s tried attempt)
       (λ from v rest after. outdated_bounded place.turn n flags from v rest after) r
 
--- if a system call ends it, that is the last step
+-- if a system call ends the call, it is the last step
 module _ (answer : SystemAnswer) where
   outdated_asked : (turn : Turn) (n flags from : ℕ) (s : VgetrandomState) (steps : List HostStep) (outcome : Outcome) →
       outcome.ending ≡ by_system answer → IfOutdated turn n flags from s steps outcome → EndsAsked answer steps

@@ -1,7 +1,7 @@
 -- Two callers' states share no byte of a key.
 use Rattle.std.proofs.Common.{◌≡◌, ◌≢◌, ℕ, ◌+◌, ◌≤◌, Bool, true, false, List, [], ◌∷◌, refl, ◌∙◌, sym, arith, eqb-true}
 use Rattle.std.specs.Prelude.{◌==◌, ◌&&◌}
-use Rattle.key_names.specs.PrintedBytes.{Origin, at_lane, at_state, origin_uses, origins_uses}
+use Rattle.key_names.specs.Transcripts.PrintedBytes.{Origin, at_lane, at_state, origin_uses, origins_uses}
 use Rattle.key_names.proofs.Values.PrintedOnce.{times, once_disjoint}
 use Rattle.key_names.proofs.Transcripts.TakenMarks.{hit}
 use Rattle.key_names.proofs.Uses.UseLists.{used_first, disjoint_parts}
@@ -11,7 +11,7 @@ hit_below : (b : Bool) → hit b ≤ 1
 hit_below true = omega arith
 hit_below false = omega arith
 
--- at most one of the two is true, since the first two are not both true
+-- at most one of the two conjunctions is true, since a and b are not both true
 one_of_two : (a b x y : Bool) → (a ≡ true → b ≡ true → ⊥) → hit (a && x) + (hit (b && y) + 0) ≤ 1
 one_of_two true true x y apart = absurd (apart refl refl)
 one_of_two true false x y apart = let k = hit_below x in omega arith

@@ -4,12 +4,12 @@ use Rattle.std.specs.Prelude.{Result, ◌==◌, if◌then◌else◌}
 use Rattle.key_names.specs.declared.errno.Errno.{Errno}
 use Rattle.key_names.specs.declared.point.Point.{Point}
 use Rattle.key_names.specs.declared.point.Point.TheVariants.{Start, Written, Serve, End}
-use Rattle.key_names.specs.Vgetrandom.{HostStep, at_point, Outcome}
-use Rattle.key_names.specs.VgetrandomState.{VgetrandomState, state_left}
-use Rattle.key_names.specs.Points.{is_same_point}
+use Rattle.key_names.specs.Kernel.Vgetrandom.{HostStep, at_point, Outcome}
+use Rattle.key_names.specs.Kernel.VgetrandomState.{VgetrandomState, state_left}
+use Rattle.key_names.specs.Kernel.Points.{is_same_point}
 use Rattle.key_names.proofs.Points.{same_point}
 use Rattle.std.proofs.lemmas.Bool.{and_parts}
-use Rattle.key_names.specs.VreadSteps.{PointReached, points_of}
+use Rattle.key_names.specs.Callers.VreadSteps.{PointReached, points_of}
 use Rattle.vdso_state.specs.declared.outcome.VEnd.{VEnd}
 use Rattle.vdso_state.specs.declared.place.Turn.{Turn}
 use Rattle.vdso_state.specs.declared.place.Turn.TheVariants.{First, Second}
@@ -23,7 +23,7 @@ use Rattle.vcall_fork.specs.declared.stage.Stage.{Stage}
 use Rattle.vcall_fork.specs.declared.stage.Stage.TheVariants.{At as StandsAt, Over}
 use Rattle.vcall_fork.specs.Stops.{turn_at, is_wanted, passes_by, Misses, Stopped, EndedBefore, CameAt, CameToEnd}
 
--- the attempt of a point
+-- at a point, the number of attempts that have begun is the number of the point's attempt
 turn_is : (turn : Turn) (point : Point) → turn_at (turns_before turn point) point ≡ turn_number turn
 turn_is First Start = refl
 turn_is First Written = refl
@@ -34,7 +34,7 @@ turn_is Second Written = refl
 turn_is Second Serve = refl
 turn_is Second End = refl
 
--- the wanted point and attempt
+-- two attempts with one number are the same
 same_turn : (a b : Turn) → (turn_number a == turn_number b) ≡ true → a ≡ b
 same_turn First First h = refl
 same_turn First Second h = absurd (cc h)
@@ -61,7 +61,7 @@ module _ (turn : Turn) (point : Point) where
       ap (λ (b : Bool). if b then None else passes_by turn point now (xs ++ ys)) k.0
       ∙ passes_on now mid xs ys k.1
 
-  -- steps without a point never stop
+  -- steps without a point do not stop a call
   quiet_on : (begun mid : ℕ) (xs ys : List HostStep) → passes_by turn point begun (points_of xs) ≡ Some mid →
       points_of ys ≡ [] → passes_by turn point begun (points_of (xs ++ ys)) ≡ Some mid
   quiet_on begun mid xs ys h quiet =
@@ -72,7 +72,7 @@ module _ (turn : Turn) (point : Point) where
       Some begun
   quiet begun xs none = ap (passes_by turn point begun) none
 
-  -- an unwanted point does not stop
+  -- a point that is not wanted does not stop a call
   point_on : (begun : ℕ) (t : Turn) (p : Point) (wiped : Bool) (xs ys : List HostStep) →
       passes_by turn point begun (points_of xs) ≡ Some (turns_before t p) →
       is_wanted turn point (turn_number t) p ≡ false → points_of ys ≡ [] →
@@ -152,7 +152,7 @@ module _ (turn : Turn) (point : Point) where
           ∙ passes_on begun begun (points_of xs) (points_of ys) (quiet begun xs none)
           ∙ ap (λ (k : ℕ). passes_by turn point k (points_of ys)) (sym turns) ∙ misses.passes
 
-      -- the steps to the first place, and those after it
+      -- if a call came to its first place, and from there to the wanted point, it is stopped there
       pub stops : (place : Place) (last : H) (u : VgetrandomState) (buf_then : List ℕ) (stage : Stage) →
           stage ≡ StandsAt place →
           (looks calls : ℕ) →
@@ -190,7 +190,7 @@ module _ (turn : Turn) (point : Point) where
         };
       }
 
-    -- the call ended before any point
+    -- a call that ended before any point ended before the wanted one
     pub ends_at_once : (result : Result VEnd Errno) (h last : H) (u : VgetrandomState) (buf : List ℕ) (stage : Stage) →
         stage ≡ Over → CameTo host floor From n flags look (Ended result) h last u buf →
         EndedBefore host floor From turn point begun stage result h last u buf

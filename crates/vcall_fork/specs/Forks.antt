@@ -4,19 +4,19 @@ use Rattle.key_names.specs.declared.entries.VEntry.{VEntry}
 use Rattle.key_names.specs.declared.entries.VEntry.TheVariants.{Wipe}
 use Rattle.key_names.specs.declared.names.KeyName.{KeyName}
 use Rattle.key_names.specs.declared.point.Point.TheVariants.{Start}
-use Rattle.key_names.specs.Book.{Lists, LawfulBook}
-use Rattle.key_names.specs.PrintedBytes.{at_state, origin_uses}
-use Rattle.key_names.specs.Uses.{IsUsed}
-use Rattle.key_names.specs.Vgetrandom.{read, failed, HostStep, publishes, system_call, at_point, Outcome, outcome_behind, by_batch}
-use Rattle.key_names.specs.VgetrandomState.{VgetrandomState, wiped_state}
-use Rattle.key_names.specs.Points.{is_same_point}
+use Rattle.key_names.specs.Lanes.Book.{Lists, LawfulBook}
+use Rattle.key_names.specs.Transcripts.PrintedBytes.{at_state, origin_uses}
+use Rattle.key_names.specs.Keys.Uses.{IsUsed}
+use Rattle.key_names.specs.Kernel.Vgetrandom.{read, failed, HostStep, publishes, system_call, at_point, Outcome, outcome_behind, by_batch}
+use Rattle.key_names.specs.Kernel.VgetrandomState.{VgetrandomState, wiped_state}
+use Rattle.key_names.specs.Kernel.Points.{is_same_point}
 use Rattle.vdso_state.specs.declared.place.Place.{Place}
 use Rattle.vdso_state.specs.Places.{BehindPlace, AtPlace, Climbs}
 use Rattle.vcall_fork.specs.declared.stage.Stage.{Stage}
 use Rattle.vcall_fork.specs.Stops.{RestOfCall}
 
--- a call at this stage, with this state and this buffer, came to a place: the steps and entries before the place,
--- followed by those of the rest from there, are those of the call's rest
+-- a call at this stage, with this state and this buffer, came to a place: if the rest from the place has some steps and
+-- entries, the rest of the call has those before the place, and then these
 abbrev pub LeadsTo : Stage → List ℕ → VgetrandomState → ℕ → ℕ → Place → List ℕ → VgetrandomState → List HostStep →
     List VEntry → Type 0
 LeadsTo stage held s n flags place out t before entries = (rest : List HostStep) (outcome : Outcome) →

@@ -3,10 +3,10 @@ use Rattle.std.specs.Prelude.{ℕ, suc, ◌≡◌, ◌==◌, ◌&&◌, Bool, tru
 use Rattle.key_names.specs.declared.errno.Errno.{Errno}
 use Rattle.key_names.specs.declared.point.Point.{Point}
 use Rattle.key_names.specs.declared.point.Point.TheVariants.{Start}
-use Rattle.key_names.specs.Vgetrandom.{HostStep, Outcome, IsCall}
-use Rattle.key_names.specs.VgetrandomState.{VgetrandomState}
-use Rattle.key_names.specs.Points.{is_same_point}
-use Rattle.key_names.specs.VreadSteps.{PointReached, points_of}
+use Rattle.key_names.specs.Kernel.Vgetrandom.{HostStep, Outcome, IsCall}
+use Rattle.key_names.specs.Kernel.VgetrandomState.{VgetrandomState}
+use Rattle.key_names.specs.Kernel.Points.{is_same_point}
+use Rattle.key_names.specs.Callers.VreadSteps.{PointReached, points_of}
 use Rattle.vdso_state.specs.declared.outcome.VEnd.{VEnd}
 use Rattle.vdso_state.specs.declared.place.Turn.{Turn}
 use Rattle.vdso_state.specs.declared.place.Place.{Place}

@@ -1,7 +1,7 @@
 //! A call of vgetrandom that can be stopped.
 
 ghost use Rattle.std.specs.Prelude.{◌≡◌, ◌^◌, ◌≤◌, true, length};
-ghost use Rattle.key_names.specs.VgetrandomState.{wiped_state};
+ghost use Rattle.key_names.specs.Kernel.VgetrandomState.{wiped_state};
 ghost use Rattle.vdso_state.specs.Host.{doings};
 ghost use Rattle.vdso_state.specs.Turns.{turn_number, turns_before};
 ghost use Rattle.vdso_state.specs.Places.{Ends, CameTo, MayGoOn, MayFinish, AtPlace};

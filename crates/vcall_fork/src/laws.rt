@@ -7,13 +7,12 @@ pub fn forks_are_told()
     ensures { ForksAreTold }
 {}
 
-/// A child that gives bytes of its state read a key after the fork, in the attempt that gave them.
+/// If a child gives bytes of its state, it read a key after the fork, in the attempt that gave them.
 pub fn child_takes_key()
     ensures { ChildTakesKey }
 {}
 
-/// In a lawful book the states of two callers never use the same byte of a key; a parent and its child are two such
-/// callers.
+/// In a lawful book the states of two callers never use the same byte of a key. A parent and its child are two callers.
 pub fn forks_share_nothing()
     ensures { ForksShareNothing }
 {}

@@ -2,9 +2,9 @@
 use Rattle.std.proofs.Common.{◌≡◌, ◌≢◌, ℕ, ◌≤◌, true, false, List, [], ◌∷◌, refl, subst, Ok, arith}
 use Rattle.std.proofs.lemmas.Bool.{eq-eqb}
 use Rattle.key_names.specs.declared.point.Point.TheVariants.{Start}
-use Rattle.key_names.specs.Flags.{is_bad}
-use Rattle.key_names.specs.VgetrandomState.{VgetrandomState}
-use Rattle.key_names.specs.Vgetrandom.{HostStep, publishes, Outcome, no_bytes, AtPoint, FromStart, IsAttempt, BySystem, FirstAttempt, FromPublished, IsCall}
+use Rattle.key_names.specs.Kernel.Flags.{is_bad}
+use Rattle.key_names.specs.Kernel.VgetrandomState.{VgetrandomState}
+use Rattle.key_names.specs.Kernel.Vgetrandom.{HostStep, publishes, Outcome, no_bytes, AtPoint, FromStart, IsAttempt, BySystem, FirstAttempt, FromPublished, IsCall}
 use Rattle.key_names.proofs.Vgetrandom.Attempts.{match_true, match_false}
 use Rattle.vdso_state.specs.declared.outcome.VEnd.TheVariants.{Zero}
 use Rattle.vdso_state.specs.declared.place.Turn.TheVariants.{First}
@@ -33,7 +33,7 @@ module _ {H : Type 0} (host : Doings H) (floor : H → ℕ) (n flags look : ℕ)
   bad_flags s h last finish bad ends =
       said_asked (IsCall n flags s) s h last finish (λ steps outcome r. match_true _ _ _ bad r) ends
 
-  -- a look, and the call after it
+  -- the first look and the call after it are a whole call
   pub looked_then : (published : ℕ) (s : VgetrandomState) (h next last : H) (came : Came) (t : VgetrandomState)
       (buf : List ℕ) → is_bad flags ≡ false → host.publishes_as h published next → floor h ≤ published →
       published ≤ floor next →
@@ -65,7 +65,7 @@ module _ {H : Type 0} (host : Doings H) (floor : H → ℕ) (n flags look : ℕ)
         (λ steps outcome r. match_false _ _ _ (ne-eqb published 0 ready) (match_false _ _ _ (ne-eqb n 0 some)
         (match_true _ _ _ busy r))) ends
 
-    -- the first attempt, up to its first point
+    -- the call comes to the first point of its first attempt
     pub tries : (t : VgetrandomState) (g : ℕ) (buf : List ℕ) → published ≢ 0 → n ≢ 0 → s.in_use ≡ false →
         t ≡ record s { in_use = true } → host.publishes_as h g last → floor h ≤ g → g ≤ floor last →
         CameTo host floor (FromPublished n flags s published) n flags look

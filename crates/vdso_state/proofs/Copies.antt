@@ -1,8 +1,8 @@
 -- The bytes that a copy takes from a key's stream.
 use Rattle.std.proofs.Common.{◌≡◌, ℕ, ◌+◌, ◌*◌, ◌/◌, ◌%◌, ◌≤◌, List, ◌++◌, take, drop, refl, ap, ◌∙◌, arith}
-use Rattle.key_names.specs.Keystream.{keystream}
-use Rattle.key_names.specs.VgetrandomState.{VgetrandomState}
-use Rattle.key_names.specs.BatchCopy.{state_of_same_batch, state_of_new_batch}
+use Rattle.key_names.specs.Kernel.Keystream.{keystream}
+use Rattle.key_names.specs.Kernel.VgetrandomState.{VgetrandomState}
+use Rattle.key_names.specs.Kernel.BatchCopy.{state_of_same_batch, state_of_new_batch}
 use Rattle.key_names.proofs.Standards.Keystreams.{keystream-append, take-keystream}
 
 -- a state with a new batch and the next key, before any of the batch is served

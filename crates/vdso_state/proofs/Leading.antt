@@ -1,9 +1,9 @@
 -- Parts of a call, one after the other.
 use Rattle.std.proofs.Common.{◌≡◌, ℕ, ◌≤◌, Bool, List, [], ◌∷◌, ◌++◌, refl, sym, ap, subst, ◌∙◌, append_assoc, arith}
 use Rattle.key_names.specs.declared.entries.VEntry.{VEntry}
-use Rattle.key_names.specs.Vgetrandom.{HostStep, publishes, system_call, at_point, Attempt, AttemptEnd, holds, outdated, not_keyed, Outcome, outcome_behind, attempt_behind, wipe_entry, AtPoint, AfterAttempt}
-use Rattle.key_names.specs.VgetrandomState.{VgetrandomState, state_left}
-use Rattle.key_names.specs.VreadSteps.{PointReached, points_of}
+use Rattle.key_names.specs.Kernel.Vgetrandom.{HostStep, publishes, system_call, at_point, Attempt, AttemptEnd, holds, outdated, not_keyed, Outcome, outcome_behind, attempt_behind, wipe_entry, AtPoint, AfterAttempt}
+use Rattle.key_names.specs.Kernel.VgetrandomState.{VgetrandomState, state_left}
+use Rattle.key_names.specs.Callers.VreadSteps.{PointReached, points_of}
 use Rattle.vdso_state.specs.declared.place.Turn.{Turn}
 use Rattle.vdso_state.specs.declared.place.Place.{Place}
 use Rattle.vdso_state.specs.declared.place.Came.{Came}
@@ -138,7 +138,7 @@ module _ {H : Type 0} (host : Doings H) (floor : H → ℕ) where
     };
   }
 
-  -- the events at a point, and then the rest after it
+  -- the events at a point lead to the rest after the point
   abbrev pub at_leads : (n flags : ℕ) (place : Place) (out : List ℕ) (s t : VgetrandomState) (wiped : Bool) (h next : H) →
       t ≡ state_left wiped s → host.passes_as h place.point wiped next → floor h ≤ floor next →
       Leads host floor (AtPlace n flags place out s) (BehindPlace n flags place out t) h next

@@ -6,10 +6,10 @@ use Rattle.std.proofs.lemmas.Bool.Decides.{eqb_tells}
 use Rattle.key_names.specs.declared.errno.Errno.{Errno}
 use Rattle.key_names.specs.declared.point.Point.{Point}
 use Rattle.key_names.specs.declared.point.Point.TheVariants.{Start, Written, Serve, End}
-use Rattle.key_names.specs.VgetrandomState.{VgetrandomState}
-use Rattle.key_names.specs.BatchCopy.{copy_bytes, state_after_copy, block_after_copy, copy_entries}
-use Rattle.key_names.specs.Vgetrandom.{SystemAnswer, read, failed, HostStep, publishes, system_call, Attempt, holds, outdated, not_keyed, outcome_behind, by_batch, by_system, rekey_entry, AtPoint, FromEnd, FromServe, FromWritten, FromStart, AfterAttempt, BySystem, state_after_call}
-use Rattle.key_names.specs.VreadSteps.{points_of}
+use Rattle.key_names.specs.Kernel.VgetrandomState.{VgetrandomState}
+use Rattle.key_names.specs.Kernel.BatchCopy.{copy_bytes, state_after_copy, block_after_copy, copy_entries}
+use Rattle.key_names.specs.Kernel.Vgetrandom.{SystemAnswer, read, failed, HostStep, publishes, system_call, Attempt, holds, outdated, not_keyed, outcome_behind, by_batch, by_system, rekey_entry, AtPoint, FromEnd, FromServe, FromWritten, FromStart, AfterAttempt, BySystem, state_after_call}
+use Rattle.key_names.specs.Callers.VreadSteps.{points_of}
 use Rattle.key_names.proofs.Vgetrandom.Attempts.{match_true, match_false}
 use Rattle.vdso_state.specs.declared.outcome.VEnd.{VEnd}
 use Rattle.vdso_state.specs.declared.outcome.VEnd.TheVariants.{Batch, System}
@@ -63,7 +63,7 @@ ended_outdated out c e s other = record {
 }
 
 module _ {H : Type 0} (host : Doings H) (floor : H → ℕ) where
-  -- the system call, with its result
+  -- the system call with this result ends the call
   asked : (n flags : ℕ) (s : VgetrandomState) (h last : H) (answer : SystemAnswer) (result : Result VEnd Errno)
       (buf : List ℕ) →
       EndsAsAnswered answer result buf → host.answers_as h n flags answer last → floor h ≤ floor last →

@@ -3,8 +3,8 @@ use Rattle.std.specs.Prelude.{ℕ, ◌≡◌, Ok, Err, Result, List}
 use Rattle.key_names.specs.declared.errno.Errno.{Errno}
 use Rattle.vdso_state.specs.declared.outcome.VEnd.{VEnd}
 use Rattle.vdso_state.specs.declared.outcome.VEnd.TheVariants.{Zero, Batch, System}
-use Rattle.key_names.specs.VgetrandomState.{VgetrandomState}
-use Rattle.key_names.specs.Vgetrandom.{SystemAnswer, read, failed, HostStep, Ending, no_bytes, by_batch, by_system, Outcome}
+use Rattle.key_names.specs.Kernel.VgetrandomState.{VgetrandomState}
+use Rattle.key_names.specs.Kernel.Vgetrandom.{SystemAnswer, read, failed, HostStep, Ending, no_bytes, by_batch, by_system, Outcome}
 use Rattle.vdso_state.specs.Host.{Doings, DoesAll}
 
 -- the result of a call that the system call ended, and its buffer; after an error the buffer is unspecified

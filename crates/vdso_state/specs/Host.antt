@@ -2,8 +2,8 @@
 use Rattle.std.specs.Prelude.{ℕ, ◌≡◌, Bool, Ok, Err, Result, List, [], ◌∷◌}
 use Rattle.key_names.specs.declared.errno.Errno.{Errno}
 use Rattle.key_names.specs.declared.point.Point.{Point}
-use Rattle.key_names.specs.Vgetrandom.{SystemAnswer, read, failed, HostStep, publishes, system_call, at_point}
-use Rattle.key_names.specs.VgetrandomState.{VgetrandomState}
+use Rattle.key_names.specs.Kernel.Vgetrandom.{SystemAnswer, read, failed, HostStep, publishes, system_call, at_point}
+use Rattle.key_names.specs.Kernel.VgetrandomState.{VgetrandomState}
 
 -- the steps that a host makes: the generation that it publishes; its answer to a system call of some bytes with
 -- some flags; and whether it wipes the state at a point. Each relates the host before, the input and the
@@ -18,7 +18,7 @@ Does host h (publishes g) next = host.publishes_as h g next
 Does host h (system_call n flags answer) next = host.answers_as h n flags answer next
 Does host h (at_point point wiped) next = host.passes_as h point wiped next
 
--- one step after another
+-- the host makes these steps one after another, from h to last
 abbrev pub DoesAll : {H : Type 0} → Doings H → H → List HostStep → H → Type 0
 DoesAll host h [] last = h ≡ last
 DoesAll {H} host h (step ∷ steps) last = (next : H) × Does host h step next × DoesAll host next steps last

@@ -2,8 +2,8 @@
 use Rattle.std.specs.Prelude.{ℕ, ◌≡◌, MatchBool, List}
 use Rattle.vdso_state.specs.declared.outcome.Local.{Local}
 use Rattle.vdso_state.specs.declared.outcome.Local.TheVariants.{NeedsSystem, Served}
-use Rattle.key_names.specs.VgetrandomState.{VgetrandomState}
-use Rattle.key_names.specs.BatchCopy.{serves_locally, copy_bytes, state_after_copy}
+use Rattle.key_names.specs.Kernel.VgetrandomState.{VgetrandomState}
+use Rattle.key_names.specs.Kernel.BatchCopy.{serves_locally, copy_bytes, state_after_copy}
 
 -- a copy was made
 pub record IsCopy (n : ℕ) (before after : VgetrandomState) (result : Local) (out : List ℕ) : Type 0 where

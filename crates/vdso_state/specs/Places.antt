@@ -3,9 +3,9 @@ use Rattle.std.specs.Prelude.{ℕ, ◌+◌, ◌*◌, ◌^◌, ◌≤◌, ◌≡�
 use Rattle.key_names.specs.declared.entries.VEntry.{VEntry}
 use Rattle.key_names.specs.declared.point.Point.{Point}
 use Rattle.key_names.specs.declared.point.Point.TheVariants.{Start, Written, Serve, End}
-use Rattle.key_names.specs.Vgetrandom.{HostStep, publishes, system_call, at_point, Attempt, Outcome, outcome_behind, AtPoint, FromEnd, FromServe, FromWritten, FromStart, AttemptAndRest, SecondAttempt, AfterBoth}
-use Rattle.key_names.specs.VgetrandomState.{VgetrandomState}
-use Rattle.key_names.specs.VreadSteps.{points_of}
+use Rattle.key_names.specs.Kernel.Vgetrandom.{HostStep, publishes, system_call, at_point, Attempt, Outcome, outcome_behind, AtPoint, FromEnd, FromServe, FromWritten, FromStart, AttemptAndRest, SecondAttempt, AfterBoth}
+use Rattle.key_names.specs.Kernel.VgetrandomState.{VgetrandomState}
+use Rattle.key_names.specs.Callers.VreadSteps.{points_of}
 use Rattle.vdso_state.specs.declared.place.Turn.{Turn}
 use Rattle.vdso_state.specs.declared.place.Turn.TheVariants.{First, Second}
 use Rattle.vdso_state.specs.declared.place.Place.{Place}
@@ -32,12 +32,12 @@ IfOutdated Second n flags c s steps outcome = AfterBoth n flags c s steps outcom
 abbrev pub RestOf : Turn → ℕ → ℕ → (List HostStep → Attempt → Type 0) → List HostStep → Outcome → Type 0
 RestOf turn n flags Tail steps outcome = AttemptAndRest n flags (IfOutdated turn n flags) Tail steps outcome
 
--- the rest of a call after the point at which it is; out is the content of its buffer
+-- the rest of a call after the point that it has reached; out is the content of its buffer
 abbrev pub BehindPlace : ℕ → ℕ → Place → List ℕ → VgetrandomState → List HostStep → Outcome → Type 0
 BehindPlace n flags at out s steps outcome =
     RestOf at.turn n flags (FromPoint at.point n at.next_block at.published out s) steps outcome
 
--- the same, with the events at the point
+-- the rest of a call from its point on, with the events at the point; out is the content of its buffer
 abbrev pub AtPlace : ℕ → ℕ → Place → List ℕ → VgetrandomState → List HostStep → Outcome → Type 0
 AtPlace n flags at out s steps outcome =
     RestOf at.turn n flags (AtPoint at.point (FromPoint at.point n at.next_block at.published out) s) steps outcome
@@ -57,8 +57,8 @@ last_look look (system_call n flags answer ∷ steps) = last_look look steps
 last_look look (at_point point wiped ∷ steps) = last_look look steps
 
 module _ {H : Type 0} (host : Doings H) (floor : H → ℕ) where
-  -- the host's steps from h to next lead from From to To: if To holds for the steps after them,
-  -- From holds for all of them
+  -- the host's steps from h to next turn To into From: if To holds for the steps that follow, From holds for all
+  -- together
   pub record Leads (From To : List HostStep → Outcome → Type 0) (h next : H) : Type 0 where
     pub steps : List HostStep
     pub entries : List VEntry
@@ -72,9 +72,8 @@ module _ {H : Type 0} (host : Doings H) (floor : H → ℕ) where
     pub runs : Runs host From h last finish
     pub climbs : Climbs (floor h) (floor last) runs.steps
 
-  -- a call of n bytes, for which From holds, comes to its next point or to its end without passing one,
-  -- with this state and this buffer. look is the generation published last before, and at the point
-  -- `published` is the one published last
+  -- a call of n bytes for which From holds comes to its next point, or to its end with no point before it, with this
+  -- state and this buffer. look is the last generation published before; a point's `published` is the last one there
   abbrev pub CameTo : (List HostStep → Outcome → Type 0) → ℕ → ℕ → ℕ → Came → H → H → VgetrandomState → List ℕ → Type 0
   CameTo From n flags look (At place) h next s buf =
       (leads : Leads From (AtPlace n flags place buf s) h next) × (points_of leads.steps ≡ [])

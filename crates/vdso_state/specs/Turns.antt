@@ -5,12 +5,12 @@ use Rattle.key_names.specs.declared.point.Point.TheVariants.{Start, Written, Ser
 use Rattle.vdso_state.specs.declared.place.Turn.{Turn}
 use Rattle.vdso_state.specs.declared.place.Turn.TheVariants.{First, Second}
 
--- looks at the generation
+-- the number of looks at the generation
 abbrev pub looks_for : Turn → ℕ
 looks_for First = 3
 looks_for Second = 1
 
--- system calls: one for a key in each attempt, and one at the end for the bytes
+-- the number of system calls: one for a key in each attempt, and one at the end for the bytes
 abbrev pub calls_for : Turn → Point → ℕ
 calls_for First Start = 3
 calls_for First Written = 3
@@ -43,7 +43,7 @@ copies_by Second Written = 1
 copies_by Second Serve = 1
 copies_by Second End = 2
 
--- the attempts in order
+-- the number of an attempt
 abbrev pub turn_number : Turn → ℕ
 turn_number First = 1
 turn_number Second = 2

@@ -2,8 +2,8 @@
 
 ghost use Rattle.std.specs.Prelude.{◌≡◌, ◌≢◌, ◌+◌, ◌^◌, ◌<◌, ◌≤◌, length};
 ghost use Rattle.key_names.specs.declared.point.Point.TheVariants.{Written, Serve, End};
-ghost use Rattle.key_names.specs.BatchCopy.{copy_bytes, state_after_copy, block_after_copy};
-ghost use Rattle.key_names.specs.Vgetrandom.{SystemAnswer, BySystem, FromWritten, FromEnd, state_after_call};
+ghost use Rattle.key_names.specs.Kernel.BatchCopy.{copy_bytes, state_after_copy, block_after_copy};
+ghost use Rattle.key_names.specs.Kernel.Vgetrandom.{SystemAnswer, BySystem, FromWritten, FromEnd, state_after_call};
 ghost use Rattle.vdso_state.specs.Host.{KeyIsRead, doings};
 ghost use Rattle.vdso_state.specs.Turns.{points_for, turn_number};
 ghost use Rattle.vdso_state.specs.Places.{RestOf, BehindPlace, Ends, CameTo, MayGoOn, MayFinish, points_ahead};

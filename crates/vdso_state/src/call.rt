@@ -1,7 +1,7 @@
 //! The vgetrandom call, for any host.
 
 ghost use Rattle.std.specs.Prelude.{◌≡◌, ◌^◌, ◌≤◌, length};
-ghost use Rattle.key_names.specs.Vgetrandom.{IsCall};
+ghost use Rattle.key_names.specs.Kernel.Vgetrandom.{IsCall};
 ghost use Rattle.vdso_state.specs.Host.{doings};
 ghost use Rattle.vdso_state.specs.Places.{BehindPlace, Ends, CameTo, MayGoOn, MayFinish};
 
@@ -80,9 +80,9 @@ pub fn finish<H: VHost>(
 /// not of the published generation, the state takes a new key first. The state may be wiped at the host's points: no
 /// byte of a wiped state is given out.
 ///
-/// The system call serves if the flags are bad, nothing is published yet, the state is in use (as by a call that this
-/// one is inside of; a wipe clears that mark), no key can be read, or both attempts were outdated. If the flags are
-/// good and something is published, a call for no bytes is `Zero`.
+/// The system call serves if the flags are bad, nothing is published yet, the state is in use (for example by a call
+/// around this one; a wipe clears that mark), no key can be read, or both attempts were outdated. If the flags are good
+/// and something is published, a call for no bytes is `Zero`.
 ///
 /// The host must have 5 looks and 3 system calls, and the buffer at most 2^20 bytes.
 ///

@@ -2,8 +2,8 @@
 
 ghost use Rattle.std.specs.Prelude.{◌≡◌, ◌^◌, ◌<◌, ◌≤◌, ℕ, suc, Bool, length};
 ghost use Rattle.key_names.specs.declared.point.Point.{Point};
-ghost use Rattle.key_names.specs.VgetrandomState.{state_left};
-ghost use Rattle.key_names.specs.Vgetrandom.{SystemAnswer};
+ghost use Rattle.key_names.specs.Kernel.VgetrandomState.{state_left};
+ghost use Rattle.key_names.specs.Kernel.Vgetrandom.{SystemAnswer};
 ghost use Rattle.vdso_state.specs.Host.{IsAnswer};
 
 use crate::state::VState;
@@ -28,7 +28,7 @@ pub trait VHost {
 
     ghost calls_left: { Self → ℕ };
 
-    /// The host publishes no generation below it any more.
+    /// From now on the host publishes no lower generation.
     ghost floor: { Self → ℕ };
 
     /// The generation that the core publishes now: no lower than any before it, or 0 before the core is ready.

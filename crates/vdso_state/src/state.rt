@@ -1,10 +1,10 @@
 //! The state in a thread's memory (`struct vgetrandom_state`), and the bytes that are copied out of it.
 
 ghost use Rattle.std.specs.Prelude.{◌≡◌, ◌+◌, ◌-◌, ◌*◌, ◌/◌, ◌%◌, ◌^◌, ◌≤◌, true, false, length, min, take, drop, replicate};
-ghost use Rattle.key_names.specs.Keystream.{keystream};
-ghost use Rattle.key_names.specs.VgetrandomState.{VgetrandomState, wiped_state};
-ghost use Rattle.key_names.specs.BatchCopy.{bytes_left, copy_bytes, state_after_copy, block_after_copy};
-ghost use Rattle.key_names.specs.BatchCopy.{state_of_same_batch, state_of_new_batch};
+ghost use Rattle.key_names.specs.Kernel.Keystream.{keystream};
+ghost use Rattle.key_names.specs.Kernel.VgetrandomState.{VgetrandomState, wiped_state};
+ghost use Rattle.key_names.specs.Kernel.BatchCopy.{bytes_left, copy_bytes, state_after_copy, block_after_copy};
+ghost use Rattle.key_names.specs.Kernel.BatchCopy.{state_of_same_batch, state_of_new_batch};
 
 use chacha_blocks::fill;
 use std::marker::Model;
@@ -16,9 +16,9 @@ const KEY_BYTES: usize = 32;
 
 const BLOCK_BYTES: usize = 64;
 
-/// The bytes that [`VState::pass`] skipped: the first `taken` bytes of `front`, which were in the batch, and
-/// then the stream of `key` from the block on at which the pass began. `next_block` is the key's next block,
-/// after those of the new batch.
+/// The bytes that [`VState::pass`] skipped: the first `taken` bytes of `front`, which were in the batch, and then the
+/// stream of `key` from the block at which the pass began. `next_block` is the key's next block, after those of the new
+/// batch.
 #[derive(Drop)]
 pub struct Passed {
     pub front: [u8; 96],
@@ -40,7 +40,7 @@ pub struct VState {
 
 impl Model for VState {
     ghost use Rattle.std.specs.Prelude.{◌≤◌};
-    ghost use Rattle.key_names.specs.VgetrandomState.{VgetrandomState};
+    ghost use Rattle.key_names.specs.Kernel.VgetrandomState.{VgetrandomState};
 
     ghost Value = { VgetrandomState };
 
@@ -222,8 +222,8 @@ impl VState {
         }
     }
 
-    /// Skips the next `len` bytes, and changes the state as [`copy`](VState::copy) does. It makes no bytes: the only
-    /// ones in the result are those that were left in the batch. Block and length are at most 2^20.
+    /// Skips the next `len` bytes, and changes the state as [`copy`](VState::copy) does. It makes no new bytes: the
+    /// result has only those left in the batch. Block and length are at most 2^20.
     pub fn pass(&mut self, next_block: u64, len: u32) -> Passed
         requires near { next_block ≤ 2 ^ 20 }
         requires short { len ≤ 2 ^ 20 }

@@ -1,5 +1,5 @@
--- The entries of the lanes, and the cases that they prove: acts inside vgetrandom calls, with the setting that they
--- have and their place in the order.
+-- For acts inside vgetrandom calls, the entries of the lanes, and the cases that they prove. The cases are about an
+-- act's setting and its place in the order.
 use Rattle.std.proofs.Common.{[], ◌∷◌, refl, Some, None}
 use Rattle.key_names.specs.declared.entries.Taken.TheVariants.{User}
 use Rattle.key_names.specs.declared.entries.PoolEntry.TheVariants.{Mix, Extract}

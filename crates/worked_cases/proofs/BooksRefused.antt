@@ -3,11 +3,11 @@ use Rattle.std.proofs.Common.{◌≡◌, ◌≤◌, ℕ, List, refl, ap, inl, in
 use Rattle.std.specs.Option.{option_map_or}
 use Rattle.key_names.specs.declared.names.LaneId.TheVariants.{Base as BaseLane}
 use Rattle.key_names.specs.declared.names.KeyName.TheVariants.{Call}
-use Rattle.key_names.specs.Book.{HalfFinishedLanes, cpu_list}
-use Rattle.key_names.specs.LiveMaterial.{IsErased, cpu_batch}
-use Rattle.key_names.specs.Samples.{LawfulSamples}
-use Rattle.key_names.specs.StateList.{LawfulStateList}
-use Rattle.key_names.specs.Uses.{kept, use_of, HoldsByte, IsDisjoint}
+use Rattle.key_names.specs.Lanes.Book.{HalfFinishedLanes, cpu_list}
+use Rattle.key_names.specs.Keys.LiveMaterial.{IsErased, cpu_batch}
+use Rattle.key_names.specs.Lanes.Samples.{LawfulSamples}
+use Rattle.key_names.specs.Lanes.StateList.{LawfulStateList}
+use Rattle.key_names.specs.Keys.Uses.{kept, use_of, HoldsByte, IsDisjoint}
 use Rattle.worked_cases.specs.RefusedBooks.{shared_refill, unanswered, two_integers, lone_dump, only_rekeyed}
 use Rattle.worked_cases.specs.RefusedBooks.{only_blocks}
 

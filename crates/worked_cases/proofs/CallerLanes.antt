@@ -1,4 +1,4 @@
--- The entries of the lanes, and the cases that they prove: runs of two callers.
+-- For runs of two callers, the entries of the lanes, and the cases that they prove.
 use Rattle.std.proofs.Common.{[], ◌∷◌, refl, Some, None}
 use Rattle.key_names.specs.declared.entries.Taken.TheVariants.{User}
 use Rattle.key_names.specs.declared.entries.PoolEntry.TheVariants.{Mix, Extract}

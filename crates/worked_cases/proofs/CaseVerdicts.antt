@@ -1,7 +1,7 @@
 -- The verdicts on a worked case and on its near misses.
 use Rattle.std.proofs.Common.{◌≡◌, ℕ, List, [], ◌∷◌, map}
 use Rattle.std.specs.List.{AllByRecursion}
-use Rattle.key_names.specs.IsTranscript.{clause_number}
+use Rattle.key_names.specs.Transcripts.IsTranscript.{clause_number}
 use Rattle.worked_cases.specs.Runs.{Case, NearMiss, Holds, FailsFirst, clause_missed, lines_with, transcript_with}
 use Rattle.worked_cases.proofs.Decided.{first_same, rest_same}
 use Rattle.worked_cases.proofs.Verdicts.{Lanes}
@@ -13,7 +13,7 @@ miss_verdict case lanes miss = text_verdict case.script (transcript_with (lines_
 abbrev number_missed : NearMiss → ℕ
 number_missed miss = clause_number (clause_missed miss)
 
--- the verdict on the case, and then those on its near misses
+-- the verdict on the case, and then the verdicts on its near misses
 unfoldable pub verdicts : Case → Lanes → List ℕ
 unfolding text_verdict
 verdicts case lanes = text_verdict case.script (transcript_with case.lines) lanes ∷ map (miss_verdict case lanes)

@@ -1,4 +1,4 @@
--- Facts that are decided by computing. Each answer comes with its proof.
+-- Facts are decided by computing. Each answer comes with its proof.
 use Rattle.std.proofs.Common.{◌≡◌, ◌<◌, ◌≤◌, ◌⊎◌, ℕ, suc, Bool, true, false, Option, Some, None, List, [], ◌∷◌, refl}
 use Rattle.std.proofs.Common.{sym, ap, inl, inr, eqb, leb, arith}
 use Rattle.std.specs.Prelude.{MatchBool}
@@ -56,7 +56,7 @@ abbrev pub negated : {P : Type 0} → Decided P → Decided (P → ⊥)
 negated (yes p) = no (λ f. f p)
 negated (no p) = yes p
 
--- the same fact in another form
+-- a fact that is equivalent to a decided one is decided
 abbrev pub likewise : {P Q : Type 0} → (P → Q) → (Q → P) → Decided P → Decided Q
 likewise f g (yes p) = yes (f p)
 likewise f g (no p) = no (λ q. p (g q))

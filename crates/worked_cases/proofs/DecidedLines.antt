@@ -7,11 +7,11 @@ use Rattle.key_names.specs.declared.events.Answer.{Answer}
 use Rattle.key_names.specs.Texts.Spelling.{word_text}
 use Rattle.key_names.specs.Texts.TranscriptGrammar.{answer_text}
 use Rattle.key_names.specs.Texts.ScriptGrammar.{Script, event_word}
-use Rattle.key_names.specs.SeenLine.{SeenLine, Shown, no_data, bytes, count}
-use Rattle.key_names.specs.Calls.{Call, alone, vread_call, unbound, ending, BoundAct}
-use Rattle.key_names.specs.Meaning.{LineMeaning, CallMeaning}
-use Rattle.key_names.specs.IsTranscript.{LineIs, LinesFit, EachCaller, HasLines, script_calls, EachAct, EachOfCall}
-use Rattle.key_names.specs.IsTranscript.{EachLine, AnswersStand, DataStand}
+use Rattle.key_names.specs.Transcripts.SeenLine.{SeenLine, Shown, no_data, bytes, count}
+use Rattle.key_names.specs.Callers.Calls.{Call, alone, vread_call, unbound, ending, BoundAct}
+use Rattle.key_names.specs.Callers.Meaning.{LineMeaning, CallMeaning}
+use Rattle.key_names.specs.Transcripts.IsTranscript.{LineIs, LinesFit, EachCaller, HasLines, script_calls, EachAct, EachOfCall}
+use Rattle.key_names.specs.Transcripts.IsTranscript.{EachLine, AnswersStand, DataStand}
 use Rattle.transcript_text.proofs.NameTexts.{same_word, same_answer}
 use Rattle.worked_cases.proofs.Decided.{Decided, yes, no, both, likewise, same_number, same_bytes}
 

@@ -8,14 +8,14 @@ use Rattle.std.specs.List.{AllByRecursion, range_with_len}
 use Rattle.key_names.specs.declared.names.LaneId.{LaneId}
 use Rattle.key_names.specs.declared.names.LaneId.TheVariants.{Pool as PoolLane, Base as BaseLane, Cpu as CpuLane}
 use Rattle.key_names.specs.declared.names.Mark.{Mark}
-use Rattle.key_names.specs.BaseList.{base_after}
-use Rattle.key_names.specs.Book.{Lists}
-use Rattle.key_names.specs.Deeds.{Deed, looked, at_pool, at_base, at_cpu, nothing_there, deeds_of}
-use Rattle.key_names.specs.History.{caller_orders, stamps_of, LookStands, LooksStand, seen}
+use Rattle.key_names.specs.Lanes.BaseList.{base_after}
+use Rattle.key_names.specs.Lanes.Book.{Lists}
+use Rattle.key_names.specs.Callers.Deeds.{Deed, looked, at_pool, at_base, at_cpu, nothing_there, deeds_of}
+use Rattle.key_names.specs.Callers.History.{caller_orders, stamps_of, LookStands, LooksStand, seen}
 use Rattle.key_names.specs.Texts.ScriptGrammar.{Script}
-use Rattle.key_names.specs.SeenLine.{SeenLine}
-use Rattle.key_names.specs.IsTranscript.{MarkBy, PlacesStand, MarksStand, SeenStands, Rises, all_marks, lane_marks}
-use Rattle.key_names.specs.IsTranscript.{is_same_lane, script_calls}
+use Rattle.key_names.specs.Transcripts.SeenLine.{SeenLine}
+use Rattle.key_names.specs.Transcripts.IsTranscript.{MarkBy, PlacesStand, MarksStand, SeenStands, Rises, all_marks, lane_marks}
+use Rattle.key_names.specs.Transcripts.IsTranscript.{is_same_lane, script_calls}
 use Rattle.worked_cases.proofs.Decided.{Decided, yes, no, both, implied, likewise, each, found_by, same_number, at_most}
 use Rattle.worked_cases.proofs.Decided.{below}
 
@@ -87,7 +87,7 @@ by_lane marks n all pool base cpus (CpuLane c) = by (leb n c) refl
         (record { once = tt; rise = tt })
     by false e = cpus c (let lt : c < n = grind (arith, nat_tests) in lt)
 
--- n is above the number of each CPU among the marks. If it is not, there is no answer
+-- the answer for all lanes, if n is above the number of each CPU that has a mark; otherwise there is no answer
 abbrev lanes_from : (marks : List MarkBy) (n : ℕ) → Decided (AllByRecursion (λ by. CpuBelow n by.mark.lane) marks) →
     Option (Decided ((lane : LaneId) → PlacesStand (lane_marks lane marks)))
 lanes_from marks n (no p) = None

@@ -1,4 +1,4 @@
--- The form of a line, found from the deeds of its steps.
+-- The form of a line is found from the deeds of its steps.
 use Rattle.std.proofs.Common.{◌≡◌, ℕ, Bool, true, false, Option, Some, None, List, [], ◌∷◌, refl, ◌==◌}
 use Rattle.std.specs.Prelude.{not, ◌&&◌}
 use Rattle.key_names.specs.declared.entries.Taken.{Taken}
@@ -17,14 +17,14 @@ use Rattle.key_names.specs.declared.events.Event.TheVariants.{Device, Write, Add
 use Rattle.key_names.specs.declared.events.Event.TheVariants.{Read, Vread, Kread, Dread, Uread, Int8, Int16, Int32}
 use Rattle.key_names.specs.declared.events.Event.TheVariants.{Int64, Reseed, Tick, Fork, Inside, Prepare, Online}
 use Rattle.key_names.specs.declared.events.Event.TheVariants.{Vmfork}
-use Rattle.key_names.specs.PoolList.{Crossing, crossing, ready, early, none}
-use Rattle.key_names.specs.Flags.{is_bad, is_nonblock, is_insecure}
-use Rattle.key_names.specs.Calls.{Setting}
-use Rattle.key_names.specs.Deeds.{Deed, looked, at_pool, at_base, at_cpu}
-use Rattle.key_names.specs.Forms.{Form, EndForm, Rooted, BaseOnly, Cross, DrawForm, PlainRead, RefilledRead}
-use Rattle.key_names.specs.Forms.{CpuReadForm, Looked, ReadForm, WaitedInVain, Waited, LookedForm, SysForm, CreditForm}
-use Rattle.key_names.specs.Forms.{PoolOnly, Stalled, DumpForm, IrqForm, CpuOnly, BatchForm, RefilledBatch, IntForm}
-use Rattle.key_names.specs.Forms.{ReseedForm, VmforkForm, device_entry}
+use Rattle.key_names.specs.Lanes.PoolList.{Crossing, crossing, ready, early, none}
+use Rattle.key_names.specs.Kernel.Flags.{is_bad, is_nonblock, is_insecure}
+use Rattle.key_names.specs.Callers.Calls.{Setting}
+use Rattle.key_names.specs.Callers.Deeds.{Deed, looked, at_pool, at_base, at_cpu}
+use Rattle.key_names.specs.Callers.Forms.{Form, EndForm, Rooted, BaseOnly, Cross, DrawForm, PlainRead, RefilledRead}
+use Rattle.key_names.specs.Callers.Forms.{CpuReadForm, Looked, ReadForm, WaitedInVain, Waited, LookedForm, SysForm, CreditForm}
+use Rattle.key_names.specs.Callers.Forms.{PoolOnly, Stalled, DumpForm, IrqForm, CpuOnly, BatchForm, RefilledBatch, IntForm}
+use Rattle.key_names.specs.Callers.Forms.{ReseedForm, VmforkForm, device_entry}
 use Rattle.worked_cases.proofs.Decided.{found, found_by, found_both, found_three, found_pair, first_found, found_test}
 use Rattle.worked_cases.proofs.Decided.{same_number, at_most}
 use Rattle.worked_cases.proofs.SameEntries.{same_pool, same_base, same_cpu}
@@ -206,7 +206,7 @@ vmfork_found set word text (at_pool p ∷ rest) =
     (same_pool p.entry (device_entry word text)) (behind_look (reseed_found set) rest)
 vmfork_found set word text _ = None
 
--- the form of an event by itself
+-- the form of a single event
 abbrev pub form_found : (set : Setting) (event : Event) (deeds : List Deed) → Option (Form set event deeds)
 form_found set (Write text) deeds = pool_only (Mix text 0) deeds
 form_found set (Device word text) deeds = pool_only (device_entry word text) deeds

@@ -1,4 +1,4 @@
--- The lanes' lists are lawful: found by computing.
+-- By computing, the lanes' lists are found to be lawful.
 use Rattle.std.proofs.Common.{◌≡◌, ◌≢◌, ◌↔◌, ℕ, zero, suc, false, Option, Some, None, List, [], ◌∷◌, refl, ap, subst}
 use Rattle.std.proofs.Common.{slice_get}
 use Rattle.std.specs.Prelude.{option_and_then}
@@ -8,14 +8,14 @@ use Rattle.key_names.specs.declared.entries.BaseEntry.TheVariants.{Early, Reseed
 use Rattle.key_names.specs.declared.entries.BaseEntry.TheVariants.{Resume, Interrupt, Stall, Unstall}
 use Rattle.key_names.specs.declared.entries.CpuEntry.{CpuEntry}
 use Rattle.key_names.specs.declared.entries.CpuEntry.TheVariants.{Read, Int, Irq, Dump, Prepare, Online}
-use Rattle.key_names.specs.LawfulList.{LawfulFrom}
-use Rattle.key_names.specs.PoolList.{extraction_at, base_place_of}
-use Rattle.key_names.specs.BaseList.{Phase, empty, early, ready, BaseState, BaseFits, LawfulBase, RootStands, IsDue}
-use Rattle.key_names.specs.BaseList.{base_step, base_start, root_of, root_at, refill_of, refill_at, generation_at}
-use Rattle.key_names.specs.Batches.{must_fill}
-use Rattle.key_names.specs.CpuList.{CpuState, CpuFits, LawfulCpu, LookFitsCpu, RefillNames, RefillStands, cpu_step}
-use Rattle.key_names.specs.CpuList.{cpu_start, base_refill_at}
-use Rattle.key_names.specs.Book.{Lists, LawfulLanes, ExtractionAnswered, RefillAnswered, cpu_list, list_at}
+use Rattle.key_names.specs.Lanes.LawfulList.{LawfulFrom}
+use Rattle.key_names.specs.Lanes.PoolList.{extraction_at, base_place_of}
+use Rattle.key_names.specs.Lanes.BaseList.{Phase, empty, early, ready, BaseState, BaseFits, LawfulBase, RootStands, IsDue}
+use Rattle.key_names.specs.Lanes.BaseList.{base_step, base_start, root_of, root_at, refill_of, refill_at, generation_at}
+use Rattle.key_names.specs.Kernel.Batches.{must_fill}
+use Rattle.key_names.specs.Lanes.CpuList.{CpuState, CpuFits, LawfulCpu, LookFitsCpu, RefillNames, RefillStands, cpu_step}
+use Rattle.key_names.specs.Lanes.CpuList.{cpu_start, base_refill_at}
+use Rattle.key_names.specs.Lanes.Book.{Lists, LawfulLanes, ExtractionAnswered, RefillAnswered, cpu_list, list_at}
 use Rattle.worked_cases.proofs.Decided.{Decided, yes, no, both, either, negated, likewise, found, found_by, found_both}
 use Rattle.worked_cases.proofs.Decided.{found_three, found_pair, same_number, same_option, same_bool, at_most}
 use Rattle.worked_cases.proofs.Decided.{none_is_not_some}
@@ -136,7 +136,7 @@ pub at_number : {E : Type 0} (P : ℕ → List E → Type 0) (es : List E) (list
 at_number P es lists here later zero = here
 at_number P es lists here later (suc c) = later c
 
--- P holds for each list with its number, and for the empty lists beyond the last
+-- P holds for each list and its number, and for the empty lists after the last one
 abbrev pub each_list : {E : Type 0} (P : ℕ → List E → Type 0) → ((c : ℕ) → P c []) →
     ((c : ℕ) (es : List E) → Option (P c es)) →
     (lists : List (List E)) → Option ((c : ℕ) → P c (list_at lists c))
@@ -163,7 +163,7 @@ abbrev named : {N : Type 0} (Q : N → Type 0) → ((n : N) → Option (Q n)) �
 named Q d None = Some (λ n e. absurd (none_is_not_some n e))
 named Q d (Some m) = found_by (λ q n e. at_name Q m n q e) (d m)
 
--- Q holds for each name that an entry has, with the entry's place
+-- Q holds for each name that an entry contains, and the entry's place
 abbrev pub each_name : {E N : Type 0} (name : E → Option N) (Q : ℕ → N → Type 0) → ((p : ℕ) (n : N) → Option (Q p n)) →
     (es : List E) → Option ((p : ℕ) (n : N) → option_and_then name (slice_get es p) ≡ Some n → Q p n)
 each_name name Q d [] = Some (λ p n e. absurd (no_entry name p n e))

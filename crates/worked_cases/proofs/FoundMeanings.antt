@@ -1,4 +1,4 @@
--- The meanings of a caller's calls, found from its lines and the lanes' lists.
+-- The meanings of a caller's calls are found from its lines and the lanes' lists.
 use Rattle.std.proofs.Common.{◌≡◌, ℕ, Bool, true, false, Option, Some, None, List, [], ◌∷◌, refl, sym, ◌∙◌, ap, subst}
 use Rattle.std.specs.Prelude.{MatchBool}
 use Rattle.key_names.specs.declared.events.Event.{Event}
@@ -7,29 +7,29 @@ use Rattle.key_names.specs.declared.events.Answer.TheVariants.{Ok as Done}
 use Rattle.key_names.specs.declared.events.InsideAct.{InsideAct}
 use Rattle.key_names.specs.declared.events.InsideAct.TheVariants.{Wipe as WipeAct, Vread as VreadAct}
 use Rattle.key_names.specs.declared.events.InsideAct.TheVariants.{Reseed as ReseedAct}
-use Rattle.key_names.specs.Calls.{Setting, Call, alone, vread_call, unbound, ending, BoundAct}
-use Rattle.key_names.specs.Deeds.{Deed, deeds_of, looked}
-use Rattle.key_names.specs.Forms.{Looked}
-use Rattle.key_names.specs.Answers.{answer_of, shown_of, system_answer, served_bytes}
-use Rattle.key_names.specs.Book.{Lists}
-use Rattle.key_names.specs.SeenLine.{SeenLine, no_data, bytes_or_none}
-use Rattle.key_names.specs.BatchCopy.{copy_bytes, copy_entries, state_after_copy, serves_locally}
-use Rattle.key_names.specs.Vgetrandom.{IsCall}
-use Rattle.key_names.specs.VreadSteps.{NeverFall, looks_of, WipesStand, PointReached, points_of, first_points}
-use Rattle.key_names.specs.VreadSteps.{second_points, is_wiped, is_reached, ending_answer, ending_shown, published_by}
-use Rattle.key_names.specs.Meaning.{CallerState, LineMeaning, CallMeaning, Means, ByVgetrandom, ByLocalCopy}
-use Rattle.key_names.specs.Meaning.{LocalOrCall, ActMeans, ActsMean, unused_line, tries_local, current_state}
-use Rattle.key_names.specs.Meaning.{with_state, caller_after, event_entries}
-use Rattle.key_names.specs.IsTranscript.{EachOfCall, EachAct, EachLine, CallsMean}
+use Rattle.key_names.specs.Callers.Calls.{Setting, Call, alone, vread_call, unbound, ending, BoundAct}
+use Rattle.key_names.specs.Callers.Deeds.{Deed, deeds_of, looked}
+use Rattle.key_names.specs.Callers.Forms.{Looked}
+use Rattle.key_names.specs.Callers.Answers.{answer_of, shown_of, system_answer, served_bytes}
+use Rattle.key_names.specs.Lanes.Book.{Lists}
+use Rattle.key_names.specs.Transcripts.SeenLine.{SeenLine, no_data, bytes_or_none}
+use Rattle.key_names.specs.Kernel.BatchCopy.{copy_bytes, copy_entries, state_after_copy, serves_locally}
+use Rattle.key_names.specs.Kernel.Vgetrandom.{IsCall}
+use Rattle.key_names.specs.Callers.VreadSteps.{NeverFall, looks_of, WipesStand, PointReached, points_of, first_points}
+use Rattle.key_names.specs.Callers.VreadSteps.{second_points, is_wiped, is_reached, ending_answer, ending_shown, published_by}
+use Rattle.key_names.specs.Callers.Meaning.{CallerState, LineMeaning, CallMeaning, Means, ByVgetrandom, ByLocalCopy}
+use Rattle.key_names.specs.Callers.Meaning.{LocalOrCall, ActMeans, ActsMean, unused_line, tries_local, current_state}
+use Rattle.key_names.specs.Callers.Meaning.{with_state, caller_after, event_entries}
+use Rattle.key_names.specs.Transcripts.IsTranscript.{EachOfCall, EachAct, EachLine, CallsMean}
 use Rattle.worked_cases.proofs.Decided.{found, found_by, found_both, same_bool, at_most, each}
 use Rattle.worked_cases.proofs.FoundForms.{no_steps, form_found, end_form, system_call_found}
 use Rattle.worked_cases.proofs.FoundVreads.{HostFound, vgetrandom_found}
 
--- the deeds are those of the line's steps
+-- the meaning has the deeds of the line's steps
 abbrev pub Behind : Lists → SeenLine → LineMeaning → Type 0
 Behind lists line m = deeds_of lists line.steps ≡ m.deeds
 
--- the meaning of a call, from its caller's state
+-- a call has a meaning that begins with its caller's state
 pub record CallFound (lists : Lists) (before : CallerState) (call : Call) : Type 0 where
   pub m : CallMeaning
   pub begins : m.before ≡ before
@@ -147,7 +147,7 @@ never_fall [] = Some tt
 never_fall (a ∷ []) = Some tt
 never_fall (a ∷ b ∷ rest) = found_both (λ p q. (p, q)) (found (at_most a b)) (never_fall (b ∷ rest))
 
--- a vread in one of its ways: a copy, or a vgetrandom call
+-- a vread has a meaning of one kind: a copy, or a vgetrandom call
 pub record WayFound (lists : Lists) (before : CallerState) (acts : List BoundAct) (line : SeenLine)
     (Way : CallMeaning → Type 0) : Type 0 where
   pub m : CallMeaning
@@ -194,7 +194,7 @@ by_vgetrandom lists before n flags acts line =
       };
     }) (wipes_found acts (points_of h.steps)) (acts_found lists before.setting (is_reached (points_of h.steps)) acts)
 
--- deeds that begin with a look
+-- the deeds begin with a look
 pub record LookFound (deeds : List Deed) : Type 0 where
   pub look : ℕ
   pub rest : List Deed

@@ -1,4 +1,4 @@
--- The samples of a book are lawful: found by computing.
+-- By computing, the samples of a book are found to be lawful.
 use Rattle.std.proofs.Common.{◌≡◌, ◌<◌, ℕ, zero, suc, true, Option, Some, None, List, [], ◌∷◌, refl, sym, ◌∙◌, ap}
 use Rattle.std.proofs.Common.{slice_get}
 use Rattle.std.specs.Prelude.{option_and_then}
@@ -7,9 +7,9 @@ use Rattle.key_names.specs.declared.entries.PoolEntry.{PoolEntry}
 use Rattle.key_names.specs.declared.entries.PoolEntry.TheVariants.{Mix, Input, Bits, Extract}
 use Rattle.key_names.specs.declared.entries.CpuEntry.{CpuEntry}
 use Rattle.key_names.specs.declared.entries.CpuEntry.TheVariants.{Read, Int, Irq, Dump, Prepare, Online}
-use Rattle.key_names.specs.FastPool.{FastPool, makes_due, dump_bytes, dump_bits}
-use Rattle.key_names.specs.Book.{Visit, Book}
-use Rattle.key_names.specs.Samples.{LawfulSamples, SameEvent, MakesDue, IsDump, DumpAt, fast_before, visits_of}
+use Rattle.key_names.specs.Kernel.FastPool.{FastPool, makes_due, dump_bytes, dump_bits}
+use Rattle.key_names.specs.Lanes.Book.{Visit, Book}
+use Rattle.key_names.specs.Lanes.Samples.{LawfulSamples, SameEvent, MakesDue, IsDump, DumpAt, fast_before, visits_of}
 use Rattle.worked_cases.proofs.Decided.{Decided, yes, no, both, found, found_by, found_both, found_pair, same_bool}
 use Rattle.worked_cases.proofs.Decided.{same_number, same_bytes, below}
 use Rattle.worked_cases.proofs.FoundLanes.{each_list, each_name}
@@ -72,7 +72,7 @@ found_if (no p) o = Some (λ h. absurd (p h))
 abbrev Visits : Type 0
 Visits = List (Visit CpuEntry)
 
--- an earlier place where the same event made a dump due, or a later one where the same event dumped
+-- the same event made a dump due at an earlier place, or dumped at a later one
 abbrev DueBefore : Visits → ℕ → Who → Type 0
 DueBefore visits k who =
     Place (λ i v. (i < k) × (SameEvent v.who who × MakesDue (fast_before visits i) v.entry)) visits

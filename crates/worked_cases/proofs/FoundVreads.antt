@@ -1,31 +1,31 @@
--- A vgetrandom call, found from the deeds of its line.
+-- A vgetrandom call is found from the deeds of its line.
 use Rattle.std.proofs.Common.{◌≡◌, ℕ, Bool, true, false, Option, Some, None, List, [], ◌∷◌, ◌++◌, refl, sym, append-nil}
 use Rattle.std.proofs.Common.{◌==◌}
 use Rattle.std.specs.Prelude.{MatchBool}
 use Rattle.key_names.specs.declared.point.Point.{Point}
 use Rattle.key_names.specs.declared.point.Point.TheVariants.{Start, Written, Serve, End}
-use Rattle.key_names.specs.Flags.{is_bad}
-use Rattle.key_names.specs.Calls.{Setting}
-use Rattle.key_names.specs.Deeds.{Deed, looked, at_base, at_cpu}
-use Rattle.key_names.specs.VgetrandomState.{VgetrandomState, state_left}
-use Rattle.key_names.specs.Vgetrandom.{CpuPlace, SystemAnswer, read, failed, HostStep, system_call, publishes, Attempt}
-use Rattle.key_names.specs.Vgetrandom.{AttemptEnd, holds, outdated, not_keyed, IsAttempt, Outcome, outcome_behind}
-use Rattle.key_names.specs.Vgetrandom.{by_system, by_batch, no_bytes, state_after_call, BySystem, ByNothing}
-use Rattle.key_names.specs.Vgetrandom.{AfterAttempt, AttemptAndRest, SecondAttempt, FirstAttempt, AfterBoth, FromLook}
-use Rattle.key_names.specs.Vgetrandom.{FromPublished, IsCall}
-use Rattle.key_names.specs.VreadSteps.{Shows, published_by, answer_behind}
+use Rattle.key_names.specs.Kernel.Flags.{is_bad}
+use Rattle.key_names.specs.Callers.Calls.{Setting}
+use Rattle.key_names.specs.Callers.Deeds.{Deed, looked, at_base, at_cpu}
+use Rattle.key_names.specs.Kernel.VgetrandomState.{VgetrandomState, state_left}
+use Rattle.key_names.specs.Kernel.Vgetrandom.{CpuPlace, SystemAnswer, read, failed, HostStep, system_call, publishes, Attempt}
+use Rattle.key_names.specs.Kernel.Vgetrandom.{AttemptEnd, holds, outdated, not_keyed, IsAttempt, Outcome, outcome_behind}
+use Rattle.key_names.specs.Kernel.Vgetrandom.{by_system, by_batch, no_bytes, state_after_call, BySystem, ByNothing}
+use Rattle.key_names.specs.Kernel.Vgetrandom.{AfterAttempt, AttemptAndRest, SecondAttempt, FirstAttempt, AfterBoth, FromLook}
+use Rattle.key_names.specs.Kernel.Vgetrandom.{FromPublished, IsCall}
+use Rattle.key_names.specs.Callers.VreadSteps.{Shows, published_by, answer_behind}
 use Rattle.key_names.proofs.Vgetrandom.Attempts.{current_attempt, current_steps, keyed_attempt, keyed_steps}
 use Rattle.worked_cases.proofs.Decided.{found_by, found_both}
 use Rattle.worked_cases.proofs.FoundForms.{no_steps, system_call_found}
 
--- the steps of a host with these deeds, and an outcome that they lead to
+-- the deeds show steps of a host that lead to an outcome
 pub record HostFound (set : Setting) (Leads : List HostStep → Outcome → Type 0) (deeds : List Deed) : Type 0 where
   pub steps : List HostStep
   pub outcome : Outcome
   pub leads : Leads steps outcome
   pub shows : Shows set steps deeds
 
--- an attempt at the front of these deeds
+-- the deeds begin with an attempt
 pub record AttemptFound (set : Setting) (n c : ℕ) (s : VgetrandomState) (deeds : List Deed) : Type 0 where
   pub steps : List HostStep
   pub attempt : Attempt
@@ -115,7 +115,7 @@ keyed_with set n c g h wiped s other call rest = found_both (λ form r. record {
   );
 }) (system_call_found set 32 0 call) (read_found (answer_behind 0 call))
 
--- an attempt that reads a key: the system call has two looks, at most one visit of the base, and one of a CPU
+-- an attempt that reads a key: its system call has two looks, at most one visit of the base, and one visit of a CPU
 abbrev keyed_found : (set : Setting) (n c g : ℕ) (wiped : Point → Bool) (s : VgetrandomState) →
     ((state_left (wiped Start) s).generation == published_by g) ≡ false → (deeds : List Deed) →
     Option (AttemptFound set n c s (looked g ∷ deeds))
@@ -135,7 +135,7 @@ attempt_found set n c wiped s (looked g ∷ deeds) = by ((state_left (wiped Star
     by false e = keyed_found set n c g wiped s e deeds
 attempt_found set n c wiped s _ = None
 
--- the steps after an attempt
+-- the steps after an attempt, which ends the call or does not
 abbrev after_found : (set : Setting) (n flags : ℕ) (Outdated : ℕ → VgetrandomState → List HostStep → Outcome → Type 0)
     (end : AttemptEnd) (attempt : Attempt) (deeds : List Deed) →
     Option (HostFound set (Outdated attempt.next_block attempt.state) deeds) →
@@ -173,7 +173,7 @@ abbrev tried : {P : Type 0} {Q : Type 0} → Option P → (P → Option Q) → O
 tried (Some p) f = f p
 tried None f = None
 
--- the acts happen only in the first attempt
+-- the acts happen only in the first attempt, so the second is never wiped
 abbrev second_found : (set : Setting) (n flags c : ℕ) (s : VgetrandomState) (deeds : List Deed) →
     Option (HostFound set (SecondAttempt n flags c s) deeds)
 second_found set n flags c s deeds = tried (attempt_found set n c (λ p. false) s deeds)

@@ -1,4 +1,4 @@
--- The entries of the lanes, and the cases that they prove: the base and the CPUs of a ready core, with refills, reseeds
+-- For the base and the CPUs of a ready core, the entries of the lanes, and the cases that they prove: refills, reseeds
 -- and their timer, and batched integers.
 use Rattle.std.proofs.Common.{[], ◌∷◌, ◌++◌, refl, Some, None, replicate, true, false}
 use Rattle.key_names.specs.declared.entries.Taken.TheVariants.{User, Kernel}

@@ -1,5 +1,5 @@
--- The lines that a text of a transcript may spell. No fact about them is proved here: the proofs that use
--- them compute their text.
+-- The lines that a transcript's text may spell. They are not proved to be right here. The proofs that use them compute
+-- the text of the lines.
 use Rattle.std.proofs.Common.{ℕ, List, [], ◌∷◌, map, filter, find, ◌==◌, if◌then◌else◌, unwrap_or, codes, bytes_eq}
 use Rattle.std.specs.List.{range_with_len}
 use Rattle.std.specs.Str.Parse.{digits_value}
@@ -13,10 +13,10 @@ use Rattle.key_names.specs.declared.events.Answer.TheVariants.{Idle, Unused}
 use Rattle.key_names.specs.declared.events.Word.{Word}
 use Rattle.key_names.specs.declared.events.Word.TheVariants.{Bits, End}
 use Rattle.key_names.specs.Texts.ScriptFaults.{parts, word_of, bytes_of}
-use Rattle.key_names.specs.SeenLine.{SeenLine, Shown, no_data, bytes, count}
+use Rattle.key_names.specs.Transcripts.SeenLine.{SeenLine, Shown, no_data, bytes, count}
 use Rattle.key_names.specs.Texts.TranscriptGrammar.{answer_text}
 
--- two numbers with a byte between them
+-- the two numbers of a field, with a byte between them
 abbrev two_numbers : ℕ → List ℕ → ℕ × ℕ
 two_numbers byte field = of_parts (parts byte field)
   where
@@ -71,7 +71,7 @@ line_of line = of_fields (parts 32 line)
         }
     of_fields _ = record { caller = 0; event = 0; word = End; answer = Done; steps = []; shown = no_data }
 
--- all lines except the first, the last and the empty one after it
+-- all lines but the first, the last, and the empty one after the last line feed
 abbrev inner : List (List ℕ) → List (List ℕ)
 inner [] = []
 inner (first ∷ lines) = but_two lines
@@ -82,7 +82,7 @@ inner (first ∷ lines) = but_two lines
     but_two (a ∷ b ∷ []) = []
     but_two (a ∷ b ∷ c ∷ rest) = a ∷ but_two (b ∷ c ∷ rest)
 
--- the lines of this number of callers
+-- the lines of this many callers
 abbrev pub lines_of : ℕ → List ℕ → List (List SeenLine)
 lines_of callers text =
     let lines = map line_of (inner (parts 10 text)) in

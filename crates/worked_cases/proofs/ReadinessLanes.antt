@@ -1,4 +1,5 @@
--- The entries of the lanes, and the cases that they prove: reads before the core is ready, and how it becomes ready.
+-- For reads before the core is ready, and for its becoming ready, the entries of the lanes, and the cases that they
+-- prove.
 use Rattle.std.proofs.Common.{[], ◌∷◌, refl, Some, None}
 use Rattle.std.specs.List.{range_with_len}
 use Rattle.key_names.specs.declared.entries.Taken.TheVariants.{User, Kernel}

@@ -1,9 +1,9 @@
--- If a clause is the first that fails, the texts are not those of a lawful transcript.
+-- If a clause is the first that fails for two texts, they are not those of a lawful transcript and its script.
 use Rattle.std.proofs.Common.{◌≡◌, List, Result, Ok, subst}
-use Rattle.key_names.specs.SeenLine.{SeenLine}
+use Rattle.key_names.specs.Transcripts.SeenLine.{SeenLine}
 use Rattle.key_names.specs.Texts.ScriptGrammar.{Script}
 use Rattle.key_names.specs.declared.faults.ScriptFault.{ScriptFault}
-use Rattle.key_names.specs.IsTranscript.{IsTranscript}
+use Rattle.key_names.specs.Transcripts.IsTranscript.{IsTranscript}
 use Rattle.key_names.specs.Texts.ScriptFaults.{script_of}
 use Rattle.key_names.proofs.Script.ScriptTexts.{script_again}
 use Rattle.key_names.proofs.Unique.UniqueBook.{first_fail_is_unique}

@@ -1,4 +1,4 @@
--- Equality of entries, found by computing.
+-- By computing, entries are found to be equal.
 use Rattle.std.proofs.Common.{◌≡◌, ℕ, Bool, Option, Some, None, List, refl, ap}
 use Rattle.key_names.specs.declared.entries.Taken.{Taken}
 use Rattle.key_names.specs.declared.entries.Taken.TheVariants.{User, Kernel}

@@ -1,4 +1,4 @@
--- The entries of the lanes, and the cases that they prove: interrupts and input events.
+-- For interrupts and input events, the entries of the lanes, and the cases that they prove.
 use Rattle.std.proofs.Common.{[], ◌∷◌, refl, Some}
 use Rattle.key_names.specs.declared.entries.Taken.TheVariants.{User}
 use Rattle.key_names.specs.declared.entries.PoolEntry.TheVariants.{Mix, Input, Bits, Extract}

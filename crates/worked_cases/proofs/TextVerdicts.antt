@@ -1,4 +1,4 @@
--- The verdict on two texts.
+-- The verdict on a script's text and a transcript's text.
 use Rattle.std.proofs.Common.{◌≡◌, ◌<◌, ◌≤◌, ℕ, zero, suc, ◌^◌, true, is_some, Option, Some, None, Result, Ok, Err}
 use Rattle.std.proofs.Common.{List, [], ◌∷◌, refl, sym, ap, ◌∙◌, subst, slice_index, length, ◌==◌, if◌then◌else◌, arith}
 use Rattle.std.specs.List.{AllByRecursion}
@@ -11,17 +11,17 @@ use Rattle.key_names.specs.declared.names.Step.TheVariants.{Look, Visit}
 use Rattle.key_names.specs.declared.events.Word.{Word}
 use Rattle.key_names.specs.declared.events.Word.TheVariants.{Bits}
 use Rattle.key_names.specs.declared.faults.ScriptFault.{ScriptFault}
-use Rattle.key_names.specs.Blake2s.{blake2s, compressed, folded, start_vector, round, mixed_at, mixed}
-use Rattle.key_names.specs.Keystream.{keystream_byte}
-use Rattle.key_names.specs.FastPool.{sip_round, word_mixed}
-use Rattle.key_names.specs.SeenLine.{SeenLine, Shown, no_data, bytes, count}
+use Rattle.key_names.specs.Kernel.Blake2s.{blake2s, compressed, folded, start_vector, round, mixed_at, mixed}
+use Rattle.key_names.specs.Kernel.Keystream.{keystream_byte}
+use Rattle.key_names.specs.Kernel.FastPool.{sip_round, word_mixed}
+use Rattle.key_names.specs.Transcripts.SeenLine.{SeenLine, Shown, no_data, bytes, count}
 use Rattle.key_names.specs.Texts.ScriptGrammar.{Script, IsScript}
 use Rattle.key_names.specs.Texts.ScriptFaults.{script_of, script_from}
 use Rattle.key_names.specs.Texts.TranscriptGrammar.{IsTranscriptText, LineFits, LastHasLines, StepFits, LaneFits, ShownFits}
 use Rattle.key_names.specs.Texts.TranscriptGrammar.{UnderOwnNumber, transcript_text, line_text, steps_text, step_text}
 use Rattle.key_names.specs.Texts.TranscriptGrammar.{lane_text, shown_text, answer_text}
-use Rattle.key_names.specs.IsTranscript.{HasLines, MarksStand, MadeBook, FirstFails, Clause, lines_clause, marks_clause}
-use Rattle.key_names.specs.IsTranscript.{forms_clause, answers_clause, data_clause, looks_clause, clause_number}
+use Rattle.key_names.specs.Transcripts.IsTranscript.{HasLines, MarksStand, MadeBook, FirstFails, Clause, lines_clause, marks_clause}
+use Rattle.key_names.specs.Transcripts.IsTranscript.{forms_clause, answers_clause, data_clause, looks_clause, clause_number}
 use Rattle.key_names.proofs.Script.ScriptTexts.{script_takes}
 use Rattle.rand_core.specs.Steps.{u32_at}
 use Rattle.rand_chacha.specs.Block.{block_word, double_rounds, column_round, diagonal_round, quarter_round}
@@ -87,7 +87,7 @@ abbrev script_or_none : Result Script ScriptFault → Script
 script_or_none (Ok script) = script
 script_or_none (Err fault) = record { version = 0; cpus = 0; callers = [] }
 
--- the script that a text gives, if it gives one, and the lines of another text
+-- the script that a text spells, if it spells one, and the lines of another text
 abbrev pub script_in : List ℕ → Script
 script_in input = script_or_none (script_of input)
 
@@ -98,7 +98,7 @@ abbrev gives_script : (r : Result Script ScriptFault) → Option (r ≡ Ok (scri
 gives_script (Ok script) = Some refl
 gives_script (Err fault) = None
 
--- the texts are a script's and a transcript's
+-- one text is a script's, and the other a transcript's
 pub record TextsFound (input output : List ℕ) : Type 0 where
   pub script_is : IsScript (script_in input) input
   pub lines_are : IsTranscriptText output (lines_in input output)
@@ -108,7 +108,7 @@ texts_found input output = found_both (λ s l. record
     { script_is = script_takes input (script_in input) s; lines_are = l })
     (gives_script (script_of input)) (text_found output (lines_in input output))
 
--- 1 if the texts are not a script's and a transcript's
+-- the number of the verdict, or 1 if the texts are not a script's and a transcript's
 abbrev number_of : {input output : List ℕ} → Option (TextsFound input output) → Verdict (script_in input)
     (lines_in input output) → ℕ
 number_of (Some f) v = verdict_number v
@@ -193,7 +193,7 @@ fails_first clause input output lanes e =
 
 -- ---- steps that have no form
 
--- lines and marks are correct
+-- the clauses on lines and marks hold for the texts
 pub record FrontFound (input output : List ℕ) : Type 0 where
   pub texts : TextsFound input output
   pub lines : HasLines (script_in input) (lines_in input output)

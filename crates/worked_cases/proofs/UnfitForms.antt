@@ -1,23 +1,23 @@
--- Steps that match no form of their event's word.
+-- Some steps match no form of their event's word.
 use Rattle.std.proofs.Common.{◌≡◌, ◌≤◌, ℕ, suc, Some, List, [], ◌∷◌, refl, sym, ◌∙◌, ap, is_some, true, length}
 use Rattle.std.proofs.Common.{arith, inl, inr, subst, false, ◌++◌}
 use Rattle.std.specs.List.{AllByRecursion}
 use Rattle.key_names.specs.declared.names.Step.TheVariants.{Look}
 use Rattle.key_names.specs.declared.names.Who.{Who}
-use Rattle.key_names.specs.SeenLine.{SeenLine}
-use Rattle.key_names.specs.Book.{Lists, Visit, lists_of, list_at}
-use Rattle.key_names.specs.Calls.{Setting, Call, vread_call}
+use Rattle.key_names.specs.Transcripts.SeenLine.{SeenLine}
+use Rattle.key_names.specs.Lanes.Book.{Lists, Visit, lists_of, list_at}
+use Rattle.key_names.specs.Callers.Calls.{Setting, Call, vread_call}
 use Rattle.std.specs.Prelude.{MatchBool}
-use Rattle.key_names.specs.BatchCopy.{serves_locally}
-use Rattle.key_names.specs.Deeds.{Deed, looked, deeds_of}
-use Rattle.key_names.specs.Forms.{Looked}
-use Rattle.key_names.specs.Meaning.{CallerState, CallMeaning, Means, VreadMeans, caller_start, current_state}
-use Rattle.key_names.specs.Meaning.{ByLocalCopy, ByVgetrandom, LocalOrCall}
-use Rattle.key_names.specs.Vgetrandom.{HostStep, publishes, Outcome, IsCall, FromLook, FromPublished, FirstAttempt}
-use Rattle.key_names.specs.VgetrandomState.{VgetrandomState, wiped_state}
-use Rattle.key_names.specs.VreadSteps.{Shows, published_by}
-use Rattle.key_names.specs.IsTranscript.{EachLine, EachCaller, CallsMean, CallerMeans, script_calls}
-use Rattle.key_names.specs.IsTranscript.{EachOfCall, forms_clause, stamped, start_setting}
+use Rattle.key_names.specs.Kernel.BatchCopy.{serves_locally}
+use Rattle.key_names.specs.Callers.Deeds.{Deed, looked, deeds_of}
+use Rattle.key_names.specs.Callers.Forms.{Looked}
+use Rattle.key_names.specs.Callers.Meaning.{CallerState, CallMeaning, Means, VreadMeans, caller_start, current_state}
+use Rattle.key_names.specs.Callers.Meaning.{ByLocalCopy, ByVgetrandom, LocalOrCall}
+use Rattle.key_names.specs.Kernel.Vgetrandom.{HostStep, publishes, Outcome, IsCall, FromLook, FromPublished, FirstAttempt}
+use Rattle.key_names.specs.Kernel.VgetrandomState.{VgetrandomState, wiped_state}
+use Rattle.key_names.specs.Callers.VreadSteps.{Shows, published_by}
+use Rattle.key_names.specs.Transcripts.IsTranscript.{EachLine, EachCaller, CallsMean, CallerMeans, script_calls}
+use Rattle.key_names.specs.Transcripts.IsTranscript.{EachOfCall, forms_clause, stamped, start_setting}
 use Rattle.key_names.proofs.Vgetrandom.VreadRefused.{looks_do_not_fall}
 use Rattle.key_names.proofs.Lists.ListFacts.{list_beyond}
 use Rattle.worked_cases.specs.Runs.{Case, FailsFirst, transcript_with}
@@ -27,7 +27,7 @@ use Rattle.worked_cases.proofs.Decided.{no_first, none_is_not_some}
 use Rattle.worked_cases.proofs.FoundMeanings.{Behind}
 use Rattle.worked_cases.proofs.TextVerdicts.{text_verdict, script_in, lines_in, no_form, front_found}
 
--- the meaning of a call in some book
+-- the call has a meaning in these lists, with the deeds of its lines
 pub record CallHas (lists : Lists) (call : Call) : Type 0 where
   pub m : CallMeaning
   pub means : Means call m
@@ -54,11 +54,11 @@ callers_have lists settings first (calls ∷ callers) (m ∷ ms) h = (
 abbrev case_calls : Case → List (List Call)
 case_calls case = script_calls (script_in case.script) (lines_in case.script (transcript_with case.lines))
 
--- the meanings of a case's calls in some book
+-- the calls of a case have meanings in these lists
 abbrev CallsHave : Case → Lists → Type 0
 CallsHave case lists = AllByRecursion (AllByRecursion (CallHas lists)) (case_calls case)
 
--- the texts are a script's and a transcript's, and the transcript's lines and marks are correct
+-- the texts are a script's and a transcript's, and the clauses on lines and marks hold for them
 abbrev HasFront : Case → Type 0
 HasFront case = is_some (front_found case.script (transcript_with case.lines)) ≡ true
 
@@ -105,7 +105,7 @@ visit_of_no_cpu_fails = no_form visit_of_no_cpu.script (transcript_with visit_of
     (front_found visit_of_no_cpu.script (transcript_with visit_of_no_cpu.lines)) refl
     (λ made. no_stamp made.book.cpus _ made.forms.cpus made.forms.visits.stand.1.1.1.1.0)
 
--- the meaning of the first call of child 1: the child begins with wiped states
+-- the first call of child 1 has a meaning that begins with wiped states
 pub record ChildBegins (lists : Lists) (set : Setting) (call : Call) : Type 0 where
   pub m : CallMeaning
   pub begins : m.before ≡ caller_start set
@@ -122,7 +122,7 @@ child_begins lists settings parents call calls (p ∷ [] ∷ ms) h = absurd h.1.
 child_begins lists settings parents call calls (p ∷ (m ∷ rest) ∷ ms) h =
     record { m = m; begins = h.1.0.follows.0; means = h.1.0.follows.1; deeds = h.1.0.deeds.0 }
 
--- an attempt cannot show without steps
+-- an attempt has at least one step, so its deeds are not empty
 no_attempt : (set : Setting) (rest : List HostStep) (n flags : ℕ) (s : VgetrandomState) (outcome : Outcome) →
     FirstAttempt n flags s rest outcome → Shows set rest [] → ⊥
 no_attempt set rest n flags s outcome attempt shows =
@@ -131,7 +131,7 @@ no_attempt set rest n flags s outcome attempt shows =
     let looks = subst (λ (h : List HostStep). Shows set h []) begins shows in
     no_first _ _ looks.2
 
--- a wiped state is not served after only one look
+-- one look is not enough to serve from a wiped state
 wiped_needs_a_key : (m : CallMeaning) → current_state m.before ≡ wiped_state → looked 1 ∷ [] ≡ m.own.deeds →
     VreadMeans 40 0 [] m → ⊥
 wiped_needs_a_key m wiped deeds means =

@@ -1,4 +1,5 @@
--- Whether a transcript is lawful for a script, given the entries of its lanes: one clause after another.
+-- Whether a transcript is lawful for a script, given the entries of its lanes. The clauses are decided one after
+-- another.
 use Rattle.std.proofs.Common.{◌≡◌, ℕ, suc, Option, Some, None, List, [], ◌∷◌, refl, map, replicate, length, ◌==◌, ◌&&◌}
 use Rattle.std.proofs.Common.{if◌then◌else◌}
 use Rattle.key_names.specs.declared.names.LaneId.{LaneId}
@@ -8,16 +9,16 @@ use Rattle.key_names.specs.declared.entries.PoolEntry.{PoolEntry}
 use Rattle.key_names.specs.declared.entries.BaseEntry.{BaseEntry}
 use Rattle.key_names.specs.declared.entries.CpuEntry.{CpuEntry}
 use Rattle.key_names.specs.declared.entries.VEntry.{VEntry}
-use Rattle.key_names.specs.Book.{Book, Lists, Visit, lists_of}
-use Rattle.key_names.specs.Calls.{Setting, Call}
-use Rattle.key_names.specs.SeenLine.{SeenLine}
+use Rattle.key_names.specs.Lanes.Book.{Book, Lists, Visit, lists_of}
+use Rattle.key_names.specs.Callers.Calls.{Setting, Call}
+use Rattle.key_names.specs.Transcripts.SeenLine.{SeenLine}
 use Rattle.key_names.specs.Texts.ScriptGrammar.{Script}
-use Rattle.key_names.specs.Meaning.{CallMeaning, caller_start}
-use Rattle.key_names.specs.IsTranscript.{IsTranscript, HasLines, MarksStand, FormsStand, AnswersStand, DataStand}
-use Rattle.key_names.specs.IsTranscript.{SeenStands, FirstFails, Clause, lines_clause, marks_clause, answers_clause}
-use Rattle.key_names.specs.IsTranscript.{data_clause, looks_clause, clause_number, CallerMeans, EachCaller, VisitsAre}
-use Rattle.key_names.specs.IsTranscript.{MarkBy, all_marks, is_same_lane, stamped_at, visit_count, script_calls}
-use Rattle.key_names.specs.IsTranscript.{start_setting, state_lists}
+use Rattle.key_names.specs.Callers.Meaning.{CallMeaning, caller_start}
+use Rattle.key_names.specs.Transcripts.IsTranscript.{IsTranscript, HasLines, MarksStand, FormsStand, AnswersStand, DataStand}
+use Rattle.key_names.specs.Transcripts.IsTranscript.{SeenStands, FirstFails, Clause, lines_clause, marks_clause, answers_clause}
+use Rattle.key_names.specs.Transcripts.IsTranscript.{data_clause, looks_clause, clause_number, CallerMeans, EachCaller, VisitsAre}
+use Rattle.key_names.specs.Transcripts.IsTranscript.{MarkBy, all_marks, is_same_lane, stamped_at, visit_count, script_calls}
+use Rattle.key_names.specs.Transcripts.IsTranscript.{start_setting, state_lists}
 use Rattle.worked_cases.proofs.Decided.{Decided, yes, no, both, found, found_both, found_three, found_pair, each}
 use Rattle.worked_cases.proofs.Decided.{likewise, same_number, same_option}
 use Rattle.worked_cases.proofs.FoundLanes.{lanes_found}
@@ -32,7 +33,7 @@ pub record Lanes : Type 0 where
   pub base : List BaseEntry
   pub cpus : List (List CpuEntry)
 
--- the hardware words if the script sets none
+-- the hardware words of a script that sets none
 abbrev pub no_hardware : List ℕ
 no_hardware = replicate 32 0
 
@@ -41,7 +42,7 @@ no_hardware = replicate 32 0
 abbrev nobody : Who
 nobody = record { caller = 0; event = 0; step = 0 }
 
--- the visit that an entry and the mark of its place make
+-- the visit at a place, made of its entry and its mark
 abbrev visit_at : {E : Type 0} → LaneId → ℕ → E → List MarkBy → Visit E
 visit_at lane place e [] = record { stamp = 0; who = nobody; entry = e }
 visit_at lane place e (by ∷ marks) =
@@ -105,7 +106,7 @@ means_again lists states settings first (calls ∷ callers) (m ∷ ms) h = (
   means_again lists states settings (suc first) callers ms h.1,
 )
 
--- a book of a transcript, with the meanings of its calls
+-- a transcript has a book, and its calls have meanings
 pub record FormsFound (script : Script) (t : List (List SeenLine)) : Type 0 where
   pub book : Book
   pub ms : List (List CallMeaning)
@@ -143,7 +144,7 @@ forms_found script t lanes = tried
 
 -- ---- the verdict
 
--- the transcript is lawful, or a clause is the first that fails
+-- the transcript is lawful, or this clause is the first that fails, or neither is known
 pub data Verdict (script : Script) (t : List (List SeenLine)) : Type 0 where
   lawful : IsTranscript script t → Verdict script t
   first_fails : (clause : Clause) → FirstFails script t clause → Verdict script t
@@ -190,7 +191,7 @@ by_lines script t lanes (no lines) = first_fails lines_clause lines
 abbrev pub verdict : (script : Script) (t : List (List SeenLine)) (lanes : Lanes) → Verdict script t
 verdict script t lanes = by_lines script t lanes (has_lines script t)
 
--- 0 if it is lawful, else the number of the clause; 1 if neither is known
+-- 0 if the transcript is lawful, 1 if the verdict is unknown, and otherwise the number of the clause
 abbrev pub verdict_number : {script : Script} {t : List (List SeenLine)} → Verdict script t → ℕ
 verdict_number (lawful h) = 0
 verdict_number (first_fails clause h) = clause_number clause

@@ -1,4 +1,4 @@
--- The entries of the lanes, and the cases that they prove: vgetrandom calls.
+-- For vgetrandom calls, the entries of the lanes, and the cases that they prove.
 use Rattle.std.proofs.Common.{[], ◌∷◌, refl, Some, None, true}
 use Rattle.std.specs.List.{range_with_len}
 use Rattle.key_names.specs.declared.entries.Taken.TheVariants.{User, Kernel}

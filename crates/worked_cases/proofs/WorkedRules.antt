@@ -4,9 +4,9 @@ use Rattle.std.specs.Prelude.{map}
 use Rattle.key_names.specs.declared.entries.PoolEntry.TheVariants.{Input}
 use Rattle.key_names.specs.declared.entries.BaseEntry.TheVariants.{Reseed, Tick}
 use Rattle.key_names.specs.declared.entries.CpuEntry.TheVariants.{Irq, Online}
-use Rattle.key_names.specs.FastPool.{sip_round, word_mixed, fast_start, fast_after, makes_due, dump_bits}
-use Rattle.key_names.specs.PoolList.{credit, crossing, ready, early, none, pool_after}
-use Rattle.key_names.specs.BaseList.{base_after, interval}
+use Rattle.key_names.specs.Kernel.FastPool.{sip_round, word_mixed, fast_start, fast_after, makes_due, dump_bits}
+use Rattle.key_names.specs.Lanes.PoolList.{credit, crossing, ready, early, none, pool_after}
+use Rattle.key_names.specs.Lanes.BaseList.{base_after, interval}
 use Rattle.worked_cases.specs.Rules.{bits_after, timer_at, finished, rounds, siphash_start}
 
 pub crossings : map (λ (n : ℕ). crossing n (credit n 1)) (126 ∷ 127 ∷ 254 ∷ 255 ∷ 256 ∷ [])

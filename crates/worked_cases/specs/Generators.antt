@@ -1,6 +1,6 @@
 -- The base and the CPUs of a ready core: refills, reseeds and their timer, batched integers.
 use Rattle.std.specs.Prelude.{[], ◌∷◌, codes}
-use Rattle.key_names.specs.IsTranscript.{answers_clause, data_clause, looks_clause, marks_clause}
+use Rattle.key_names.specs.Transcripts.IsTranscript.{answers_clause, data_clause, looks_clause, marks_clause}
 use Rattle.worked_cases.specs.Runs.{Case, left_out, instead, instead_both, one_cpu, script_with}
 
 abbrev pub two_cpus : Case

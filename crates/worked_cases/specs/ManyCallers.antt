@@ -1,6 +1,6 @@
 -- Runs of two callers.
 use Rattle.std.specs.Prelude.{[], ◌∷◌, ◌++◌, codes}
-use Rattle.key_names.specs.IsTranscript.{answers_clause, data_clause, marks_clause}
+use Rattle.key_names.specs.Transcripts.IsTranscript.{answers_clause, data_clause, marks_clause}
 use Rattle.worked_cases.specs.Runs.{Case, left_out, instead, instead_both, one_cpu}
 
 abbrev pub both_wait_one_lawful_example : Case

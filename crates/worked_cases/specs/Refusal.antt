@@ -1,8 +1,8 @@
 -- Near misses are refused.
 use Rattle.std.specs.Prelude.{ℕ, List}
-use Rattle.key_names.specs.IsTranscript.{Clause}
+use Rattle.key_names.specs.Transcripts.IsTranscript.{Clause}
 use Rattle.worked_cases.specs.Runs.{IsLawfulRun, FailsFirst}
 
--- if a clause is the first that fails for a text, the text is not that of a lawful transcript
+-- if a clause is the first that fails for two texts, they are not those of a lawful transcript and its script
 abbrev pub FailsIsRefused : Type 0
 FailsIsRefused = (clause : Clause) (input output : List ℕ) → FailsFirst clause input output → ¬ IsLawfulRun input output

@@ -6,9 +6,9 @@ use Rattle.key_names.specs.declared.entries.BaseEntry.TheVariants.{Reseed, Refil
 use Rattle.key_names.specs.declared.entries.CpuEntry.TheVariants.{Read, Int, Dump}
 use Rattle.key_names.specs.declared.entries.VEntry.{VEntry}
 use Rattle.key_names.specs.declared.entries.VEntry.TheVariants.{Rekey, Blocks}
-use Rattle.key_names.specs.Book.{Book, Lists}
+use Rattle.key_names.specs.Lanes.Book.{Book, Lists}
 
--- two CPUs that take one refill
+-- two CPUs take the same refill
 abbrev pub shared_refill : Lists
 shared_refill = record {
   pool = Mix [] 256 ∷ Extract (replicate 32 0) 0 ∷ [];
@@ -17,7 +17,7 @@ shared_refill = record {
   callers = [];
 }
 
--- an extraction with a base place that exists and does not name it
+-- an extraction names a place of the base that exists and does not name it back
 abbrev pub unanswered : Lists
 unanswered = record {
   pool = Mix [] 256 ∷ Extract (replicate 32 0) 0 ∷ [];
@@ -26,7 +26,7 @@ unanswered = record {
   callers = [];
 }
 
--- two integers of 4 bytes from one batch
+-- two integers of 4 bytes are served from one batch
 abbrev pub two_integers : Lists
 two_integers = record {
   pool = Mix [] 256 ∷ Extract (replicate 32 0) 0 ∷ [];
@@ -35,7 +35,7 @@ two_integers = record {
   callers = [];
 }
 
--- a dump without an interrupt
+-- a dump comes without an interrupt
 abbrev pub lone_dump : Book
 lone_dump = record {
   pool = [];
@@ -44,7 +44,7 @@ lone_dump = record {
   callers = [];
 }
 
--- a state that takes a key and no new batch with it, and one that serves blocks and has no refill after them
+-- one state takes a key and no new batch with it, and another serves blocks without a refill after them
 abbrev pub only_rekeyed : List VEntry
 only_rekeyed = Rekey 0 0 ∷ []
 

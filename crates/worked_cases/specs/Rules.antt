@@ -1,28 +1,28 @@
--- The definitions of the worked rules: lists of entries read up to a place, and SipHash by rounds.
+-- Definitions for the worked rules: lists of entries up to a place, and SipHash by rounds.
 use Rattle.std.specs.Prelude.{ℕ, zero, suc, Option, Some, None, [], ◌∷◌, bit_xor, take}
 use Rattle.key_names.specs.declared.entries.PoolEntry.TheVariants.{Input}
 use Rattle.key_names.specs.declared.entries.BaseEntry.TheVariants.{Reseed, Tick}
-use Rattle.key_names.specs.FastPool.{FastWords, sip_round}
-use Rattle.key_names.specs.PoolList.{pool_after}
-use Rattle.key_names.specs.BaseList.{base_after}
+use Rattle.key_names.specs.Kernel.FastPool.{FastWords, sip_round}
+use Rattle.key_names.specs.Lanes.PoolList.{pool_after}
+use Rattle.key_names.specs.Lanes.BaseList.{base_after}
 
--- the pool's bits after the first n of four input events; the last event repeats a value
+-- the pool's bits after the first n of four input events; the last event repeats the value before it
 abbrev pub bits_after : ℕ → ℕ
 bits_after n = (pool_after (take n
     (Input 0 1 30 1 1000 ∷ Input 0 1 30 2 3000 ∷ Input 0 1 30 3 8000 ∷ Input 0 1 30 3 8000 ∷ []))).bits
 
--- the timer after the first n of six entries: a forced reseed leaves it, and a fired one sets it
+-- the timer after the first n of six entries; a forced reseed does not change it, and one that fires sets it
 abbrev pub timer_at : ℕ → Option ℕ
 timer_at n = (base_after (take n
     (Reseed 0 0 ∷ Tick 999 None ∷ Tick 1000 (Some 1) ∷ Reseed 2 1500 ∷ Tick 1999 None ∷ Tick 2000
     (Some 3) ∷ []))).timer
 
--- this number of rounds
+-- the words after this many rounds
 abbrev pub rounds : ℕ → FastWords → FastWords
 rounds zero s = s
 rounds (suc n) s = rounds n (sip_round s)
 
--- SipHash's words with the key 00 01 .. 0f
+-- the words with which SipHash begins for the key 00 01 .. 0f
 abbrev pub siphash_start : FastWords
 siphash_start = record {
   s0 = bit_xor 0x736f6d6570736575 0x0706050403020100;
@@ -31,6 +31,6 @@ siphash_start = record {
   s3 = bit_xor 0x7465646279746573 0x0f0e0d0c0b0a0908;
 }
 
--- the hash after four last rounds
+-- the hash, after the four rounds at the end
 abbrev pub finished : FastWords → ℕ
 finished s = let t = rounds 4 (record s { s2 = bit_xor s.s2 0xff }) in bit_xor (bit_xor t.s0 t.s1) (bit_xor t.s2 t.s3)

@@ -1,12 +1,12 @@
--- The meaning of a worked case: the text of a transcript is lawful for the text of a script, and
--- its near misses are not.
+-- The meaning of a worked case: the text of its transcript is lawful for the text of its script, and its near misses
+-- are not.
 use Rattle.std.specs.Prelude.{ℕ, suc, List, [], ◌∷◌, ◌++◌, codes, take, drop, slice_set}
 use Rattle.std.specs.List.{AllByRecursion}
-use Rattle.key_names.specs.SeenLine.{SeenLine}
+use Rattle.key_names.specs.Transcripts.SeenLine.{SeenLine}
 use Rattle.key_names.specs.Texts.Spelling.{lined}
 use Rattle.key_names.specs.Texts.ScriptGrammar.{Script, IsScript}
 use Rattle.key_names.specs.Texts.TranscriptGrammar.{IsTranscriptText}
-use Rattle.key_names.specs.IsTranscript.{IsTranscript, FirstFails, Clause, lines_clause}
+use Rattle.key_names.specs.Transcripts.IsTranscript.{IsTranscript, FirstFails, Clause, lines_clause}
 
 -- the input is the text of a script, and the output the text of a transcript that is lawful for it
 pub record IsLawfulRun (input output : List ℕ) : Type 0 where
@@ -16,8 +16,8 @@ pub record IsLawfulRun (input output : List ℕ) : Type 0 where
   pub lines_are : IsTranscriptText output lines
   pub lawful : IsTranscript script lines
 
--- the input is the text of a script, the output the text of a transcript, and this clause is the
--- first that fails for them
+-- the input is the text of a script, and the output the text of a transcript. For them, this clause is the first that
+-- fails
 pub record FailsFirst (clause : Clause) (input output : List ℕ) : Type 0 where
   pub script : Script
   pub lines : List (List SeenLine)
@@ -25,8 +25,8 @@ pub record FailsFirst (clause : Clause) (input output : List ℕ) : Type 0 where
   pub lines_are : IsTranscriptText output lines
   pub fails : FirstFails script lines clause
 
--- a change of a transcript with its lines numbered from 0: one line is left out, or one or two are replaced; and the
--- clause that is the first to fail
+-- a near miss is a changed transcript, and the first clause that fails for it. Of its lines, numbered from 0, one is
+-- left out, or one or two are replaced
 pub data NearMiss : Type 0 where
   left_out : ℕ → NearMiss
   instead : ℕ → List ℕ → Clause → NearMiss
@@ -42,7 +42,7 @@ lines_with lines (left_out n) = take n lines ++ drop (suc n) lines
 lines_with lines (instead n line clause) = slice_set lines n line
 lines_with lines (instead_both n line m other clause) = slice_set (slice_set lines n line) m other
 
--- the text of a script, the lines of a transcript between its first line and its last, and changes of these
+-- the text of a script, the lines of its transcript between the first line and the last, and near misses of these lines
 pub record Case : Type 0 where
   pub script : List ℕ
   pub lines : List (List ℕ)
@@ -51,14 +51,15 @@ pub record Case : Type 0 where
 abbrev pub transcript_with : List (List ℕ) → List ℕ
 transcript_with lines = lined (codes "rngtranscript 1" ∷ lines ++ codes "end" ∷ [])
 
--- the transcript is lawful, and no near miss is
+-- the transcript is lawful, and each near miss fails its clause first
 pub record Holds (case : Case) : Type 0 where
   pub lawful : IsLawfulRun case.script (transcript_with case.lines)
   pub near_misses : AllByRecursion
       (λ miss. FailsFirst (clause_missed miss) case.script (transcript_with (lines_with case.lines miss)))
       case.near_misses
 
--- the text of a script of this version and number of CPUs, with the lines between caller 0's first and the last
+-- the text of a script of this version and with this number of CPUs; the lines are those between `caller 0` and the
+-- last line
 abbrev pub script_with : List ℕ → List ℕ → List (List ℕ) → List ℕ
 script_with version cpus lines = lined (
     (codes "rngscript " ++ version) ∷ (codes "cpus " ++ cpus) ∷ codes "caller 0" ∷ lines ++ codes "end" ∷ [])

@@ -1,6 +1,6 @@
 -- Interrupts and input events.
 use Rattle.std.specs.Prelude.{[], ◌∷◌, codes}
-use Rattle.key_names.specs.IsTranscript.{answers_clause, data_clause, marks_clause}
+use Rattle.key_names.specs.Transcripts.IsTranscript.{answers_clause, data_clause, marks_clause}
 use Rattle.worked_cases.specs.Runs.{Case, left_out, instead, one_cpu}
 
 abbrev pub irq_at_1000_no_dump : Case

@@ -1,4 +1,4 @@
--- The definitions for the worked faults of scripts.
+-- Definitions for the worked faults of scripts.
 use Rattle.std.specs.Prelude.{ℕ, Option, Some, [], ◌∷◌}
 use Rattle.key_names.specs.declared.events.Event.TheVariants.{Write, Read}
 use Rattle.key_names.specs.declared.faults.FaultKind.{FaultKind}

@@ -1,4 +1,4 @@
--- Transcripts with steps that match no form of their event's word, whatever the entries are.
+-- Transcripts with steps that match no form of their event's word, whatever entries the lanes have.
 use Rattle.std.specs.Prelude.{[], ◌∷◌, codes, slice_set}
 use Rattle.worked_cases.specs.ManyCallers.{fork_wipes_the_childs_state}
 use Rattle.worked_cases.specs.Runs.{Case, one_cpu}
@@ -30,7 +30,7 @@ visit_of_no_cpu = record {
   near_misses = [];
 }
 
--- a vread whose looks fall
+-- a vread in which a look finds less than the one before it
 abbrev pub looks_that_fall : Case
 looks_that_fall = record {
   script = one_cpu (codes "credit 256" ∷ codes "vread 8 0" ∷ []);
@@ -41,7 +41,7 @@ looks_that_fall = record {
   near_misses = [];
 }
 
--- a child that goes on with its parent's batch, and so gets the parent's next bytes without a key of its own
+-- a child that goes on with its parent's batch, so it gets the parent's next bytes without a key of its own
 abbrev pub batch_of_the_parent : Case
 batch_of_the_parent = record fork_wipes_the_childs_state {
   lines = slice_set fork_wipes_the_childs_state.lines 5

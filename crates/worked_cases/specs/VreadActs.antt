@@ -1,6 +1,6 @@
--- Acts inside vgetrandom calls: the setting that they have, and their place in the order.
+-- Acts inside vgetrandom calls: an act's setting, and its place in the order.
 use Rattle.std.specs.Prelude.{[], ◌∷◌, codes}
-use Rattle.key_names.specs.IsTranscript.{answers_clause, data_clause, looks_clause, marks_clause}
+use Rattle.key_names.specs.Transcripts.IsTranscript.{answers_clause, data_clause, looks_clause, marks_clause}
 use Rattle.worked_cases.specs.Runs.{Case, left_out, instead, instead_both, one_cpu, script_with}
 
 abbrev pub act_has_the_cpu_of_its_read : Case

@@ -10,19 +10,19 @@ pub fn two_cpus()
     ensures { Holds two_cpus }
 {}
 
-/// The last of 256 CPUs.
+/// A run on the last of 256 CPUs.
 #[tactic(auto, using(crate::proofs::GeneratorLanes::cpu_255_holds))]
 pub fn cpu_255()
     ensures { Holds cpu_255 }
 {}
 
-/// The reseed timer fires when it is due, and a forced reseed leaves it.
+/// The reseed timer fires when it is due, and a forced reseed does not change it.
 #[tactic(auto, using(crate::proofs::GeneratorLanes::reseed_timer_holds))]
 pub fn reseed_timer()
     ensures { Holds reseed_timer }
 {}
 
-/// Intervals at 120 seconds and later, also if the moments go back.
+/// The reseed interval at 120 seconds and later, even if the moments go back.
 #[tactic(auto, using(crate::proofs::GeneratorLanes::late_interval_holds))]
 pub fn late_interval()
     ensures { Holds late_interval }
@@ -40,7 +40,7 @@ pub fn prepare_refills()
     ensures { Holds prepare_refills }
 {}
 
-/// A VM fork reseeds a ready core, and one that is not ready only mixes.
+/// A VM fork reseeds a ready core. If the core is not ready, the fork only mixes.
 #[tactic(auto, using(crate::proofs::GeneratorLanes::vmfork_before_and_after_readiness_holds))]
 pub fn vmfork_before_and_after_readiness()
     ensures { Holds vmfork_before_and_after_readiness }

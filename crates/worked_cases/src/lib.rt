@@ -1,12 +1,11 @@
 //! Worked cases of scripts and transcripts, each as the contract of a function without code.
 //!
-//! Every transcript was made by an implementation that shares nothing with this repository, and the bytes of all
-//! but three are those of the kernel's own C code (`drivers/char/random.c`, `lib/vdso/getrandom.c`). A contract
-//! says that the transcript is lawful for its script, down to every byte, and which clause is the first that
-//! fails for each near miss.
+//! Every transcript was made by an implementation that shares nothing with this repository, and the bytes of all but
+//! three are those of the kernel's own C code (`drivers/char/random.c`, `lib/vdso/getrandom.c`). Each contract states
+//! that the transcript is lawful for its script, down to every byte. It also states, for each near miss, which clause
+//! is the first that fails.
 //!
-//! The crate uses the definitions, which the prover computes, and lemmas of `transcript_text`. It
-//! runs no code of the program.
+//! The prover computes the definitions, and the crate uses lemmas of `transcript_text`. It runs no code of the program.
 #![tactic(auto)]
 
 pub mod generators;

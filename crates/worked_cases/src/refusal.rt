@@ -1,8 +1,8 @@
-//! A near miss, for which some clause is the first to fail, is refused.
+//! A near miss is refused: for each one, some clause is the first that fails.
 ghost use Rattle.worked_cases.specs.Refusal.{FailsIsRefused};
 
-/// A text for which some clause is the first that fails is not the text of a lawful transcript for the same
-/// script, whatever the book.
+/// If a clause is the first that fails for a text, the text is not that of a lawful transcript for the same script,
+/// whatever the book.
 pub fn near_misses_are_refused()
     ensures { FailsIsRefused }
 {}

@@ -1,21 +1,21 @@
 //! Books that the definitions refuse.
 ghost use Rattle.std.specs.Prelude.{ℕ, replicate};
-ghost use Rattle.key_names.specs.Book.{HalfFinishedLanes, cpu_list};
-ghost use Rattle.key_names.specs.LiveMaterial.{IsErased};
-ghost use Rattle.key_names.specs.Samples.{LawfulSamples};
-ghost use Rattle.key_names.specs.StateList.{LawfulStateList};
-ghost use Rattle.key_names.specs.Uses.{IsDisjoint};
+ghost use Rattle.key_names.specs.Lanes.Book.{HalfFinishedLanes, cpu_list};
+ghost use Rattle.key_names.specs.Keys.LiveMaterial.{IsErased};
+ghost use Rattle.key_names.specs.Lanes.Samples.{LawfulSamples};
+ghost use Rattle.key_names.specs.Lanes.StateList.{LawfulStateList};
+ghost use Rattle.key_names.specs.Keys.Uses.{IsDisjoint};
 ghost use Rattle.worked_cases.specs.RefusedBooks.{shared_refill, unanswered, two_integers, lone_dump, only_rekeyed};
 ghost use Rattle.worked_cases.specs.RefusedBooks.{only_blocks};
 
-/// Two CPUs that take one refill use its key twice.
+/// If two CPUs take the same refill, they use its key twice.
 #[tactic(auto, using(crate::proofs::BooksRefused::shared_refill_is_refused))]
 pub fn one_refill_for_two_cpus()
     ensures { ¬ IsDisjoint shared_refill }
 {}
 
-/// An extraction names the base's place that it is for, and that place names the extraction. Only a place that does not
-/// exist yet need not name it.
+/// An extraction names the place of the base that it is for, and the entry there names the extraction. Only a place
+/// without an entry need not name it.
 #[tactic(auto, using(crate::proofs::BooksRefused::unanswered_is_refused))]
 pub fn unanswered_extraction()
     ensures { ¬ HalfFinishedLanes unanswered }
@@ -27,13 +27,13 @@ pub fn served_bytes_that_stay()
     ensures { ¬ IsErased two_integers (λ batch. replicate 96 1) }
 {}
 
-/// A dump without an interrupt of its own event that made it due is refused.
+/// A dump is refused if no interrupt of its own event made it due.
 #[tactic(auto, using(crate::proofs::BooksRefused::lone_dump_is_refused))]
 pub fn dump_without_an_interrupt()
     ensures { ¬ LawfulSamples lone_dump }
 {}
 
-/// The list of a vgetrandom state does not end after a new key, nor after whole blocks: a new batch follows both.
+/// The list of a vgetrandom state does not end with a new key or with whole blocks, since a new batch follows both.
 #[tactic(auto, using(crate::proofs::BooksRefused::only_rekeyed_is_refused, crate::proofs::BooksRefused::only_blocks_is_refused))]
 pub fn state_lists_cut_short()
     ensures rekeyed { ¬ LawfulStateList (cpu_list two_integers) 0 0 only_rekeyed }

@@ -3,12 +3,12 @@ ghost use Rattle.std.specs.Prelude.{◌≡◌, ℕ, true, false, Some, [], ◌�
 ghost use Rattle.key_names.specs.declared.entries.PoolEntry.TheVariants.{Input};
 ghost use Rattle.key_names.specs.declared.entries.BaseEntry.TheVariants.{Reseed, Tick};
 ghost use Rattle.key_names.specs.declared.entries.CpuEntry.TheVariants.{Irq, Online};
-ghost use Rattle.key_names.specs.FastPool.{fast_start, fast_after, makes_due, dump_bits};
-ghost use Rattle.key_names.specs.PoolList.{credit, crossing, ready, early, none, pool_after};
-ghost use Rattle.key_names.specs.BaseList.{base_after, interval};
+ghost use Rattle.key_names.specs.Kernel.FastPool.{fast_start, fast_after, makes_due, dump_bits};
+ghost use Rattle.key_names.specs.Lanes.PoolList.{credit, crossing, ready, early, none, pool_after};
+ghost use Rattle.key_names.specs.Lanes.BaseList.{base_after, interval};
 ghost use Rattle.worked_cases.specs.Rules.{bits_after, timer_at, finished, rounds, siphash_start};
 
-/// One more bit crosses 128 and 256, and a credit that passes both crosses only 256 (`_credit_init_bits`).
+/// One more bit crosses 128, or 256. A credit that passes both crosses only 256 (`_credit_init_bits`).
 #[tactic(auto, using(crate::proofs::WorkedRules::crossings, crate::proofs::WorkedRules::early_is_skipped))]
 pub fn credits()
     ensures crossings { map (λ (n : ℕ). crossing n (credit n 1)) (126 ∷ 127 ∷ 254 ∷ 255 ∷ 256 ∷ [])
@@ -16,8 +16,8 @@ pub fn credits()
     ensures early_is_skipped { crossing 100 (credit 100 300) ≡ ready }
 {}
 
-/// The bits that input events are credited with, and the bytes that they mix. If the last value is repeated, nothing is
-/// mixed (`add_timer_randomness`, `add_input_randomness`).
+/// The bits that input events are credited with, and the bytes that they mix. An event that repeats the last value
+/// mixes no bytes (`add_timer_randomness`, `add_input_randomness`).
 #[tactic(auto, using(crate::proofs::WorkedRules::bits_of_inputs, crate::proofs::WorkedRules::text_of_inputs))]
 pub fn input_events()
     ensures bits { map bits_after (1 ∷ 2 ∷ 3 ∷ 4 ∷ []) ≡ 9 ∷ 9 ∷ 19 ∷ 19 ∷ [] }
@@ -25,8 +25,8 @@ pub fn input_events()
         ≡ 0 ∷ 0 ∷ 0 ∷ 0 ∷ 0 ∷ 0 ∷ 0 ∷ 0 ∷ 14 ∷ 0 ∷ 0 ∷ 0 ∷ [] }
 {}
 
-/// A dump is due after more than 1,000 milliseconds, and at the 1,024th interrupt, then with 16 bits. If the CPU came
-/// online before that dump, it is credited with one bit (`add_interrupt_randomness`, `mix_interrupt_randomness`).
+/// A dump is due after more than 1,000 milliseconds, and at the 1,024th interrupt. The latter dump is credited with 16
+/// bits, or with one bit if the CPU came online before it (`add_interrupt_randomness`, `mix_interrupt_randomness`).
 #[tactic(auto, using(crate::proofs::WorkedRules::due_by_time, crate::proofs::WorkedRules::due_by_count, crate::proofs::WorkedRules::bits_of_count, crate::proofs::WorkedRules::bits_after_online))]
 pub fn dumps()
     ensures by_time { map (makes_due fast_start) (1000 ∷ 1001 ∷ []) ≡ false ∷ true ∷ [] }
@@ -35,8 +35,8 @@ pub fn dumps()
     ensures after_online { dump_bits (fast_after (replicate 1024 (Irq 1 2 0) ++ Online ∷ [])) ≡ 1 }
 {}
 
-/// The milliseconds to the next reseed by the age of the system, and the timer after forced and fired reseeds
-/// (`crng_reseed_interval`).
+/// The age of the system determines the milliseconds to the next reseed. A forced reseed does not change the timer, and
+/// a fired one sets it (`crng_reseed_interval`).
 #[tactic(auto, using(crate::proofs::WorkedRules::intervals, crate::proofs::WorkedRules::late_interval, crate::proofs::WorkedRules::timers))]
 pub fn reseed_intervals()
     ensures by_age { map (interval true) (0 ∷ 1999 ∷ 5000 ∷ 119999 ∷ 120000 ∷ [])

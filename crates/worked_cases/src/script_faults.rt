@@ -1,4 +1,4 @@
-//! Scripts that are refused, each with its first fault: the line and the kind of the fault.
+//! Scripts that are refused, each with its first fault: the number of the line, and the kind of the fault.
 ghost use Rattle.std.specs.Prelude.{◌≡◌, [], ◌∷◌, codes, Ok};
 ghost use Rattle.key_names.specs.declared.faults.FaultKind.TheVariants.{UnknownWord, BadHex, BadFork, BadCpus};
 ghost use Rattle.key_names.specs.declared.faults.FaultKind.TheVariants.{Unfinished};
@@ -8,14 +8,14 @@ ghost use Rattle.key_names.specs.Texts.ScriptFaults.{script_of, first_fault};
 ghost use Rattle.worked_cases.specs.Runs.{one_cpu};
 ghost use Rattle.worked_cases.specs.ShortScripts.{short, fault_at};
 
-/// A script and its only text.
+/// A script, and the only text that spells it.
 #[tactic(auto, using(crate::proofs::ScriptExamples::is_read, crate::proofs::ScriptExamples::its_text))]
 pub fn short_script()
     ensures read { script_of (one_cpu (codes "write 616263" ∷ codes "read 16 4" ∷ [])) ≡ Ok short }
     ensures text { script_text short ≡ one_cpu (codes "write 616263" ∷ codes "read 16 4" ∷ []) }
 {}
 
-/// Events with too few fields, with half a byte, and with a second fork of a caller.
+/// An event with too few fields, one with half a byte, and a second fork of the same caller.
 #[tactic(auto, using(crate::proofs::ScriptExamples::too_few_fields, crate::proofs::ScriptExamples::half_a_byte, crate::proofs::ScriptExamples::forked_again))]
 pub fn faults_of_events()
     ensures too_few_fields { first_fault (one_cpu (codes "read 8" ∷ [])) ≡ fault_at 4 UnknownWord }
@@ -23,7 +23,7 @@ pub fn faults_of_events()
     ensures forked_again { first_fault (one_cpu (codes "fork 1" ∷ codes "fork 1" ∷ [])) ≡ fault_at 5 BadFork }
 {}
 
-/// No line feed, no bytes at all, and no CPUs.
+/// A text without a line feed, an empty text, and a script without CPUs.
 #[tactic(auto, using(crate::proofs::ScriptExamples::no_line_feed, crate::proofs::ScriptExamples::no_bytes, crate::proofs::ScriptExamples::no_cpus))]
 pub fn faults_of_heads()
     ensures no_line_feed { first_fault (codes "rngscript 1") ≡ fault_at 1 Unfinished }

@@ -15,7 +15,7 @@ pub fn vread_of_nothing()
     ensures { Holds vread_of_nothing }
 {}
 
-/// A wipe in the middle of a read, with a read inside it: the second attempt has a new key.
+/// A wipe in the middle of a read that has a read inside it. The second attempt has a new key.
 #[tactic(auto, using(crate::proofs::VreadLanes::wipe_inside_with_nested_read_holds))]
 pub fn wipe_inside_with_nested_read()
     ensures { Holds wipe_inside_with_nested_read }

@@ -3,11 +3,13 @@
 #define _GNU_SOURCE
 #include <errno.h>
 #include <fcntl.h>
+#include <linux/random.h>
 #include <pthread.h>
 #include <stdint.h>
 #include <stdio.h>
 #include <stdlib.h>
 #include <string.h>
+#include <sys/ioctl.h>
 #include <sys/mman.h>
 #include <sys/random.h>
 #include <sys/syscall.h>
@@ -176,6 +178,53 @@ static void mixed(void) {
     }
 }
 
+// Writes to the devices in all ways that are served, between two reads.
+static void writes(void) {
+    unsigned char bytes[16] = "";
+    struct iovec pieces[] = {{"ab", 2}, {"", 0}, {"cde", 3}};
+    int file = open("/dev/urandom", O_WRONLY), other = open("/dev/random", O_RDWR), closed = open("/dev/urandom", O_RDONLY);
+    show("read", read(other, bytes, sizeof bytes), bytes);
+    show("write", write(file, "12345678", 8), "12345678");
+    show("pwrite", pwrite(file, "9", 1, 77), "9");
+    show("writev", writev(other, pieces, 3), "abcde");
+    show("nothing", write(file, "", 0), "");
+    show("closed", write(closed, "x", 1), "x");
+    FILE *stream = fopen("/dev/urandom", "w");
+    (void)fputs("stream", stream);
+    show("fclose", fclose(stream), "");
+    show("read", read(other, bytes, sizeof bytes), bytes);
+}
+
+static void show_control(const char *what, int got) {
+    int fault = errno;
+    printf("%s %s\n", what, got < 0 ? strerrorname_np(fault) : "0");
+}
+
+// Each ioctl of the devices, some with numbers that the kernel refuses.
+static void controls(void) {
+    static struct {
+        int bits, length;
+        unsigned char bytes[32];
+    } entropy = {200, 32, "the bytes that are handed in"}, wrong = {-1, 4, ""}, empty = {8, 0, ""};
+    int file = open("/dev/random", O_RDONLY), bits = -1, five = 5, negative = -1;
+    show_control("RNDGETENTCNT", ioctl(file, RNDGETENTCNT, &bits));
+    printf("%d\n", bits);
+    show_control("RNDRESEEDCRNG", ioctl(file, RNDRESEEDCRNG));
+    show_control("RNDADDTOENTCNT", ioctl(file, RNDADDTOENTCNT, &five));
+    show_control("RNDADDTOENTCNT", ioctl(file, RNDADDTOENTCNT, &negative));
+    show_control("RNDADDENTROPY", ioctl(file, RNDADDENTROPY, &wrong));
+    show_control("RNDADDENTROPY", ioctl(file, RNDADDENTROPY, &empty));
+    show_control("RNDADDENTROPY", ioctl(file, RNDADDENTROPY, &entropy));
+    show_control("RNDGETENTCNT", ioctl(file, RNDGETENTCNT, &bits));
+    printf("%d\n", bits);
+    show_control("RNDADDENTROPY", ioctl(file, RNDADDENTROPY, &entropy));
+    show_control("RNDRESEEDCRNG", ioctl(file, RNDRESEEDCRNG));
+    show_control("RNDZAPENTCNT", ioctl(file, RNDZAPENTCNT));
+    show_control("RNDCLEARPOOL", ioctl(file, RNDCLEARPOOL));
+    show_control("unknown", ioctl(file, _IO('R', 0x77)));
+    show_control("another file's", ioctl(open("/dev/null", O_RDONLY), RNDGETENTCNT, &bits));
+}
+
 // Memory that may be dropped is what vgetrandom wants.
 static void droppable(void) {
     void *at = mmap(NULL, 4096, PROT_READ | PROT_WRITE, MAP_ANONYMOUS | 0x08, -1, 0);
@@ -189,7 +238,7 @@ int main(int count, char **words) {
         void (*run)(void);
     } ways[] = {{"errnos", errnos}, {"files", files}, {"library", library},     {"threads", threads},
                 {"forks", forks},   {"retry", retry}, {"mixed", mixed},
-                {"droppable", droppable}};
+                {"droppable", droppable}, {"writes", writes}, {"controls", controls}};
     if (count == 4 && !strcmp(way, "many")) {
         many(atol(words[2]), (size_t)atol(words[3]));
         return 0;

@@ -1,9 +1,13 @@
-// Draws where it is hard to be served: while signals come, without rights, root folder or descriptors, and with the
-// memory damaged that is shared with the front. For the checks.
+// Draws where it is hard to be served: while signals come, while others are killed, without rights, root folder or
+// descriptors, and with the memory damaged that is shared with the server. For the checks.
 #define _GNU_SOURCE
+#include "../mailbox.h"
+
 #include <errno.h>
 #include <fcntl.h>
 #include <grp.h>
+#include <limits.h>
+#include <linux/futex.h>
 #include <signal.h>
 #include <stdint.h>
 #include <stdio.h>
@@ -12,12 +16,13 @@
 #include <sys/epoll.h>
 #include <sys/mman.h>
 #include <sys/random.h>
+#include <sys/syscall.h>
 #include <sys/time.h>
 #include <sys/wait.h>
 #include <time.h>
 #include <unistd.h>
 
-enum { NOBODY = 65534, SHARED = 4096, SERVED_AT = 64, LIST_AT = 4096, WORD_AT = 24 };
+enum { NOBODY = 65534 };
 
 static volatile sig_atomic_t signals;
 static void count_signal(int number) {
@@ -98,7 +103,7 @@ static void draw_many(const char *when) {
     printf("%s %u\n", when, sum);
 }
 
-// As a daemon does. The checks let the front be asked again after each step.
+// As a daemon does.
 static void daemonize(void) {
     draw_many("begun");
     close_range(3, ~0U, 0);
@@ -111,16 +116,51 @@ static void daemonize(void) {
     draw_many("without rights");
 }
 
-static void damage(const char *what) {
+static pid_t start_asking(size_t size) {
+    static unsigned char bytes[1 << 20];
+    pid_t child = fork();
+    while (!child)
+        if (getrandom(bytes, size, 0) < 0)
+            _exit(1);
+    return child;
+}
+
+// Kills so many children while they ask, at moments that differ, and asks itself meanwhile.
+static void kill_children(long children, long requests) {
+    static const size_t sizes[] = {16, 300, 2000};
     unsigned char bytes[16];
+    pid_t before = 0;
+    for (long at = 0; at < children; at++) {
+        pid_t child = start_asking(sizes[at % 3]);
+        for (long asked = 0; asked < requests / children; asked++)
+            if (getrandom(bytes, sizeof bytes, 0) != sizeof bytes)
+                exit(1);
+        usleep((useconds_t)(at * 7919 % 997));
+        if (before && (kill(before, SIGKILL) || waitpid(before, NULL, 0) != before))
+            exit(1);
+        before = child;
+    }
+    kill(before, SIGKILL);
+    waitpid(before, NULL, 0);
+    puts("all were killed");
+}
+
+// Another number of requests, or a request that no program makes.
+static void damage(const char *what) {
     const char *path = getenv("RNG_UNDER");
     int file = path ? open(path, O_RDWR) : -1;
-    unsigned char *at = mmap(NULL, (size_t)2 * SHARED, PROT_READ | PROT_WRITE, MAP_SHARED, file, 0);
-    if (at == MAP_FAILED || getrandom(bytes, sizeof bytes, 0) != sizeof bytes)
+    struct mailbox *at = mmap(NULL, sizeof *at, PROT_READ | PROT_WRITE, MAP_SHARED, file, 0);
+    if (at == MAP_FAILED)
         exit(1);
-    memset(at + (!strcmp(what, "count") ? SERVED_AT : LIST_AT + WORD_AT), 0x7f, sizeof(uint32_t));
     if (!strcmp(what, "count"))
-        exit(getrandom(bytes, sizeof bytes, 0) != sizeof bytes);
+        at->asked += 7;
+    else
+        at->wish = (struct request){.word = 99};
+    if (!strcmp(what, "word"))
+        at->asked++;
+    at->bell++;
+    syscall(SYS_futex, &at->bell, FUTEX_WAKE, INT_MAX, NULL, NULL, 0);
+    usleep(100000);
 }
 
 // A device is read only through a descriptor that was opened to be read.
@@ -141,6 +181,8 @@ int main(int count, char **words) {
         interrupted(words[0], atol(words[2]));
     else if (!strcmp(way, "damage") && count == 3)
         damage(words[2]);
+    else if (!strcmp(way, "kill") && count == 4)
+        kill_children(atol(words[2]), atol(words[3]));
     else if (!strcmp(way, "wait"))
         wait_on();
     else if (!strcmp(way, "daemon"))

@@ -5,7 +5,7 @@ use Rattle.std.specs.List.{AllByRecursion}
 use Rattle.key_names.specs.declared.names.Step.{Step}
 use Rattle.key_names.specs.declared.point.Point.{Point}
 use Rattle.key_names.specs.declared.point.Point.TheVariants.{Start, Written, Serve, End}
-use Rattle.key_names.specs.Points.{is_same_point}
+use Rattle.key_names.specs.Kernel.Points.{is_same_point}
 use Rattle.key_names.proofs.Points.{same_point}
 use Rattle.lane_table.specs.declared.view.View.{View}
 use Rattle.rng_core.specs.declared.setting.Setting.{Setting}
@@ -35,7 +35,7 @@ all_untouched p (a ∷ asks) (x ∷ xs) all = (go (is_same_point a.point p), all
     go true = all.0
     go false = tt
 
--- the test gives the same in both orders
+-- whether two points are the same does not depend on their order
 same_test : (p q : Point) → is_same_point p q ≡ is_same_point q p
 same_test Start Start = refl
 same_test Written Written = refl
@@ -68,7 +68,7 @@ module _ (set : Setting) where
       (part_went set.caller a.event 0 v w k.did.made_steps k.did.told.went)
 
   module _ (point : Point) where
-    -- the acts at the point, if none of them was done before it
+    -- the acts at the point made their steps, if none of them was done before
     pub acts_part : (asks : List Ask) (v w : View) (xs ys : List ActOutcome) → ActsAt set point asks v w xs ys →
         Untouched point asks xs → Part set.caller v w (act_items asks ys point)
     acts_part [] v w [] [] k untouched = part_nothing set.caller v w k

@@ -7,13 +7,13 @@ use Rattle.key_names.specs.declared.events.Event.TheVariants.{Reseed as ReseedEv
 use Rattle.key_names.specs.declared.events.InsideAct.{InsideAct}
 use Rattle.key_names.specs.declared.events.InsideAct.TheVariants.{Wipe, Vread, Reseed}
 use Rattle.key_names.specs.declared.names.Step.{Step}
-use Rattle.key_names.specs.Book.{Lists}
-use Rattle.key_names.specs.Calls.{Setting as CallSetting}
-use Rattle.key_names.specs.Deeds.{deeds_of}
-use Rattle.key_names.specs.FastPool.{FastPool}
-use Rattle.key_names.specs.IsTranscript.{EachAct}
-use Rattle.key_names.specs.Meaning.{LineMeaning, ActMeans, unused_line}
-use Rattle.key_names.specs.SeenLine.{SeenLine, bytes_or_none, no_data}
+use Rattle.key_names.specs.Lanes.Book.{Lists}
+use Rattle.key_names.specs.Callers.Calls.{Setting as CallSetting}
+use Rattle.key_names.specs.Callers.Deeds.{deeds_of}
+use Rattle.key_names.specs.Kernel.FastPool.{FastPool}
+use Rattle.key_names.specs.Transcripts.IsTranscript.{EachAct}
+use Rattle.key_names.specs.Callers.Meaning.{LineMeaning, ActMeans, unused_line}
+use Rattle.key_names.specs.Transcripts.SeenLine.{SeenLine, bytes_or_none, no_data}
 use Rattle.lane_table.specs.declared.view.View.{View}
 use Rattle.lane_table.specs.declared.view.Visit.{Visit}
 use Rattle.lane_table.specs.BookLists.{StateLists, book_lists}
@@ -22,13 +22,13 @@ use Rattle.rng_core.specs.declared.setting.Setting.{Setting}
 use Rattle.rng_core.specs.Makes.{setting_of, result_answer, given}
 use Rattle.rng_core.specs.Acts.{Ask, ActOutcome, done_line}
 use Rattle.rng_core.specs.InsideMakes.{act_line, bound_acts, outcome_line}
-use Rattle.key_names.specs.LineSamples.{SamplesStand}
+use Rattle.key_names.specs.Callers.LineSamples.{SamplesStand}
 use Rattle.rng_core.specs.SampleDeeds.{fast_in}
 use Rattle.rng_core.proofs.ActRuns.{Meant, AllMeant}
 use Rattle.key_names.proofs.Transcripts.QuietForms.{sys, form_samples}
 
 module _ (set : Setting) (w : View) where
-  -- a fact about each act and its meaning holds of the line of each
+  -- if a fact holds for the line of each act that has its meaning, it holds for all acts' lines
   module _ (lists : Lists) where
     pub each_act : (P : SeenLine → LineMeaning → Type 0) →
         ((a : Ask) (z : ActOutcome) → Meant set w a z → P (act_line set a z) (outcome_line lists z)) →

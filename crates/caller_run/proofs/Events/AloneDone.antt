@@ -3,21 +3,21 @@ use Rattle.std.proofs.Common.{◌≡◌, ℕ, List, [], map, refl, sym, ap, ◌�
 use Rattle.key_names.specs.declared.events.Answer.TheVariants.{Ok as Done, Unused}
 use Rattle.key_names.specs.declared.events.Event.{Event}
 use Rattle.key_names.specs.declared.names.Step.{Step}
-use Rattle.key_names.specs.Answers.{answer_of, shown_of}
-use Rattle.key_names.specs.Book.{Lists}
-use Rattle.key_names.specs.Calls.{alone, unbound, ending, BoundAct}
-use Rattle.key_names.specs.Deeds.{deeds_of}
-use Rattle.key_names.specs.Forms.{Form, EndForm}
+use Rattle.key_names.specs.Callers.Answers.{answer_of, shown_of}
+use Rattle.key_names.specs.Lanes.Book.{Lists}
+use Rattle.key_names.specs.Callers.Calls.{alone, unbound, ending, BoundAct}
+use Rattle.key_names.specs.Callers.Deeds.{deeds_of}
+use Rattle.key_names.specs.Callers.Forms.{Form, EndForm}
 use Rattle.caller_run.specs.Items.{items_from}
-use Rattle.key_names.specs.Meaning.{CallerState, caller_after, event_entries, unused_line}
-use Rattle.key_names.specs.SeenLine.{SeenLine, no_data}
+use Rattle.key_names.specs.Callers.Meaning.{CallerState, caller_after, event_entries, unused_line}
+use Rattle.key_names.specs.Transcripts.SeenLine.{SeenLine, no_data}
 use Rattle.lane_table.specs.declared.view.Visit.{Visit}
 use Rattle.lane_table.specs.declared.view.View.{View}
 use Rattle.lane_table.specs.BookLists.{StateLists, book_lists}
 use Rattle.lane_table.specs.BookLaws.{Continues}
 use Rattle.lane_table.specs.Advances.{MadeStep, step_of, Advances}
 use Rattle.caller_run.specs.NumberedSteps.{numbered_steps_from, items_of}
-use Rattle.key_names.specs.LineSamples.{SamplesStand}
+use Rattle.key_names.specs.Callers.LineSamples.{SamplesStand}
 use Rattle.rng_core.specs.SampleDeeds.{fast_in}
 use Rattle.caller_run.specs.Done.{CallDone}
 use Rattle.caller_run.proofs.Orders.Chains.{items_from_doings, ran_nothing, ran_went}

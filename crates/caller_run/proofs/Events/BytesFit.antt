@@ -1,9 +1,9 @@
--- The bytes that a line shows are bytes, and as many as its word allows.
+-- The numbers that a line shows as bytes are bytes, and as many as its word allows.
 use Rattle.std.proofs.Common.{◌≡◌, ℕ, List, [], ◌∷◌, Fits, w8, arith}
 use Rattle.std.specs.Prelude.{slice_index, ◌<◌, ◌^◌, ⊤}
 use Rattle.key_names.specs.declared.events.Word.{Word}
 use Rattle.key_names.specs.declared.events.Word.TheVariants.{Bits}
-use Rattle.key_names.specs.SeenLine.{bytes_or_none}
+use Rattle.key_names.specs.Transcripts.SeenLine.{bytes_or_none}
 use Rattle.key_names.specs.Texts.TranscriptGrammar.{ShownFits}
 use Rattle.caller_run.specs.Says.{shown_by, ShowsFit}
 use Rattle.caller_run.specs.declared.reply.Shows.{Shows}

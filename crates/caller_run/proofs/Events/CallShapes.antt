@@ -4,9 +4,9 @@ use Rattle.std.specs.Prelude.{MatchBool, ◌==◌, if◌then◌else◌}
 use Rattle.std.proofs.lemmas.Bool.{eqb-false}
 use Rattle.key_names.specs.declared.errno.Errno.{Errno}
 use Rattle.key_names.specs.declared.point.Point.TheVariants.{Start, Written, Serve, End}
-use Rattle.key_names.specs.Flags.{is_bad}
-use Rattle.key_names.specs.Vgetrandom.{CpuPlace, SystemAnswer, read, failed, HostStep, publishes, system_call, at_point, AttemptEnd, holds, outdated, Attempt, AtPoint, FromServe, AfterKeyRead, FromWritten, FromStart, Outcome, BySystem, AfterAttempt, SecondAttempt, FirstAttempt, ByNothing, FromPublished, FromLook, IsCall}
-use Rattle.key_names.specs.VgetrandomState.{VgetrandomState}
+use Rattle.key_names.specs.Kernel.Flags.{is_bad}
+use Rattle.key_names.specs.Kernel.Vgetrandom.{CpuPlace, SystemAnswer, read, failed, HostStep, publishes, system_call, at_point, AttemptEnd, holds, outdated, Attempt, AtPoint, FromServe, AfterKeyRead, FromWritten, FromStart, Outcome, BySystem, AfterAttempt, SecondAttempt, FirstAttempt, ByNothing, FromPublished, FromLook, IsCall}
+use Rattle.key_names.specs.Kernel.VgetrandomState.{VgetrandomState}
 use Rattle.rng_core.specs.declared.vdso.attempt.Attempt.TheVariants.{Before, First}
 use Rattle.caller_run.proofs.Orders.OwnSteps.{Quiet, later_quiet, LooksFirst}
 
@@ -39,7 +39,7 @@ pub record Rekeys (steps : List HostStep) : Type 0 where
   pub steps_are : steps ≡ system_call 32 0 (read key visit) ∷ rest
   pub copies : Copies rest
 
--- or the read failed, and a last system call follows
+-- after Written, the read of a new key failed, and a last system call follows
 pub record Fails (steps : List HostStep) : Type 0 where
   pub errno : Errno
   pub n : ℕ

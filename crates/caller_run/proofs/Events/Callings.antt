@@ -1,4 +1,4 @@
--- From the contracts of the core's calls to those of a caller's events.
+-- The contracts of a caller's events, from those of the core's calls.
 use Rattle.std.proofs.Common.{◌≡◌, ℕ, List, [], map, refl, sym, ap, subst, arith, rules}
 use Rattle.key_names.specs.declared.events.Answer.{Answer}
 use Rattle.key_names.specs.declared.events.Answer.TheVariants.{Ok as Done}
@@ -7,10 +7,10 @@ use Rattle.key_names.specs.declared.events.Event.TheVariants.{At, Irq, Add, Cred
 use Rattle.key_names.specs.declared.events.Word.{Word}
 use Rattle.key_names.specs.declared.events.Word.TheVariants.{Bits}
 use Rattle.key_names.specs.declared.names.Step.{Step}
-use Rattle.key_names.specs.Calls as calls
-use Rattle.key_names.specs.Deeds.{deeds_of}
+use Rattle.key_names.specs.Callers.Calls as calls
+use Rattle.key_names.specs.Callers.Deeds.{deeds_of}
 use Rattle.key_names.specs.Texts.ScriptGrammar.{event_word}
-use Rattle.key_names.specs.SeenLine.{Shown, no_data}
+use Rattle.key_names.specs.Transcripts.SeenLine.{Shown, no_data}
 use Rattle.lane_table.specs.declared.lanes.Pass.{Pass}
 use Rattle.lane_table.specs.BookLists.{book_lists}
 use Rattle.lane_table.specs.Advances.{step_of}
@@ -32,7 +32,7 @@ use Rattle.caller_run.specs.declared.reply.Shows.TheVariants.{Nothing, Served, C
 use Rattle.caller_run.specs.declared.reply.Reply.{Reply}
 use Rattle.key_names.proofs.Transcripts.QuietForms.{IsNoInterrupt, form_samples}
 
--- an event that is no interrupt
+-- the samples of an event that is no interrupt are right
 pub quietly : (set : Setting) (event : Event) (answer : Answer) (shown : Shown) (m n : Moment) → IsNoInterrupt event →
     Makes (IsOutcomeOf (setting_of set) event answer shown) set m n → Does set event answer shown m n
 quietly set event answer shown m n other did = record {
@@ -59,7 +59,7 @@ module _ {event e : Event} {m n : Site} {said : Reply} {served : List ℕ} {step
         shows = fit;
       })
 
-  -- the same, if it was no interrupt
+  -- from m to n the call of an event was made, if the event is no interrupt
   pub by_shown : {answer : Answer} (shown : Shown) → said.answer ≡ answer → shown_by served said.shows ≡ shown →
       ShowsFit (event_word e) said.shows → IsNoInterrupt e → Completes steps e answer shown m n →
       Asked event said served m n
@@ -70,7 +70,7 @@ module _ {event e : Event} {m n : Site} {said : Reply} {served : List ℕ} {step
     did = quietly m.set e answer shown (at m) (at n) other done.did;
   })
 
-  -- the same, if the call only gives an answer
+  -- from m to n the call of an event was made, if the call only gives an answer
   pub by_answer : {answer : Answer} → said ≡ record { answer = answer; shows = Nothing } → IsNoInterrupt e →
       Completes steps e answer no_data m n → Asked event said served m n
   by_answer says other done =
@@ -126,7 +126,7 @@ called {event = event} {m = m} {n = n} {said = said} {served = served} pass trac
   shows = asked.shows;
 }))
 
--- bytes are on the line of a word other than bits
+-- data without a count fit the line of each word other than `bits`
 pub no_count : (word : Word) (shows : Shows) → (word ≡ Bits → ⊥) → IsNoCount shows → ShowsFit word shows
 no_count word Nothing other is = tt
 no_count word Served other is = other

@@ -3,9 +3,9 @@ use Rattle.std.proofs.Common.{◌≡◌, ℕ, ◌+◌, ◌<◌, ◌≤◌, ◌^�
 use Rattle.std.proofs.lemmas.List.Sums.{sum_by-cons}
 use Rattle.key_names.specs.declared.events.Event.{Event}
 use Rattle.key_names.specs.declared.events.Event.TheVariants.{At, On, Hw}
-use Rattle.key_names.specs.Calls.{setting_after}
-use Rattle.key_names.specs.Calls as calls
-use Rattle.key_names.specs.Meaning.{CallerState, caller_after}
+use Rattle.key_names.specs.Callers.Calls.{setting_after}
+use Rattle.key_names.specs.Callers.Calls as calls
+use Rattle.key_names.specs.Callers.Meaning.{CallerState, caller_after}
 use Rattle.key_names.specs.Texts.ScriptGrammar.{InRange, FewActs}
 use Rattle.key_names.proofs.Transcripts.Settings.{setting_moves}
 use Rattle.lane_table.specs.declared.lanes.Lanes.{Lanes}

@@ -6,11 +6,11 @@ use Rattle.key_names.specs.declared.events.Event.{Event}
 use Rattle.key_names.specs.declared.events.Word.{Word}
 use Rattle.key_names.specs.declared.names.Step.{Step}
 use Rattle.key_names.specs.declared.entries.BaseEntry.TheVariants.{End}
-use Rattle.key_names.specs.Calls.{Setting as CallSetting, alone, ending}
-use Rattle.key_names.specs.Deeds.{deeds_of}
-use Rattle.key_names.specs.Forms.{Form, BaseOnly, EndForm}
-use Rattle.key_names.specs.Meaning.{CallerState, caller_after}
-use Rattle.key_names.specs.SeenLine.{Shown, no_data}
+use Rattle.key_names.specs.Callers.Calls.{Setting as CallSetting, alone, ending}
+use Rattle.key_names.specs.Callers.Deeds.{deeds_of}
+use Rattle.key_names.specs.Callers.Forms.{Form, BaseOnly, EndForm}
+use Rattle.key_names.specs.Callers.Meaning.{CallerState, caller_after}
+use Rattle.key_names.specs.Transcripts.SeenLine.{Shown, no_data}
 use Rattle.lane_table.specs.declared.view.View.{View}
 use Rattle.lane_table.specs.declared.view.Visit.{Visit}
 use Rattle.lane_table.specs.BookLists.{StateLists, book_lists}
@@ -19,7 +19,7 @@ use Rattle.lane_table.specs.Advances.{step_of}
 use Rattle.rng_core.specs.declared.setting.Setting.{Setting}
 use Rattle.rng_core.specs.Traces.{knowing}
 use Rattle.rng_core.specs.Makes.{Makes, IsOutcomeOf, setting_of}
-use Rattle.key_names.specs.LineSamples.{SamplesStand}
+use Rattle.key_names.specs.Callers.LineSamples.{SamplesStand}
 use Rattle.rng_core.specs.SampleDeeds.{Sampled, fast_in}
 use Rattle.caller_run.specs.Calling.{Does}
 use Rattle.caller_run.specs.Done.{CallDone}
@@ -63,7 +63,7 @@ module _ (set : Setting) (v w : View) (s : CallerState) where
           (deeds_of (book_lists lanes visits callers) l))
           (sym d.told.trace) (d.stands lanes visits callers c)
 
-  -- the end
+  -- the end is one of the caller's calls
   pub end_done : (word : Word) (steps : List Step) → Makes (BaseOnly End) set (knowing v []) (knowing w steps) →
       CallDone set.caller v w s s (ending (record {
         caller = set.caller;

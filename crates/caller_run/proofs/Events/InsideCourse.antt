@@ -3,9 +3,9 @@ use Rattle.std.proofs.Common.{◌≡◌, ℕ, zero, suc, ◌<◌, ◌≤◌, ◌
 use Rattle.key_names.specs.declared.names.Step.TheVariants.{Look}
 use Rattle.key_names.specs.declared.point.Point.{Point}
 use Rattle.key_names.specs.declared.point.Point.TheVariants.{Start, Written, Serve, End}
-use Rattle.key_names.specs.Vgetrandom.{HostStep, publishes, at_point, read, Outcome, IsCall}
-use Rattle.key_names.specs.VgetrandomState.{VgetrandomState}
-use Rattle.key_names.specs.VreadSteps.{published_by}
+use Rattle.key_names.specs.Kernel.Vgetrandom.{HostStep, publishes, at_point, read, Outcome, IsCall}
+use Rattle.key_names.specs.Kernel.VgetrandomState.{VgetrandomState}
+use Rattle.key_names.specs.Callers.VreadSteps.{published_by}
 use Rattle.lane_table.specs.declared.view.View.{View}
 use Rattle.lane_table.specs.WorldRule.{Consistent, known_of}
 use Rattle.lane_table.specs.BookLaws.{Continues}
@@ -29,7 +29,7 @@ use Rattle.caller_run.proofs.Events.KeyCuts.{key_cut, plain_cut, key_call}
 use Rattle.caller_run.proofs.Orders.OwnSteps.{Spot, view_at, spot, Quiet, BeginsUnmarked, at, line_of, items_at, goes_published, goes_answered, goes_passed, OwnSteps, own_nothing, own_then, own_told, own_look, next_items, quietly, Reached, reached_not, reached_first}
 use Rattle.caller_run.proofs.Orders.PartItems.{Part}
 
--- the lists that a pass has seen begin with themselves, and with those that it had seen before
+-- the lists that a pass has seen continue those that it had seen before
 known_continues : (v w : View) → Onward v w → 1 < length v.lanes → Consistent w →
     Continues (length w.lanes) v (known_of w)
 known_continues v w onward two consistent =
@@ -127,7 +127,7 @@ module _ (set : Setting) (asks : List Ask) where
 
   module _ (s looked started t : Spot) (last : Attempt) (new : (p : Point) → Untouched p asks s.outcomes)
       (k : Looked s looked started) where
-    -- without a new key
+    -- a call that takes no new key has a course
     by_copy : (steps : List HostStep) → Copies steps →
         DoesAll acting (at set asks First started) steps (at set asks last t) →
         Course set asks s t
@@ -154,7 +154,7 @@ module _ (set : Setting) (asks : List Ask) where
 
     module _ (written : Spot) (write : Reached set asks Written started written)
         (onward : Onward (view_at started) (view_at written)) where
-      -- with a new key
+      -- a call that takes a new key has a course
       by_key : (steps : List HostStep) → Rekeys steps →
           DoesAll acting (at set asks First written) steps (at set asks last t) →
           Course set asks s t
@@ -191,7 +191,7 @@ module _ (set : Setting) (asks : List Ask) where
                 d.unmarked);
           }
 
-      -- the read of a new key failed
+      -- a call that failed to read a new key has a course
       by_failure : (steps : List HostStep) → Fails steps →
           DoesAll acting (at set asks First written) steps (at set asks last t) →
           Course set asks s t
@@ -251,7 +251,7 @@ module _ (set : Setting) (asks : List Ask) where
     by_either steps (inl c) does = by_copy steps c does
     by_either steps (inr c) does = by_writing steps c does
 
-  -- a look that published a generation found one
+  -- if a look published a generation, it found one
   found_some : (g found : ℕ) → 1 ≤ g → g ≡ published_by found → 1 ≤ found
   found_some g zero ready is = absurd (omega arith)
   found_some g (suc found) ready is = omega arith
@@ -283,7 +283,7 @@ module _ (set : Setting) (asks : List Ask) where
         two = (let f = a.sized in let g = b.sized in let h = e.sized in omega arith);
       }) c.rest c.goes_on start.2
 
-  -- the caller's steps in any call, in order
+  -- the caller's steps in any call are in order
   pub inside_part : (n flags : ℕ) (state : VgetrandomState) (steps : List HostStep) (outcome : Outcome) (s t : Spot)
       (last : Attempt) →
       1 < length (view_at s).lanes → ((p : Point) → Untouched p asks s.outcomes) → s.moment.steps ≡ [] →

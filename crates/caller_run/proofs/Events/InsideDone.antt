@@ -4,12 +4,12 @@ use Rattle.std.specs.List.{AllByRecursion}
 use Rattle.key_names.specs.declared.events.Answer.{Answer}
 use Rattle.key_names.specs.declared.events.Word.{Word}
 use Rattle.key_names.specs.declared.names.Step.{Step}
-use Rattle.key_names.specs.Book.{Lists}
-use Rattle.key_names.specs.Calls.{vread_call, BoundAct}
-use Rattle.key_names.specs.Deeds.{deeds_of}
-use Rattle.key_names.specs.Meaning.{CallerState, CallMeaning, VreadMeans, current_state, with_state}
-use Rattle.key_names.specs.SeenLine.{SeenLine, Shown}
-use Rattle.key_names.specs.VgetrandomState.{VgetrandomState}
+use Rattle.key_names.specs.Lanes.Book.{Lists}
+use Rattle.key_names.specs.Callers.Calls.{vread_call, BoundAct}
+use Rattle.key_names.specs.Callers.Deeds.{deeds_of}
+use Rattle.key_names.specs.Callers.Meaning.{CallerState, CallMeaning, VreadMeans, current_state, with_state}
+use Rattle.key_names.specs.Transcripts.SeenLine.{SeenLine, Shown}
+use Rattle.key_names.specs.Kernel.VgetrandomState.{VgetrandomState}
 use Rattle.key_names.proofs.Lists.Each.{each_append}
 use Rattle.lane_table.specs.declared.view.View.{View}
 use Rattle.lane_table.specs.declared.view.Visit.{Visit}
@@ -22,7 +22,7 @@ use Rattle.rng_core.specs.Makes.{setting_of}
 use Rattle.rng_core.specs.Acts.{Ask, ActOutcome}
 use Rattle.rng_core.specs.Acting.{act_stand, InsideRan}
 use Rattle.rng_core.specs.InsideMakes.{bound_acts, inside_meaning, InsideMakes}
-use Rattle.key_names.specs.LineSamples.{SamplesStand}
+use Rattle.key_names.specs.Callers.LineSamples.{SamplesStand}
 use Rattle.rng_core.specs.SampleDeeds.{fast_in}
 use Rattle.rng_core.proofs.ActRuns.{AllMeant}
 use Rattle.rng_core.proofs.Acting.{acted_meant}
@@ -35,7 +35,7 @@ use Rattle.caller_run.proofs.Events.InsideCourse.{inside_part}
 use Rattle.caller_run.proofs.Orders.PartItems.{Part}
 use Rattle.caller_run.proofs.Events.VreadDone.{vread_quiet}
 
--- the read went from v to w, with these steps in its line. None of its acts was done before it
+-- the read went from v to w, with these steps in its line. None of its acts was done before the read
 module _ (set : Setting) (v w : View) (s : CallerState) (n flags : ℕ) (t : VgetrandomState) (answer : Answer)
     (shown : Shown)
     (word : Word) (steps : List Step) (asks : List Ask) (xs zs : List ActOutcome) (same : s.setting ≡ setting_of set)

@@ -8,13 +8,13 @@ use Rattle.key_names.specs.declared.names.LaneId.{LaneId}
 use Rattle.key_names.specs.declared.names.LaneId.TheVariants.{Pool as PoolLane, Base as BaseLane, Cpu as CpuLane}
 use Rattle.key_names.specs.declared.names.Step.{Step}
 use Rattle.key_names.specs.declared.names.Step.TheVariants.{Look, Visit as Marked}
-use Rattle.key_names.specs.Book.{Lists, cpu_list}
-use Rattle.key_names.specs.Calls.{Setting as CallSetting}
-use Rattle.key_names.specs.Deeds.{Deed, looked as look_deed, at_pool, at_base, at_cpu, nothing_there, pool_visit, base_visit, cpu_visit, deed_or, deed_at, deeds_of}
-use Rattle.key_names.specs.Flags.{is_insecure}
-use Rattle.key_names.specs.Forms.{CpuReadForm, WaitedInVain, Waited, ReadForm}
-use Rattle.key_names.specs.History.{is_mark}
-use Rattle.key_names.specs.Vgetrandom.{SystemAnswer}
+use Rattle.key_names.specs.Lanes.Book.{Lists, cpu_list}
+use Rattle.key_names.specs.Callers.Calls.{Setting as CallSetting}
+use Rattle.key_names.specs.Callers.Deeds.{Deed, looked as look_deed, at_pool, at_base, at_cpu, nothing_there, pool_visit, base_visit, cpu_visit, deed_or, deed_at, deeds_of}
+use Rattle.key_names.specs.Kernel.Flags.{is_insecure}
+use Rattle.key_names.specs.Callers.Forms.{CpuReadForm, WaitedInVain, Waited, ReadForm}
+use Rattle.key_names.specs.Callers.History.{is_mark}
+use Rattle.key_names.specs.Kernel.Vgetrandom.{SystemAnswer}
 use Rattle.lane_table.specs.declared.view.Visit.{Visit}
 use Rattle.lane_table.specs.declared.view.View.{View}
 use Rattle.lane_table.specs.BookLists.{book_lists}
@@ -80,7 +80,7 @@ key_cut event n (a ∷ b ∷ c ∷ more) rest k begins =
     go front marks true e parts = ap (λ (cut : List Item × List Item). (front ++ cut.0, cut.1)) parts
     go front marks false e parts = absurd (cc e)
 
--- and at the front, if there are none
+-- the cut is at the front, if there are no steps for a new key
 pub plain_cut : (items : List Item) → BeginsUnmarked (drop 2 items) → AreParts (cut_rekey items) [] items
 plain_cut [] begins = refl
 plain_cut (a ∷ []) begins = refl
@@ -134,7 +134,7 @@ module _ (lists : Lists) where
       let rest : map is_mark steps ≡ more = cc e in
       (cc e, all_marks steps (subst (AllByRecursion (λ b. b ≡ true)) (sym rest) all))
 
-  -- a read from a CPU after a look
+  -- a read from a CPU after a look has the steps of a key
   read_steps : (set : CallSetting) (steps : List Step) (g : ℕ) (rest : List Deed) →
       deeds_of lists steps ≡ look_deed g ∷ rest → CpuReadForm set (User 32) rest → IsKeySteps steps
   read_steps set steps g rest e (inl f) =
@@ -145,7 +145,7 @@ module _ (lists : Lists) where
       ∙ ap (λ (l : List Deed). false ∷ map is_visit l) f.deeds_are)
       (refl, tt)
 
-  -- its look is at least the largest generation that was seen before it
+  -- a call's first look is at least the largest generation that was seen before it
   look_seen : (w : View) (low high g : ℕ) (rest : List Deed) (made_steps : List MadeStep) → Sees w low made_steps high →
       deeds_of lists (map step_of made_steps) ≡ look_deed g ∷ rest → low ≤ g
   look_seen w low high g rest [] sees e = absurd (cc e)

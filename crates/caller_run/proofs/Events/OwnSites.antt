@@ -1,8 +1,8 @@
--- A caller that makes its calls at a site over its own pass: after the call the pass is that of the site.
+-- A caller that makes its calls at a site over its own pass: after a call the caller has the site's pass.
 use Rattle.std.proofs.Common.{◌≡◌, ◌≤◌, ℕ, List, [], refl, sym, subst}
 use Rattle.key_names.specs.declared.entries.BaseEntry.TheVariants.{End, Stall, Unstall}
 use Rattle.key_names.specs.declared.names.Step.{Step}
-use Rattle.key_names.specs.Forms.{BaseOnly}
+use Rattle.key_names.specs.Callers.Forms.{BaseOnly}
 use Rattle.lane_table.specs.declared.lanes.Lanes.{Lanes}
 use Rattle.lane_table.specs.declared.lanes.Pass.{Pass}
 use Rattle.lane_table.specs.declared.view.View.{View}
@@ -32,7 +32,7 @@ pub given_hands : {m n : Site} {caller : ℕ} {p : Pass} → Same m n → HoldsL
     HoldsLanes m.lanes.now caller [] p
 given_hands {caller = caller} {p = p} same has = subst (λ (t : Lanes). HoldsLanes t caller [] p) same.lanes has
 
--- the last visit of the caller that made the site
+-- the caller that made the site has made its last visit
 pub has_left : {m n : Site} {states : Box States} {p : Pass} {steps : List Step} → p ≡ n.pass.now → steps ≡ n.trace.now →
     m.trace.now ≡ [] → Does 1 (BaseOnly End) m n → seen_by n ≤ (lane_of n base_lane).base.generation →
     HasLeft m.lanes.now (record { pass = m.pass.now; set = m.set; states = states })
@@ -45,7 +45,7 @@ has_left {m = m} {n = n} pass trace new done reached = rw pass (rw trace (record
       done.did;
 }))
 
--- its fork
+-- the caller that made the site has made the visit of a fork
 pub at_fork : (m n : Site) {states : Box States} {p theirs : Pass} {steps : List Step} {child : ℕ} → p ≡ n.pass.now →
     steps ≡ n.trace.now → m.trace.now ≡ [] → Forked m.set (at m) n.trace.now child n.pass.now theirs →
     AtFork (record { pass = m.pass.now; set = m.set; states = states })
@@ -56,7 +56,7 @@ at_fork m n {theirs = theirs} {child = child} pass trace new forked = rw pass (r
   forked = subst (λ (l : List Step). Forked m.set (moment m.pass.now l) n.trace.now child n.pass.now theirs) new forked;
 }))
 
--- and its visits around a child that ran in its thread
+-- the caller that made the site has made the two visits around a child that ran in its thread
 pub ran_here : {l m n : Site} {v : View} {steps : List Step} → v ≡ view n.pass.now → steps ≡ n.trace.now →
     Does 1 (BaseOnly Stall) l m → Does 1 (BaseOnly Unstall) m n →
     RanHere l.set (at l) (knowing v steps)

@@ -6,18 +6,18 @@ use Rattle.key_names.specs.declared.errno.Errno.{Errno}
 use Rattle.key_names.specs.declared.events.Answer.{Answer}
 use Rattle.key_names.specs.declared.events.Word.TheVariants.{Vread as VreadWord}
 use Rattle.key_names.specs.declared.names.Step.{Step}
-use Rattle.key_names.specs.Calls.{vread_call}
-use Rattle.key_names.specs.Meaning.{current_state, with_state}
-use Rattle.key_names.specs.SeenLine.{Shown, bytes_or_none}
+use Rattle.key_names.specs.Callers.Calls.{vread_call}
+use Rattle.key_names.specs.Callers.Meaning.{current_state, with_state}
+use Rattle.key_names.specs.Transcripts.SeenLine.{Shown, bytes_or_none}
 use Rattle.key_names.specs.Texts.TranscriptGrammar.{StepFits}
-use Rattle.key_names.specs.VgetrandomState.{VgetrandomState, wiped_state}
+use Rattle.key_names.specs.Kernel.VgetrandomState.{VgetrandomState, wiped_state}
 use Rattle.lane_table.specs.Calls.{view}
 use Rattle.lane_table.specs.Advances.{MadeStep, step_of, floor}
 use Rattle.lane_table.specs.Hands.{HoldsLanes}
 use Rattle.lane_table.specs.declared.lanes.Lanes.{Lanes}
 use Rattle.lane_table.specs.declared.lanes.Pass.{Pass}
-use Rattle.key_names.specs.Meaning.{CallerState}
-use Rattle.key_names.specs.VreadSteps.{published_by}
+use Rattle.key_names.specs.Callers.Meaning.{CallerState}
+use Rattle.key_names.specs.Callers.VreadSteps.{published_by}
 use Rattle.std.proofs.lemmas.Option.{slice_get-get_or}
 use Rattle.rng_core.specs.Acts.{ActOutcome}
 use Rattle.rng_core.proofs.InsideCalls.{fresh_undone, outcomes_long}
@@ -43,7 +43,7 @@ use Rattle.rng_core.specs.declared.setting.Setting.{Setting}
 use Rattle.caller_run.proofs.Events.InsideDone.{inside_done}
 use Rattle.caller_run.proofs.Events.VreadDone.{vread_done}
 
--- the same read, between equal values: those that were lent, and those that came back
+-- a read stays one if the values that were lent, and those that came back, are replaced by equal ones
 pub lent_read : {t : Lanes} {n flags : ℕ} {c : Caller} {set : Setting} {states : Box States} {said : Reply} {served : List ℕ}
     {asks : List Ask} {p q : Pass} {steps told : List Step} {zs left : List ActOutcome} → p ≡ q → steps ≡ told →
     zs ≡ left →
@@ -51,7 +51,7 @@ pub lent_read : {t : Lanes} {n flags : ℕ} {c : Caller} {set : Setting} {states
     StateRead t n flags c (record { pass = p; set = set; states = states }) said served steps asks zs
 lent_read pass trace outcomes read = rw pass (rw trace (rw outcomes read))
 
--- the current state of a caller's states
+-- two ways to look up the current state give the same state
 pub current_is : (states : List VgetrandomState) (i : ℕ) (other : VgetrandomState) → i < length states →
     get_or states i other ≡ unwrap_or (slice_get states i) wiped_state
 current_is states i other low = sym (ap (λ (o : Option VgetrandomState). unwrap_or o wiped_state)
@@ -73,7 +73,7 @@ pub record IsBehind (t : Lanes) (c d : Caller) (said : Reply) (served : List ℕ
 
 module _ {t : Lanes} {c d : Caller} {said : Reply} {served : List ℕ} {before : List Step} {st left : VgetrandomState}
     {ended : Result (Unit {0}) Errno} (b : IsBehind t c d said served before st left ended) where
-  -- a fact about the read holds in the terms of the caller's state and reply
+  -- a fact that holds for the read's state and result also holds for the caller's state and the reply
   told_by : (P : VgetrandomState → Answer → Shown → List Step → Type 0) →
       P st (result_answer ended) (bytes_or_none (given ended served)) before →
       P (current_state (stand c)) said.answer (shown_by served said.shows) []
@@ -89,7 +89,7 @@ module _ {t : Lanes} {c d : Caller} {said : Reply} {served : List ℕ} {before :
       (sym (trace ∙ ap (λ (l : List Step). l ++ map step_of made_steps) b.new)) fits
 
   module _ {n flags : ℕ} {steps : List Step} where
-    -- a read, out of the call that it was
+    -- the read of the caller, from the call that was made
     read_by : (asks : List Ask) (zs : List ActOutcome) →
         CallDone c.set.caller (view c.pass) (view d.pass) (stand c) (with_state (stand c) left)
         (vread_call n flags (line_of c.set VreadWord served said steps) (bound_acts c.set asks zs)) →
@@ -111,7 +111,7 @@ module _ {t : Lanes} {c d : Caller} {said : Reply} {served : List ℕ} {before :
       shows = b.bytes;
     }
 
-    -- without acts inside
+    -- a read without acts inside
     pub read_alone : (acts : List Bound) → acts ≡ [] →
         VreadMakes n flags st left (result_answer ended) (bytes_or_none (given ended served)) c.set
         (moment c.pass before) (moment d.pass steps) →
@@ -124,7 +124,7 @@ module _ {t : Lanes} {c d : Caller} {said : Reply} {served : List ℕ} {before :
         (told_by (λ s a x l. VreadMakes n flags s left a x c.set (moment c.pass l) (moment d.pass steps)) did))
         refl (steps_fit did.did.made_steps did.did.told.trace did.did.told.fits) tt)
 
-    -- with the acts `acts` inside, which are `after` at the end
+    -- a read with the acts `acts` inside; `after` are the acts at its end
     pub read_inside : (acts after : List Bound) (out out_after : List ℕ) → AllByRecursion IsWaitingAct acts →
         1 < length (view c.pass).lanes →
         asks_of after ≡ asks_of acts →

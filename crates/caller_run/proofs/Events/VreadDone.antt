@@ -5,16 +5,16 @@ use Rattle.std.specs.List.{AllByRecursion}
 use Rattle.key_names.specs.declared.events.Answer.{Answer}
 use Rattle.key_names.specs.declared.events.Word.{Word}
 use Rattle.key_names.specs.declared.names.Step.{Step}
-use Rattle.key_names.specs.BatchCopy.{serves_locally}
-use Rattle.key_names.specs.Calls.{Setting as CallSetting, vread_call, BoundAct}
-use Rattle.key_names.specs.Deeds.{Deed, looked, deeds_of}
-use Rattle.key_names.specs.FastPool.{FastPool}
-use Rattle.key_names.specs.Forms.{Looked}
-use Rattle.key_names.specs.Meaning.{CallerState, CallMeaning, VreadMeans, ByLocalCopy, ByVgetrandom, LocalOrCall, current_state, with_state, tries_local}
-use Rattle.key_names.specs.SeenLine.{SeenLine, Shown}
-use Rattle.key_names.specs.Vgetrandom.{HostStep, publishes, system_call, at_point}
-use Rattle.key_names.specs.VgetrandomState.{VgetrandomState}
-use Rattle.key_names.specs.VreadSteps.{Shows, published_by}
+use Rattle.key_names.specs.Kernel.BatchCopy.{serves_locally}
+use Rattle.key_names.specs.Callers.Calls.{Setting as CallSetting, vread_call, BoundAct}
+use Rattle.key_names.specs.Callers.Deeds.{Deed, looked, deeds_of}
+use Rattle.key_names.specs.Kernel.FastPool.{FastPool}
+use Rattle.key_names.specs.Callers.Forms.{Looked}
+use Rattle.key_names.specs.Callers.Meaning.{CallerState, CallMeaning, VreadMeans, ByLocalCopy, ByVgetrandom, LocalOrCall, current_state, with_state, tries_local}
+use Rattle.key_names.specs.Transcripts.SeenLine.{SeenLine, Shown}
+use Rattle.key_names.specs.Kernel.Vgetrandom.{HostStep, publishes, system_call, at_point}
+use Rattle.key_names.specs.Kernel.VgetrandomState.{VgetrandomState}
+use Rattle.key_names.specs.Callers.VreadSteps.{Shows, published_by}
 use Rattle.key_names.proofs.Lists.Each.{each_append}
 use Rattle.lane_table.specs.declared.view.LaneView.{LaneView}
 use Rattle.lane_table.specs.declared.view.View.{View}
@@ -29,14 +29,14 @@ use Rattle.rng_core.proofs.Readings.{Stayed, stayed}
 use Rattle.caller_run.specs.NumberedSteps.{numbered_steps_from}
 use Rattle.caller_run.specs.Items.{items_from}
 use Rattle.caller_run.specs.Ran.{Ran}
-use Rattle.key_names.specs.LineSamples.{IsQuiet}
+use Rattle.key_names.specs.Callers.LineSamples.{IsQuiet}
 use Rattle.rng_core.specs.SampleDeeds.{fast_in}
 use Rattle.caller_run.specs.Done.{CallDone}
 use Rattle.caller_run.proofs.Orders.Chains.{items_from_doings, unsplit, ran_went, ran_then}
 use Rattle.caller_run.proofs.Orders.CallSteps.{own_items}
 use Rattle.key_names.proofs.Transcripts.QuietForms.{sys}
 
--- a look without a step in the line
+-- after a look that is no step of the line, no step was made
 pub ran_glanced : (caller : ℕ) (v w : View) → Stayed v w → Ran caller v w []
 ran_glanced caller v w k =
     let same : (lane : ℕ) → at lane w ≡ at lane v = λ lane. ap (λ (l : List LaneView). get_or l lane blank) k.lanes in

@@ -4,10 +4,10 @@ use Rattle.key_names.specs.declared.events.Event.{Event}
 use Rattle.key_names.specs.declared.events.Event.TheVariants.{Vread}
 use Rattle.key_names.specs.declared.events.Word.TheVariants.{Vread as VreadWord}
 use Rattle.key_names.specs.declared.names.Step.{Step}
-use Rattle.key_names.specs.Calls.{vread_call, BoundAct}
-use Rattle.key_names.specs.SeenLine.{SeenLine}
+use Rattle.key_names.specs.Callers.Calls.{vread_call, BoundAct}
+use Rattle.key_names.specs.Transcripts.SeenLine.{SeenLine}
 use Rattle.lane_table.specs.declared.lanes.Lanes.{Lanes}
-use Rattle.key_names.specs.Meaning.{CallerState}
+use Rattle.key_names.specs.Callers.Meaning.{CallerState}
 use Rattle.lane_table.specs.Calls.{view}
 use Rattle.rng_core.specs.declared.setting.Setting.{Setting}
 use Rattle.rng_core.specs.declared.vdso.acts.Bound.{Bound}

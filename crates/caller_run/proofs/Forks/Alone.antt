@@ -1,16 +1,18 @@
 -- The only caller of a script; its lines are not kept.
-use Rattle.std.proofs.Common.{◌≡◌, ℕ, ◌+◌, ◌≤◌, ◌^◌, Some, List, [], ◌∷◌, ◌++◌, length, refl, sym, ap, ◌∙◌, subst, arith}
+use Rattle.std.proofs.Common.{◌≡◌, ℕ, ◌+◌, ◌≤◌, ◌^◌, Some, List, [], ◌∷◌, ◌++◌, length, refl, sym, ap, ◌∙◌, subst, append_assoc, arith}
 use Rattle.std.specs.Prelude.{slice_get, sum_by, take, vec_len}
 use Rattle.std.specs.List.{AllByRecursion}
 use Rattle.std.proofs.lemmas.List.Sums.{sum_by-cons}
 use Rattle.key_names.specs.declared.events.Answer.TheVariants.{Ok as Done}
 use Rattle.key_names.specs.declared.events.Event.{Event}
-use Rattle.key_names.specs.declared.events.Event.TheVariants.{Vread, Inside, Fork}
+use Rattle.key_names.specs.declared.events.Event.TheVariants.{Read, Vread, Kread, Dread, Uread, Inside, Fork}
+use Rattle.key_names.specs.declared.events.InsideAct.TheVariants.{Wipe, Vread as VreadAct, Reseed as ReseedAct}
 use Rattle.key_names.specs.declared.events.Word.TheVariants.{Vread as VreadWord, End as EndWord}
 use Rattle.key_names.specs.declared.names.Step.{Step}
-use Rattle.key_names.specs.SeenLine.{SeenLine}
+use Rattle.key_names.specs.Transcripts.SeenLine.{SeenLine}
 use Rattle.key_names.specs.Texts.ScriptGrammar.{Script, WellFormed, InRange, FewActs, event_word}
 use Rattle.key_names.specs.Texts.TranscriptGrammar.{StepFits}
+use Rattle.key_names.proofs.Lists.Each.{each_weaker}
 use Rattle.key_names.proofs.Lists.ListFacts.{list_is}
 use Rattle.lane_table.specs.declared.lanes.Lanes.{Lanes}
 use Rattle.lane_table.specs.declared.lanes.Pass.{Pass}
@@ -20,7 +22,7 @@ use Rattle.lane_table.specs.Advances.{floor}
 use Rattle.lane_table.proofs.Calls.HandLemmas.{idle_of}
 use Rattle.rng_core.specs.Makes.{setting_of}
 use Rattle.rng_core.specs.Settings.{first_setting}
-use Rattle.caller_run.specs.Alone.{IsToldOnce, CalledOnce, GoesAlone, IsGoing, IsLawful, as_kept, first_start, last_line}
+use Rattle.caller_run.specs.Alone.{IsToldOnce, CalledOnce, GoesAlone, HasMade, HasRoom, IsGoing, IsLawful, as_kept, first_start, last_line}
 use Rattle.caller_run.specs.Calling.{Called, HasLeft, Seen, StateRead, caller_at}
 use Rattle.caller_run.specs.Families.{SameHalves, RanSo, RunsIn}
 use Rattle.caller_run.specs.Forest.{Forest, no_more, more, forks, AreForked}
@@ -120,6 +122,17 @@ pub once_called : (t : Lanes) {c d : Caller} (served : List ℕ) {said : Reply} 
     CalledOnce t event c d said served steps → HasCalled event c d said steps
 once_called t served (Vread len flags) k = record { set = k.set; steps_fit = k.steps_fit; shows = (read_kept k).shows }
 once_called t served event k = call_called k
+
+-- the line of a call of the core is final when it is made
+pub told_once : (event : Event) → IsCall event → IsToldOnce event
+told_once (Inside point act) is = is
+told_once (Fork child) is = is
+told_once event is = tt
+
+pub called_once : {t : Lanes} {c d : Caller} {said : Reply} {served : List ℕ} {steps : List Step} (event : Event) →
+    IsCall event → CalledOnce t event c d said served steps → Called t event c d said served steps
+called_once (Vread len flags) is k = absurd is
+called_once event is k = k
 
 -- ---- the start
 
@@ -245,11 +258,11 @@ line_is m = (λ i. record {
 })
 
 -- the run was x before the event, and is y now
-pub goes_on : {script : Script} {lines : List SeenLine} (x y : LoneRun) (event : Event) (d : Caller) (said : Reply)
-    (served : List ℕ) (steps : List Step) → IsGoing script x lines → x.rest.now ≡ event ∷ y.rest.now →
+pub goes_on : {script : Script} {lines : List SeenLine} (x y : LoneRun) (event : Event) (rest : List Event) (d : Caller)
+    (said : Reply) (served : List ℕ) (steps : List Step) → IsGoing script (event ∷ rest) x lines →
     CalledOnce x.lanes event x.caller d said served steps → MadeLine y event d said served steps → y.lanes ≡ x.lanes →
-    vec_len y.served ≡ vec_len x.served → IsGoing script y (lines ++ last_line y ∷ [])
-goes_on {lines = lines} x y event d said served steps g next k m same long = record {
+    vec_len y.served ≡ vec_len x.served → IsGoing script rest y (lines ++ last_line y ∷ [])
+goes_on {lines = lines} x y event rest d said served steps g k m same long = record {
   well = g.well;
   cpus = ap (λ (t : Lanes). t.cpus) same ∙ g.cpus;
   alone = g.alone;
@@ -259,51 +272,60 @@ goes_on {lines = lines} x y event d said served steps g next k m same long = rec
   pass = g.pass;
   first = g.first;
   whole = g.whole;
-  goes = subst (λ (t : Lanes). GoesAlone t (vec_len y.served) (first_start g.pass) g.events y.rest.now y.caller
+  goes = subst (λ (t : Lanes). GoesAlone t (vec_len y.served) (first_start g.pass) g.events rest y.caller
       (lines ++ last_line y ∷ [])) (sym same)
-      (subst (λ (n : ℕ). GoesAlone x.lanes n (first_start g.pass) g.events y.rest.now y.caller
+      (subst (λ (n : ℕ). GoesAlone x.lanes n (first_start g.pass) g.events rest y.caller
       (lines ++ last_line y ∷ [])) (sym long)
-      (subst (λ (l : SeenLine). GoesAlone x.lanes (vec_len x.served) (first_start g.pass) g.events y.rest.now y.caller
+      (subst (λ (l : SeenLine). GoesAlone x.lanes (vec_len x.served) (first_start g.pass) g.events rest y.caller
       (lines ++ l ∷ [])) (sym (line_is m))
-      (event_goes event d said served steps k m.on (subst (λ (rest : List Event). GoesAlone x.lanes (vec_len x.served)
-      (first_start g.pass) g.events rest x.caller lines) next g.goes))));
+      (event_goes event d said served steps k m.on g.goes)));
 }
 
--- the invariant does not depend on the trace
-pub still_going : {script : Script} {x : LoneRun} {lines : List SeenLine} (steps : List Step) → IsGoing script x lines
-    → IsGoing script (record x { trace = steps }) lines
-still_going steps g = record {
-  well = g.well;
-  cpus = g.cpus;
-  alone = g.alone;
-  events = g.events;
-  there = g.there;
-  once = g.once;
-  pass = g.pass;
-  first = g.first;
-  whole = g.whole;
-  goes = g.goes;
-}
+-- so it goes on for each script of one caller that begins with the events so far
+pub made_one : {cpus : ℕ} {x y : LoneRun} {lines after : List SeenLine} (done : List Event) (event : Event) →
+    ((script : Script) (rest : List Event) → IsGoing script (event ∷ rest) x lines → IsGoing script rest y after) →
+    HasMade cpus done x lines → HasMade cpus (done ++ event ∷ []) y after
+made_one done event goes made script rest well one same whole =
+    goes script rest (made script (event ∷ rest) well one same
+    (whole ∙ ap (λ (events : List Event). events ∷ []) (append_assoc done (event ∷ []) rest)))
+
+-- ---- before the first event of a script that is still being written
+
+few_shown : (version cpus : ℕ) (event : Event) → InRange version cpus event → most_shown event ≤ 2 ^ 20
+few_shown version cpus (Read len flags) range = range.0
+few_shown version cpus (Vread len flags) range = range.0
+few_shown version cpus (Kread len) range = range
+few_shown version cpus (Dread len flag) range = range.0
+few_shown version cpus (Uread len) range = range
+few_shown version cpus (Inside point (VreadAct len)) range = range
+few_shown version cpus (Inside point Wipe) range = omega arith
+few_shown version cpus (Inside point ReseedAct) range = omega arith
+few_shown version cpus event range = omega arith
+
+pub made_nothing : {cpus : ℕ} (run : LoneRun) → HasRoom cpus (2 ^ 20) run → HasMade cpus [] run []
+made_nothing run room script rest well one same whole =
+    room script rest well same one.one (ap (λ (callers : List (List Event)). slice_get callers 0) whole)
+    (subst (AllByRecursion (AllByRecursion IsToldOnce)) whole one.once).0
+    (each_weaker (InRange script.version script.cpus) (λ event. most_shown event ≤ 2 ^ 20) rest
+    (few_shown script.version script.cpus)
+    (subst (AllByRecursion (AllByRecursion (InRange script.version script.cpus))) whole well.ranges).0)
 
 -- the caller made its last line
-module _ {script : Script} {lines : List SeenLine} (x : LoneRun) (d : Caller) (said : Reply) (steps : List Step) where
-  pub ends_lawfully : IsGoing script x lines → x.rest.now ≡ [] →
-      said ≡ record { answer = Done; shows = Nothing } → HasLeft x.lanes x.caller d steps →
-      ((view d.pass).share ≡ 2 ^ (view d.pass).halvings → IsIdle (view d.pass) → Ended (count_of x.lanes) (view d.pass)) →
-      IsLawful script (lines ++ line_of d.set EndWord [] said steps ∷ [])
-  ends_lawfully g none is left ends =
-      let made : GoesAlone x.lanes (vec_len x.served) (first_start g.pass) g.events [] x.caller lines =
-      subst (λ (rest : List Event). GoesAlone x.lanes (vec_len x.served) (first_start g.pass) g.events rest x.caller lines)
-      none g.goes in
-      let ended = alone_ends is left made in
-      let same = ended.done.ran.same in
-      let whole : (view d.pass).share ≡ 2 ^ (view d.pass).halvings = same.share ∙ g.whole
-      ∙ ap (λ (n : ℕ). 2 ^ n) (let h = same.halvings in let q : (view g.pass).halvings ≡ (view d.pass).halvings =
-      omega arith in q) in
-      let wide : length (view d.pass).lanes ≡ script.cpus + 2 = left.has.pass.sized ∙ ap (λ (n : ℕ). n + 2) g.cpus in (
-        view d.pass,
-        alone_lawful script g.well g.alone g.events g.there g.once g.pass d.pass
-            (lines ++ line_of d.set EndWord [] said steps ∷ []) g.first ended left.reached wide
-            (subst (λ (n : ℕ). Ended (n + 2) (view d.pass)) g.cpus
-            (ends whole (idle_of x.lanes d.set.caller d.pass left.has))),
-      )
+pub ends_lawfully : {script : Script} {lines : List SeenLine} (x : LoneRun) (d : Caller) (said : Reply)
+    (steps : List Step) → IsGoing script [] x lines → said ≡ record { answer = Done; shows = Nothing } →
+    HasLeft x.lanes x.caller d steps →
+    ((view d.pass).share ≡ 2 ^ (view d.pass).halvings → IsIdle (view d.pass) → Ended (count_of x.lanes) (view d.pass)) →
+    IsLawful script (lines ++ line_of d.set EndWord [] said steps ∷ [])
+ends_lawfully {script = script} {lines = lines} x d said steps g is left ends =
+    let ended = alone_ends is left g.goes in
+    let same = ended.done.ran.same in
+    let whole : (view d.pass).share ≡ 2 ^ (view d.pass).halvings = same.share ∙ g.whole
+    ∙ ap (λ (n : ℕ). 2 ^ n) (let h = same.halvings in let q : (view g.pass).halvings ≡ (view d.pass).halvings =
+    omega arith in q) in
+    let wide : length (view d.pass).lanes ≡ script.cpus + 2 = left.has.pass.sized ∙ ap (λ (n : ℕ). n + 2) g.cpus in (
+      view d.pass,
+      alone_lawful script g.well g.alone g.events g.there g.once g.pass d.pass
+          (lines ++ line_of d.set EndWord [] said steps ∷ []) g.first ended left.reached wide
+          (subst (λ (n : ℕ). Ended (n + 2) (view d.pass)) g.cpus
+          (ends whole (idle_of x.lanes d.set.caller d.pass left.has))),
+    )

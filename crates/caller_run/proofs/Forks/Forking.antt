@@ -7,13 +7,13 @@ use Rattle.key_names.specs.declared.events.Event.{Event}
 use Rattle.key_names.specs.declared.events.Event.TheVariants.{Fork}
 use Rattle.key_names.specs.declared.entries.BaseEntry.TheVariants.{Fork as Forks, Stall, Unstall}
 use Rattle.key_names.specs.declared.names.Step.{Step}
-use Rattle.key_names.specs.Book.{Lists}
-use Rattle.key_names.specs.Calls.{alone, setting_after_call}
-use Rattle.key_names.specs.Deeds.{deed_of, deeds_of}
-use Rattle.key_names.specs.Forms.{BaseOnly}
-use Rattle.key_names.specs.History.{through_visit}
-use Rattle.key_names.specs.Meaning.{CallerState, caller_start, caller_after}
-use Rattle.key_names.specs.SeenLine.{SeenLine, no_data}
+use Rattle.key_names.specs.Lanes.Book.{Lists}
+use Rattle.key_names.specs.Callers.Calls.{alone, setting_after_call}
+use Rattle.key_names.specs.Callers.Deeds.{deed_of, deeds_of}
+use Rattle.key_names.specs.Callers.Forms.{BaseOnly}
+use Rattle.key_names.specs.Callers.History.{through_visit}
+use Rattle.key_names.specs.Callers.Meaning.{CallerState, caller_start, caller_after}
+use Rattle.key_names.specs.Transcripts.SeenLine.{SeenLine, no_data}
 use Rattle.lane_table.specs.declared.view.Visit.{Visit}
 use Rattle.lane_table.specs.declared.view.View.{View}
 use Rattle.lane_table.specs.WorldRule.{at, known_of}
@@ -38,7 +38,7 @@ use Rattle.key_names.proofs.Transcripts.QuietForms.{form_samples}
 use Rattle.key_names.specs.declared.events.Word.TheVariants.{Fork as ForkWord}
 use Rattle.key_names.specs.declared.names.Mark.{Mark}
 use Rattle.key_names.specs.declared.names.Step.TheVariants.{Visit as Marked}
-use Rattle.key_names.specs.Forms.{Stalled}
+use Rattle.key_names.specs.Callers.Forms.{Stalled}
 use Rattle.key_names.proofs.Lists.Each.{each_append}
 use Rattle.lane_table.specs.Calls.{view}
 use Rattle.lane_table.specs.Steps.{child as split_off}
@@ -67,7 +67,7 @@ tells_told set m n made_steps t = record {
   order = items_from_doings set.event (length m.steps) made_steps;
 }
 
--- a split
+-- a split is no step
 pub ran_halved : (caller : ℕ) (v : View) → RanBy caller 1 v (halved v) []
 ran_halved caller v = record {
   same = record { first = refl; share = refl; halvings = refl; sized = refl };

@@ -6,10 +6,10 @@ use Rattle.std.proofs.lemmas.List.Sums.{sum_by-cons, sum_by-append}
 use Rattle.key_names.specs.declared.events.Event.{Event}
 use Rattle.key_names.specs.declared.names.LaneId.{LaneId}
 use Rattle.key_names.specs.declared.names.Mark.{Mark}
-use Rattle.key_names.specs.Calls.{first_setting}
+use Rattle.key_names.specs.Callers.Calls.{first_setting}
 use Rattle.key_names.specs.Texts.ScriptGrammar.{Script}
-use Rattle.key_names.specs.SeenLine.{SeenLine}
-use Rattle.key_names.specs.IsTranscript.{MarkBy, EachCaller, all_marks, line_marks, lane_marks, is_same_lane}
+use Rattle.key_names.specs.Transcripts.SeenLine.{SeenLine}
+use Rattle.key_names.specs.Transcripts.IsTranscript.{MarkBy, EachCaller, all_marks, line_marks, lane_marks, is_same_lane}
 use Rattle.lane_table.specs.declared.view.View.{View}
 use Rattle.lane_table.specs.LaneNumbers.{index_of}
 use Rattle.lane_table.specs.WorldRule.{at}

@@ -7,14 +7,14 @@ use Rattle.key_names.specs.declared.events.Event.TheVariants.{Vread, Inside}
 use Rattle.key_names.specs.declared.events.Word.TheVariants.{End as EndWord}
 use Rattle.key_names.specs.declared.names.Step.{Step}
 use Rattle.key_names.specs.declared.entries.BaseEntry.TheVariants.{End}
-use Rattle.key_names.specs.Calls.{Call, alone, ending, has_vread, setting_after, setting_after_call}
+use Rattle.key_names.specs.Callers.Calls.{Call, alone, ending, has_vread, setting_after, setting_after_call}
 use Rattle.std.specs.List.{fold}
 use Rattle.std.proofs.lemmas.List.Sums.{fold-append}
-use Rattle.key_names.specs.Forms.{BaseOnly}
-use Rattle.key_names.specs.IsTranscript.{LineIs, LinesFit}
-use Rattle.key_names.specs.Meaning.{CallerState, caller_start, caller_after}
+use Rattle.key_names.specs.Callers.Forms.{BaseOnly}
+use Rattle.key_names.specs.Transcripts.IsTranscript.{LineIs, LinesFit}
+use Rattle.key_names.specs.Callers.Meaning.{CallerState, caller_start, caller_after}
 use Rattle.key_names.specs.Texts.ScriptGrammar.{event_word}
-use Rattle.key_names.specs.SeenLine.{SeenLine, no_data}
+use Rattle.key_names.specs.Transcripts.SeenLine.{SeenLine, no_data}
 use Rattle.key_names.proofs.Transcripts.Settings.{setting_moves}
 use Rattle.lane_table.specs.declared.lanes.Lanes.{Lanes}
 use Rattle.lane_table.specs.declared.lanes.Pass.{Pass}
@@ -45,7 +45,7 @@ call_alone (Vread len flags) is = absurd is
 call_alone (Inside point act) is = absurd is
 call_alone event is = tt
 
--- one line more fits
+-- the lines still fit after one line more
 pub fit_more : (caller n : ℕ) (events : List Event) (event : Event) (rest : List Event) (lines : List SeenLine)
     (line : SeenLine) →
     LineIs caller n (event_word event) line →
@@ -58,7 +58,7 @@ fit_more caller n events event rest lines line is fit more f =
 module _ {begun : Start} {events rest : List Event} {event : Event} {c : Caller} {lines : List SeenLine}
     {asks : List Ask} {kids : List Start}
     (d : Caller) (g : HasAdvanced begun events (event ∷ rest) c lines asks kids) (set : d.set ≡ c.set) where
-  -- it is the line of the event
+  -- the line of the call is the line of the event
   pub own_line : (said : Reply) (served : List ℕ) (steps : List Step) →
       LineIs begun.caller c.set.event (event_word event) (line_of d.set (event_word event) served said steps)
   own_line said served steps =
@@ -73,7 +73,7 @@ module _ {begun : Start} {events rest : List Event} {event : Event} {c e : Calle
     {asks : List Ask} {kids : List Start}
     (d : Caller) (g : HasAdvanced begun events (event ∷ rest) c lines asks kids) (set : d.set ≡ c.set)
     (on : GoesOn event d e) where
-  -- after it these are the calls and the forked callers
+  -- after the event, these are the calls and the forked callers
   pub gone_on : (calls : List Call) (after : List SeenLine) (left waiting : List Ask) (more : List Start) →
       CallsDone begun.caller (length more) begun.view (view d.pass) (caller_start begun.set)
       (caller_after (stand d) event) calls →
@@ -104,7 +104,7 @@ module _ {begun : Start} {events rest : List Event} {event : Event} {c e : Calle
     idle = idle;
   }
 
-  -- they are one call more, which forks no caller
+  -- after an event that forks no caller, the calls are one more
   pub gone_by : (call : Call) (after : List SeenLine) (left waiting : List Ask) →
       CallDone c.set.caller (view c.pass) (view d.pass) (stand c) (caller_after (stand d) event) call →
       (caller_after (stand d) event).setting ≡ setting_after_call (stand c).setting call →
@@ -148,7 +148,7 @@ module _ {begun : Start} {events rest : List Event} {event : Event} {t : Lanes} 
       (fit_more begun.caller c.set.event events event rest lines line (own_line d g k.set said served steps) g.fit)
       (idle_more begun.caller lines line asks g.idle)
 
--- the end
+-- after its end a caller has made all its calls
 pub gone_all : {begun : Start} {events : List Event} {c : Caller} {lines : List SeenLine} {asks : List Ask}
     {kids : List Start}
     (d : Caller) (served : List ℕ) (said : Reply) (steps : List Step) → d.set ≡ c.set → said.answer ≡ Done →
@@ -197,7 +197,7 @@ gone_all {begun = begun} {events = events} {c = c} {lines = lines} {kids = kids}
           ends.ran.grows g.forked);
     }
 
--- the start
+-- at its start a caller has made no call
 pub gone_nothing : (begun : Start) (events : List Event) (c : Caller) → c.set.caller ≡ begun.caller →
     c.set.event ≡ 0 → stand c ≡ caller_start begun.set → view c.pass ≡ begun.view →
     HasAdvanced begun events events c [] [] []

@@ -2,7 +2,7 @@
 use Rattle.std.proofs.Common.{◌≡◌, List, ◌∷◌, ◌++◌, length, ap, ◌∙◌, append_assoc, arith}
 use Rattle.std.specs.List.{AllByRecursion}
 use Rattle.key_names.specs.declared.events.Event.TheVariants.{Fork}
-use Rattle.key_names.specs.Calls.{Call, alone}
+use Rattle.key_names.specs.Callers.Calls.{Call, alone}
 use Rattle.key_names.proofs.Lists.Each.{each_weaker}
 use Rattle.lane_table.specs.declared.view.View.{View}
 use Rattle.lane_table.specs.WorldRule.{known_of}

@@ -110,7 +110,7 @@ module _ (v w d : View) (r : Run) (xs ys : List Run) (mine : Joined v w xs) (the
         let h = sum_by-cons (marked_by (λ p. 1) lane) r ys in omega arith);
   }
 
--- the caller that began another is also in a longer list
+-- an element of a list is also in a longer one
 one_more : {X : Type 0} (x : X) (xs ys : List X) → IsOneOf x xs → IsOneOf x (xs ++ ys)
 one_more x [] ys here = absurd here
 one_more x (y ∷ xs) ys (inl same) = inl same
@@ -120,7 +120,7 @@ one_behind : {X : Type 0} (x : X) (xs ys : List X) → IsOneOf x ys → IsOneOf 
 one_behind x [] ys here = here
 one_behind x (y ∷ xs) ys here = inr (one_behind x xs ys here)
 
--- two families together
+-- two families together are a family
 pub family_both : (script : Script) (ss ts : List Start) (xs ys : List Run) → Family script ss xs →
     Family script ts ys → Family script (ss ++ ts) (xs ++ ys)
 family_both script ss ts xs ys a b = record {
@@ -136,7 +136,7 @@ family_both script ss ts xs ys a b = record {
       ]) b.began);
 }
 
--- a caller with the families of the callers that it forked
+-- a caller is a family with the families of the callers that it forked
 pub family_own : (script : Script) (r : Run) (runs : List Run) → RunsIn script r → Family script r.kids runs →
     Family script (r.begun ∷ []) (r ∷ runs)
 family_own script r runs has f = record {

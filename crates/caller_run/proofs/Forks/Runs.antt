@@ -2,7 +2,7 @@
 use Rattle.std.proofs.Common.{◌≡◌, ℕ, ◌+◌, ◌*◌, ◌^◌, ◌<◌, List, [], ◌∷◌, ◌++◌, length, refl, sym, ap, ◌∙◌, subst, arith}
 use Rattle.std.specs.List.{AllByRecursion}
 use Rattle.std.proofs.lemmas.List.Sums.{sum_by-cons}
-use Rattle.key_names.specs.Calls.{first_setting}
+use Rattle.key_names.specs.Callers.Calls.{first_setting}
 use Rattle.key_names.specs.Texts.ScriptGrammar.{Script, WellFormed}
 use Rattle.key_names.proofs.Lists.Each.{each_weaker}
 use Rattle.lane_table.specs.declared.view.View.{View}
@@ -20,12 +20,12 @@ use Rattle.caller_run.proofs.Forks.Joins.{OwnPlaces, joined_nothing, joined_then
 use Rattle.caller_run.proofs.Planning.OnceEach.{times_in, below, once_each}
 use Rattle.caller_run.proofs.Orders.OwnPlaces.{MadeNothing, made_nothing, own_places}
 
--- shares over parts without a split
+-- a part without a split does not change the share
 share_from : (x u w : View) → SameHalves x u → SameShare u w → SameShare x w
 share_from x u w same s =
     ap (λ (h : ℕ). w.share * 2 ^ h) (sym same.halvings) ∙ s ∙ ap (λ (n : ℕ). n * 2 ^ w.halvings) same.share
 
--- a caller that forks no more callers
+-- a caller that forks no more callers went on to its end
 pub ran_end : (script : Script) (x e : View) → SameHalves x e → RanOn script x e e [] []
 ran_end script x e same = record {
   family = record { each = tt; began = tt };
@@ -50,7 +50,7 @@ ran_fork script x u z e w d kid starts xs own ys before after rest view_is child
           (subst (λ (v : View). SameShare v d) view_is child.share));
     }
 
--- a caller from its start
+-- a caller that went on from its start ran from its start to its end
 pub ran_so : (script : Script) (begun : Start) (w : View) (own : Run) (runs : List Run) → own.begun ≡ begun →
     RunsIn script own → RanOn script begun.view own.end w own.kids runs → RanSo script begun w own runs
 ran_so script begun w own runs is has on = record {

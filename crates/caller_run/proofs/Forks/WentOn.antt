@@ -10,12 +10,12 @@ use Rattle.key_names.specs.declared.events.Event.TheVariants.{Fork}
 use Rattle.key_names.specs.declared.entries.BaseEntry.TheVariants.{Fork as Forks, Stall, Unstall}
 use Rattle.key_names.specs.declared.names.Step.{Step}
 use Rattle.key_names.specs.declared.names.Step.TheVariants.{Visit as Marked}
-use Rattle.key_names.specs.Book.{list_at}
-use Rattle.key_names.specs.Forms.{BaseOnly}
+use Rattle.key_names.specs.Lanes.Book.{list_at}
+use Rattle.key_names.specs.Callers.Forms.{BaseOnly}
 use Rattle.key_names.specs.Texts.ScriptGrammar.{Script, InRange, FewActs, ForksAbove}
-use Rattle.key_names.specs.SeenLine.{SeenLine}
+use Rattle.key_names.specs.Transcripts.SeenLine.{SeenLine}
 use Rattle.key_names.specs.Texts.TranscriptGrammar.{StepFits}
-use Rattle.key_names.specs.VgetrandomState.{wiped_state}
+use Rattle.key_names.specs.Kernel.VgetrandomState.{wiped_state}
 use Rattle.key_names.proofs.Lists.Each.{each_append}
 use Rattle.key_names.proofs.Lists.ListFacts.{list_is}
 use Rattle.lane_table.specs.declared.lanes.Lanes.{Lanes}
@@ -67,7 +67,7 @@ pub plain_event : (e : Event) → ((x : ℕ) → e ≡ Fork x → ⊥) → Forks
 plain_event (Fork child) other = other child refl
 plain_event e other = tt
 
--- the same buffers, as slices
+-- a fact about the lengths of two buffers holds for the buffers as slices
 pub as_slices : (P : ℕ → ℕ → Type 0) (a b c d : ℕ) → c ≡ a → d ≡ b → P a b → P c d
 as_slices P a b c d first second here = subst (λ (n : ℕ). P n d) (sym first) (subst (P a) (sym second) here)
 
@@ -153,7 +153,7 @@ module _ (m w : Caller) (steps : List Step) (child : ℕ) (theirs : Pass) (at : 
 
 -- ---- the preconditions of a caller's next events
 
--- a pass that has seen more
+-- a caller can still go on after its pass has seen more
 pub can_still : (t : Lanes) (c d : Caller) (log : Log) {served inside : ℕ} {rest : List Event} → d.set ≡ c.set →
     d.states ≡ c.states → HoldsLanes t d.set.caller [] d.pass → floor (view c.pass) ≤ floor (view d.pass) →
     CanAdvance t c log served inside rest → CanAdvance t d log served inside rest
@@ -430,7 +430,7 @@ module _ (t : Lanes) (script : Script) (set : Setting) (p : Pass) (a : Plot) (sh
         (subst (λ (es : List Event). ArePrepared script.callers a.kids (forks es)) listed can.ready);
   }
 
-  -- and at its end
+  -- a caller at its end
   pub returned : (y : Way) (b : Plot) → b ≡ plot_by a.caller y.sheet (map plot y.kids.items) →
       WentOn t script events x y → Returned t script (start_of set p) a y.caller.pass b
   returned y b put on =

@@ -12,8 +12,8 @@ use Rattle.key_names.specs.declared.names.Mark.{Mark}
 use Rattle.key_names.specs.declared.names.Step.{Step}
 use Rattle.key_names.specs.declared.names.Step.TheVariants.{Look, Visit as Marked}
 use Rattle.caller_run.specs.Items.{Item, items_from, line_items}
-use Rattle.key_names.specs.SeenLine.{SeenLine}
-use Rattle.key_names.specs.IsTranscript.{LinesFit, MarkBy, marks_from, line_marks, all_marks, is_same_lane, lane_marks}
+use Rattle.key_names.specs.Transcripts.SeenLine.{SeenLine}
+use Rattle.key_names.specs.Transcripts.IsTranscript.{LinesFit, MarkBy, marks_from, line_marks, all_marks, is_same_lane, lane_marks}
 use Rattle.lane_table.specs.LaneNumbers.{index_of}
 use Rattle.lane_table.specs.Advances.{MadeStep, looked, visited, step_of, maker, places_in}
 use Rattle.caller_run.specs.NumberedSteps.{NumberedStep, made_steps_of, item_of, items_of}
@@ -57,7 +57,7 @@ fit_own c n [] (line ∷ more ∷ lines) fit = absurd fit
 fit_own c n (event ∷ events) [] fit = absurd fit
 fit_own c n (event ∷ events) (line ∷ lines) fit = (fit.0.caller, fit_own c (suc n) events lines fit.1)
 
--- the marks of a transcript with one caller
+-- the marks of a transcript with one caller are the marks of that caller's lines
 pub marks_are : (caller : ℕ) (lines : List SeenLine) → AllByRecursion (IsOfCaller caller) lines →
     all_marks (lines ∷ []) ≡ flat_map (mark_of caller) (lines_items lines)
 marks_are caller lines own = append-nil (flat_map line_marks lines) ∙ lines_marks caller lines own

@@ -8,11 +8,11 @@ use Rattle.key_names.specs.declared.entries.PoolEntry.{PoolEntry}
 use Rattle.key_names.specs.declared.entries.BaseEntry.{BaseEntry}
 use Rattle.key_names.specs.declared.entries.CpuEntry.{CpuEntry}
 use Rattle.key_names.specs.declared.names.Step.TheVariants.{Visit as Marked}
-use Rattle.key_names.specs.BaseList.{BaseState, base_after, base_step, base_start}
-use Rattle.key_names.specs.CpuList.{CpuState, cpu_after, cpu_step, cpu_start}
-use Rattle.key_names.specs.Book.{Lists, cpu_list}
-use Rattle.key_names.specs.Deeds.{Deed, looked as see, at_pool, at_base, at_cpu, deed_or, deed_at, deed_of, deeds_of, pool_visit, base_visit, cpu_visit}
-use Rattle.key_names.specs.History.{seen, seen_after, LookStands, LooksStand}
+use Rattle.key_names.specs.Lanes.BaseList.{BaseState, base_after, base_step, base_start}
+use Rattle.key_names.specs.Lanes.CpuList.{CpuState, cpu_after, cpu_step, cpu_start}
+use Rattle.key_names.specs.Lanes.Book.{Lists, cpu_list}
+use Rattle.key_names.specs.Callers.Deeds.{Deed, looked as see, at_pool, at_base, at_cpu, deed_or, deed_at, deed_of, deeds_of, pool_visit, base_visit, cpu_visit}
+use Rattle.key_names.specs.Callers.History.{seen, seen_after, LookStands, LooksStand}
 use Rattle.base_gen.specs.BaseValue.{BaseValue}
 use Rattle.cpu_gen.specs.CpuValue.{CpuValue}
 use Rattle.lane_table.specs.declared.view.Visit.{Visit}
@@ -89,7 +89,7 @@ module _ (lanes : ℕ) (visits : ℕ → List Visit) (callers : StateLists) (ok 
 seen_more : (before : List Deed) (deed : Deed) → seen (before ++ deed ∷ []) ≡ seen_after (seen before) deed
 seen_more before deed = fold-append seen_after 0 before (deed ∷ [])
 
--- the looks in a list of steps, if each visit among them is in the final lists
+-- the looks in a list of steps are right, if each visit among the steps is in the final lists
 pub looks_stand : (w : View) (callers : StateLists) → ClosedLanes (length w.lanes) (known_of w) →
     (made_steps : List MadeStep) (low high reseeds : ℕ) (before : List Deed) → AllKnown w made_steps →
     Sees w low made_steps high → seen before ≤ low → high ≤ reseeds →

@@ -7,8 +7,8 @@ use Rattle.key_names.specs.declared.events.Event.{Event}
 use Rattle.key_names.specs.declared.names.LaneId.{LaneId}
 use Rattle.key_names.specs.declared.names.LaneId.TheVariants.{Pool as PoolLane, Base as BaseLane, Cpu as CpuLane}
 use Rattle.key_names.specs.declared.names.Mark.{Mark}
-use Rattle.key_names.specs.SeenLine.{SeenLine}
-use Rattle.key_names.specs.IsTranscript.{MarkBy, EachCaller, PlacesStand, VisitsAre, all_marks, line_marks, lane_marks, is_same_lane}
+use Rattle.key_names.specs.Transcripts.SeenLine.{SeenLine}
+use Rattle.key_names.specs.Transcripts.IsTranscript.{MarkBy, EachCaller, PlacesStand, VisitsAre, all_marks, line_marks, lane_marks, is_same_lane}
 use Rattle.key_names.proofs.Lists.Each.{each_append, each_parts, each_weaker}
 use Rattle.key_names.proofs.Transcripts.TranscriptBooks.{lt_or_le}
 use Rattle.lane_table.specs.declared.view.View.{View}

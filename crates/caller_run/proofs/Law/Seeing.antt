@@ -4,11 +4,11 @@ use Rattle.std.proofs.lemmas.List.{length-set}
 use Rattle.key_names.specs.declared.events.Event.{Event}
 use Rattle.key_names.specs.declared.events.Event.TheVariants.{Vread, Drop, State}
 use Rattle.key_names.specs.declared.names.Step.{Step}
-use Rattle.key_names.specs.Calls as calls
-use Rattle.key_names.specs.Meaning.{CallerState, caller_start, caller_after, with_state}
+use Rattle.key_names.specs.Callers.Calls as calls
+use Rattle.key_names.specs.Callers.Meaning.{CallerState, caller_start, caller_after, with_state}
 use Rattle.key_names.specs.Texts.ScriptGrammar.{InRange, event_word}
-use Rattle.key_names.specs.VgetrandomState.{VgetrandomState, wiped_state}
-use Rattle.key_names.specs.VreadSteps.{published_by}
+use Rattle.key_names.specs.Kernel.VgetrandomState.{VgetrandomState, wiped_state}
+use Rattle.key_names.specs.Callers.VreadSteps.{published_by}
 use Rattle.key_names.proofs.Lists.Each.{each_set, each_weaker}
 use Rattle.lane_table.specs.declared.lanes.Lanes.{Lanes}
 use Rattle.lane_table.specs.Calls.{view}
@@ -28,7 +28,7 @@ use Rattle.caller_run.specs.Says.{ShowsFit}
 use Rattle.caller_run.specs.declared.caller.Caller.{Caller}
 use Rattle.caller_run.specs.declared.reply.Reply.{Reply}
 
--- at the start
+-- `Seen` holds at a caller's start
 pub seen_start : (found : ℕ) (set : calls.Setting) → Seen found (caller_start set)
 seen_start found set = let P : VgetrandomState → Type 0 =
     λ (st : VgetrandomState). st.generation ≤ published_by found in record {
@@ -37,7 +37,7 @@ seen_start found set = let P : VgetrandomState → Type 0 =
       published = recursion_from_All P (replicate 16 wiped_state) (All-replicate P 16 wiped_state (omega arith));
     }
 
--- a larger generation was seen
+-- `Seen` holds for a larger generation too
 pub seen_up : (a b : ℕ) (s : CallerState) → a ≤ b → Seen a s → Seen b s
 seen_up a b s le k = record {
   many = k.many;
@@ -47,7 +47,7 @@ seen_up a b s le k = record {
       (λ st low. let up = published_more a b le in omega arith) k.published;
 }
 
--- the current state is this one now
+-- `Seen` still holds after the current state was replaced
 pub seen_with : (found : ℕ) (s : CallerState) (st : VgetrandomState) → st.generation ≤ published_by found →
     Seen found s →
     Seen found (with_state s st)
@@ -58,7 +58,7 @@ seen_with found s st low k = record {
       low;
 }
 
--- after an event alone
+-- `Seen` still holds after an event alone
 pub seen_after : (version cpus found : ℕ) (s : CallerState) (event : Event) → InRange version cpus event →
     Seen found s →
     Seen found (caller_after s event)
@@ -69,7 +69,7 @@ seen_after version cpus found s event range k = record { many = k.many; current 
 
 -- the call of any event
 
--- the facts that remain after it; c is the caller before it, and d after it
+-- the facts that remain after the call; c is the caller before it, and d after it
 pub record Kept (t : Lanes) (event : Event) (c d : Caller) (said : Reply) : Type 0 where
   pub has : HoldsLanes t d.set.caller [] d.pass
   pub set : d.set ≡ c.set

@@ -9,16 +9,16 @@ use Rattle.key_names.specs.declared.entries.CpuEntry.{CpuEntry}
 use Rattle.key_names.specs.declared.events.Event.{Event}
 use Rattle.key_names.specs.declared.names.LaneId.{LaneId}
 use Rattle.key_names.specs.declared.names.Step.{Step}
-use Rattle.key_names.specs.BaseList.{base_after}
-use Rattle.key_names.specs.Book.{Book, Visit, lists_of, list_at}
-use Rattle.key_names.specs.Calls.{Setting, Call, calls_of, all_calls, alone, vread_call, unbound, ending, BoundAct}
-use Rattle.key_names.specs.Deeds.{deeds_of, Deed, deed_at, deed_of}
-use Rattle.key_names.specs.History.{ancestors_steps, calls_steps, orders_from, caller_orders, stamps_of, LooksStand}
-use Rattle.key_names.specs.Meaning.{CallMeaning, caller_start, LineMeaning}
-use Rattle.key_names.specs.Samples.{LawfulSamples, fast_before, visits_of}
+use Rattle.key_names.specs.Lanes.BaseList.{base_after}
+use Rattle.key_names.specs.Lanes.Book.{Book, Visit, lists_of, list_at}
+use Rattle.key_names.specs.Callers.Calls.{Setting, Call, calls_of, all_calls, alone, vread_call, unbound, ending, BoundAct}
+use Rattle.key_names.specs.Callers.Deeds.{deeds_of, Deed, deed_at, deed_of}
+use Rattle.key_names.specs.Callers.History.{ancestors_steps, calls_steps, orders_from, caller_orders, stamps_of, LooksStand}
+use Rattle.key_names.specs.Callers.Meaning.{CallMeaning, caller_start, LineMeaning}
+use Rattle.key_names.specs.Lanes.Samples.{LawfulSamples, fast_before, visits_of}
 use Rattle.key_names.specs.Texts.ScriptGrammar.{Script, WellFormed}
-use Rattle.key_names.specs.SeenLine.{SeenLine}
-use Rattle.key_names.specs.IsTranscript.{EachCaller, EachLine, CallsMean, CallerMeans, LinesFit, state_lists, start_setting, Rises, VisitsAre, all_marks, lane_marks, PlacesStand, FormsStand, IsTranscriptBy, EachAct, EachOfCall}
+use Rattle.key_names.specs.Transcripts.SeenLine.{SeenLine}
+use Rattle.key_names.specs.Transcripts.IsTranscript.{EachCaller, EachLine, CallsMean, CallerMeans, LinesFit, state_lists, start_setting, Rises, VisitsAre, all_marks, lane_marks, PlacesStand, FormsStand, IsTranscriptBy, EachAct, EachOfCall}
 use Rattle.base_gen.specs.BaseValue.{BaseValue}
 use Rattle.key_names.proofs.History.CallerOrders.{long_ancestors}
 use Rattle.lane_table.specs.declared.view.View.{View}
@@ -33,7 +33,7 @@ use Rattle.lane_table.proofs.Book.BookEnds.{ended_lanes, ended_lawful}
 use Rattle.lane_table.proofs.Book.BookMarks.{MarksVisit}
 use Rattle.lane_table.proofs.Book.BookMeans.{lanes_replay}
 use Rattle.lane_table.proofs.Rule.Floors.{generation_begun}
-use Rattle.key_names.specs.LineSamples.{SamplesStand}
+use Rattle.key_names.specs.Callers.LineSamples.{SamplesStand}
 use Rattle.rng_core.specs.SampleDeeds.{fast_in}
 use Rattle.caller_run.specs.Done.{CallsMeant}
 use Rattle.caller_run.specs.Items.{steps_of}
@@ -310,7 +310,7 @@ module _ (script : Script) (runs : List Run) (w : View) (ok : WellFormed script)
   places : (lane : LaneId) → PlacesStand (lane_marks lane (all_marks t))
   places = all_places w t states low ended visit ran.placed ran.made
 
-  -- a CPU's fast pool before a visit
+  -- a CPU's fast pool before a visit is the same in the book and in the lanes
   fast_is : (c place : ℕ) (v : Visit CpuEntry) → slice_get (visits_of book c) place ≡ Some v →
       fast_before (visits_of book c) place ≡ fast_in (known_of w) c place
   fast_is c place v at =

@@ -2,13 +2,13 @@
 use Rattle.std.proofs.Common.{◌≡◌, ℕ, ◌+◌, subst, arith, List, [], ◌∷◌, ◌++◌, refl, sym, ap, ◌∙◌, append-nil}
 use Rattle.std.proofs.lemmas.List.{map-append}
 use Rattle.std.proofs.lemmas.Grind.{flat_map-append}
-use Rattle.key_names.specs.Calls.{Call}
+use Rattle.key_names.specs.Callers.Calls.{Call}
 use Rattle.caller_run.specs.Items.{call_items, calls_items}
-use Rattle.key_names.specs.IsTranscript.{EachOfCall, EachLine, CallsMean}
-use Rattle.key_names.specs.Meaning.{CallerState, CallMeaning, LineMeaning, Means}
-use Rattle.key_names.specs.SeenLine.{SeenLine}
-use Rattle.key_names.specs.StatesReplayed.{caller_end}
-use Rattle.key_names.specs.Book.{Lists}
+use Rattle.key_names.specs.Transcripts.IsTranscript.{EachOfCall, EachLine, CallsMean}
+use Rattle.key_names.specs.Callers.Meaning.{CallerState, CallMeaning, LineMeaning, Means}
+use Rattle.key_names.specs.Transcripts.SeenLine.{SeenLine}
+use Rattle.key_names.specs.Transcripts.StatesReplayed.{caller_end}
+use Rattle.key_names.specs.Lanes.Book.{Lists}
 use Rattle.key_names.proofs.Lists.Each.{each_more}
 use Rattle.lane_table.specs.declared.view.View.{View}
 use Rattle.lane_table.specs.BookLists.{book_lists}
@@ -49,7 +49,7 @@ meant_more lists s t u calls call a b = record {
   shown = each_line_more _ calls a.meanings call b.meaning a.shown b.shown;
 }
 
--- no call
+-- the invariant holds before any call
 pub calls_done_nothing : (caller : ℕ) (v : View) (s : CallerState) → CallsDone caller 0 v v s s []
 calls_done_nothing caller v s = record {
   numbered_steps = [];
@@ -66,7 +66,7 @@ calls_done_nothing caller v s = record {
   samples = λ lanes visits callers c. tt;
 }
 
--- one call more
+-- the invariant holds after one call more
 pub calls_done_then : (caller m n : ℕ) (u v w : View) (s t r : CallerState) (calls : List Call) (call : Call) →
     CallsDone caller m u v s t calls → CallDoneBy caller n v w t r call →
     CallsDone caller (m + n) u w s r (calls ++ call ∷ [])
@@ -86,7 +86,7 @@ calls_done_then caller m n u v w s t r calls call a b = record {
       (b.samples lanes visits callers c);
 }
 
--- the same of a call that forks no caller
+-- the invariant holds after one call more that forks no caller
 pub calls_done_plainly : (caller m : ℕ) (u v w : View) (s t r : CallerState) (calls : List Call) (call : Call) →
     CallsDone caller m u v s t calls → CallDone caller v w t r call → CallsDone caller m u w s r (calls ++ call ∷ [])
 calls_done_plainly caller m u v w s t r calls call a b =

@@ -1,13 +1,13 @@
--- The calls of some events with their lines: a fact that each kind of call keeps holds of all of them.
+-- The calls of some events with their lines: if each kind of call keeps a fact, the fact holds for all of them.
 use Rattle.std.proofs.Common.{◌≡◌, ℕ, suc, Bool, true, false, List, [], ◌∷◌, ◌++◌, refl, sym, subst}
 use Rattle.std.specs.Prelude.{if◌then◌else◌}
 use Rattle.key_names.specs.declared.events.Event.{Event}
 use Rattle.key_names.specs.declared.events.Event.TheVariants.{Vread, Inside}
 use Rattle.key_names.specs.declared.events.Word.TheVariants.{End as EndWord}
 use Rattle.key_names.specs.Texts.ScriptGrammar.{event_word}
-use Rattle.key_names.specs.SeenLine.{SeenLine}
-use Rattle.key_names.specs.Calls.{Call, alone, vread_call, unbound, ending, BoundAct, has_vread, calls_from, calls_of}
-use Rattle.key_names.specs.IsTranscript.{LineIs, LinesFit}
+use Rattle.key_names.specs.Transcripts.SeenLine.{SeenLine}
+use Rattle.key_names.specs.Callers.Calls.{Call, alone, vread_call, unbound, ending, BoundAct, has_vread, calls_from, calls_of}
+use Rattle.key_names.specs.Transcripts.IsTranscript.{LineIs, LinesFit}
 
 abbrev pub Kept : Type 1
 Kept = List BoundAct → List Event → List SeenLine → List Call → Type 0
@@ -71,7 +71,7 @@ module _ (c : ℕ) (P : Kept) (k : Keeps c P) where
       k.does waiting n event es line lines (calls_from waiting es lines) fit.0
       (kept_from (suc n) waiting es lines none fit.1)
 
-  -- P holds of a caller's calls
+  -- P holds for a caller's calls
   pub kept : (events : List Event) (lines : List SeenLine) → LinesFit c 0 events lines →
       P [] events lines (calls_of events lines)
   kept events lines fit = kept_from 0 [] events lines (λ e. refl) fit

@@ -1,4 +1,4 @@
--- The steps of a call in the order in which they happen are those of its lines.
+-- The steps of a call, in the order in which they happen, are those of its lines.
 use Rattle.std.proofs.Common.{append_assoc, ◌≡◌, ℕ, ◌+◌, Bool, true, false, cond, List, [], ◌∷◌, ◌++◌, take, drop, map, refl, sym, ap, ◌∙◌, subst, arith, append-nil}
 use Rattle.std.specs.Prelude.{if◌then◌else◌}
 use Rattle.std.specs.List.{AllByRecursion, flat_map, sum_by}
@@ -7,11 +7,11 @@ use Rattle.std.proofs.lemmas.List.Sums.{sum_by-append}
 use Rattle.std.proofs.lemmas.Grind.{flat_map-append}
 use Rattle.key_names.specs.declared.point.Point.{Point}
 use Rattle.key_names.specs.declared.point.Point.TheVariants.{Start, Written, Serve, End}
-use Rattle.key_names.specs.Calls.{Call, alone, vread_call, unbound, ending, BoundAct}
-use Rattle.key_names.specs.History.{is_mark}
-use Rattle.key_names.specs.Points.{is_same_point}
+use Rattle.key_names.specs.Callers.Calls.{Call, alone, vread_call, unbound, ending, BoundAct}
+use Rattle.key_names.specs.Callers.History.{is_mark}
+use Rattle.key_names.specs.Kernel.Points.{is_same_point}
 use Rattle.caller_run.specs.Items.{Item, line_items, cut_items, cut_rekey, items_at_point, vread_items, call_items}
-use Rattle.key_names.specs.SeenLine.{SeenLine}
+use Rattle.key_names.specs.Transcripts.SeenLine.{SeenLine}
 use Rattle.key_names.proofs.Lists.Each.{each_append, each_left, each_right}
 use Rattle.caller_run.specs.Done.{lines_in_order}
 
@@ -44,11 +44,11 @@ rekey_whole (a ∷ b ∷ c ∷ items) = go (is_mark c.step)
     go true = ap (λ (l : List Item). a ∷ b ∷ l) (cut_whole (c ∷ items))
     go false = refl
 
--- two empty lists between others
+-- two empty lists between others can be left out
 pub no_steps : (xs ys a b front : List Item) → a ≡ [] → b ≡ [] → (((front ++ xs) ++ a) ++ b) ++ ys ≡ front ++ (xs ++ ys)
 no_steps xs ys a b front e f = (λ i. (((front ++ xs) ++ e i) ++ f i) ++ ys) ∙ simp append-nil (append_assoc front xs ys)
 
--- without steps at the points Serve and End the cut makes no difference
+-- if no act has steps at the points Serve and End, the cut makes no difference
 pub no_late : (items : List Item) (acts : List BoundAct) → items_at_point acts Serve ≡ [] →
     items_at_point acts End ≡ [] →
     vread_items items acts ≡ (take 2 items ++ items_at_point acts Start ++ items_at_point acts Written) ++ drop 2 items
@@ -74,7 +74,7 @@ module _ (f : Item → ℕ) where
   abbrev weight : List Item → ℕ
   weight items = sum_by f items
 
-  -- the steps of an act have weight at its own point only
+  -- the steps of an act have weight only at the act's own point
   abbrev weight_at : Point → ℕ → Point → ℕ
   weight_at p w point = cond (is_same_point p point) w 0
 
@@ -145,7 +145,7 @@ module _ (P : Item → Type 0) where
   At acts line p point =
       Each (if is_same_point p point then line_items line ++ items_at_point acts point else items_at_point acts point)
 
-  -- a fact about the steps of the acts at every point holds of each step of some lines
+  -- if a fact holds for the steps of the acts at each point, it holds for each step of these lines
   abbrev OfAll : List BoundAct → List SeenLine → Type 0
   OfAll acts lines = Each (items_at_point acts Start) → Each (items_at_point acts Written) →
       Each (items_at_point acts Serve) → Each (items_at_point acts End) → Each (lines_items lines)
@@ -171,7 +171,7 @@ module _ (P : Item → Type 0) where
       go Serve a b c d rest = both Serve c (λ x. rest a b x d)
       go End a b c d rest = both End d (λ x. rest a b c x)
 
-  -- a fact about each step of a call holds of each step of its lines
+  -- a fact about each step of a call holds for each step of its lines
   pub call_each : (call : Call) → Each (call_items call) → Each (lines_items (lines_in_order call))
   call_each (alone event line) all = subst Each (sym (append-nil (line_items line))) all
   call_each (vread_call len flags line acts) all =

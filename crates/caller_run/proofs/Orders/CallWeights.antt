@@ -5,16 +5,16 @@ use Rattle.std.proofs.lemmas.List.{map-append}
 use Rattle.std.proofs.lemmas.List.Sums.{sum_by-append}
 use Rattle.std.proofs.lemmas.Grind.{flat_map-append}
 use Rattle.key_names.specs.declared.events.Event.{Event}
-use Rattle.key_names.specs.Calls.{Call, alone, vread_call, unbound, BoundAct, calls_of}
+use Rattle.key_names.specs.Callers.Calls.{Call, alone, vread_call, unbound, BoundAct, calls_of}
 use Rattle.caller_run.specs.Items.{Item, line_items, call_items, calls_items}
-use Rattle.key_names.specs.SeenLine.{SeenLine}
-use Rattle.key_names.specs.IsTranscript.{LinesFit}
+use Rattle.key_names.specs.Transcripts.SeenLine.{SeenLine}
+use Rattle.key_names.specs.Transcripts.IsTranscript.{LinesFit}
 use Rattle.key_names.proofs.Lists.Each.{each_append, each_left, each_right}
 use Rattle.caller_run.specs.Done.{lines_in_order}
 use Rattle.caller_run.proofs.Orders.CallLists.{Kept, Keeps, kept}
 use Rattle.caller_run.proofs.Orders.CallSteps.{lines_items, act_line, vread_weight, call_each}
 
--- the steps of the waiting acts, with one more
+-- one more waiting act adds the steps of its line
 waiting_more : (waiting : List BoundAct) (bound : BoundAct) → lines_items (map act_line (waiting ++ bound ∷ []))
     ≡ lines_items (map act_line waiting) ++ line_items bound.line
 waiting_more waiting bound =
@@ -30,7 +30,7 @@ module _ (f : Item → ℕ) where
   Weighs waiting events lines calls =
       weight (calls_items calls) ≡ weight (lines_items (map act_line waiting)) + weight (lines_items lines)
 
-  -- one call more in front, and its own line
+  -- one call more in front adds the same weight as its own line
   in_front_of : (call : Call) (line : SeenLine) (calls : List Call) (lines : List SeenLine) (n m : ℕ) →
       weight (call_items call) ≡ n + weight (line_items line) →
       weight (calls_items calls) ≡ m + weight (lines_items lines) →
@@ -64,7 +64,7 @@ module _ (f : Item → ℕ) where
         (omega arith) rest in omega arith;
   }
 
-  -- they have the same weight
+  -- the steps of a caller's calls have the same weight as those of its lines
   pub calls_weight : (c : ℕ) (events : List Event) (lines : List SeenLine) → LinesFit c 0 events lines →
       weight (calls_items (calls_of events lines)) ≡ weight (lines_items lines)
   calls_weight c events lines fit = let e = kept c Weighs (keeps_weight c) events lines fit in omega arith
@@ -114,7 +114,7 @@ module _ (P : Item → Type 0) where
         );
   }
 
-  -- a fact about each step of the calls holds of each step of the lines
+  -- a fact about each step of the calls holds for each step of the lines
   pub calls_each : (c : ℕ) (events : List Event) (lines : List SeenLine) → LinesFit c 0 events lines →
       Each (calls_items (calls_of events lines)) → Each (lines_items lines)
   calls_each c events lines fit all = (kept c HoldsOfEach (keeps_each c) events lines fit all).1
@@ -146,7 +146,7 @@ module _ (Q : SeenLine → Type 0) where
     idles = λ waiting n bound es lines calls is rest all. let r = rest all.1 in (r.0, (all.0.0, r.1));
   }
 
-  -- a fact about each line of the calls holds of each line
+  -- a fact about each line of the calls holds for each line
   pub calls_lines : (c : ℕ) (events : List Event) (lines : List SeenLine) → LinesFit c 0 events lines →
       AllByRecursion (λ call. EachSeen (lines_in_order call)) (calls_of events lines) → EachSeen lines
   calls_lines c events lines fit all = (kept c HoldsOfLines (keeps_lines c) events lines fit all).1

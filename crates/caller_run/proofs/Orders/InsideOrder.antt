@@ -3,7 +3,7 @@ use Rattle.std.proofs.Common.{◌≡◌, ◌⊎◌, inl, inr, List, [], ◌∷�
 use Rattle.key_names.specs.declared.names.Step.{Step}
 use Rattle.key_names.specs.declared.point.Point.{Point}
 use Rattle.key_names.specs.declared.point.Point.TheVariants.{Start, Written, Serve, End}
-use Rattle.key_names.specs.Calls.{BoundAct}
+use Rattle.key_names.specs.Callers.Calls.{BoundAct}
 use Rattle.rng_core.specs.declared.setting.Setting.{Setting}
 use Rattle.rng_core.specs.Acts.{Ask, ActOutcome}
 use Rattle.rng_core.specs.InsideMakes.{bound_acts}
@@ -68,7 +68,7 @@ module _ (set : Setting) (asks : List Ask) where
           ∙ ap (λ (l : List Item). l ++ c.rekey) (c.write.line ∙ c.start.line ∙ c.looks.line
           ∙ ap (λ (l : List Step). items_from set.event 0 l ++ c.first ∷ c.second ∷ []) empty))
 
-      -- the acts at a point, as they are at the end
+      -- the acts at a point made the steps that they have at the end
       at_last : (p : Point) (u v : Spot) → Reached set asks p u v → Kept p s u → Kept p v t →
           Part set.caller (view_at u) (view_at v) (here p)
       at_last p u v k before after =
@@ -135,7 +135,7 @@ module _ (set : Setting) (asks : List Ask) where
       pub course_part : Part set.caller (view_at s) (view_at t) (vread_items (line_of set asks t) acts)
       course_part = subst (Part set.caller (view_at s) (view_at t)) in_order all
 
-  -- a call that came to no point
+  -- a call that came to no point made exactly its own steps
   pub quiet_part : (s t : Spot) (items : List Item) → ((p : Point) → Untouched p asks s.outcomes) → s.moment.steps ≡ [] →
       OwnSteps set asks s t items →
       Part set.caller (view_at s) (view_at t) (vread_items (line_of set asks t) (bound_acts set asks t.outcomes))

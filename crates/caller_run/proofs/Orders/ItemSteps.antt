@@ -5,10 +5,10 @@ use Rattle.std.proofs.lemmas.List.{map-append}
 use Rattle.key_names.specs.declared.names.Step.{Step}
 use Rattle.key_names.specs.declared.point.Point.{Point}
 use Rattle.key_names.specs.declared.point.Point.TheVariants.{Start, Written, Serve, End}
-use Rattle.key_names.specs.Calls.{Call, alone, vread_call, unbound, ending, BoundAct}
-use Rattle.key_names.specs.History.{is_mark, cut_behind_visits, cut_behind_rekey, steps_at_point, vread_steps, call_steps, calls_steps}
-use Rattle.key_names.specs.Points.{is_same_point}
-use Rattle.key_names.specs.SeenLine.{SeenLine}
+use Rattle.key_names.specs.Callers.Calls.{Call, alone, vread_call, unbound, ending, BoundAct}
+use Rattle.key_names.specs.Callers.History.{is_mark, cut_behind_visits, cut_behind_rekey, steps_at_point, vread_steps, call_steps, calls_steps}
+use Rattle.key_names.specs.Kernel.Points.{is_same_point}
+use Rattle.key_names.specs.Transcripts.SeenLine.{SeenLine}
 use Rattle.caller_run.specs.Items.{Item, steps_of, items_from, line_items, items_at_point, cut_items, cut_rekey, vread_items, call_items, calls_items}
 
 steps_append : (xs ys : List Item) → steps_of (xs ++ ys) ≡ steps_of xs ++ steps_of ys

@@ -3,8 +3,8 @@ use Rattle.std.proofs.Common.{◌≡◌, ℕ, zero, suc, ◌<◌, true, false, L
 use Rattle.std.specs.Prelude.{if◌then◌else◌}
 use Rattle.key_names.specs.declared.events.Event.{Event}
 use Rattle.key_names.specs.declared.events.Event.TheVariants.{Vread, Inside}
-use Rattle.key_names.specs.SeenLine.{SeenLine}
-use Rattle.key_names.specs.Calls.{Call, alone, vread_call, unbound, ending, BoundAct, has_vread, calls_from, calls_of}
+use Rattle.key_names.specs.Transcripts.SeenLine.{SeenLine}
+use Rattle.key_names.specs.Callers.Calls.{Call, alone, vread_call, unbound, ending, BoundAct, has_vread, calls_from, calls_of}
 use Rattle.key_names.proofs.Lists.Each.{each_more}
 use Rattle.rng_core.specs.Acts.{Ask}
 use Rattle.caller_run.specs.Waiting.{told_anew, bound_by, all_bound, IsAlone, CallsSoFar}
@@ -54,7 +54,7 @@ alone_follows event is es = refl
 one_call : (calls : List Call) (call : Call) (rest : List Call) → calls ++ call ∷ rest ≡ (calls ++ call ∷ []) ++ rest
 one_call calls call rest = sym (append_assoc calls (call ∷ []) rest)
 
--- at the start
+-- at the start no call was made
 pub so_far_nothing : (events : List Event) → CallsSoFar events events [] [] []
 so_far_nothing events = record {
   told = tt;
@@ -63,7 +63,7 @@ so_far_nothing events = record {
 }
 
 module _ (events es : List Event) (lines : List SeenLine) (waiting : List Ask) (calls : List Call) where
-  -- a line at the end; its event makes one call more, and the same acts wait
+  -- after one line more, of an event that makes one call, there is one call more, and the same acts wait
   one_more : (event : Event) (line : SeenLine) (call : Call) → CallsSoFar events (event ∷ es) lines waiting calls →
       (has_vread es ≡ false → waiting ≡ []) →
       ((acts : List BoundAct) (more : List SeenLine) →
@@ -80,7 +80,7 @@ module _ (events es : List Event) (lines : List SeenLine) (waiting : List Ask) (
         ∙ one_call calls call (calls_from (all_bound waiting acts) es more);
   }
 
-  -- an event alone
+  -- after an event alone there is one call more
   pub so_far_alone : (event : Event) (line : SeenLine) → IsAlone event →
       CallsSoFar events (event ∷ es) lines waiting calls →
       CallsSoFar events es (lines ++ line ∷ []) waiting (calls ++ alone event line ∷ [])
@@ -88,7 +88,7 @@ module _ (events es : List Event) (lines : List SeenLine) (waiting : List Ask) (
       one_more event line (alone event line) s (λ none. s.follows (alone_follows event is es ∙ none))
       (λ acts more. alone_first event is acts es line more)
 
-  -- an act without a vread after it
+  -- after an act that no vread follows there is one call more
   pub so_far_idle : (x : Ask) (line : SeenLine) → has_vread es ≡ false →
       CallsSoFar events (Inside x.point x.act ∷ es) lines waiting calls →
       CallsSoFar events es (lines ++ line ∷ []) waiting (calls ++ unbound (bound_by x line) ∷ [])
@@ -97,7 +97,7 @@ module _ (events es : List Event) (lines : List SeenLine) (waiting : List Ask) (
       (λ acts more. ap (λ b. if b then calls_from (acts ++ bound_by x line ∷ []) es more else
       unbound (bound_by x line) ∷ calls_from acts es more) none)
 
-  -- an act that waits for a vread
+  -- after an act that waits for a vread there is one waiting act more
   pub so_far_waits : (x : Ask) (idle : SeenLine) → has_vread es ≡ true → x.event ≡ length lines →
       CallsSoFar events (Inside x.point x.act ∷ es) lines waiting calls →
       CallsSoFar events es (lines ++ idle ∷ []) (waiting ++ x ∷ []) calls
@@ -126,7 +126,7 @@ module _ (events es : List Event) (lines : List SeenLine) (waiting : List Ask) (
           (sym (bound_more waiting l.front x l.line l.many))
           ∙ ap (λ (ls : List SeenLine). calls ++ calls_from (all_bound (waiting ++ x ∷ []) ls) es more) (sym l.is)
 
-  -- a vread, with the lines of the acts that waited for it
+  -- after a vread there is one call more, with the lines of the acts that waited for it
   pub so_far_vread : (len flags : ℕ) (line : SeenLine) (acts : List SeenLine) → length acts ≡ length waiting →
       CallsSoFar events (Vread len flags ∷ es) lines waiting calls →
       CallsSoFar events es (told_anew lines waiting acts ++ line ∷ []) []

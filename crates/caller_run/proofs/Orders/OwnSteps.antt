@@ -5,9 +5,9 @@ use Rattle.std.proofs.lemmas.List.{append_cancel_left}
 use Rattle.key_names.specs.declared.names.Step.{Step}
 use Rattle.key_names.specs.declared.names.Step.TheVariants.{Look}
 use Rattle.key_names.specs.declared.point.Point.{Point}
-use Rattle.key_names.specs.Flags.{is_bad}
-use Rattle.key_names.specs.History.{is_mark}
-use Rattle.key_names.specs.Vgetrandom.{SystemAnswer, HostStep, publishes, system_call, at_point}
+use Rattle.key_names.specs.Kernel.Flags.{is_bad}
+use Rattle.key_names.specs.Callers.History.{is_mark}
+use Rattle.key_names.specs.Kernel.Vgetrandom.{SystemAnswer, HostStep, publishes, system_call, at_point}
 use Rattle.lane_table.specs.declared.view.View.{View}
 use Rattle.lane_table.specs.Advances.{MadeStep, looked, step_of}
 use Rattle.vdso_state.specs.Host.{DoesAll}
@@ -32,7 +32,7 @@ view_at s = s.moment.view
 abbrev pub spot : ActStand → Spot
 spot t = record { moment = t.core.moment; outcomes = t.outcomes }
 
--- no act can run: no attempt has begun, or only a later one will come to points
+-- no act can run: no attempt has begun, or only a later attempt will come to points
 abbrev pub Quiet : Attempt → List HostStep → Type 0
 Quiet attempt [] = ⊤
 Quiet attempt (publishes g ∷ steps) = Quiet attempt steps

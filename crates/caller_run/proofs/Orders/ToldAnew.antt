@@ -5,10 +5,10 @@ use Rattle.std.specs.List.{AllByRecursion}
 use Rattle.std.proofs.lemmas.List.{set-append_left, length-set}
 use Rattle.key_names.specs.declared.events.Event.{Event}
 use Rattle.key_names.specs.declared.events.Word.TheVariants.{End as EndWord, Inside as InsideWord}
-use Rattle.key_names.specs.Calls.{BoundAct}
-use Rattle.key_names.specs.IsTranscript.{LineIs, LinesFit}
+use Rattle.key_names.specs.Callers.Calls.{BoundAct}
+use Rattle.key_names.specs.Transcripts.IsTranscript.{LineIs, LinesFit}
 use Rattle.key_names.specs.Texts.ScriptGrammar.{event_word}
-use Rattle.key_names.specs.SeenLine.{SeenLine}
+use Rattle.key_names.specs.Transcripts.SeenLine.{SeenLine}
 use Rattle.key_names.proofs.Lists.Growing.{front_stays}
 use Rattle.std.proofs.lemmas.Option.{slice_get_within}
 use Rattle.key_names.specs.declared.events.Word.{Word}
@@ -29,7 +29,7 @@ anew_long lines [] acts = refl
 anew_long lines (a ∷ asks) [] = refl
 anew_long lines (a ∷ asks) (l ∷ acts) = anew_long (slice_set lines a.event l) asks acts ∙ length-set lines a.event l
 
--- with more lines after them
+-- lines after the replaced ones stay as they are
 pub anew_front : (lines more : List SeenLine) (asks : List Ask) (acts : List SeenLine) → AreTold (length lines) asks →
     told_anew (lines ++ more) asks acts ≡ told_anew lines asks acts ++ more
 anew_front lines more [] acts told = refl
@@ -39,7 +39,7 @@ anew_front lines more (a ∷ asks) (l ∷ acts) told =
     ∙ anew_front (slice_set lines a.event l) more asks acts
     (subst (λ (n : ℕ). AreTold n asks) (sym (length-set lines a.event l)) told.1)
 
--- the last of them is the last act's
+-- the last line is that of the last act
 pub anew_last : (lines : List SeenLine) (idle line : SeenLine) (asks : List Ask) (x : Ask) (acts : List SeenLine) →
     x.event ≡ length lines →
     AreTold (length lines) asks → length acts ≡ length asks →

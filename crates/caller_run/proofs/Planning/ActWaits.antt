@@ -8,10 +8,10 @@ use Rattle.key_names.specs.declared.events.Event.{Event}
 use Rattle.key_names.specs.declared.events.Event.TheVariants.{Inside}
 use Rattle.key_names.specs.declared.events.InsideAct.{InsideAct}
 use Rattle.key_names.specs.declared.events.Word.TheVariants.{Inside as InsideWord}
-use Rattle.key_names.specs.Calls.{unbound, has_vread}
-use Rattle.key_names.specs.IsTranscript.{LineIs, LinesFit}
+use Rattle.key_names.specs.Callers.Calls.{unbound, has_vread}
+use Rattle.key_names.specs.Transcripts.IsTranscript.{LineIs, LinesFit}
 use Rattle.key_names.specs.Texts.ScriptGrammar.{InRange}
-use Rattle.key_names.specs.SeenLine.{SeenLine, no_data}
+use Rattle.key_names.specs.Transcripts.SeenLine.{SeenLine, no_data}
 use Rattle.caller_run.proofs.Planning.LogFills.{Fills, fills_act, new_bound}
 use Rattle.caller_run.proofs.Forks.HasAdvanced.{gone_on}
 use Rattle.caller_run.proofs.Events.CanAdvance.{can_next}

@@ -6,10 +6,10 @@ use Rattle.std.specs.List.{AllByRecursion, fold}
 use Rattle.std.proofs.lemmas.List.{map-append}
 use Rattle.std.proofs.Math.ListN.{get_or-map}
 use Rattle.key_names.specs.declared.names.Step.{Step}
-use Rattle.key_names.specs.Book.{list_at}
-use Rattle.key_names.specs.Calls.{Setting, Call, parent_from, first_setting, first_settings, setting_of, setting_after_call, inherited_setting, all_calls}
-use Rattle.key_names.specs.History.{ancestors_steps, inherited_steps, calls_steps, through_visit}
-use Rattle.key_names.specs.IsTranscript.{EachCaller, start_setting}
+use Rattle.key_names.specs.Lanes.Book.{list_at}
+use Rattle.key_names.specs.Callers.Calls.{Setting, Call, parent_from, first_setting, first_settings, setting_of, setting_after_call, inherited_setting, all_calls}
+use Rattle.key_names.specs.Callers.History.{ancestors_steps, inherited_steps, calls_steps, through_visit}
+use Rattle.key_names.specs.Transcripts.IsTranscript.{EachCaller, start_setting}
 use Rattle.key_names.specs.Texts.ScriptGrammar.{Script, WellFormed, times_forked}
 use Rattle.key_names.proofs.History.CallerOrders.{below, list_front, list_last, long_ancestors}
 use Rattle.key_names.proofs.Transcripts.Settings.{setting_front, setting_last, long_settings}
@@ -85,7 +85,7 @@ course_more w u v caller n numbered_steps steps ran sized grows c =
           (known_grown v w (made_steps_of numbered_steps) sized grows here);
     }
 
--- a pass that was split off has seen as much
+-- a pass that was split off has seen as much as the pass that was split
 pub floor_child : (v : View) → floor (split_off v) ≡ floor v
 floor_child v = ap (λ (a : LaneView). max v.seen (replay a.known).base.generation) (get_or-map told v.lanes 1 blank)
 

@@ -2,7 +2,7 @@
 use Rattle.std.proofs.Common.{◌≡◌, ℕ, ◌<◌, List, [], ◌∷◌, ◌++◌, length, map, refl, ap, ◌∙◌, subst}
 use Rattle.std.proofs.lemmas.List.{map-append}
 use Rattle.key_names.specs.declared.events.Event.{Event}
-use Rattle.key_names.specs.Book.{list_at}
+use Rattle.key_names.specs.Lanes.Book.{list_at}
 use Rattle.caller_run.specs.declared.rooms.Room.{Room}
 use Rattle.caller_run.specs.Forest.{forks}
 use Rattle.caller_run.specs.Grove.{Grove, cleared, planted, Plot, plant, seeded, grove_of, told_in}

@@ -11,7 +11,7 @@ use Rattle.key_names.specs.declared.events.InsideAct.{InsideAct}
 use Rattle.key_names.specs.declared.events.InsideAct.TheVariants.{Wipe, Vread as ReadAct, Reseed}
 use Rattle.key_names.specs.declared.point.Point.{Point}
 use Rattle.key_names.specs.Texts.ScriptGrammar.{ActInRange, acts_after}
-use Rattle.key_names.specs.SeenLine.{SeenLine}
+use Rattle.key_names.specs.Transcripts.SeenLine.{SeenLine}
 use Rattle.key_names.proofs.Lists.Each.{each_more}
 use Rattle.rng_core.specs.declared.vdso.acts.Bound.{Bound}
 use Rattle.rng_core.specs.Acts.{Ask, wants, all_wanted, ask_of, asks_of}
@@ -22,14 +22,14 @@ use Rattle.transcript_text.specs.Gathered.{Gathered}
 use Rattle.caller_run.specs.Standing.{read_inside}
 use Rattle.caller_run.proofs.Orders.ToldAnew.{AreTold, told_more}
 
--- a list after its items were lent out and came back
+-- a list has the items that came back, after its own were lent out
 pub put_back : {A : Type 0} (back items : List A) (n : ℕ) → length back ≡ n
     → take n (back ++ drop (length back) items) ≡ back
 put_back back items n long =
     ap (λ (k : ℕ). take k (back ++ drop (length back) items)) (sym long)
     ∙ take-append_seam back (drop (length back) items)
 
--- the larger of two
+-- a number that is at most one of two is at most the larger
 pub above : (n most more max : ℕ) → max ≡ ord_max nat_cmp most more → n ≤ most → n ≤ max
 above n most more max is le = grind (arith, nat_tests)
 
@@ -72,7 +72,7 @@ short Wipe range = omega arith
 short (ReadAct len) range = range
 short Reseed range = omega arith
 
--- acts that are not done yet want at most as many bytes as a vread gives each of them
+-- acts that are not done yet want at most 2^20 bytes each
 pub wanted_few : (bounds : List Bound) → AllByRecursion IsWaitingAct bounds →
     all_wanted (asks_of bounds) ≤ 1048576 * length bounds
 wanted_few [] all = omega arith
@@ -83,7 +83,7 @@ module _ (before after : Gathered) (line : SeenLine) (lines : after.lines ≡ be
   one_line : length after.lines ≡ length before.lines + 1
   one_line = ap length lines ∙ length-append before.lines (line ∷ [])
 
-  -- a call of the core
+  -- a call of the core adds its line
   pub fills_call : {event : Event} {acts : List Bound} → IsCall event → before.step_room ≤ after.step_room + 20 →
       before.byte_room ≤ after.byte_room + most_shown event →
       AllByRecursion IsWaitingAct acts → AreTold (length before.lines) (asks_of acts) → Fills event before after acts acts
@@ -99,7 +99,7 @@ module _ (before after : Gathered) (line : SeenLine) (lines : after.lines ≡ be
         (told_more before.lines line (asks_of acts) told);
   }
 
-  -- an act that waits
+  -- an act that waits adds its line
   pub fills_act : (point : Point) (act : InsideAct) (event : ℕ) (acts : List Bound) →
       before.step_room ≤ after.step_room → before.byte_room ≤ after.byte_room → ActInRange act →
       event ≡ length before.lines → AllByRecursion IsWaitingAct acts → AreTold (length before.lines) (asks_of acts) →
@@ -124,7 +124,7 @@ module _ (before after : Gathered) (line : SeenLine) (lines : after.lines ≡ be
             (told_more before.lines line (asks_of acts) told) (omega (arith, length-append before.lines (line ∷ [])))));
       }
 
--- a vread; after it no act waits
+-- a vread adds its line; after it no act waits
 pub fills_read : {before after : Gathered} {n flags : ℕ} {acts left : List Bound} →
     length after.lines ≡ length before.lines + 1 →
     after.line_room + 1 ≡ before.line_room → before.step_room ≤ after.step_room + 20 * (length acts + 1) →

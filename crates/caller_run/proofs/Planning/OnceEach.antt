@@ -8,7 +8,7 @@ use Rattle.std.proofs.lemmas.Bool.Decides.{nat_tests}
 use Rattle.std.proofs.lemmas.List.Sums.{sum_by-cons, sum_by-append}
 use Rattle.key_names.specs.declared.events.Event.{Event}
 use Rattle.key_names.specs.declared.events.Event.TheVariants.{Fork}
-use Rattle.key_names.specs.Book.{list_at}
+use Rattle.key_names.specs.Lanes.Book.{list_at}
 use Rattle.key_names.specs.Texts.ScriptGrammar.{Script, WellFormed, is_fork_of, times_forked, ForksAbove, IsForkAbove}
 use Rattle.caller_run.proofs.Planning.Sums.{hit, hit_same, hit_other, sum_none, sum_same, sum_both, sum_range}
 use Rattle.caller_run.specs.Forest.{Forest, no_more, more, forked_by, forks, numbers, AreForked}
@@ -61,7 +61,7 @@ none_of g x first (suc count) low =
     let here : hit (x == first) * g first ≡ 0 = ap (λ (n : ℕ). n * g first) none ∙ omega arith in
     let rest = none_of g x (first + 1) count (omega arith) in omega arith
 
--- the term of one number
+-- a sum that counts only the number x is the term of x
 pick : (g : ℕ → ℕ) (x first count : ℕ) → first ≤ x → x < first + count →
     sum_by (λ j. hit (x == j) * g j) (range_with_len first count) ≡ g x
 pick g x first zero low high = absurd (omega arith)

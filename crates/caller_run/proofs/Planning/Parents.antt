@@ -7,9 +7,9 @@ use Rattle.std.proofs.lemmas.List.Sums.{sum_by-cons}
 use Rattle.key_names.specs.declared.events.Event.{Event}
 use Rattle.key_names.specs.declared.events.Event.TheVariants.{Fork, Vread, Inside}
 use Rattle.key_names.specs.Texts.ScriptGrammar.{is_fork_of}
-use Rattle.key_names.specs.SeenLine.{SeenLine}
-use Rattle.key_names.specs.Calls.{Call, alone, ForkPoint, with_call_before, fork_point, parent_here, parent_from, calls_of, all_calls}
-use Rattle.key_names.specs.IsTranscript.{EachCaller, LinesFit}
+use Rattle.key_names.specs.Transcripts.SeenLine.{SeenLine}
+use Rattle.key_names.specs.Callers.Calls.{Call, alone, ForkPoint, with_call_before, fork_point, parent_here, parent_from, calls_of, all_calls}
+use Rattle.key_names.specs.Transcripts.IsTranscript.{EachCaller, LinesFit}
 use Rattle.caller_run.specs.Laws.{Run, HasRun, IsOneOf, lines_of_all}
 use Rattle.caller_run.specs.Standing.{Start, Forked}
 use Rattle.caller_run.proofs.Orders.CallLists.{Kept, Keeps, kept}
@@ -50,7 +50,7 @@ pub counted : (caller c : ℕ) (events : List Event) (lines : List SeenLine) →
     forks_in c (calls_of events lines) ≡ count_by (is_fork_of c) events
 counted caller c events lines fit = kept caller (Counted c) (keeps_counted caller c) events lines fit
 
--- if no call forks it, none is found
+-- if no call forks the number, no fork is found
 pub none_found : (c : ℕ) (calls : List Call) → forks_in c calls ≡ 0 → fork_point c calls ≡ None
 none_found c [] none = refl
 none_found c (alone (Fork child) line ∷ calls) none = go (child == c) none (λ rest. none_found c calls rest)
@@ -62,7 +62,7 @@ none_found c (alone (Fork child) line ∷ calls) none = go (child == c) none (λ
     go false none rest = ap (with_call_before (alone (Fork child) line)) (rest (omega arith))
 none_found c (call ∷ calls) none = ap (with_call_before call) (none_found c calls none)
 
--- the first call that forks it is found
+-- the first call that forks the number is found
 pub found : (c : ℕ) (before : List Call) (line : SeenLine) (after : List Call) → forks_in c before ≡ 0 →
     fork_point c (before ++ alone (Fork c) line ∷ after) ≡ Some (record { before = before; line = line })
 found c [] line after none =
@@ -88,7 +88,7 @@ forks_append c [] ys = omega arith
 forks_append c (alone (Fork child) line ∷ xs) ys = let rest = forks_append c xs ys in omega arith
 forks_append c (call ∷ xs) ys = forks_append c xs ys
 
--- these calls fork it here
+-- these calls fork the number at this fork
 pub record ForksAt (c : ℕ) (calls : List Call) (fork : ForkPoint) : Type 0 where
   pub after : List Call
   pub is : calls ≡ fork.before ++ alone (Fork c) fork.line ∷ after
@@ -102,7 +102,7 @@ forked_once c calls fork f =
       (λ most. ap (fork_point c) f.is ∙ found c fork.before fork.line f.after (omega (arith, one))),
     )
 
--- a fact about each element of a list holds of one of them
+-- a fact about each element of a list holds for any one of them
 pub each_of : {X : Type 0} (P : X → Type 0) (x : X) (xs : List X) → AllByRecursion P xs → IsOneOf x xs → P x
 each_of P x [] all here = absurd here
 each_of P x (y ∷ ys) all (inl same) = subst P same all.0
@@ -172,7 +172,7 @@ parent_is k (es ∷ callers) (r ∷ rs) p kid each (inr rest) there most =
           ∙ more.is;
     }
 
--- a caller that no call forks has no parent
+-- if no call forks a caller, it has no parent
 pub no_parent : (c k : ℕ) (callers : List (List Event)) (runs : List Run) → EachCaller HasRun k callers runs →
     sum_by (count_by (is_fork_of c)) callers ≡ 0 →
     parent_from c k (all_calls callers (lines_of_all runs)) ≡ None

@@ -9,9 +9,9 @@ use Rattle.std.proofs.lemmas.List.{length-set, map-set, length-map, drop_all, ta
 use Rattle.std.proofs.lemmas.List.Sums.{sum_by-cons}
 use Rattle.key_names.specs.declared.events.Event.{Event}
 use Rattle.key_names.specs.declared.events.Event.TheVariants.{Fork}
-use Rattle.key_names.specs.Book.{list_at}
+use Rattle.key_names.specs.Lanes.Book.{list_at}
 use Rattle.key_names.specs.Texts.ScriptGrammar.{Script, WellFormed, is_fork_of, IsForkAbove}
-use Rattle.key_names.specs.SeenLine.{SeenLine}
+use Rattle.key_names.specs.Transcripts.SeenLine.{SeenLine}
 use Rattle.key_names.proofs.Lists.ListFacts.{list_is}
 use Rattle.transcript_text.specs.Gathered.{Gathered}
 use Rattle.caller_run.specs.declared.rooms.Room.{Room}
@@ -27,13 +27,13 @@ use Rattle.caller_run.proofs.Planning.Sums.{hit, hit_same}
 use Rattle.caller_run.proofs.Planning.Slots.{put_long, put_append}
 use Rattle.caller_run.proofs.Forks.WentOn.{above_number, few_events}
 
--- these are the events of a caller that are left, and the rooms of the callers that the others fork are made
+-- these events of a caller are left, and the rooms of the callers that its other events fork are made
 pub record PreparedSoFar (callers : List (List Event)) (c : ℕ) (rest : List Event) (g : Grove) : Type 0 where
   pub done : List Event
   pub all : list_at callers c ≡ rest ++ done
   pub ready : ArePrepared callers g (forks done)
 
--- the lines of these rooms are left, and those of the others are in their slots
+-- the lines of the rooms in g are still in them, and the other lines are in their slots
 pub record GatheredSoFar (before now : List Gathered) (all : List (ℕ × List SeenLine)) (g : Grove) : Type 0 where
   pub many : length now ≡ length before
   pub left : put_in (lines_in now) (told_in g) ≡ put_in (lines_in before) all
@@ -166,7 +166,7 @@ as_many before after told is =
     sym (length-map after (λ (x : Gathered). x.lines)) ∙ ap length is ∙ put_long (lines_in before) told
     ∙ length-map before (λ (x : Gathered). x.lines)
 
--- the slots of a vector, written as a slice
+-- slots that were written as a slice are in their vector again
 pub slots_back : (n : ℕ) (items before after : List Gathered) (told : List (ℕ × List SeenLine)) → before ≡ items →
     n ≡ length items → lines_in after ≡ put_in (lines_in before) told →
     lines_in (take n (after ++ drop (length after) items)) ≡ put_in (lines_in items) told

@@ -4,8 +4,8 @@ use Rattle.std.specs.Prelude.{slice_get, slice_set}
 use Rattle.std.specs.List.{AllByRecursion}
 use Rattle.std.proofs.lemmas.List.{length-set}
 use Rattle.key_names.specs.declared.events.Event.{Event}
-use Rattle.key_names.specs.IsTranscript.{LinesFit}
-use Rattle.key_names.specs.SeenLine.{SeenLine}
+use Rattle.key_names.specs.Transcripts.IsTranscript.{LinesFit}
+use Rattle.key_names.specs.Transcripts.SeenLine.{SeenLine}
 use Rattle.key_names.specs.Texts.TranscriptGrammar.{LastHasLines}
 use Rattle.key_names.proofs.Transcripts.TranscriptStates.{set_here, set_other}
 use Rattle.caller_run.specs.Laws.{Run, IsOneOf, lines_of_all}
@@ -40,7 +40,7 @@ left_so k t (r ∷ rs) none =
     left_so k (slice_set t (number r) r.lines) rs (omega arith)
     ∙ set_other t (number r) k r.lines (λ e. let h = hit_same (number r) k e in absurd (omega arith))
 
--- and the slot of a caller with one run gets its lines
+-- the slot of a caller with one run gets that run's lines
 put_so : (k : ℕ) (t : List (List SeenLine)) (runs : List Run) → k < length t → times_in k (numbers_of runs) ≡ 1 →
     (r : Run) → IsOneOf r runs → number r ≡ k → slice_get (put_in t (map numbered runs)) k ≡ Some r.lines
 put_so k t [] low one r here own = absurd here

@@ -5,12 +5,12 @@ use Rattle.std.proofs.lemmas.List.Sums.{fold-append}
 use mathlib.Core.Logic.{dite}
 use native.Mathlib.Decide.{ℕ_discrete}
 use Rattle.key_names.specs.declared.names.Step.{Step}
-use Rattle.key_names.specs.Book.{list_at}
-use Rattle.key_names.specs.Calls.{Call}
-use Rattle.key_names.specs.Deeds.{Deed}
-use Rattle.key_names.specs.History.{ancestors_steps, inherited_steps, orders_from, calls_steps, through_visit}
-use Rattle.key_names.specs.History.{seen, seen_after, LooksStand}
-use Rattle.key_names.specs.CallerOrders.{start_of, OrderIsStartAndOwn, StartIsAFront, LooksFrom, LooksAreCounted, LooksInParts}
+use Rattle.key_names.specs.Lanes.Book.{list_at}
+use Rattle.key_names.specs.Callers.Calls.{Call}
+use Rattle.key_names.specs.Callers.Deeds.{Deed}
+use Rattle.key_names.specs.Callers.History.{ancestors_steps, inherited_steps, orders_from, calls_steps, through_visit}
+use Rattle.key_names.specs.Callers.History.{seen, seen_after, LooksStand}
+use Rattle.key_names.specs.Callers.CallerOrders.{start_of, OrderIsStartAndOwn, StartIsAFront, LooksFrom, LooksAreCounted, LooksInParts}
 
 -- Lists that grow at the end
 

@@ -14,11 +14,11 @@ use Rattle.key_names.specs.declared.names.LaneId.TheVariants.{Pool as PoolLane, 
 use Rattle.key_names.specs.declared.names.Mark.{Mark}
 use Rattle.key_names.specs.declared.names.Who.{Who}
 use Rattle.key_names.specs.declared.entries.CpuEntry.{CpuEntry}
-use Rattle.key_names.specs.Book.{Book, Visit, list_at}
-use Rattle.key_names.specs.BookHistory.{Happening, visits_from, visits_of_lane, visits_of_cpus, all_visits, lane_visits}
-use Rattle.key_names.specs.BookHistory.{comes_before, HistoryKeepsLanes}
-use Rattle.key_names.specs.IsTranscript.{MarkBy, is_same_lane, all_marks, lane_marks, PlacesStand, stamped, stamped_at}
-use Rattle.key_names.specs.IsTranscript.{VisitsAre}
+use Rattle.key_names.specs.Lanes.Book.{Book, Visit, list_at}
+use Rattle.key_names.specs.Lanes.BookHistory.{Happening, visits_from, visits_of_lane, visits_of_cpus, all_visits, lane_visits}
+use Rattle.key_names.specs.Lanes.BookHistory.{comes_before, HistoryKeepsLanes}
+use Rattle.key_names.specs.Transcripts.IsTranscript.{MarkBy, is_same_lane, all_marks, lane_marks, PlacesStand, stamped, stamped_at}
+use Rattle.key_names.specs.Transcripts.IsTranscript.{VisitsAre}
 use Rattle.key_names.proofs.Lists.Each.{each_weaker, each_both}
 use Rattle.key_names.proofs.Transcripts.LaneCounts.{of_lane, each_place, within_lane, lane_counts}
 use Rattle.key_names.proofs.History.SortedVisits.{one_if, Rising, Sorted, count, IsIn, sorted_is}
@@ -84,7 +84,7 @@ module _ (p : Happening → Bool) where
       go true is rest = (all.0 is, rest)
       go false is rest = rest
 
--- a sorted list in order of stamps
+-- a list sorted by `comes_before` has sorted stamps
 sorted_stamps : (hs : List Happening) → IsSortedBy comes_before hs → Sorted stamp_of hs
 sorted_stamps [] sorted = tt
 sorted_stamps (h ∷ []) sorted = (tt, tt)

@@ -14,7 +14,7 @@ IsIn x [] = ⊥
 IsIn x (y ∷ ys) = (y ≡ x) ⊎ IsIn x ys
 
 module _ {X : Type 0} (number : X → ℕ) where
-  -- each number is below all later ones, or not above them
+  -- `Rising`: each number is below all later ones. `Sorted`: no number is above a later one
   abbrev pub Rising : List X → Type 0
   Rising [] = ⊤
   Rising (x ∷ xs) = AllByRecursion (λ y. number x < number y) xs × Rising xs
@@ -43,7 +43,7 @@ module _ {X : Type 0} (number : X → ℕ) where
     | inr other ↦ other.1 ∙ none_above k xs above.1
   ]
 
-  -- if some element has this number, the number is not below a lower bound of all
+  -- if some element has the number k, a lower bound of all numbers is at most k
   bound_le : (low k : ℕ) (xs : List X) → AllByRecursion (λ y. low ≤ number y) xs → 1 ≤ count k xs → low ≤ k
   bound_le low k [] bound some = absurd (omega arith)
   bound_le low k (x ∷ xs) bound some = elim (counted k x xs) [
@@ -51,7 +51,7 @@ module _ {X : Type 0} (number : X → ℕ) where
     | inr other ↦ bound_le low k xs bound.1 (let is = other.1 in omega arith)
   ]
 
-  -- elements that are not below a number are above it if none has it
+  -- if no element has the number k and none is below k, all are above k
   all_above : (k : ℕ) (xs : List X) → AllByRecursion (λ y. k ≤ number y) xs → count k xs ≡ 0 →
       AllByRecursion (λ y. k < number y) xs
   all_above k [] bound none = tt

@@ -2,7 +2,7 @@
 use Rattle.std.proofs.Common.{◌≡◌, ℕ, zero, suc, List, [], ◌∷◌, ◌++◌, refl, subst, ap, ◌∙◌, Some, Option, take}
 use Rattle.std.specs.Prelude.{slice_get, option_and_then}
 use Rattle.std.specs.List.{fold}
-use Rattle.key_names.specs.LawfulList.{LawfulFrom}
+use Rattle.key_names.specs.Lanes.LawfulList.{LawfulFrom}
 
 module _ {S E : Type 0} (May : S → E → Type 0) (step : S → E → S) where
   -- a lawful list with one more entry that may come is lawful
@@ -11,13 +11,13 @@ module _ {S E : Type 0} (May : S → E → Type 0) (step : S → E → S) where
   lawful_more s [] e lawful may = (may, tt)
   lawful_more s (x ∷ xs) e lawful may = (lawful.0, lawful_more (step s x) xs e lawful.1 may)
 
-  -- so is a list with more entries that are lawful from its end on
+  -- a lawful list stays lawful if more entries follow that are lawful from its end on
   pub lawful_append : (s : S) (xs ys : List E) → LawfulFrom May step s xs → LawfulFrom May step (fold step s xs) ys →
       LawfulFrom May step s (xs ++ ys)
   lawful_append s [] ys lawful more = more
   lawful_append s (x ∷ xs) ys lawful more = (lawful.0, lawful_append (step s x) xs ys lawful.1 more)
 
-  -- each entry of a lawful list could come in the state before it
+  -- each entry of a lawful list was allowed in the state before it
   pub may_at : (s : S) (xs : List E) (i : ℕ) (e : E) → LawfulFrom May step s xs → slice_get xs i ≡ Some e →
       May (fold step s (take i xs)) e
   may_at s [] i e lawful is = cc
@@ -31,7 +31,7 @@ module _ {S E : Type 0} (May : S → E → Type 0) (step : S → E → S) where
   lawful_take s (x ∷ xs) zero lawful = tt
   lawful_take s (x ∷ xs) (suc i) lawful = (lawful.0, lawful_take (step s x) xs i lawful.1)
 
-  -- two ways to step that agree on entries that may come
+  -- two step functions that agree on each entry that may come give the same fold
   pub fold_same : {V : Type 0} (f g : V → E → V) → ((s : S) (e : E) (v : V) → May s e → f v e ≡ g v e) →
       (s : S) (v : V) (xs : List E) →
       LawfulFrom May step s xs → fold f v xs ≡ fold g v xs
@@ -56,7 +56,7 @@ front_stays (x ∷ xs) more (suc i) e is =
       whole = ap (λ ys. x ∷ ys) m.whole;
     }
 
--- the name that an entry has stays
+-- the name at a place stays as the list grows
 pub named_stays : {A B : Type 0} (of : A → Option B) (xs more : List A) (i : ℕ) (b : B) →
     option_and_then of (slice_get xs i) ≡ Some b →
     option_and_then of (slice_get (xs ++ more) i) ≡ Some b

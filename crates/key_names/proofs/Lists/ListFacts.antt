@@ -4,7 +4,7 @@ use Rattle.std.specs.Prelude.{find, slice_get, option_map}
 use Rattle.std.specs.List.{AllByRecursion}
 use Rattle.std.proofs.lemmas.Bool.{cases_Bool}
 use Rattle.std.proofs.lemmas.Option.{same_Some, slice_get-map}
-use Rattle.key_names.specs.Book.{list_at}
+use Rattle.key_names.specs.Lanes.Book.{list_at}
 
 pub found_passes : {X : Type 0} (p : X → Bool) (xs : List X) (x : X) → find p xs ≡ Some x → p x ≡ true
 found_passes p [] x e = absurd cc
@@ -23,13 +23,13 @@ list_is [] c xs is = cc
 list_is (ys ∷ xss) zero xs is = cc
 list_is (ys ∷ xss) (suc c) xs is = list_is xss c xs is
 
--- a list beyond the last is empty
+-- past the last list, `list_at` gives the empty list
 pub list_beyond : {X : Type 0} (xss : List (List X)) (c : ℕ) → length xss ≤ c → list_at xss c ≡ []
 list_beyond [] c le = refl
 list_beyond (xs ∷ xss) zero le = absurd (omega arith)
 list_beyond (xs ∷ xss) (suc c) le = list_beyond xss c (omega arith)
 
--- the element at a place, and those after it
+-- the rest of a list from a place on is the element there, and the elements after it
 pub found_dropped : {X : Type 0} (xs : List X) (i : ℕ) (x : X) → slice_get xs i ≡ Some x → drop i xs ≡ x ∷ drop (i + 1) xs
 found_dropped [] i x is = cc
 found_dropped (y ∷ xs) zero x is = ap (λ z. z ∷ xs) (same_Some y x is)

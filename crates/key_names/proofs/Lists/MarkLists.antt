@@ -5,8 +5,8 @@ use Rattle.std.specs.List.{AllByRecursion, range_with_len}
 use Rattle.std.proofs.lemmas.List.Sums.{sum_by-cons}
 use Rattle.std.proofs.lemmas.Bool.Decides.{nat_tests}
 use Rattle.key_names.specs.declared.names.Mark.{Mark}
-use Rattle.key_names.specs.IsTranscript.{PlacesStand}
-use Rattle.key_names.specs.PlacesInOrder.{InOrder}
+use Rattle.key_names.specs.Transcripts.IsTranscript.{PlacesStand}
+use Rattle.key_names.specs.Transcripts.PlacesInOrder.{InOrder}
 use Rattle.key_names.proofs.Lists.Each.{each_more, each_weaker}
 
 abbrev pub at_place : ℕ → Mark → Bool
@@ -49,7 +49,7 @@ each_once i (suc n) ms once =
 abbrev pub Above : Mark → Mark → Type 0
 Above a b = a.place < b.place → a.stamp < b.stamp
 
--- places from i on
+-- marks in order from place i on have no place below i
 each_from : (i : ℕ) (ms : List Mark) → InOrder i ms → AllByRecursion (λ m. i ≤ m.place) ms
 each_from i [] order = tt
 each_from i (m ∷ ms) order =

@@ -9,9 +9,9 @@ use Rattle.key_names.specs.declared.names.Step.TheVariants.{Look, Visit as Marke
 use Rattle.key_names.specs.declared.entries.PoolEntry.{PoolEntry}
 use Rattle.key_names.specs.declared.entries.BaseEntry.{BaseEntry}
 use Rattle.key_names.specs.declared.entries.CpuEntry.{CpuEntry}
-use Rattle.key_names.specs.Book.{Lists, cpu_list}
-use Rattle.key_names.specs.Deeds.{Deed, PoolVisit, CpuVisit, looked, at_pool, at_base, at_cpu, nothing_there}
-use Rattle.key_names.specs.Deeds.{deed_or, deed_at, deed_of, pool_visit, base_visit, cpu_visit}
+use Rattle.key_names.specs.Lanes.Book.{Lists, cpu_list}
+use Rattle.key_names.specs.Callers.Deeds.{Deed, PoolVisit, CpuVisit, looked, at_pool, at_base, at_cpu, nothing_there}
+use Rattle.key_names.specs.Callers.Deeds.{deed_or, deed_at, deed_of, pool_visit, base_visit, cpu_visit}
 
 module _ (lists : Lists) where
   -- if the deed of a mark is a visit of a CPU or of the pool, it is the visit at the mark's place

@@ -1,5 +1,5 @@
--- A book whose visits are the marks of lines: each visit is a deed of the line of its event, and each visit among a
--- line's deeds is of that event.
+-- If a book's visits are the marks of lines, each visit is a deed of its event's line, and each visit among a line's
+-- deeds is of that line's event.
 use Rattle.std.proofs.Common.{◌≡◌, ℕ, ◌<◌, List, sym, ap, ◌∙◌, subst, arith, Some}
 use Rattle.std.specs.Prelude.{slice_get, option_map}
 use Rattle.std.proofs.lemmas.Option.{slice_get_within, slice_get-map}
@@ -11,12 +11,12 @@ use Rattle.key_names.specs.declared.names.Step.{Step}
 use Rattle.key_names.specs.declared.names.Step.TheVariants.{Look, Visit as Marked}
 use Rattle.key_names.specs.declared.entries.PoolEntry.{PoolEntry}
 use Rattle.key_names.specs.declared.entries.CpuEntry.{CpuEntry}
-use Rattle.key_names.specs.Book.{Book, Lists, Visit, cpu_list, entries_of, lists_of}
-use Rattle.key_names.specs.Deeds.{Deed, PoolVisit, CpuVisit, at_pool, at_cpu}
-use Rattle.key_names.specs.Deeds.{deed_or, deed_at, deed_of, deeds_of, pool_visit, cpu_visit}
-use Rattle.key_names.specs.Samples.{visits_of}
-use Rattle.key_names.specs.SeenLine.{SeenLine}
-use Rattle.key_names.specs.IsTranscript.{MarkBy, all_marks, lane_marks, stamped, stamped_at, PlacesStand, VisitsAre}
+use Rattle.key_names.specs.Lanes.Book.{Book, Lists, Visit, cpu_list, entries_of, lists_of}
+use Rattle.key_names.specs.Callers.Deeds.{Deed, PoolVisit, CpuVisit, at_pool, at_cpu}
+use Rattle.key_names.specs.Callers.Deeds.{deed_or, deed_at, deed_of, deeds_of, pool_visit, cpu_visit}
+use Rattle.key_names.specs.Lanes.Samples.{visits_of}
+use Rattle.key_names.specs.Transcripts.SeenLine.{SeenLine}
+use Rattle.key_names.specs.Transcripts.IsTranscript.{MarkBy, all_marks, lane_marks, stamped, stamped_at, PlacesStand, VisitsAre}
 use Rattle.key_names.proofs.Transcripts.LaneCounts.{every_place, lane_length, lane_counts}
 use Rattle.key_names.proofs.History.SortedVisits.{IsIn}
 use Rattle.key_names.proofs.Unique.UniqueEvents.{entries_at}
@@ -141,7 +141,7 @@ module _ (t : List (List SeenLine)) (book : Book) (visits : VisitsAre book (all_
         event = ap (λ (w : Who). w.event) f.made ∙ m.event_is;
       }
 
-  -- the stamp at the place of a mark
+  -- the place of a mark has the mark's stamp and maker
   pub stamp_at : (lane : LaneId) (place : ℕ) (line : SeenLine) (mark : Mark) (m : MarkOf t line mark) → mark.lane ≡ lane →
       mark.place ≡ place → stamped_at book lane place ≡ Some (m.by.mark.stamp, m.by.who)
   stamp_at lane place line mark m p q =

@@ -8,13 +8,13 @@ use Rattle.key_names.specs.declared.entries.PoolEntry.{PoolEntry}
 use Rattle.key_names.specs.declared.entries.PoolEntry.TheVariants.{Mix}
 use Rattle.key_names.specs.declared.entries.CpuEntry.{CpuEntry}
 use Rattle.key_names.specs.declared.entries.CpuEntry.TheVariants.{Irq, Dump}
-use Rattle.key_names.specs.Book.{Book, Lists, Visit, lists_of}
-use Rattle.key_names.specs.Deeds.{Deed, PoolVisit, CpuVisit, at_pool, at_cpu, deeds_of, pool_visit, cpu_visit}
-use Rattle.key_names.specs.FastPool.{FastPool, dump_bytes, dump_bits}
-use Rattle.key_names.specs.LineSamples.{EntryIsQuiet, IsQuiet, Dumps, IsMix, IsCrossing, SamplesStand}
-use Rattle.key_names.specs.Samples.{SameEvent, fast_before, MakesDue, IsDump, DueAt, DumpAt, MixAt, visits_of, LawfulSamples}
-use Rattle.key_names.specs.SeenLine.{SeenLine}
-use Rattle.key_names.specs.IsTranscript.{all_marks, lane_marks, PlacesStand, VisitsAre}
+use Rattle.key_names.specs.Lanes.Book.{Book, Lists, Visit, lists_of}
+use Rattle.key_names.specs.Callers.Deeds.{Deed, PoolVisit, CpuVisit, at_pool, at_cpu, deeds_of, pool_visit, cpu_visit}
+use Rattle.key_names.specs.Kernel.FastPool.{FastPool, dump_bytes, dump_bits}
+use Rattle.key_names.specs.Callers.LineSamples.{EntryIsQuiet, IsQuiet, Dumps, IsMix, IsCrossing, SamplesStand}
+use Rattle.key_names.specs.Lanes.Samples.{SameEvent, fast_before, MakesDue, IsDump, DueAt, DumpAt, MixAt, visits_of, LawfulSamples}
+use Rattle.key_names.specs.Transcripts.SeenLine.{SeenLine}
+use Rattle.key_names.specs.Transcripts.IsTranscript.{all_marks, lane_marks, PlacesStand, VisitsAre}
 use Rattle.key_names.proofs.History.SortedVisits.{IsIn}
 use Rattle.key_names.proofs.Samples.Lines.{each_in, Among, Apart}
 use Rattle.key_names.proofs.Samples.LineVisits.{InLine, Behind, cpu_in_line, pool_in_line, cpu_behind, pool_behind}

@@ -13,7 +13,7 @@ use Rattle.key_names.specs.Texts.ScriptFaults.{Draft, blocks_of, has_orphan, is_
 
 -- ---- sums over events
 
--- f is 0 for no events, and for joined lists of events it is the sum
+-- f is 0 for no events, and f of two joined lists is the sum of both
 pub record Adds (f : List Event → ℕ) : Type 0 where
   pub none : f [] ≡ 0
   pub more : (xs ys : List Event) → f (xs ++ ys) ≡ f xs + f ys
@@ -27,7 +27,7 @@ reads = record { none = refl; more = λ xs ys. sum_by-append bytes_read xs ys }
 pub forks_of : (c : ℕ) → Adds (count_by (is_fork_of c))
 forks_of c = record { none = refl; more = λ xs ys. sum_by-append (λ e. cond (is_fork_of c e) 1 0) xs ys }
 
--- all blocks: those before, the events of one, and those after
+-- the total over all blocks is the sum over the blocks before one, that block, and the blocks after it
 pub total_split : (f : List Event → ℕ) → Adds f → (done later : List (List Event)) (events es : List Event)
     → sum_by f (done ++ (events ++ es) ∷ later) ≡ sum_by f (done ++ events ∷ []) + (f es + sum_by f later)
 total_split f adds done later events es =
@@ -40,7 +40,7 @@ total_split f adds done later events es =
       adds.more events es,
     )
 
--- one more empty block
+-- one more empty block adds nothing to the total
 pub total_block : (f : List Event → ℕ) → Adds f → (blocks : List (List Event)) → sum_by f (blocks ++ [] ∷ []) ≡
     sum_by f blocks
 total_block f adds blocks = omega (arith, sum_by-append f blocks ([] ∷ []), sum_by-cons f [] [], adds.none)
@@ -116,7 +116,7 @@ fork_above d (Fork child) good =
     omega arith
 fork_above d e good = tt
 
--- the number of forks of a number, with one more event
+-- how often a number is forked, with one more event
 pub times_with : (d : Draft) (e : Event) (c : ℕ)
     → times_forked (blocks_of (with_event d e)) c ≡ times_forked (blocks_of d) c + count_by (is_fork_of c) (e ∷ [])
 times_with d e c = total_split (count_by (is_fork_of c)) (forks_of c) d.done [] d.events (e ∷ []) ∙ omega arith

@@ -6,7 +6,7 @@ use Rattle.key_names.specs.declared.events.Event.{Event}
 use Rattle.key_names.specs.declared.events.Event.TheVariants.{At, On, Hw, Device, Write, Add, Credit, Irq, Input, Read, Vread, Kread, Dread, Uread, Fork, Inside, Prepare, Online, Vmfork, State}
 use Rattle.key_names.specs.declared.events.InsideAct.{InsideAct}
 use Rattle.key_names.specs.declared.events.InsideAct.TheVariants.{Wipe, Vread as VreadAct, Reseed as ReseedAct}
-use Rattle.key_names.specs.Points.{number_of}
+use Rattle.key_names.specs.Kernel.Points.{number_of}
 use Rattle.key_names.specs.Texts.ScriptGrammar.{ActInRange, InRange, act_fields, arguments, event_fields, event_word}
 use Rattle.key_names.proofs.Points.{number_small}
 use Rattle.key_names.proofs.Script.LinedTexts.{Clean, clean_by, clean_decimal, clean_hex, clean_word}

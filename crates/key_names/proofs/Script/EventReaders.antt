@@ -1,4 +1,4 @@
--- The fields after a word give an event if and only if they are its own, and it is in its range.
+-- The fields after a word give an event if and only if they are the event's fields, and the event is in its range.
 use Rattle.std.proofs.Common.{◌≡◌, ℕ, ◌^◌, ◌<◌, ◌≤◌, leb, Bool, true, false, cond, inl, inr, Result, Ok, Err, List, [], ◌∷◌, refl, sym, ap, subst, ◌∙◌, arith}
 use Rattle.std.specs.Prelude.{codes}
 use Rattle.std.specs.Str.{bytes_eq}
@@ -141,7 +141,7 @@ since_takes first version r e is =
       | inr not ↦ let none = rw not at is in absurd cc
     ]
 
--- an event that only a later version has
+-- an event that only later versions have is read only from its first version on
 later_takes : (first version cpus : ℕ) (word : Word) (read : List (List ℕ) → Result Event FaultKind)
     → (first ≤ version → Takes read (IsEvent version cpus word)) →
     Takes (λ fields. since first version (read fields)) (IsEvent version cpus word)

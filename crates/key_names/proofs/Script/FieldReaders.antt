@@ -1,4 +1,4 @@
--- A field, or all fields after a word, can be read if and only if they are spelt so.
+-- A field, or the list of all fields after a word, is read as a value if and only if it is that value's spelling.
 use Rattle.std.proofs.Common.{◌≡◌, ℕ, ◌^◌, ◌<◌, ◌≤◌, ◌==◌, arith, ltb, Bool, true, false, cond, Option, Some, None, Result, Ok, Err, List, [], ◌∷◌, length, refl, sym, ap, subst, ◌∙◌}
 use Rattle.std.specs.Prelude.{⊤}
 use Rattle.std.specs.Fmt.{decimal}
@@ -8,14 +8,14 @@ use Rattle.hex.specs.Hex.{IsBytes}
 use Rattle.key_names.specs.declared.events.Event.{Event}
 use Rattle.key_names.specs.declared.faults.FaultKind.{FaultKind}
 use Rattle.key_names.specs.declared.faults.FaultKind.TheVariants.{BadNumber, BadHex}
-use Rattle.key_names.specs.Points.{number_of, point_numbered}
+use Rattle.key_names.specs.Kernel.Points.{number_of, point_numbered}
 use Rattle.key_names.specs.Texts.Spelling.{hex}
 use Rattle.key_names.specs.Texts.ScriptFaults.{◌>>=◌, binary, bytes, bytes_of, hardware_words, no_field, number, point_of, number_below, number_in, one_field, plain, two_fields, unary}
 use Rattle.key_names.proofs.Points.{point_again, number_small, numbered}
 use Rattle.key_names.proofs.Script.HexFields.{bytes_again, bytes_takes}
 use Rattle.key_names.proofs.Script.Numbers.{number_again, number_takes}
 
--- the value of a step that did not fail, and the result of the next step
+-- if two steps in a row give a value, the first step gave one, and the second made the result from it
 pub step_ok : {A B E : Type 0} (r : Result A E) (f : A → Result B E) (y : B) → (r >>= f) ≡ Ok y →
     (x : A) × (r ≡ Ok x) × (f x ≡ Ok y)
 step_ok (Ok x) f y e = (x, refl, e)

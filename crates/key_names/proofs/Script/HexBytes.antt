@@ -36,7 +36,7 @@ pub no_bytes : encode_lower [] ≡ []
 unfolding encode_with
 no_bytes = refl
 
--- two digits for each byte are the digits of some bytes
+-- a list of 2 n lower-case digits spells some bytes
 pub digits_of_bytes : (n : ℕ) (digits : List ℕ) → length digits ≡ 2 * n → AllLower digits →
     (bytes : List ℕ) × (encode_lower bytes ≡ digits)
 unfolding encode_with
@@ -59,7 +59,7 @@ lower_place n lower = elim (cases_lt n 16) [
       let zero_lower : is_lower_digit 0 ≡ true = rw none at lower in absurd (cc zero_lower))
 ]
 
--- a list that is spelt in lower case is a list of bytes
+-- a list with a lower-case spelling is a list of bytes
 spelt_bytes : (bytes : List ℕ) → AllLower (encode_lower bytes) → IsBytes bytes
 unfolding encode_with
 spelt_bytes [] lower = λ i. omega arith
@@ -78,14 +78,14 @@ decoded n field twice lower =
     let many : length spelt.0 ≡ n = omega (arith, long, twice, ap length spelt.1) in
     (spelt.0, ap (λ s. decode_sized s n) (sym spelt.1) ∙ decode_sized-encode_lower spelt.0 n many small, spelt.1)
 
--- a field that is the digits of some bytes spells them
+-- if a field is the digits of some bytes, it spells them
 pub bytes_spelt : (field bytes : List ℕ) → 0 < length bytes → AllLower field → encode_lower bytes ≡ field →
     Some bytes ≡ bytes_of field
 bytes_spelt field [] some lower is = absurd (omega arith)
 bytes_spelt field (b ∷ bytes) some lower is =
     sym (bytes_again (b ∷ bytes) (spelt_bytes (b ∷ bytes) (subst AllLower (sym is) lower))) ∙ ap bytes_of is
 
--- a dash is one byte
+-- a field of even length is no dash, since a dash is one byte
 pub no_dash : (field : List ℕ) (n : ℕ) → length field ≡ 2 * n → bytes_eq field (hex []) ≡ false
 no_dash field n even = false_from_ne_true _ (λ e.
     omega (arith, even, ap length ((bytes_eq-Decides field (hex [])).0 e)))

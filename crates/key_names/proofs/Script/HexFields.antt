@@ -114,11 +114,11 @@ field_takes field bytes false is e =
     let spelt = spelt_takes field bytes (decode_of field) e in
     (spelt.1, (decode_of-ok field bytes spelt.0).3)
 
--- a field that is read as bytes is their spelling
+-- if a field is read as bytes, it is their spelling
 pub bytes_takes : (field bytes : List ℕ) → bytes_of field ≡ Some bytes → (field ≡ hex bytes) × IsBytes bytes
 bytes_takes field bytes e = field_takes field bytes (bytes_eq field (hex [])) refl e
 
--- lower-case digits that decode
+-- lower-case digits that decode to bytes are read as these bytes
 pub bytes_found : (field bytes : List ℕ) → 0 < length field → AllLower field → decode_of field ≡ Ok bytes
     → bytes_of field ≡ Some bytes
 bytes_found field [] some lower e = absurd (omega (arith, (decode_of-ok field [] e).2))
@@ -143,7 +143,7 @@ none_else field dash not (Some (b ∷ bytes)) e =
     absurd (not (b ∷ bytes) long (rw (is.0) (lower_encoded (b ∷ bytes) is.1))
     (rw (is.0) (decode_of-encode_lower (b ∷ bytes) is.1)))
 
--- a field without digits, or with digits of another case
+-- a field without digits, or with digits of another case, is not read
 pub bytes_none : (field : List ℕ) → bytes_eq field (hex []) ≡ false
     → ((bytes : List ℕ) → 0 < length field → AllLower field → decode_of field ≡ Ok bytes → ⊥) → bytes_of field ≡ None
 bytes_none field dash not = none_else field dash not (bytes_of field) refl

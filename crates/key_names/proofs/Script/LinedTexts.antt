@@ -153,6 +153,6 @@ joined_lines (line ∷ next ∷ lines) =
     ∙ sym (append_assoc line (10 ∷ []) (lined (next ∷ lines)))
     ∙ sym (flat_map-cons (λ (l : List ℕ). l ++ 10 ∷ []) line (next ∷ lines))
 
--- a text that falls into lines, with nothing after the last, is the text of those lines
+-- if a text falls into lines, with nothing after the last, it is the text of those lines
 pub lined_parts : (text : List ℕ) (lines : List (List ℕ)) → parts 10 text ≡ lines ++ [] ∷ [] → text ≡ lined lines
 lined_parts text lines e = sym (join_with_byte-slice_split 10 text) ∙ ap (join_with_byte 10) e ∙ joined_lines lines

@@ -35,12 +35,12 @@ IsNumber-decimal n small = record {
 pub value_of_decimal : (n : ℕ) → n < 2 ^ 64 → digits_value 10 (decimal n) ≡ n
 value_of_decimal n small = digits_value-decimal own n small
 
--- a test that passed
+-- if a test gave a value, it passed
 met : {A : Type 0} (b : Bool) (x y : A) → cond b (Some x) None ≡ Some y → (b ≡ true) × (x ≡ y)
 met true x y e = (refl, cc)
 met false x y e = absurd cc
 
--- a field that is read as a number is its spelling
+-- if a field is read as a number, it is the number's spelling
 pub number_takes : (limit n : ℕ) (field : List ℕ) → number_below limit field ≡ Some n → (n < limit) ×
     (field ≡ decimal n)
 number_takes limit n field e =

@@ -1,4 +1,4 @@
--- The lines after the heads: they give a script if and only if they are its lines.
+-- The lines after the three head lines give a script if and only if they are the script's lines.
 use Rattle.std.proofs.Common.{◌≡◌, ℕ, suc, ◌+◌, ◌<◌, ◌≤◌, ◌==◌, false, inl, inr, Result, Ok, Err, List, [], ◌∷◌, ◌++◌, length, map, refl, sym, ap, subst, ◌∙◌, append_assoc, arith}
 use Rattle.std.specs.List.{list_any}
 use Rattle.std.specs.Prelude.{codes}
@@ -206,7 +206,7 @@ first_behind : (lines : List (List ℕ)) (line : List ℕ) (more : List (List �
 first_behind [] line more = record { first = line; others = more; is = refl }
 first_behind (l ∷ lines) line more = record { first = l; others = lines ++ line ∷ more; is = refl }
 
--- a line with content that may come next
+-- a line with content that may come next leads to the next draft
 step_again : (d : Draft) (n : ℕ) (what : Said) (more : List (List ℕ)) (next : Next) → d.cpus ≤ 256 →
     SaidInRange d.version d.cpus what
     → HasFirst more → after d what ≡ Ok next

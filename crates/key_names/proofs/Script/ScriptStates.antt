@@ -4,10 +4,10 @@ use Rattle.std.specs.Prelude.{⊤}
 use Rattle.std.specs.List.{AllByRecursion}
 use Rattle.key_names.specs.declared.events.Event.{Event}
 use Rattle.key_names.specs.declared.events.Event.TheVariants.{State}
-use Rattle.key_names.specs.Calls.{BoundAct, Call, alone, vread_call, unbound, ending, calls_of}
-use Rattle.key_names.specs.SeenLine.{SeenLine}
+use Rattle.key_names.specs.Callers.Calls.{BoundAct, Call, alone, vread_call, unbound, ending, calls_of}
+use Rattle.key_names.specs.Transcripts.SeenLine.{SeenLine}
 use Rattle.key_names.specs.Texts.ScriptGrammar.{InRange}
-use Rattle.key_names.specs.Meaning.{CallerState, caller_after}
+use Rattle.key_names.specs.Callers.Meaning.{CallerState, caller_after}
 use Rattle.key_names.proofs.Transcripts.CallLists.{of_calls}
 
 abbrev pub CallInRange : ℕ → ℕ → Call → Type 0

@@ -3,7 +3,7 @@ use Rattle.std.proofs.Common.{zero, suc, ◌+◌, ◌-◌, ◌<◌, ◌≤◌, �
 use Rattle.std.specs.Prelude.{slice_range, slice_index}
 use Rattle.std.proofs.lemmas.List.FromFn.{length-map-range_with_len, get_or-map-range_with_len, take-map-range_with_len}
 use Rattle.std.proofs.lemmas.List.{drop_at}
-use Rattle.key_names.specs.Keystream.{keystream, keystream_byte}
+use Rattle.key_names.specs.Kernel.Keystream.{keystream, keystream_byte}
 use Rattle.rand_core.specs.Steps.{u32_at}
 use Rattle.rand_chacha.specs.Block.{block_word, double_rounds, column_round, diagonal_round, quarter_round}
 
@@ -15,7 +15,7 @@ pub keystream_zero : keystream (replicate 32 0) 64 64 ≡ 159 ∷ 7 ∷ 231 ∷ 
 unfolding keystream_byte u32_at block_word double_rounds column_round diagonal_round quarter_round
 keystream_zero = refl
 
--- the keystream in two pieces
+-- a piece of keystream is two pieces joined
 pub keystream-add : (key : List ℕ) (from a b : ℕ) → keystream key from (a + b) ≡ keystream key from a ++
     keystream key (from + a) b
 keystream-add key from zero b =
@@ -36,11 +36,11 @@ pub slice_index-keystream : (key : List ℕ) (from len i : ℕ) → i < len → 
 slice_index-keystream key from len i below =
     get_or-map-range_with_len (λ j. keystream_byte key j) from len i (from + i) 0 below refl
 
--- the front of a piece
+-- the front of a piece is a piece from the same position
 pub take-keystream : (key : List ℕ) (from len n : ℕ) → n ≤ len → take n (keystream key from len) ≡ keystream key from n
 take-keystream key from len n within = take-map-range_with_len (λ j. keystream_byte key j) from len n within
 
--- the rest of a piece
+-- the rest of a piece is a piece from a later position
 pub drop-keystream : (key : List ℕ) (from len n : ℕ) → n ≤ len → drop n (keystream key from len) ≡
     keystream key (from + n) (len - n)
 drop-keystream key from len n within =
@@ -48,14 +48,14 @@ drop-keystream key from len n within =
     ap (λ k. drop n (keystream key from k)) sum ∙ ap (drop n) (keystream-add key from n (len - n))
     ∙ drop_at (keystream key from n) (keystream key (from + n) (len - n)) n (length-keystream key from n)
 
--- a part of a piece
+-- a part of a piece is a piece
 pub slice_range-keystream : (key : List ℕ) (from len i j : ℕ) → i ≤ j → j ≤ len →
     slice_range (keystream key from len) i j ≡ keystream key (from + i) (j - i)
 slice_range-keystream key from len i j ordered within =
     let short : i ≤ len = omega arith in let fits : j - i ≤ len - i = omega arith in
     ap (take (j - i)) (drop-keystream key from len i short) ∙ take-keystream key (from + i) (len - i) (j - i) fits
 
--- two pieces joined: the second begins after the first, or is empty
+-- two pieces joined are one piece if the second begins at the end of the first, or is empty
 pub keystream-append : (key : List ℕ) (from a next b len : ℕ) → a + b ≡ len → (0 < b → next ≡ from + a) →
     keystream key from a ++ keystream key next b ≡ keystream key from len
 keystream-append key from a next zero len sum goes_on =

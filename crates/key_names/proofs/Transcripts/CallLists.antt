@@ -5,8 +5,8 @@ use Rattle.key_names.specs.declared.events.Event.{Event}
 use Rattle.key_names.specs.declared.events.Event.TheVariants.{Vread, Inside}
 use Rattle.key_names.specs.declared.events.InsideAct.{InsideAct}
 use Rattle.key_names.specs.declared.point.Point.{Point}
-use Rattle.key_names.specs.Calls.{Call, alone, vread_call, unbound, ending, BoundAct, has_vread, calls_from}
-use Rattle.key_names.specs.SeenLine.{SeenLine}
+use Rattle.key_names.specs.Callers.Calls.{Call, alone, vread_call, unbound, ending, BoundAct, has_vread, calls_from}
+use Rattle.key_names.specs.Transcripts.SeenLine.{SeenLine}
 
 -- a fact about the waiting acts, the events and lines that are left, and the calls that they make
 abbrev pub OfCalls : Type 1

@@ -5,15 +5,15 @@ use Rattle.key_names.specs.declared.events.Event.TheVariants.{At}
 use Rattle.key_names.specs.declared.names.LaneId.{LaneId}
 use Rattle.key_names.specs.declared.names.LaneId.TheVariants.{Cpu as CpuLane}
 use Rattle.key_names.specs.declared.entries.VEntry.{VEntry}
-use Rattle.key_names.specs.Book.{Lists}
-use Rattle.key_names.specs.Calls.{Setting, Call, alone, vread_call, unbound, ending, BoundAct, calls_of, all_calls}
-use Rattle.key_names.specs.Deeds.{deeds_of}
-use Rattle.key_names.specs.Forms.{Looked}
-use Rattle.key_names.specs.SeenLine.{SeenLine}
-use Rattle.key_names.specs.VreadSteps.{published_by}
-use Rattle.key_names.specs.BatchCopy.{serves_locally}
-use Rattle.key_names.specs.Meaning.{CallerState, CallMeaning, event_entries, ByLocalCopy, ByVgetrandom, tries_local, LocalOrCall, current_state, Means}
-use Rattle.key_names.specs.IsTranscript.{CallsMean, EachOfCall, EachLine, EachCaller, CallerMeans}
+use Rattle.key_names.specs.Lanes.Book.{Lists}
+use Rattle.key_names.specs.Callers.Calls.{Setting, Call, alone, vread_call, unbound, ending, BoundAct, calls_of, all_calls}
+use Rattle.key_names.specs.Callers.Deeds.{deeds_of}
+use Rattle.key_names.specs.Callers.Forms.{Looked}
+use Rattle.key_names.specs.Transcripts.SeenLine.{SeenLine}
+use Rattle.key_names.specs.Callers.VreadSteps.{published_by}
+use Rattle.key_names.specs.Kernel.BatchCopy.{serves_locally}
+use Rattle.key_names.specs.Callers.Meaning.{CallerState, CallMeaning, event_entries, ByLocalCopy, ByVgetrandom, tries_local, LocalOrCall, current_state, Means}
+use Rattle.key_names.specs.Transcripts.IsTranscript.{CallsMean, EachOfCall, EachLine, EachCaller, CallerMeans}
 use Rattle.key_names.proofs.Vgetrandom.CallsKeep.{match_cases}
 use Rattle.key_names.proofs.Vgetrandom.KeyTakes.{takes, copy_takes, ending_takes, call_takes, deed_takes}
 use Rattle.key_names.proofs.Transcripts.CallLists.{act_of, of_calls}

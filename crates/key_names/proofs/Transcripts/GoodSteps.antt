@@ -1,12 +1,12 @@
 -- In a lawful transcript, after a look that found a generation, the host publishes generations, and reads
 -- keys that CPUs handed over.
 use Rattle.std.proofs.Common.{◌≡◌, ℕ, zero, suc, ◌≤◌, arith, List, [], ◌∷◌, ◌++◌, sym, subst, ap, ◌∙◌}
-use Rattle.key_names.specs.Book.{Lists}
-use Rattle.key_names.specs.Calls.{Setting}
-use Rattle.key_names.specs.Deeds.{Deed, looked, at_pool, at_base, at_cpu, nothing_there}
-use Rattle.key_names.specs.Forms.{SysForm}
-use Rattle.key_names.specs.Vgetrandom.{SystemAnswer, HostStep, publishes, system_call, at_point}
-use Rattle.key_names.specs.VreadSteps.{answer_behind, Shows, NeverFall, looks_of, published_by}
+use Rattle.key_names.specs.Lanes.Book.{Lists}
+use Rattle.key_names.specs.Callers.Calls.{Setting}
+use Rattle.key_names.specs.Callers.Deeds.{Deed, looked, at_pool, at_base, at_cpu, nothing_there}
+use Rattle.key_names.specs.Callers.Forms.{SysForm}
+use Rattle.key_names.specs.Kernel.Vgetrandom.{SystemAnswer, HostStep, publishes, system_call, at_point}
+use Rattle.key_names.specs.Callers.VreadSteps.{answer_behind, Shows, NeverFall, looks_of, published_by}
 use Rattle.key_names.proofs.Transcripts.KeyVisits.{AllThere, there_append, sys_answered}
 use Rattle.key_names.proofs.Vgetrandom.StatesReplay.{KeyIs, Good}
 
@@ -69,7 +69,8 @@ good_shown lists set (system_call n flags answer ∷ steps) deeds there known sh
       good_shown lists set steps shows.rest h.1 (looks_append 1 shows.call shows.rest after) shows.goes_on,
     )
 
--- the same for the steps of a whole call after its first look, if that look found a generation
+-- after the first look of a call, if it found a generation, the host publishes generations, and reads keys that CPUs
+-- handed over
 pub good_behind : (lists : Lists) (set : Setting) (steps : List HostStep) (deeds : List Deed) → AllThere lists deeds →
     NeverFall (looks_of deeds) → Shows set steps deeds →
     (g : ℕ) (rest : List HostStep) → steps ≡ publishes g ∷ rest → 1 ≤ g → Good lists rest

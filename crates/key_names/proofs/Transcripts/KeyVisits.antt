@@ -14,16 +14,16 @@ use Rattle.key_names.specs.declared.entries.CpuEntry.{CpuEntry}
 use Rattle.key_names.specs.declared.entries.CpuEntry.TheVariants.{Read as CpuRead}
 use Rattle.key_names.specs.declared.errno.Errno.{Errno}
 use Rattle.key_names.specs.declared.events.Answer.TheVariants.{Ok as Done, Interrupted}
-use Rattle.key_names.specs.CpuList.{taken_of, taken_at}
-use Rattle.key_names.specs.Book.{Lists, cpu_list}
-use Rattle.key_names.specs.Calls.{Setting}
-use Rattle.key_names.specs.Deeds.{Deed, looked, at_pool, at_base, at_cpu, nothing_there, CpuVisit, deed_or, deed_at, deeds_of, pool_visit, base_visit, cpu_visit}
-use Rattle.key_names.specs.Forms.{SysForm, LookedForm, ReadForm, CpuReadForm, Waited, WaitedInVain}
-use Rattle.key_names.specs.Answers.{found_unready, was_interrupted, is_interrupt, system_answer}
-use Rattle.key_names.specs.Vgetrandom.{SystemAnswer, HostStep, publishes, system_call, at_point}
-use Rattle.key_names.specs.VreadSteps.{answer_behind, answer_with, errno_of, Shows}
-use Rattle.key_names.specs.Keystream.{keystream}
-use Rattle.key_names.specs.KeyInUse.{cpu_call_value, cpu_used_at, cpu_value_at, cpu_value_after, cpu_value_in_use}
+use Rattle.key_names.specs.Lanes.CpuList.{taken_of, taken_at}
+use Rattle.key_names.specs.Lanes.Book.{Lists, cpu_list}
+use Rattle.key_names.specs.Callers.Calls.{Setting}
+use Rattle.key_names.specs.Callers.Deeds.{Deed, looked, at_pool, at_base, at_cpu, nothing_there, CpuVisit, deed_or, deed_at, deeds_of, pool_visit, base_visit, cpu_visit}
+use Rattle.key_names.specs.Callers.Forms.{SysForm, LookedForm, ReadForm, CpuReadForm, Waited, WaitedInVain}
+use Rattle.key_names.specs.Callers.Answers.{found_unready, was_interrupted, is_interrupt, system_answer}
+use Rattle.key_names.specs.Kernel.Vgetrandom.{SystemAnswer, HostStep, publishes, system_call, at_point}
+use Rattle.key_names.specs.Callers.VreadSteps.{answer_behind, answer_with, errno_of, Shows}
+use Rattle.key_names.specs.Kernel.Keystream.{keystream}
+use Rattle.key_names.specs.Keys.KeyInUse.{cpu_call_value, cpu_used_at, cpu_value_at, cpu_value_after, cpu_value_in_use}
 use Rattle.key_names.proofs.Vgetrandom.CallsKeep.{match_cases}
 use Rattle.key_names.proofs.Vgetrandom.StatesReplay.{KeyIs}
 use Rattle.key_names.proofs.Vgetrandom.KeyReads.{IsKeyRead, KeyReads}
@@ -111,7 +111,7 @@ took lists cpu look refill reads there =
       );
     }
 
--- the answer of a call that ends with such a visit
+-- `WasRead` holds for the answer of this call
 abbrev Answered : Lists → List Deed → Type 0
 Answered lists call = WasRead lists (answer_behind 0 call)
 
@@ -210,7 +210,7 @@ sys_answered lists set call there form = go form.0 form.1 form.2 form.3
         ])
         looked_form
 
--- so does each system call that the steps of a line show
+-- each system call for a new key that the steps of a line show takes 32 bytes from a CPU, unless it fails
 pub key_reads : (lists : Lists) (set : Setting) (steps : List HostStep) (deeds : List Deed) → AllThere lists deeds →
     Shows set steps deeds →
     KeyReads (cpu_list lists) steps

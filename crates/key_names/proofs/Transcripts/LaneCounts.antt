@@ -1,4 +1,4 @@
--- The number of marks in each lane. A book whose visits are the marks has as many visits.
+-- The number of marks in each lane. If a book's visits are the marks, each lane has as many visits as marks.
 use Rattle.std.proofs.Common.{◌≡◌, ℕ, zero, suc, ◌+◌, ◌<◌, ◌≤◌, Bool, true, false, List, [], ◌∷◌, refl, sym}
 use Rattle.std.proofs.Common.{subst, ap, ◌∙◌, arith, Some, length}
 use Rattle.std.specs.Prelude.{count_by, ◌==◌, if◌then◌else◌}
@@ -11,9 +11,9 @@ use Rattle.key_names.specs.declared.names.LaneId.TheVariants.{Pool as PoolLane, 
 use Rattle.key_names.specs.declared.names.Mark.{Mark}
 use Rattle.key_names.specs.declared.names.Who.{Who}
 use Rattle.key_names.specs.declared.entries.CpuEntry.{CpuEntry}
-use Rattle.key_names.specs.Book.{Book, Visit, list_at}
-use Rattle.key_names.specs.IsTranscript.{MarkBy, is_same_lane, lane_marks, PlacesStand, stamped}
-use Rattle.key_names.specs.IsTranscript.{stamped_at, visit_count, VisitsAre}
+use Rattle.key_names.specs.Lanes.Book.{Book, Visit, list_at}
+use Rattle.key_names.specs.Transcripts.IsTranscript.{MarkBy, is_same_lane, lane_marks, PlacesStand, stamped}
+use Rattle.key_names.specs.Transcripts.IsTranscript.{stamped_at, visit_count, VisitsAre}
 use Rattle.key_names.proofs.Transcripts.TakenMarks.{from_range}
 use Rattle.key_names.proofs.Lists.Each.{each_weaker}
 use Rattle.key_names.proofs.History.SortedVisits.{one_if}
@@ -47,7 +47,7 @@ of_lane Q lane (by ∷ marks) all = go (is_same_lane by.mark.lane lane) refl (of
         (subst P (same_lane by.mark.lane lane is) all.0, rest)
     go false is rest = rest
 
--- a fact about the place of each of a lane's marks holds for each place below their number
+-- if a fact holds for the place of each mark of a lane, it holds for each place below the number of these marks
 module _ (Q : ℕ → Type 0) where
   at_some : (place : ℕ) (ms : List Mark) → AllByRecursion (λ m. Q m.place) ms →
       1 ≤ count_by (λ mark. mark.place == place) ms → Q place

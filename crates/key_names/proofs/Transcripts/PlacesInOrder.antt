@@ -1,4 +1,4 @@
--- If PlacesStand holds for marks, sorted by stamp, their places count up.
+-- If PlacesStand holds for marks that are sorted by stamp, their places count up.
 use Rattle.std.proofs.Common.{ℕ, zero, suc, ◌+◌, ◌≡◌, ◌<◌, ◌≤◌, Bool, true, false, cond, List, [], ◌∷◌, length, refl, sym, subst, ap, ◌∙◌, arith}
 use Rattle.std.specs.Prelude.{count_by, ◌==◌, IsPermutation}
 use Rattle.std.specs.List.{AllByRecursion, range_with_len}
@@ -6,14 +6,14 @@ use Rattle.std.proofs.lemmas.Bool.Decides.{nat_tests}
 use Rattle.std.proofs.lemmas.List.Elements.{All-from_recursion, recursion_from_All}
 use Rattle.std.proofs.lemmas.List.Sorted.{All-permutation, sum_by-IsPermutation, length_permutation}
 use Rattle.key_names.specs.declared.names.Mark.{Mark}
-use Rattle.key_names.specs.PlacesInOrder.{InOrder, ByStamp, PlacesCountUp, PlacesInAnyOrder}
+use Rattle.key_names.specs.Transcripts.PlacesInOrder.{InOrder, ByStamp, PlacesCountUp, PlacesInAnyOrder}
 use Rattle.key_names.proofs.Lists.Each.{each_weaker, each_both}
 use Rattle.key_names.proofs.Lists.MarkLists.{at_place, count_more, Above, in_order_stand}
 
 abbrev hit : Bool → ℕ
 hit b = cond b 1 0
 
--- each number of a range on its own
+-- a fact about all numbers of a range holds for each number in it
 in_range : (P : ℕ → Type 0) (i n p : ℕ) → AllByRecursion P (range_with_len i n) → i ≤ p → p < i + n → P p
 in_range P i zero p all from low = absurd (omega arith)
 in_range P i (suc n) p all from low = go (i == p) refl (λ e. in_range P (i + 1) n p all.1 (omega (arith, e)) (omega arith))

@@ -9,13 +9,13 @@ use Rattle.key_names.specs.declared.entries.BaseEntry.{BaseEntry}
 use Rattle.key_names.specs.declared.entries.CpuEntry.{CpuEntry}
 use Rattle.key_names.specs.declared.events.Event.{Event}
 use Rattle.key_names.specs.declared.events.Event.TheVariants.{Device, Write, Add, Credit, Bits, Irq, Input, Read, Vread, Kread, Dread, Uread, Int8, Int16, Int32, Int64, Reseed, Tick, Fork, Inside, Prepare, Online, Vmfork}
-use Rattle.key_names.specs.PoolList.{Crossing, crossing, ready, early, none}
-use Rattle.key_names.specs.Flags.{is_bad, is_nonblock, is_insecure}
-use Rattle.key_names.specs.Calls.{Setting}
-use Rattle.key_names.specs.Deeds.{Deed, CpuVisit, looked, at_pool, at_base, at_cpu}
-use Rattle.key_names.specs.FastPool.{FastPool}
-use Rattle.key_names.specs.Forms.{Rooted, BaseOnly, Cross, DrawForm, CpuReadForm, Looked, ReadForm, WaitedInVain, Waited, LookedForm, SysForm, CreditForm, PoolOnly, IntForm, ReseedForm, Form, EndForm}
-use Rattle.key_names.specs.LineSamples.{EntryIsQuiet, IsQuiet, SamplesStand}
+use Rattle.key_names.specs.Lanes.PoolList.{Crossing, crossing, ready, early, none}
+use Rattle.key_names.specs.Kernel.Flags.{is_bad, is_nonblock, is_insecure}
+use Rattle.key_names.specs.Callers.Calls.{Setting}
+use Rattle.key_names.specs.Callers.Deeds.{Deed, CpuVisit, looked, at_pool, at_base, at_cpu}
+use Rattle.key_names.specs.Kernel.FastPool.{FastPool}
+use Rattle.key_names.specs.Callers.Forms.{Rooted, BaseOnly, Cross, DrawForm, CpuReadForm, Looked, ReadForm, WaitedInVain, Waited, LookedForm, SysForm, CreditForm, PoolOnly, IntForm, ReseedForm, Form, EndForm}
+use Rattle.key_names.specs.Callers.LineSamples.{EntryIsQuiet, IsQuiet, SamplesStand}
 
 -- an event that is not an interrupt
 abbrev pub IsNoInterrupt : Event → Type 0
@@ -70,7 +70,7 @@ module _ (fast : ℕ → ℕ → FastPool) where
       (deeds : List Deed) → Looked P deeds → Quiet deeds
   behind_look P quiet deeds f = are deeds (looked f.0 ∷ f.1) f.2 (tt, quiet f.0 f.1 f.3)
 
-  -- one of two ways
+  -- if either side of a choice makes the deeds quiet, the deeds are quiet
   choice : (b : Bool) (A B : Type 0) (deeds : List Deed) → (A → Quiet deeds) → (B → Quiet deeds) → MatchBool b A B →
       Quiet deeds
   choice true A B deeds x y h = x h
@@ -149,7 +149,7 @@ module _ (fast : ℕ → ℕ → FastPool) where
   pub end_quiet : (deeds : List Deed) → EndForm deeds → Quiet deeds
   end_quiet deeds f = base_only _ deeds f
 
-  -- so the samples of its deeds are correct
+  -- if an event is not an interrupt, the samples of its deeds are correct
   pub form_samples : (set : Setting) (event : Event) (deeds : List Deed) → IsNoInterrupt event → Form set event deeds →
       SamplesStand fast deeds
   form_samples set event deeds other f = inl (quiet set event deeds other f)

@@ -2,8 +2,8 @@
 use Rattle.std.proofs.Common.{◌≡◌, ℕ, zero, suc, ◌<◌, List, [], ◌∷◌, ◌++◌, length, refl, arith, length-append}
 use Rattle.key_names.specs.declared.events.Event.{Event}
 use Rattle.key_names.specs.declared.events.Event.TheVariants.{Drop, State}
-use Rattle.key_names.specs.Calls.{Setting, Call, parent_from, first_settings, setting_of, setting_after, inherited_setting}
-use Rattle.key_names.specs.Meaning.{CallerState, caller_after}
+use Rattle.key_names.specs.Callers.Calls.{Setting, Call, parent_from, first_settings, setting_of, setting_after, inherited_setting}
+use Rattle.key_names.specs.Callers.Meaning.{CallerState, caller_after}
 
 pub setting_front : (sets : List Setting) (x : Setting) (c : ℕ) → c < length sets →
     setting_of (sets ++ x ∷ []) c ≡ setting_of sets c

@@ -2,16 +2,16 @@
 use Rattle.std.proofs.Common.{◌≡◌, ℕ, zero, suc, ◌+◌, ◌≤◌, Bool, true, false, List, [], ◌∷◌, ◌++◌, ◌⊎◌, inl, inr, refl, sym, ap, ◌∙◌, arith, Some, Option}
 use Rattle.std.specs.Prelude.{◌==◌, ◌&&◌, ◌||◌, if◌then◌else◌, map}
 use Rattle.std.specs.List.{list_any, range_with_len}
-use Rattle.key_names.specs.Uses.{rekeys_place}
+use Rattle.key_names.specs.Keys.Uses.{rekeys_place}
 use Rattle.key_names.proofs.Transcripts.TakenMarks.{hit}
 use Rattle.std.specs.Option.{option_map_or}
 use Rattle.std.proofs.lemmas.Bool.{eqb-true, eq-eqb}
 use Rattle.key_names.specs.declared.entries.VEntry.{VEntry}
 use Rattle.key_names.specs.declared.entries.VEntry.TheVariants.{Rekey, Blocks, Refill, Serve, Wipe}
-use Rattle.key_names.specs.StateList.{rekey_of, rekey_at}
-use Rattle.key_names.specs.Book.{list_at}
-use Rattle.key_names.specs.Meaning.{CallMeaning}
-use Rattle.key_names.specs.IsTranscript.{entries_of_state, state_lists}
+use Rattle.key_names.specs.Lanes.StateList.{rekey_of, rekey_at}
+use Rattle.key_names.specs.Lanes.Book.{list_at}
+use Rattle.key_names.specs.Callers.Meaning.{CallMeaning}
+use Rattle.key_names.specs.Transcripts.IsTranscript.{entries_of_state, state_lists}
 use Rattle.key_names.proofs.Vgetrandom.KeyTakes.{is_here, takes, takes_append}
 use Rattle.key_names.proofs.Transcripts.TranscriptBooks.{made_at, made_beyond, lt_or_le}
 use Rattle.key_names.proofs.Transcripts.CallTakes as calls
@@ -34,7 +34,8 @@ module _ (c p : ℕ) where
   abbrev all_takes : List (List CallMeaning) → ℕ
   all_takes = calls.all_takes c p
 
-  -- the entries of one state, and of two
+  -- the entries of one state, and those of two states of a caller together, take no more reads than all entries of the
+  -- caller
   one_state : (k : ℕ) (ms : List CallMeaning) → takes c p (entries_of_state k ms) ≤ caller_takes ms
   one_state k [] = omega arith
   one_state k (m ∷ ms) =
@@ -126,7 +127,7 @@ module _ (c p : ℕ) where
     | inr e ↦ (let q : state_takes ms k ≡ 0 = ap (takes c p) e in omega arith)
   ]
 
-  -- the list for these numbers of a caller and a state
+  -- how often the list of state k of caller i takes the read
   abbrev takes_at : List (List CallMeaning) → ℕ → ℕ → ℕ
   takes_at mss i k = takes c p (list_at (list_at (map state_lists mss) i) k)
 

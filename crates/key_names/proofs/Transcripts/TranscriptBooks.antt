@@ -4,11 +4,11 @@ use Rattle.std.specs.Prelude.{map}
 use Rattle.std.specs.List.{range_with_len}
 use Rattle.key_names.specs.declared.entries.VEntry.{VEntry}
 use Rattle.key_names.specs.declared.entries.CpuEntry.{CpuEntry}
-use Rattle.key_names.specs.StateList.{LawfulStateList}
-use Rattle.key_names.specs.Book.{Book, Lists, lists_of, list_at, cpu_list, state_list}
-use Rattle.key_names.specs.Calls.{Setting, Call}
-use Rattle.key_names.specs.Meaning.{CallMeaning}
-use Rattle.key_names.specs.IsTranscript.{EachCaller, CallerMeans, entries_of_state, state_lists}
+use Rattle.key_names.specs.Lanes.StateList.{LawfulStateList}
+use Rattle.key_names.specs.Lanes.Book.{Book, Lists, lists_of, list_at, cpu_list, state_list}
+use Rattle.key_names.specs.Callers.Calls.{Setting, Call}
+use Rattle.key_names.specs.Callers.Meaning.{CallMeaning}
+use Rattle.key_names.specs.Transcripts.IsTranscript.{EachCaller, CallerMeans, entries_of_state, state_lists}
 use Rattle.key_names.proofs.Transcripts.TranscriptStates.{caller_keeps}
 
 -- an empty list is lawful
@@ -57,7 +57,7 @@ own_list lists c ms mss has k below =
     ∙ made_at (λ i. entries_of_state i ms) 0 16 k below ∙ ap (λ i. entries_of_state i ms) q
 
 module _ (lists : Lists) (settings : ℕ → Setting) where
-  -- the states of one caller
+  -- the list of each state of one caller is lawful
   one_caller : (caller c : ℕ) (calls : List Call) (ms : List CallMeaning) → CallerMeans lists (settings c) calls ms →
       (k : ℕ) →
       LawfulStateList (cpu_list lists) caller k (list_at (state_lists ms) k)
@@ -72,7 +72,7 @@ module _ (lists : Lists) (settings : ℕ → Setting) where
         subst P (sym (made_beyond (λ i. entries_of_state i ms) 0 16 k le)) (none_lawful (cpu_list lists) caller k))
   ]
 
-  -- the states of all callers; c is the number of the first
+  -- the list of each state of all callers is lawful; c is the number of the first caller
   all_callers : (caller c : ℕ) (callers : List (List Call)) (mss : List (List CallMeaning)) →
       EachCaller (λ c calls ms. CallerMeans lists (settings c) calls ms) c callers mss → (i k : ℕ) →
       LawfulStateList (cpu_list lists) caller k (list_at (list_at (map state_lists mss) i) k)

@@ -3,13 +3,13 @@ use Rattle.std.proofs.Common.{◌≡◌, ℕ, ◌≤◌, List, sym, ap, ◌∙�
 use Rattle.std.specs.Prelude.{map}
 use Rattle.key_names.specs.declared.names.LaneId.{LaneId}
 use Rattle.key_names.specs.declared.names.LaneId.TheVariants.{Cpu as CpuLane}
-use Rattle.key_names.specs.StateList.{rekey_at}
-use Rattle.key_names.specs.Book.{Book, lists_of, list_at, StatePlace, rekey_in}
-use Rattle.key_names.specs.SeenLine.{SeenLine}
-use Rattle.key_names.specs.Meaning.{CallMeaning}
+use Rattle.key_names.specs.Lanes.StateList.{rekey_at}
+use Rattle.key_names.specs.Lanes.Book.{Book, lists_of, list_at, StatePlace, rekey_in}
+use Rattle.key_names.specs.Transcripts.SeenLine.{SeenLine}
+use Rattle.key_names.specs.Callers.Meaning.{CallMeaning}
 use Rattle.key_names.specs.Texts.ScriptGrammar.{Script}
-use Rattle.key_names.specs.IsTranscript.{MarksStand, IsTranscriptBy, state_lists, start_setting, script_calls}
-use Rattle.key_names.specs.TranscriptBook.{TranscriptIsLawful}
+use Rattle.key_names.specs.Transcripts.IsTranscript.{MarksStand, IsTranscriptBy, state_lists, start_setting, script_calls}
+use Rattle.key_names.specs.Transcripts.TranscriptBook.{TranscriptIsLawful}
 use Rattle.key_names.proofs.Transcripts.TranscriptBooks.{states_lawful}
 use Rattle.key_names.proofs.Transcripts.TakenMarks.{one_mark}
 use Rattle.key_names.proofs.Transcripts.CallTakes.{all_takes, callers_within, all_calls_marks, all_marks_within}

@@ -8,20 +8,20 @@ use Rattle.std.proofs.lemmas.List.Sums.{fold-append}
 use Rattle.key_names.specs.declared.entries.VEntry.{VEntry}
 use Rattle.key_names.specs.declared.events.Event.{Event}
 use Rattle.key_names.specs.declared.events.Event.TheVariants.{Drop}
-use Rattle.key_names.specs.StateList.{state_start, state_step}
-use Rattle.key_names.specs.LiveMaterial.{StateBytes, state_bytes_start, state_bytes_step}
-use Rattle.key_names.specs.KeyInUse.{state_value_step}
-use Rattle.key_names.specs.Book.{Lists, lists_of}
-use Rattle.key_names.specs.Calls.{Setting, Call, alone, vread_call, unbound, ending, BoundAct}
-use Rattle.key_names.specs.Deeds.{Deed, deeds_of}
-use Rattle.key_names.specs.Forms.{Looked}
-use Rattle.key_names.specs.SeenLine.{SeenLine}
-use Rattle.key_names.specs.VgetrandomState.{VgetrandomState, wiped_state}
-use Rattle.key_names.specs.BatchCopy.{serves_locally, state_after_copy}
-use Rattle.key_names.specs.VreadSteps.{published_by, NeverFall, looks_of}
-use Rattle.key_names.specs.Meaning.{CallerState, caller_start, CallMeaning, LineMeaning, AloneMeans, current_state, ByLocalCopy, ByVgetrandom, tries_local, LocalOrCall, VreadMeans, Means}
-use Rattle.key_names.specs.IsTranscript.{CallsMean, EachOfCall, EachLine, EachCaller, entries_of_state, CallerMeans, start_setting, script_calls}
-use Rattle.key_names.specs.StatesReplayed.{state_number, caller_end, IsNamed, IsReplayed, StatesReplayed, StatesAreReplayed}
+use Rattle.key_names.specs.Lanes.StateList.{state_start, state_step}
+use Rattle.key_names.specs.Keys.LiveMaterial.{StateBytes, state_bytes_start, state_bytes_step}
+use Rattle.key_names.specs.Keys.KeyInUse.{state_value_step}
+use Rattle.key_names.specs.Lanes.Book.{Lists, lists_of}
+use Rattle.key_names.specs.Callers.Calls.{Setting, Call, alone, vread_call, unbound, ending, BoundAct}
+use Rattle.key_names.specs.Callers.Deeds.{Deed, deeds_of}
+use Rattle.key_names.specs.Callers.Forms.{Looked}
+use Rattle.key_names.specs.Transcripts.SeenLine.{SeenLine}
+use Rattle.key_names.specs.Kernel.VgetrandomState.{VgetrandomState, wiped_state}
+use Rattle.key_names.specs.Kernel.BatchCopy.{serves_locally, state_after_copy}
+use Rattle.key_names.specs.Callers.VreadSteps.{published_by, NeverFall, looks_of}
+use Rattle.key_names.specs.Callers.Meaning.{CallerState, caller_start, CallMeaning, LineMeaning, AloneMeans, current_state, ByLocalCopy, ByVgetrandom, tries_local, LocalOrCall, VreadMeans, Means}
+use Rattle.key_names.specs.Transcripts.IsTranscript.{CallsMean, EachOfCall, EachLine, EachCaller, entries_of_state, CallerMeans, start_setting, script_calls}
+use Rattle.key_names.specs.Transcripts.StatesReplayed.{state_number, caller_end, IsNamed, IsReplayed, StatesReplayed, StatesAreReplayed}
 use Rattle.key_names.proofs.Vgetrandom.CallsKeep.{match_cases, some_bytes}
 use Rattle.key_names.proofs.Transcripts.TranscriptStates.{set_here, set_other, length_set}
 use Rattle.key_names.proofs.Transcripts.TranscriptBooks.{HasStates, all_states, later_states, own_list}
@@ -29,7 +29,7 @@ use Rattle.key_names.proofs.Transcripts.GoodSteps.{good_behind}
 use Rattle.key_names.proofs.Transcripts.KeyVisits.{AllThere, all_there}
 use Rattle.key_names.proofs.Vgetrandom.StatesReplay as replay
 
--- the key of the replay
+-- the key in the replay of all bytes is the key in the replay of keys alone
 pub bytes_key : (lists : Lists) (b : StateBytes) (es : List VEntry) →
     (fold (state_bytes_step lists) b es).key ≡ fold (state_value_step lists) b.key es
 bytes_key lists b [] = refl
@@ -123,7 +123,7 @@ module _ (lists : Lists) (caller k : ℕ) (below : k < 16) where
   not_true true h = cc
   not_true false h = refl
 
-  -- a copy that is served by the batch alone
+  -- a copy that the batch alone served leaves the state that its list replays to
   local_holds : (x : Both) (n : ℕ) (rest : List Deed) (m : CallMeaning) → 1 ≤ n → length m.before.states ≡ 16 →
       Holds x (state_number k m.before) → ByLocalCopy n rest m → Leaves x m
   local_holds x n rest m some len h by =

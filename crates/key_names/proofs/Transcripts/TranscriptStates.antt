@@ -6,24 +6,24 @@ use Rattle.std.proofs.lemmas.Bool.{eqb-true, eq-eqb}
 use Rattle.key_names.specs.declared.entries.VEntry.{VEntry}
 use Rattle.key_names.specs.declared.events.Event.{Event}
 use Rattle.key_names.specs.declared.events.Event.TheVariants.{Drop}
-use Rattle.key_names.specs.StateList.{NamedState, anything, state_start, state_step, TakesRead, LawfulStateList}
-use Rattle.key_names.specs.Book.{Lists, cpu_list}
-use Rattle.key_names.specs.Calls.{Setting, Call, alone, vread_call, unbound, ending, BoundAct}
-use Rattle.key_names.specs.Deeds.{Deed, deeds_of}
-use Rattle.key_names.specs.Forms.{Looked}
-use Rattle.key_names.specs.SeenLine.{SeenLine}
-use Rattle.key_names.specs.VgetrandomState.{VgetrandomState, wiped_state}
-use Rattle.key_names.specs.BatchCopy.{has_left, serves_locally, copy_entries, state_after_copy}
-use Rattle.key_names.specs.VreadSteps.{published_by}
-use Rattle.key_names.specs.Meaning.{CallerState, caller_start, CallMeaning, LineMeaning, AloneMeans, current_state, ByLocalCopy, ByVgetrandom, tries_local, LocalOrCall, VreadMeans, Means}
-use Rattle.key_names.specs.IsTranscript.{CallsMean, EachOfCall, EachLine, entries_of_state, CallerMeans}
+use Rattle.key_names.specs.Lanes.StateList.{NamedState, anything, state_start, state_step, TakesRead, LawfulStateList}
+use Rattle.key_names.specs.Lanes.Book.{Lists, cpu_list}
+use Rattle.key_names.specs.Callers.Calls.{Setting, Call, alone, vread_call, unbound, ending, BoundAct}
+use Rattle.key_names.specs.Callers.Deeds.{Deed, deeds_of}
+use Rattle.key_names.specs.Callers.Forms.{Looked}
+use Rattle.key_names.specs.Transcripts.SeenLine.{SeenLine}
+use Rattle.key_names.specs.Kernel.VgetrandomState.{VgetrandomState, wiped_state}
+use Rattle.key_names.specs.Kernel.BatchCopy.{has_left, serves_locally, copy_entries, state_after_copy}
+use Rattle.key_names.specs.Callers.VreadSteps.{published_by}
+use Rattle.key_names.specs.Callers.Meaning.{CallerState, caller_start, CallMeaning, LineMeaning, AloneMeans, current_state, ByLocalCopy, ByVgetrandom, tries_local, LocalOrCall, VreadMeans, Means}
+use Rattle.key_names.specs.Transcripts.IsTranscript.{CallsMean, EachOfCall, EachLine, entries_of_state, CallerMeans}
 use Rattle.key_names.proofs.Vgetrandom.CopiesKeep.{Settled, Keeps, keeps_append}
 use Rattle.key_names.proofs.Vgetrandom.CallsKeep.{match_cases, call_keeps, wipe_keeps, local_keeps, lawful_list}
 use Rattle.key_names.proofs.Lists.Each.{each_append}
 use Rattle.key_names.proofs.Vgetrandom.KeyReads.{copy_names, call_names}
 use Rattle.key_names.proofs.Transcripts.KeyVisits.{AllThere, all_there, key_reads}
 
--- an element that was set, and the other elements
+-- an element that was set is found at its place, and the other elements stay
 pub set_here : {A : Type 0} (xs : List A) (i : ℕ) (x : A) → i < length xs → slice_get (slice_set xs i x) i ≡ Some x
 set_here [] i x lt = absurd (omega arith)
 set_here (y ∷ ys) zero x lt = refl
@@ -78,7 +78,7 @@ module _ (lists : Lists) (caller k : ℕ) (below : k < 16) where
           (λ u. Settled u (state_at m.after k)) t es in subst P (sym none) empty
       go false = empty
 
-  -- the current state is replaced, with some entries
+  -- the current state is replaced, and the call appends some entries to its list
   set_state : (t : NamedState) (m : CallMeaning) (x : VgetrandomState) → length m.before.states ≡ 16 →
       Settled t (state_at m.before k) →
       m.after.states ≡ slice_set m.before.states m.before.current x →

@@ -8,16 +8,16 @@ use Rattle.key_names.specs.declared.events.Event.{Event}
 use Rattle.key_names.specs.declared.events.Event.TheVariants.{Vread, Inside, Fork}
 use Rattle.key_names.specs.declared.point.Point.{Point}
 use Rattle.key_names.specs.declared.point.Point.TheVariants.{Start, Written, Serve, End}
-use Rattle.key_names.specs.Points.{is_same_point}
-use Rattle.key_names.specs.Book.{list_at}
-use Rattle.key_names.specs.Calls.{Setting, Call, alone, vread_call, unbound, ending, BoundAct, has_vread, calls_from}
-use Rattle.key_names.specs.Calls.{all_calls, setting_after_call, ForkPoint, with_call_before, fork_point}
-use Rattle.key_names.specs.Calls.{Parent, parent_here, parent_from, setting_of, inherited_setting, first_settings}
-use Rattle.key_names.specs.History.{through_visit, steps_at_point, cut_behind_rekey, call_steps, calls_steps}
-use Rattle.key_names.specs.History.{inherited_steps, ancestors_steps, orders_from, caller_orders}
-use Rattle.key_names.specs.IsTranscript.{MarkBy, line_marks, all_marks, start_setting}
-use Rattle.key_names.specs.SeenLine.{SeenLine}
-use Rattle.key_names.specs.SameSteps.{bare}
+use Rattle.key_names.specs.Kernel.Points.{is_same_point}
+use Rattle.key_names.specs.Lanes.Book.{list_at}
+use Rattle.key_names.specs.Callers.Calls.{Setting, Call, alone, vread_call, unbound, ending, BoundAct, has_vread, calls_from}
+use Rattle.key_names.specs.Callers.Calls.{all_calls, setting_after_call, ForkPoint, with_call_before, fork_point}
+use Rattle.key_names.specs.Callers.Calls.{Parent, parent_here, parent_from, setting_of, inherited_setting, first_settings}
+use Rattle.key_names.specs.Callers.History.{through_visit, steps_at_point, cut_behind_rekey, call_steps, calls_steps}
+use Rattle.key_names.specs.Callers.History.{inherited_steps, ancestors_steps, orders_from, caller_orders}
+use Rattle.key_names.specs.Transcripts.IsTranscript.{MarkBy, line_marks, all_marks, start_setting}
+use Rattle.key_names.specs.Transcripts.SeenLine.{SeenLine}
+use Rattle.key_names.specs.Transcripts.SameSteps.{bare}
 
 abbrev pub bare_act : BoundAct → BoundAct
 bare_act bound = record { point = bound.point; act = bound.act; line = bare bound.line }

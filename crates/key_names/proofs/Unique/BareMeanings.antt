@@ -8,24 +8,24 @@ use Rattle.key_names.specs.declared.events.Event.{Event}
 use Rattle.key_names.specs.declared.events.Word.{Word}
 use Rattle.key_names.specs.declared.events.Word.TheVariants.{End as EndWord}
 use Rattle.key_names.specs.declared.point.Point.{Point}
-use Rattle.key_names.specs.Book.{Lists, lists_of}
-use Rattle.key_names.specs.Calls.{Setting, Call, alone, vread_call, unbound, ending, BoundAct}
-use Rattle.key_names.specs.Deeds.{Deed, deeds_of}
-use Rattle.key_names.specs.Flags.{is_bad}
-use Rattle.key_names.specs.History.{caller_orders, stamps_of}
-use Rattle.key_names.specs.SeenLine.{SeenLine}
+use Rattle.key_names.specs.Lanes.Book.{Lists, lists_of}
+use Rattle.key_names.specs.Callers.Calls.{Setting, Call, alone, vread_call, unbound, ending, BoundAct}
+use Rattle.key_names.specs.Callers.Deeds.{Deed, deeds_of}
+use Rattle.key_names.specs.Kernel.Flags.{is_bad}
+use Rattle.key_names.specs.Callers.History.{caller_orders, stamps_of}
+use Rattle.key_names.specs.Transcripts.SeenLine.{SeenLine}
 use Rattle.key_names.specs.Texts.ScriptGrammar.{event_word}
-use Rattle.key_names.specs.Points.{is_same_point}
-use Rattle.key_names.specs.VreadSteps.{PointReached, points_of, first_points, is_wiped, is_wipe}
-use Rattle.key_names.specs.VreadSteps.{is_reached, published_by}
-use Rattle.key_names.specs.Meaning.{CallerState, caller_start, current_state, LineMeaning, CallMeaning, AloneMeans}
-use Rattle.key_names.specs.Meaning.{ActMeans, ActsMean, unused_line, ByVgetrandom, tries_local, LocalOrCall}
-use Rattle.key_names.specs.Meaning.{VreadMeans, Means}
-use Rattle.key_names.specs.BatchCopy.{serves_locally}
-use Rattle.key_names.specs.IsTranscript.{LineIs, LinesFit, EachCaller, script_calls, MarkBy, all_marks, lane_marks}
-use Rattle.key_names.specs.IsTranscript.{PlacesStand, Rises, VisitsAre, CallsMean, EachAct, EachOfCall, EachLine}
-use Rattle.key_names.specs.IsTranscript.{CallerMeans, start_setting}
-use Rattle.key_names.specs.SameSteps.{bare, SameSteps, StepsMakeTheBook}
+use Rattle.key_names.specs.Kernel.Points.{is_same_point}
+use Rattle.key_names.specs.Callers.VreadSteps.{PointReached, points_of, first_points, is_wiped, is_wipe}
+use Rattle.key_names.specs.Callers.VreadSteps.{is_reached, published_by}
+use Rattle.key_names.specs.Callers.Meaning.{CallerState, caller_start, current_state, LineMeaning, CallMeaning, AloneMeans}
+use Rattle.key_names.specs.Callers.Meaning.{ActMeans, ActsMean, unused_line, ByVgetrandom, tries_local, LocalOrCall}
+use Rattle.key_names.specs.Callers.Meaning.{VreadMeans, Means}
+use Rattle.key_names.specs.Kernel.BatchCopy.{serves_locally}
+use Rattle.key_names.specs.Transcripts.IsTranscript.{LineIs, LinesFit, EachCaller, script_calls, MarkBy, all_marks, lane_marks}
+use Rattle.key_names.specs.Transcripts.IsTranscript.{PlacesStand, Rises, VisitsAre, CallsMean, EachAct, EachOfCall, EachLine}
+use Rattle.key_names.specs.Transcripts.IsTranscript.{CallerMeans, start_setting}
+use Rattle.key_names.specs.Transcripts.SameSteps.{bare, SameSteps, StepsMakeTheBook}
 use Rattle.key_names.proofs.Lists.Each.{each_weaker}
 use Rattle.key_names.proofs.Unique.BareLines.{bare_act, bare_call, bare_all, bare_marks, bare_orders, bare_setting}
 

@@ -1,15 +1,15 @@
--- The deeds of the same steps in two books, and when the entries are determined by those before them.
+-- The deeds of the same steps in two books, and when earlier entries determine an entry.
 use Rattle.std.proofs.Common.{◌≡◌, ℕ, Bool, true, false, List, [], ◌∷◌, ◌⊎◌, inl, inr, refl, sym, subst, ap, ◌∙◌}
 use Rattle.std.specs.Prelude.{MatchBool, ⊤}
 use Rattle.key_names.specs.declared.names.Who.{Who}
 use Rattle.key_names.specs.declared.entries.PoolEntry.TheVariants.{Mix}
-use Rattle.key_names.specs.BaseList.{BaseFits}
-use Rattle.key_names.specs.CpuList.{CpuFits}
-use Rattle.key_names.specs.Book.{Book, Lists, lists_of}
-use Rattle.key_names.specs.Samples.{visits_of, IsDump, DumpAt, MixAt}
-use Rattle.key_names.specs.Deeds.{Deed, PoolVisit, BaseVisit, CpuVisit, looked, at_pool, at_base, at_cpu}
-use Rattle.key_names.specs.VreadSteps.{looks_of}
-use Rattle.key_names.specs.Forms.{Looked}
+use Rattle.key_names.specs.Lanes.BaseList.{BaseFits}
+use Rattle.key_names.specs.Lanes.CpuList.{CpuFits}
+use Rattle.key_names.specs.Lanes.Book.{Book, Lists, lists_of}
+use Rattle.key_names.specs.Lanes.Samples.{visits_of, IsDump, DumpAt, MixAt}
+use Rattle.key_names.specs.Callers.Deeds.{Deed, PoolVisit, BaseVisit, CpuVisit, looked, at_pool, at_base, at_cpu}
+use Rattle.key_names.specs.Callers.VreadSteps.{looks_of}
+use Rattle.key_names.specs.Callers.Forms.{Looked}
 
 -- an event with visits in both books
 module _ (book book' : Book) (who : Who) where
@@ -48,7 +48,7 @@ module _ (book book' : Book) (who : Who) where
   SameSteps (d ∷ ds) (d' ∷ ds') = SameStep d d' × SameSteps ds ds'
   SameSteps _ _ = ⊥
 
-  -- the entries are the same if the lists that decide them are
+  -- the entries of the two deeds are equal, if the lists that decide them are
   abbrev pub Told : Deed → Deed → Type 0
   Told (at_pool v) (at_pool v') = (lists_of book).cpus ≡ (lists_of book').cpus → v.entry ≡ v'.entry
   Told (at_base v) (at_base v') =

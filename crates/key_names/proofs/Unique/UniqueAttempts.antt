@@ -1,18 +1,18 @@
--- A vread's attempts in two books, with the same steps: they go alike, whatever the values of the keys.
+-- A vread's attempts with the same steps in two books go alike, whatever the values of the keys.
 use Rattle.std.proofs.Common.{◌≡◌, ℕ, ◌≤◌, Bool, true, false, List, [], ◌∷◌, ◌++◌, ◌⊎◌, inl, inr, refl, sym, subst, ap}
 use Rattle.std.proofs.Common.{◌∙◌, arith, Some, Option}
 use Rattle.std.specs.Prelude.{◌==◌, ◌&&◌, MatchBool}
 use Rattle.std.specs.List.{AllByRecursion}
 use Rattle.key_names.specs.declared.names.Who.{Who}
 use Rattle.key_names.specs.declared.entries.Taken.TheVariants.{User}
-use Rattle.key_names.specs.Book.{Book, lists_of}
-use Rattle.key_names.specs.Calls.{Setting}
-use Rattle.key_names.specs.Deeds.{BaseVisit, Deed, CpuVisit, looked, at_base, at_cpu}
-use Rattle.key_names.specs.Forms.{SysForm, ReadForm, Waited, WaitedInVain}
-use Rattle.key_names.specs.Answers.{served_bytes, was_interrupted}
-use Rattle.key_names.specs.Vgetrandom.{CpuPlace, SystemAnswer, read, HostStep, publishes, system_call}
-use Rattle.key_names.specs.VreadSteps.{published_by, last_place, errno_of, answer_with, answer_behind, Shows}
-use Rattle.key_names.specs.VreadSteps.{PointReached, points_of, looks_of}
+use Rattle.key_names.specs.Lanes.Book.{Book, lists_of}
+use Rattle.key_names.specs.Callers.Calls.{Setting}
+use Rattle.key_names.specs.Callers.Deeds.{BaseVisit, Deed, CpuVisit, looked, at_base, at_cpu}
+use Rattle.key_names.specs.Callers.Forms.{SysForm, ReadForm, Waited, WaitedInVain}
+use Rattle.key_names.specs.Callers.Answers.{served_bytes, was_interrupted}
+use Rattle.key_names.specs.Kernel.Vgetrandom.{CpuPlace, SystemAnswer, read, HostStep, publishes, system_call}
+use Rattle.key_names.specs.Callers.VreadSteps.{published_by, last_place, errno_of, answer_with, answer_behind, Shows}
+use Rattle.key_names.specs.Callers.VreadSteps.{PointReached, points_of, looks_of}
 use Rattle.std.proofs.lemmas.Bool.{eqb-true}
 use Rattle.key_names.proofs.Transcripts.KeyVisits.{answers_done}
 use Rattle.key_names.proofs.Unique.TwoBooks.{SameCpu, SameSteps, AllTold, same_at, told_at, same_looks}
@@ -83,7 +83,7 @@ key_read set call more form ready =
 abbrev visit_of : CpuVisit → Option CpuPlace
 visit_of cpu = Some (record { cpu = cpu.cpu; place = cpu.place })
 
--- such a call ends at its visit of the CPU
+-- a system call for a new key ends at its visit of the CPU
 record Ends (front : List Deed) (cpu : CpuVisit) : Type 0 where
   calm : was_interrupted front ≡ false
   serves : served_bytes front ≡ cpu.serves
@@ -172,7 +172,7 @@ module _ (book book' : Book) (who : Who) (set : Setting) where
     pub points : V (points_of steps)
     pub points' : V (points_of steps')
 
-  -- the rest of them, further on
+  -- at a later point, each of the two books has these steps left, with the deeds that are left there
   pub record Further (V : List PointReached → Type 0) (steps steps' : List HostStep) (ds ds' : List Deed) : Type 0 where
     pub deeds : List Deed
     pub deeds' : List Deed

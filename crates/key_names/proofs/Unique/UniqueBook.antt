@@ -1,13 +1,13 @@
 -- The steps of a transcript make one book, so at most one clause is the first that fails.
 use Rattle.std.proofs.Common.{◌≡◌, ◌<◌, ◌≤◌, List, inl, inr, refl, sym, subst, ap, ◌∙◌, arith}
-use Rattle.key_names.specs.Book.{Book, lists_of}
-use Rattle.key_names.specs.SeenLine.{SeenLine}
+use Rattle.key_names.specs.Lanes.Book.{Book, lists_of}
+use Rattle.key_names.specs.Transcripts.SeenLine.{SeenLine}
 use Rattle.key_names.specs.Texts.ScriptGrammar.{Script}
-use Rattle.key_names.specs.IsTranscript.{HasLines, MarksStand, all_marks, start_setting, script_calls, MadeBook}
-use Rattle.key_names.specs.IsTranscript.{AnswersStand, DataStand, SeenStands, IsTranscript, Clause, lines_clause}
-use Rattle.key_names.specs.IsTranscript.{marks_clause, forms_clause, answers_clause, data_clause, looks_clause}
-use Rattle.key_names.specs.IsTranscript.{clause_number, FirstFails}
-use Rattle.key_names.specs.TranscriptBook.{BookIsUnique, FirstFailIsUnique}
+use Rattle.key_names.specs.Transcripts.IsTranscript.{HasLines, MarksStand, all_marks, start_setting, script_calls, MadeBook}
+use Rattle.key_names.specs.Transcripts.IsTranscript.{AnswersStand, DataStand, SeenStands, IsTranscript, Clause, lines_clause}
+use Rattle.key_names.specs.Transcripts.IsTranscript.{marks_clause, forms_clause, answers_clause, data_clause, looks_clause}
+use Rattle.key_names.specs.Transcripts.IsTranscript.{clause_number, FirstFails}
+use Rattle.key_names.specs.Transcripts.TranscriptBook.{BookIsUnique, FirstFailIsUnique}
 use Rattle.key_names.proofs.Transcripts.TranscriptBooks.{lt_or_le}
 use Rattle.key_names.proofs.Unique.UniqueLines.{all_same, callers_alike}
 use Rattle.key_names.proofs.Unique.UniqueLanes.{marks_told, same_book}

@@ -3,9 +3,9 @@ use Rattle.std.proofs.Common.{◌≡◌, ℕ, zero, suc, List, [], ◌∷◌, re
 use Rattle.std.specs.Prelude.{⊤, slice_get, slice_set, unwrap_or}
 use Rattle.key_names.specs.declared.events.Event.{Event}
 use Rattle.key_names.specs.declared.events.Event.TheVariants.{Drop, State}
-use Rattle.key_names.specs.Calls.{setting_after}
-use Rattle.key_names.specs.VgetrandomState.{VgetrandomState, wiped_state}
-use Rattle.key_names.specs.Meaning.{CallerState, caller_after, current_state, with_state}
+use Rattle.key_names.specs.Callers.Calls.{setting_after}
+use Rattle.key_names.specs.Kernel.VgetrandomState.{VgetrandomState, wiped_state}
+use Rattle.key_names.specs.Callers.Meaning.{CallerState, caller_after, current_state, with_state}
 use Rattle.key_names.proofs.Unique.UniqueStates.{SameState, same_itself}
 
 module _ (H : Type 0) where

@@ -1,4 +1,4 @@
--- vgetrandom calls in two books, with the same steps, go alike.
+-- vgetrandom calls with the same steps in two books go alike.
 use Rattle.std.proofs.Common.{◌≡◌, ℕ, zero, suc, ◌≤◌, Bool, true, false, List, [], ◌∷◌, ◌++◌, refl, sym, subst, ap, ◌∙◌}
 use Rattle.std.proofs.Common.{arith, append-nil}
 use Rattle.std.specs.Prelude.{◌==◌}
@@ -6,19 +6,19 @@ use Rattle.std.specs.List.{AllByRecursion}
 use Rattle.key_names.specs.declared.names.Who.{Who}
 use Rattle.key_names.specs.declared.point.Point.{Point}
 use Rattle.key_names.specs.declared.point.Point.TheVariants.{Start, Written, Serve as ServePoint, End}
-use Rattle.key_names.specs.Book.{Book, lists_of}
-use Rattle.key_names.specs.Calls.{Setting, BoundAct}
-use Rattle.key_names.specs.Deeds.{Deed}
-use Rattle.key_names.specs.Flags.{is_bad}
-use Rattle.key_names.specs.Forms.{SysForm}
-use Rattle.key_names.specs.VgetrandomState.{VgetrandomState}
-use Rattle.key_names.specs.Vgetrandom.{SystemAnswer, HostStep, publishes, system_call, AttemptEnd, holds, outdated}
-use Rattle.key_names.specs.Vgetrandom.{not_keyed, Attempt, IsAttempt, no_bytes, by_batch, by_system, Outcome, BySystem}
-use Rattle.key_names.specs.Vgetrandom.{ByBatch, ByNothing, AfterAttempt, AttemptAndRest, AfterBoth, state_after_call}
-use Rattle.key_names.specs.Vgetrandom.{SecondAttempt, FirstAttempt, FromPublished, FromLook, IsCall}
-use Rattle.key_names.specs.Points.{number_of}
-use Rattle.key_names.specs.VreadSteps.{published_by, answer_behind, Shows, PointReached, points_of}
-use Rattle.key_names.specs.VreadSteps.{before_start, from_start, is_wiped, WipesStand, looks_of, NeverFall}
+use Rattle.key_names.specs.Lanes.Book.{Book, lists_of}
+use Rattle.key_names.specs.Callers.Calls.{Setting, BoundAct}
+use Rattle.key_names.specs.Callers.Deeds.{Deed}
+use Rattle.key_names.specs.Kernel.Flags.{is_bad}
+use Rattle.key_names.specs.Callers.Forms.{SysForm}
+use Rattle.key_names.specs.Kernel.VgetrandomState.{VgetrandomState}
+use Rattle.key_names.specs.Kernel.Vgetrandom.{SystemAnswer, HostStep, publishes, system_call, AttemptEnd, holds, outdated}
+use Rattle.key_names.specs.Kernel.Vgetrandom.{not_keyed, Attempt, IsAttempt, no_bytes, by_batch, by_system, Outcome, BySystem}
+use Rattle.key_names.specs.Kernel.Vgetrandom.{ByBatch, ByNothing, AfterAttempt, AttemptAndRest, AfterBoth, state_after_call}
+use Rattle.key_names.specs.Kernel.Vgetrandom.{SecondAttempt, FirstAttempt, FromPublished, FromLook, IsCall}
+use Rattle.key_names.specs.Kernel.Points.{number_of}
+use Rattle.key_names.specs.Callers.VreadSteps.{published_by, answer_behind, Shows, PointReached, points_of}
+use Rattle.key_names.specs.Callers.VreadSteps.{before_start, from_start, is_wiped, WipesStand, looks_of, NeverFall}
 use Rattle.key_names.proofs.Unique.TwoBooks.{SameSteps, AllTold, same_at, told_at, told_nothing, same_deeds}
 use Rattle.key_names.proofs.Unique.UniqueForms.{told_system}
 use Rattle.key_names.proofs.Unique.UniqueStates.{SameState, SameOutcome, same_marked, outcomes_at, outcome_same_behind}
@@ -195,7 +195,7 @@ module _ (book book' : Book) (who : Who) (set : Setting) where
       points = ap points_of by.steps_are ∙ sym (ap points_of by'.steps_are);
     }
 
-    -- the rest of a call after the first look
+    -- the rest of a call after its first look goes alike in both books
     published_alike : (n flags published : ℕ) (s s' : VgetrandomState) → SameState H s s' →
         (steps steps' : List HostStep) (o o' : Outcome) (ds ds' : List Deed) →
         FromPublished n flags s published steps o → FromPublished n flags s' published steps' o' →
@@ -226,7 +226,7 @@ module _ (book book' : Book) (who : Who) (set : Setting) where
         }))))
         f f'
 
-    -- calls with the same steps, on states that answer alike
+    -- calls with the same steps, on states that answer alike, go alike
     pub call_alike : (n flags : ℕ) (s s' : VgetrandomState) → SameState H s s' →
         (steps steps' : List HostStep) (o o' : Outcome) (ds ds' : List Deed) →
         IsCall n flags s steps o → IsCall n flags s' steps' o' → Shows set steps ds → Shows set steps' ds' →

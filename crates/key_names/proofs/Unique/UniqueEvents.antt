@@ -14,18 +14,18 @@ use Rattle.key_names.specs.declared.events.Event.TheVariants.{Device, Write, Add
 use Rattle.key_names.specs.declared.events.Event.TheVariants.{Read, Vread, Kread, Dread, Uread, Int8, Int16, Int32}
 use Rattle.key_names.specs.declared.events.Event.TheVariants.{Int64, Reseed, Tick, Fork, Inside, Prepare, Online}
 use Rattle.key_names.specs.declared.events.Event.TheVariants.{Vmfork}
-use Rattle.key_names.specs.FastPool.{fast_after, dump_bytes, dump_bits}
-use Rattle.key_names.specs.Book.{Book, Visit, lists_of, entries_of, list_at, cpu_list}
-use Rattle.key_names.specs.Samples.{LawfulSamples, visits_of, IsDump, fast_before}
-use Rattle.key_names.specs.Calls.{Setting}
-use Rattle.key_names.specs.Deeds.{Deed, PoolVisit, CpuVisit}
-use Rattle.key_names.specs.Forms.{Rooted, BaseOnly, ReadForm, Stalled, DumpForm, IrqForm, IntForm, ReseedForm}
-use Rattle.key_names.specs.Forms.{device_entry, VmforkForm, Form, EndForm, Cross, DrawForm, CpuReadForm, CreditForm}
-use Rattle.key_names.specs.Forms.{BatchForm, RefilledBatch}
+use Rattle.key_names.specs.Kernel.FastPool.{fast_after, dump_bytes, dump_bits}
+use Rattle.key_names.specs.Lanes.Book.{Book, Visit, lists_of, entries_of, list_at, cpu_list}
+use Rattle.key_names.specs.Lanes.Samples.{LawfulSamples, visits_of, IsDump, fast_before}
+use Rattle.key_names.specs.Callers.Calls.{Setting}
+use Rattle.key_names.specs.Callers.Deeds.{Deed, PoolVisit, CpuVisit}
+use Rattle.key_names.specs.Callers.Forms.{Rooted, BaseOnly, ReadForm, Stalled, DumpForm, IrqForm, IntForm, ReseedForm}
+use Rattle.key_names.specs.Callers.Forms.{device_entry, VmforkForm, Form, EndForm, Cross, DrawForm, CpuReadForm, CreditForm}
+use Rattle.key_names.specs.Callers.Forms.{BatchForm, RefilledBatch}
 use Rattle.key_names.specs.declared.entries.PoolEntry.{PoolEntry}
-use Rattle.key_names.specs.PoolList.{Crossing, crossing, ready, early, none}
-use Rattle.key_names.specs.Batches.{must_fill}
-use Rattle.key_names.specs.CpuList.{CpuState, CpuFits}
+use Rattle.key_names.specs.Lanes.PoolList.{Crossing, crossing, ready, early, none}
+use Rattle.key_names.specs.Kernel.Batches.{must_fill}
+use Rattle.key_names.specs.Lanes.CpuList.{CpuState, CpuFits}
 use Rattle.key_names.proofs.Unique.TwoBooks.{SamePool, SameCpu, SameSteps, AllTold, Tells, through, told_nothing, told_match}
 use Rattle.key_names.proofs.Unique.TwoBooks.{told_looked, told_either}
 use Rattle.key_names.proofs.Unique.UniqueForms.{told_rooted, told_same_rooted, told_base_only, told_pool_only, told_cpu_only}
@@ -76,7 +76,7 @@ module _ (book book' : Book) (who : Who) (samples : LawfulSamples book) (samples
   told_cross set early early alike ds ds' f f' same =
       told_rooted_or_not book book' who set (λ r. Early (Some r)) (Early None) ds ds' f f' same
 
-  -- a credit, with an entry that may depend on the CPUs' lists
+  -- a credit's form determines its entries, if the CPUs' lists determine the entry that credits
   told_credit : (set : Setting) (e e' : PoolEntry) (ds ds' : List Deed) (f : CreditForm set e ds)
       (f' : CreditForm set e' ds') →
       (SamePool book book' who f.pool f'.pool → (lists_of book).cpus ≡ (lists_of book').cpus → e ≡ e') →

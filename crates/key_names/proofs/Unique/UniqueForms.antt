@@ -10,15 +10,15 @@ use Rattle.key_names.specs.declared.entries.BaseEntry.{BaseEntry}
 use Rattle.key_names.specs.declared.entries.BaseEntry.TheVariants.{Draw, Refill, Resume, Interrupt}
 use Rattle.key_names.specs.declared.entries.CpuEntry.{CpuEntry}
 use Rattle.key_names.specs.declared.entries.CpuEntry.TheVariants.{Read as CpuRead}
-use Rattle.key_names.specs.BaseList.{BaseState, BaseFits}
-use Rattle.key_names.specs.Flags.{is_bad, is_nonblock, is_insecure}
-use Rattle.key_names.specs.Book.{Book, lists_of}
-use Rattle.key_names.specs.Calls.{Setting}
-use Rattle.key_names.specs.Deeds.{Deed}
+use Rattle.key_names.specs.Lanes.BaseList.{BaseState, BaseFits}
+use Rattle.key_names.specs.Kernel.Flags.{is_bad, is_nonblock, is_insecure}
+use Rattle.key_names.specs.Lanes.Book.{Book, lists_of}
+use Rattle.key_names.specs.Callers.Calls.{Setting}
+use Rattle.key_names.specs.Callers.Deeds.{Deed}
 use Rattle.key_names.proofs.Unique.TwoBooks.{SameSteps, AllTold, Tells, none_told, through, told_nothing, told_match}
 use Rattle.key_names.proofs.Unique.TwoBooks.{told_looked, told_either}
-use Rattle.key_names.specs.Forms.{Rooted, BaseOnly, DrawForm, PlainRead, RefilledRead, CpuReadForm, ReadForm}
-use Rattle.key_names.specs.Forms.{WaitedInVain, Waited, LookedForm, SysForm, PoolOnly, CpuOnly}
+use Rattle.key_names.specs.Callers.Forms.{Rooted, BaseOnly, DrawForm, PlainRead, RefilledRead, CpuReadForm, ReadForm}
+use Rattle.key_names.specs.Callers.Forms.{WaitedInVain, Waited, LookedForm, SysForm, PoolOnly, CpuOnly}
 
 module _ (book book' : Book) (who : Who) where
   abbrev Same : List Deed → List Deed → Type 0
@@ -55,7 +55,7 @@ module _ (book book' : Book) (who : Who) where
   told_cpu_only c e ds ds' f f' same =
       through book book' who f.deeds_are f'.deeds_are (λ s. (λ fills. f.is ∙ sym f'.is, tt)) same
 
-  -- an entry that names a root has other steps than one that does not
+  -- an entry that names a root has other steps than an entry that names none
   pub told_rooted_or_not : (set : Setting) (e : ℕ → BaseEntry) (plain : BaseEntry) →
       Tell (λ ds. Rooted set e ds ⊎ BaseOnly plain ds) (λ ds. Rooted set e ds ⊎ BaseOnly plain ds)
   told_rooted_or_not set e plain =
@@ -109,7 +109,7 @@ module _ (book book' : Book) (who : Who) where
       cpu_or_draw (inr c) (inr d) = through book book' who c.deeds_are d.deeds_are (λ s. absurd s.0) same
   told_read set taken g ds ds' (inr f) (inr f') same = told_cpu_read set taken ds ds' f f' same
 
-  -- the generation before it distinguishes a resume from an interrupt
+  -- the generation before the entry distinguishes a resume from an interrupt
   resume_or_interrupt : (s s' : BaseState) (e e' : BaseEntry) → e ≡ Resume → e' ≡ Interrupt → BaseFits s e →
       BaseFits s' e' →
       s.generation ≡ s'.generation → ⊥
@@ -169,7 +169,7 @@ module _ (book book' : Book) (who : Who) where
       (told_match book book' who (is_nonblock flags) _ _ (told_nothing book book' who) (told_wait set n))
       (told_match book book' who (n == 0) _ _ (told_nothing book book' who) (told_read set (User n) g))
 
-  -- a system call
+  -- a system call's form determines the entry of each visit
   pub told_system : (set : Setting) (n flags : ℕ) → Tell (SysForm set n flags) (SysForm set n flags)
   told_system set n flags =
       told_match book book' who (is_bad flags) _ _ (told_nothing book book' who)

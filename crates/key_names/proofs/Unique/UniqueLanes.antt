@@ -12,22 +12,22 @@ use Rattle.key_names.specs.declared.names.Step.TheVariants.{Look, Visit as Marke
 use Rattle.key_names.specs.declared.names.Who.{Who}
 use Rattle.key_names.specs.declared.entries.BaseEntry.{BaseEntry}
 use Rattle.key_names.specs.declared.entries.CpuEntry.{CpuEntry}
-use Rattle.key_names.specs.BaseList.{base_after}
-use Rattle.key_names.specs.Batches.{fills_after}
-use Rattle.key_names.specs.CpuList.{CpuState, cpu_key_after, cpu_key_in_use, cpu_step, cpu_start, cpu_after}
-use Rattle.key_names.specs.Book.{Book, Visit, Lists, lists_of, entries_of, list_at, cpu_list}
-use Rattle.key_names.specs.SeenLine.{SeenLine}
-use Rattle.key_names.specs.Deeds.{Deed, at_pool, at_base, at_cpu, deed_or, deed_at, deeds_of, pool_visit, base_visit}
-use Rattle.key_names.specs.Deeds.{cpu_visit}
-use Rattle.key_names.specs.IsTranscript.{MarkBy, marks_from, line_marks, all_marks, lane_marks, PlacesStand, stamped}
-use Rattle.key_names.specs.IsTranscript.{stamped_at, VisitsAre}
+use Rattle.key_names.specs.Lanes.BaseList.{base_after}
+use Rattle.key_names.specs.Kernel.Batches.{fills_after}
+use Rattle.key_names.specs.Lanes.CpuList.{CpuState, cpu_key_after, cpu_key_in_use, cpu_step, cpu_start, cpu_after}
+use Rattle.key_names.specs.Lanes.Book.{Book, Visit, Lists, lists_of, entries_of, list_at, cpu_list}
+use Rattle.key_names.specs.Transcripts.SeenLine.{SeenLine}
+use Rattle.key_names.specs.Callers.Deeds.{Deed, at_pool, at_base, at_cpu, deed_or, deed_at, deeds_of, pool_visit, base_visit}
+use Rattle.key_names.specs.Callers.Deeds.{cpu_visit}
+use Rattle.key_names.specs.Transcripts.IsTranscript.{MarkBy, marks_from, line_marks, all_marks, lane_marks, PlacesStand, stamped}
+use Rattle.key_names.specs.Transcripts.IsTranscript.{stamped_at, VisitsAre}
 use Rattle.key_names.proofs.Lists.Each.{each_append, each_weaker, each_both}
 use Rattle.key_names.proofs.Unique.TwoBooks.{Told, AllTold}
 use Rattle.key_names.proofs.Unique.UniqueEvents.{entries_at}
 use Rattle.key_names.proofs.Unique.UniqueMarks.{one_entry}
 use Rattle.key_names.proofs.Transcripts.LaneCounts.{every_place, lane_length, lane_counts}
 
--- lists of one length are equal if their elements at each place are, given equal elements before it
+-- two lists of one length are equal if, at each place, equal elements before it imply equal elements there
 pub same_lists : {E : Type 0} (xs ys : List E) → length xs ≡ length ys →
     ((i : ℕ) (x y : E) → i < length xs → slice_get xs i ≡ Some x → slice_get ys i ≡ Some y → take i xs ≡ take i ys →
     x ≡ y) →
@@ -42,7 +42,7 @@ same_lists {E = E} (x ∷ xs) (y ∷ ys) long each =
     (ap (λ z. z ∷ take i xs) here ∙ ap (λ zs. y ∷ zs) same)) in
     ap (λ z. z ∷ xs) here ∙ ap (λ zs. y ∷ zs) rest
 
--- the same for lists of lists
+-- two lists of lists are equal if they have one length, and the lists at each place are equal
 same_rows : {E : Type 0} (xss yss : List (List E)) → length xss ≡ length yss →
     ((i : ℕ) → list_at xss i ≡ list_at yss i) → xss ≡ yss
 same_rows [] [] long each = refl
@@ -99,7 +99,7 @@ module _ (book book' : Book) where
       each_append (λ (by : MarkBy). PlaceTold by.mark.lane by.mark.place) (flat_map line_marks lines) (all_marks t)
       (lines_told lines told.0) (marks_told t told.1)
 
--- visits of one length with the same marks and the same entries
+-- two lists of visits are equal if they have one length, the same marks and the same entries
 visits_same : {E : Type 0} (xs ys : List (Visit E)) → length xs ≡ length ys →
     ((i : ℕ) → i < length xs → stamped xs i ≡ stamped ys i) → entries_of xs ≡ entries_of ys → xs ≡ ys
 visits_same {E = E} xs ys long marks entries = same_lists xs ys long one
@@ -144,7 +144,7 @@ module _ (book book' : Book) (marks : List MarkBy) (places : (lane : LaneId) →
   cpu_long : (b : Book) (c : ℕ) → length (cpu_list (lists_of b) c) ≡ length (list_at b.cpus c)
   cpu_long b c = ap (λ es. length es) (sym (entries_at b.cpus c)) ∙ entries_long (list_at b.cpus c)
 
-  -- the same for the entries at a place of two lists
+  -- a fact about the deeds at a place holds for the deeds of the entries there
   told_there : {E : Type 0} (d d' : E → Deed) (o o' : Option E) (e e' : E) → o ≡ Some e → o' ≡ Some e' →
       Told book book' nobody (deed_or d o) (deed_or d' o') → Told book book' nobody (d e) (d' e')
   told_there {E = E} d d' o o' e e' p q t =
@@ -192,7 +192,7 @@ module _ (book book' : Book) (marks : List MarkBy) (places : (lane : LaneId) →
       ∙ sym both.1) (each_both _ _ marks visits.stand visits'.stand)) i
       (omega arith)
 
-  -- so both books have the same visits
+  -- if the lists of states are the same, both books are the same
   pub same_book : book.callers ≡ book'.callers → book ≡ book'
   same_book callers =
       let pool : book.pool ≡ book'.pool = visits_same book.pool book'.pool (lengths PoolLane)

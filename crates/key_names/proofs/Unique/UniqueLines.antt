@@ -5,13 +5,13 @@ use Rattle.std.specs.Prelude.{map, if◌then◌else◌}
 use Rattle.std.specs.List.{AllByRecursion, range_with_len, flat_map}
 use Rattle.key_names.specs.declared.events.Event.{Event}
 use Rattle.key_names.specs.declared.events.Event.TheVariants.{Vread, Inside}
-use Rattle.key_names.specs.Book.{Book, lists_of, LawfulLanes}
-use Rattle.key_names.specs.Samples.{LawfulSamples}
-use Rattle.key_names.specs.Calls.{Setting, Call, alone, unbound, BoundAct, has_vread, calls_from, calls_of, all_calls}
-use Rattle.key_names.specs.SeenLine.{SeenLine}
-use Rattle.key_names.specs.Meaning.{CallMeaning, caller_start}
-use Rattle.key_names.specs.IsTranscript.{LinesFit, EachCaller, CallerMeans, MarkBy, line_marks, all_marks, stamped_at}
-use Rattle.key_names.specs.IsTranscript.{state_lists}
+use Rattle.key_names.specs.Lanes.Book.{Book, lists_of, LawfulLanes}
+use Rattle.key_names.specs.Lanes.Samples.{LawfulSamples}
+use Rattle.key_names.specs.Callers.Calls.{Setting, Call, alone, unbound, BoundAct, has_vread, calls_from, calls_of, all_calls}
+use Rattle.key_names.specs.Transcripts.SeenLine.{SeenLine}
+use Rattle.key_names.specs.Callers.Meaning.{CallMeaning, caller_start}
+use Rattle.key_names.specs.Transcripts.IsTranscript.{LinesFit, EachCaller, CallerMeans, MarkBy, line_marks, all_marks, stamped_at}
+use Rattle.key_names.specs.Transcripts.IsTranscript.{state_lists}
 use Rattle.key_names.proofs.Lists.Each.{each_append, each_parts}
 use Rattle.key_names.proofs.Unique.UniqueCallers.{caller_itself}
 use Rattle.key_names.proofs.Unique.UniqueMeanings.{OfCall, LineSame, LineTold}
@@ -112,7 +112,7 @@ module _ (book book' : Book) (lawful : LawfulLanes (lists_of book)) (lawful' : L
       let p' = each_parts (Stands book') (flat_map line_marks lines) (all_marks t) stand' in
       (lines_same lines p.0 p'.0, all_same t p.1 p'.1)
 
-  -- the calls of all callers
+  -- the calls of all callers went alike in both books
   pub record AllAlike (t : List (List SeenLine)) (mss mss' : List (List CallMeaning)) : Type 0 where
     pub told : AllByRecursion (λ lines. AllByRecursion Told lines) t
     pub states : map state_lists mss ≡ map state_lists mss'

@@ -9,13 +9,13 @@ use Rattle.key_names.specs.declared.names.Step.{Step}
 use Rattle.key_names.specs.declared.names.Step.TheVariants.{Look, Visit as Marked}
 use Rattle.key_names.specs.declared.names.Who.{Who}
 use Rattle.key_names.specs.declared.entries.CpuEntry.{CpuEntry}
-use Rattle.key_names.specs.BaseList.{BaseMayCome, base_step, base_start}
-use Rattle.key_names.specs.CpuList.{cpu_after, CpuFits, CpuMayCome, cpu_step, cpu_start}
-use Rattle.key_names.specs.Book.{Book, Visit, Lists, lists_of, entries_of, list_at, cpu_list, LawfulLanes}
-use Rattle.key_names.specs.Samples.{SameEvent}
-use Rattle.key_names.specs.Deeds.{Deed, at_pool, at_base, at_cpu, deed_or, deed_at, deeds_of, pool_visit, base_visit}
-use Rattle.key_names.specs.Deeds.{cpu_visit}
-use Rattle.key_names.specs.IsTranscript.{MarkBy, marks_from, stamped, stamped_at}
+use Rattle.key_names.specs.Lanes.BaseList.{BaseMayCome, base_step, base_start}
+use Rattle.key_names.specs.Lanes.CpuList.{cpu_after, CpuFits, CpuMayCome, cpu_step, cpu_start}
+use Rattle.key_names.specs.Lanes.Book.{Book, Visit, Lists, lists_of, entries_of, list_at, cpu_list, LawfulLanes}
+use Rattle.key_names.specs.Lanes.Samples.{SameEvent}
+use Rattle.key_names.specs.Callers.Deeds.{Deed, at_pool, at_base, at_cpu, deed_or, deed_at, deeds_of, pool_visit, base_visit}
+use Rattle.key_names.specs.Callers.Deeds.{cpu_visit}
+use Rattle.key_names.specs.Transcripts.IsTranscript.{MarkBy, marks_from, stamped, stamped_at}
 use Rattle.key_names.proofs.Lists.Growing.{may_at}
 use Rattle.key_names.proofs.Unique.TwoBooks.{SamePool, SameBase, SameCpu, SameStep, SameSteps}
 use Rattle.key_names.proofs.Unique.UniqueEvents.{entries_at}
@@ -45,7 +45,7 @@ entry_of {E = E} visits place who f =
     let entry : Visit E → E = λ visit. visit.entry in
     slice_get-map entry visits place ∙ ap (λ o. option_map entry o) f.is
 
--- the entries at a place of two equal lists
+-- the entries at a place of two equal lists are equal
 pub one_entry : {E : Type 0} (xs ys : List E) (place : ℕ) (x y : E) → slice_get xs place ≡ Some x →
     slice_get ys place ≡ Some y →
     xs ≡ ys → x ≡ y
@@ -66,12 +66,12 @@ module _ (book book' : Book) (lawful : LawfulLanes (lists_of book)) (lawful' : L
   abbrev by : ℕ → Who
   by i = record { caller = c; event = n; step = i }
 
-  -- the event of a visit that was found
+  -- a visit that was found is of this event
   made_by : {E : Type 0} (visits : List (Visit E)) (i place : ℕ) (f : Found visits place (by i)) →
       SameEvent f.visit.who who
   made_by visits i place f = (ap (λ (w : Who). w.caller) f.made, ap (λ (w : Who). w.event) f.made)
 
-  -- the deeds at a place of two lists
+  -- two entries that match as deeds of one step also match as the deeds at their places
   deeds_there : {E : Type 0} (d d' : E → Deed) (o o' : Option E) (e e' : E) → o ≡ Some e → o' ≡ Some e' →
       SameStep book book' who (d e) (d' e') → SameStep book book' who (deed_or d o) (deed_or d' o')
   deeds_there {E = E} d d' o o' e e' p q same =
@@ -159,7 +159,7 @@ module _ (book book' : Book) (lawful : LawfulLanes (lists_of book)) (lawful' : L
       same_cpu i cpu place (found (list_at book.cpus cpu) place stamp (by i) at)
       (found (list_at book'.cpus cpu) place stamp (by i) at')
 
-  -- so the steps of a line have the same visits
+  -- the steps of a line have the same visits in both books
   pub same_steps : (i : ℕ) (steps : List Step) → AllByRecursion (Stands book) (marks_from c n i steps) →
       AllByRecursion (Stands book') (marks_from c n i steps) →
       SameSteps book book' who (deeds_of l steps) (deeds_of l' steps)

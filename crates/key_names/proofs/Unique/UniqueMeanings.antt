@@ -8,16 +8,16 @@ use Rattle.key_names.specs.declared.events.Event.TheVariants.{Reseed}
 use Rattle.key_names.specs.declared.events.InsideAct.{InsideAct}
 use Rattle.key_names.specs.declared.events.InsideAct.TheVariants.{Wipe as WipeAct, Vread as VreadAct}
 use Rattle.key_names.specs.declared.events.InsideAct.TheVariants.{Reseed as ReseedAct}
-use Rattle.key_names.specs.Book.{Book, lists_of}
-use Rattle.key_names.specs.Samples.{LawfulSamples}
-use Rattle.key_names.specs.Calls.{Setting, Call, alone, vread_call, unbound, ending, BoundAct}
-use Rattle.key_names.specs.Deeds.{deeds_of}
-use Rattle.key_names.specs.Forms.{Form}
-use Rattle.key_names.specs.Answers.{answer_of, shown_of, system_answer, served_bytes}
-use Rattle.key_names.specs.SeenLine.{SeenLine, bytes_or_none}
-use Rattle.key_names.specs.Meaning.{LineMeaning, CallMeaning, caller_after, AloneMeans, unused_line, UnboundMeans}
-use Rattle.key_names.specs.Meaning.{EndingMeans, ActMeans, ActsMean}
-use Rattle.key_names.specs.IsTranscript.{EachAct}
+use Rattle.key_names.specs.Lanes.Book.{Book, lists_of}
+use Rattle.key_names.specs.Lanes.Samples.{LawfulSamples}
+use Rattle.key_names.specs.Callers.Calls.{Setting, Call, alone, vread_call, unbound, ending, BoundAct}
+use Rattle.key_names.specs.Callers.Deeds.{deeds_of}
+use Rattle.key_names.specs.Callers.Forms.{Form}
+use Rattle.key_names.specs.Callers.Answers.{answer_of, shown_of, system_answer, served_bytes}
+use Rattle.key_names.specs.Transcripts.SeenLine.{SeenLine, bytes_or_none}
+use Rattle.key_names.specs.Callers.Meaning.{LineMeaning, CallMeaning, caller_after, AloneMeans, unused_line, UnboundMeans}
+use Rattle.key_names.specs.Callers.Meaning.{EndingMeans, ActMeans, ActsMean}
+use Rattle.key_names.specs.Transcripts.IsTranscript.{EachAct}
 use Rattle.key_names.proofs.Unique.TwoBooks.{SameSteps, AllTold, same_at, told_at}
 use Rattle.key_names.proofs.Unique.UniqueForms.{told_system}
 use Rattle.key_names.proofs.Unique.UniqueEvents.{told_event, told_end}
@@ -58,7 +58,7 @@ module _ (book book' : Book) (samples : LawfulSamples book) (samples' : LawfulSa
   pub deeds_equal : (line : SeenLine) (m m' : LineMeaning) → Behind line m → Behind' line m' → H → m.deeds ≡ m'.deeds
   deeds_equal line m m' p p' h = sym p ∙ ap (λ lists. deeds_of lists line.steps) h ∙ p'
 
-  -- meanings that went alike
+  -- the two meanings of a call are alike
   pub record MeaningAlike (call : Call) (m m' : CallMeaning) : Type 0 where
     pub told : OfCall LineTold call
     pub entries : m.entries ≡ m'.entries
@@ -128,7 +128,7 @@ module _ (book book' : Book) (samples : LawfulSamples book) (samples' : LawfulSa
         });
   }
 
-  -- an act inside a vread
+  -- the two meanings of an act inside a vread are alike
   record ActAlike (line : SeenLine) (m m' : LineMeaning) : Type 0 where
     told : LineTold line
     equal : H → m ≡ m'

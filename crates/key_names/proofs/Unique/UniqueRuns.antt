@@ -1,21 +1,21 @@
--- The meanings of a caller's calls in two books: each call, and so all together, have like meanings.
+-- The meanings of a caller's calls in two books: the meanings of each call are alike, and so are those of all calls.
 use Rattle.std.proofs.Common.{◌≡◌, ℕ, List, [], ◌∷◌, ◌++◌, refl, sym, subst, ap, ◌∙◌}
 use Rattle.std.specs.Prelude.{◌==◌, if◌then◌else◌}
 use Rattle.std.specs.List.{AllByRecursion}
-use Rattle.key_names.specs.Book.{Book, lists_of}
-use Rattle.key_names.specs.Samples.{LawfulSamples}
-use Rattle.key_names.specs.Calls.{Setting, Call, alone, vread_call, unbound, ending, BoundAct}
-use Rattle.key_names.specs.Deeds.{Deed, looked}
-use Rattle.key_names.specs.Forms.{Looked}
-use Rattle.key_names.specs.SeenLine.{SeenLine, bytes_or_none}
-use Rattle.key_names.specs.VgetrandomState.{VgetrandomState, wiped_state}
-use Rattle.key_names.specs.BatchCopy.{copy_bytes, state_after_copy, serves_locally}
-use Rattle.key_names.specs.Vgetrandom.{Outcome}
-use Rattle.key_names.specs.VreadSteps.{Shows, PointReached, points_of, is_reached, ending_answer, ending_shown}
-use Rattle.key_names.specs.VreadSteps.{published_by, looks_of, NeverFall}
-use Rattle.key_names.specs.Meaning.{CallerState, LineMeaning, CallMeaning, current_state, with_state, ActsMean}
-use Rattle.key_names.specs.Meaning.{ByLocalCopy, ByVgetrandom, tries_local, LocalOrCall, VreadMeans, Means}
-use Rattle.key_names.specs.IsTranscript.{EachAct, EachOfCall, EachLine, CallsMean, entries_of_state}
+use Rattle.key_names.specs.Lanes.Book.{Book, lists_of}
+use Rattle.key_names.specs.Lanes.Samples.{LawfulSamples}
+use Rattle.key_names.specs.Callers.Calls.{Setting, Call, alone, vread_call, unbound, ending, BoundAct}
+use Rattle.key_names.specs.Callers.Deeds.{Deed, looked}
+use Rattle.key_names.specs.Callers.Forms.{Looked}
+use Rattle.key_names.specs.Transcripts.SeenLine.{SeenLine, bytes_or_none}
+use Rattle.key_names.specs.Kernel.VgetrandomState.{VgetrandomState, wiped_state}
+use Rattle.key_names.specs.Kernel.BatchCopy.{copy_bytes, state_after_copy, serves_locally}
+use Rattle.key_names.specs.Kernel.Vgetrandom.{Outcome}
+use Rattle.key_names.specs.Callers.VreadSteps.{Shows, PointReached, points_of, is_reached, ending_answer, ending_shown}
+use Rattle.key_names.specs.Callers.VreadSteps.{published_by, looks_of, NeverFall}
+use Rattle.key_names.specs.Callers.Meaning.{CallerState, LineMeaning, CallMeaning, current_state, with_state, ActsMean}
+use Rattle.key_names.specs.Callers.Meaning.{ByLocalCopy, ByVgetrandom, tries_local, LocalOrCall, VreadMeans, Means}
+use Rattle.key_names.specs.Transcripts.IsTranscript.{EachAct, EachOfCall, EachLine, CallsMean, entries_of_state}
 use Rattle.key_names.proofs.Unique.TwoBooks.{same_at, told_at}
 use Rattle.key_names.proofs.Unique.UniqueStates.{SameState, same_entries, same_copy}
 use Rattle.key_names.proofs.Unique.UniqueAttempts.{match_both}
@@ -43,7 +43,7 @@ module _ (book book' : Book) (samples : LawfulSamples book) (samples' : LawfulSa
   abbrev Second : SeenLine → LineMeaning → Type 0
   Second = Behind' book book' samples samples'
 
-  -- a vread that made a vgetrandom call
+  -- if a vread made a vgetrandom call, its meanings in both books are alike
   vgetrandom_alike : (n flags : ℕ) (line : SeenLine) (acts : List BoundAct) (m m' : CallMeaning) →
       OfCall Same (vread_call n flags line acts) → EachOfCall First (vread_call n flags line acts) m →
       EachOfCall Second (vread_call n flags line acts) m' → SameCaller H m.before m'.before →
@@ -90,7 +90,7 @@ module _ (book book' : Book) (samples : LawfulSamples book) (samples' : LawfulSa
   none_inside (bound ∷ acts) [] each p = absurd each
   none_inside (bound ∷ acts) (m ∷ ms) each p = cc
 
-  -- a vread that a copy served
+  -- if a copy served a vread, its meanings in both books are alike
   local_alike : (n flags g g' : ℕ) (rest rest' : List Deed) (line : SeenLine) (acts : List BoundAct)
       (m m' : CallMeaning) →
       EachOfCall First (vread_call n flags line acts) m → EachOfCall Second (vread_call n flags line acts) m' →
@@ -166,7 +166,7 @@ module _ (book book' : Book) (samples : LawfulSamples book) (samples' : LawfulSa
   meaning_alike (ending line) m m' same p p' before a a' =
       ending_alike book book' samples samples' line m m' same p p' before a a'
 
-  -- the calls of one caller
+  -- the meanings of one caller's calls are alike
   pub record CallsAlike (calls : List Call) (ms ms' : List CallMeaning) : Type 0 where
     pub told : AllByRecursion (OfCall Told) calls
     pub entries : (k : ℕ) → entries_of_state k ms ≡ entries_of_state k ms'

@@ -1,12 +1,12 @@
--- Two vgetrandom states that answer alike: they differ only in the bytes of key and batch, and not even in these if H
--- holds. After a call they answer alike again.
+-- Two vgetrandom states that answer alike: they differ at most in the bytes of key and batch, and are equal if H holds.
+-- After a call they answer alike again.
 use Rattle.std.proofs.Common.{◌≡◌, ℕ, ◌+◌, Bool, true, false, List, ◌++◌, refl, sym, subst, ap, ◌∙◌}
 use Rattle.std.specs.Prelude.{if◌then◌else◌}
 use Rattle.key_names.specs.declared.entries.VEntry.{VEntry}
-use Rattle.key_names.specs.VgetrandomState.{VgetrandomState, wiped_state, state_left}
-use Rattle.key_names.specs.BatchCopy.{has_left, whole_blocks, new_batch_bytes, state_of_same_batch, state_of_new_batch}
-use Rattle.key_names.specs.BatchCopy.{state_after_copy, block_after_copy, copy_entries}
-use Rattle.key_names.specs.Vgetrandom.{Attempt, attempt_behind, Outcome, outcome_behind}
+use Rattle.key_names.specs.Kernel.VgetrandomState.{VgetrandomState, wiped_state, state_left}
+use Rattle.key_names.specs.Kernel.BatchCopy.{has_left, whole_blocks, new_batch_bytes, state_of_same_batch, state_of_new_batch}
+use Rattle.key_names.specs.Kernel.BatchCopy.{state_after_copy, block_after_copy, copy_entries}
+use Rattle.key_names.specs.Kernel.Vgetrandom.{Attempt, attempt_behind, Outcome, outcome_behind}
 
 module _ (H : Type 0) where
   pub record SameState (s s' : VgetrandomState) : Type 0 where
@@ -51,7 +51,7 @@ module _ (H : Type 0) where
         ∙ ap (λ k. record s' { key = k; pos = 96 }) (keys h);
   }
 
-  -- a choice made alike in both
+  -- if a choice goes the same way in both, the chosen states answer alike
   same_if : (b b' : Bool) → b ≡ b' → (x y x' y' : VgetrandomState) → SameState x x' → SameState y y' →
       SameState (if b then x else y) (if b' then x' else y')
   same_if true true p x y x' y' here there = here

@@ -4,16 +4,16 @@ use Rattle.std.specs.Prelude.{◌==◌, if◌then◌else◌}
 use Rattle.key_names.specs.declared.names.Who.{Who}
 use Rattle.key_names.specs.declared.point.Point.{Point}
 use Rattle.key_names.specs.declared.point.Point.TheVariants.{Start, Written, Serve as ServePoint, End}
-use Rattle.key_names.specs.Book.{Book, lists_of}
-use Rattle.key_names.specs.Calls.{Setting}
-use Rattle.key_names.specs.Deeds.{Deed}
-use Rattle.key_names.specs.VgetrandomState.{VgetrandomState, state_left}
-use Rattle.key_names.specs.BatchCopy.{copy_bytes, state_after_copy, block_after_copy, copy_entries}
-use Rattle.key_names.specs.Vgetrandom.{CpuPlace, SystemAnswer, HostStep, holds, outdated, Attempt, wipe_entry}
-use Rattle.key_names.specs.Vgetrandom.{rekey_entry, AtPoint, FromEnd, FromServe, Keyed, AfterKeyRead, FromWritten}
-use Rattle.key_names.specs.Vgetrandom.{FromStart, IsAttempt}
-use Rattle.key_names.specs.Points.{number_of}
-use Rattle.key_names.specs.VreadSteps.{PointReached, points_of}
+use Rattle.key_names.specs.Lanes.Book.{Book, lists_of}
+use Rattle.key_names.specs.Callers.Calls.{Setting}
+use Rattle.key_names.specs.Callers.Deeds.{Deed}
+use Rattle.key_names.specs.Kernel.VgetrandomState.{VgetrandomState, state_left}
+use Rattle.key_names.specs.Kernel.BatchCopy.{copy_bytes, state_after_copy, block_after_copy, copy_entries}
+use Rattle.key_names.specs.Kernel.Vgetrandom.{CpuPlace, SystemAnswer, HostStep, holds, outdated, Attempt, wipe_entry}
+use Rattle.key_names.specs.Kernel.Vgetrandom.{rekey_entry, AtPoint, FromEnd, FromServe, Keyed, AfterKeyRead, FromWritten}
+use Rattle.key_names.specs.Kernel.Vgetrandom.{FromStart, IsAttempt}
+use Rattle.key_names.specs.Kernel.Points.{number_of}
+use Rattle.key_names.specs.Callers.VreadSteps.{PointReached, points_of}
 use Rattle.key_names.proofs.Unique.UniqueStates.{SameState, SameAttempt, same_left, same_generation, same_keyed, same_entries}
 use Rattle.key_names.proofs.Unique.UniqueStates.{same_block, same_copy, same_behind, attempts_at}
 use Rattle.key_names.proofs.Unique.UniqueAttempts.{match_both, Here, Further, here_at, at_look, at_key}
@@ -21,8 +21,8 @@ use Rattle.key_names.proofs.Unique.UniqueAttempts.{match_both, Here, Further, he
 abbrev pub reached : Point → Bool → PointReached
 reached point wiped = record { point = point; wiped = wiped }
 
--- an attempt before more steps of the host. W holds for its points from the start on, and V for those after it; both
--- imply at which points the host wiped
+-- W holds for an attempt's points from its start on, and V for its points after the start; both imply at which points
+-- the host wiped. More steps of the host may follow the attempt
 module _ (book book' : Book) (who : Who) (set : Setting) (W V : List PointReached → Type 0) (wipes : Point → Bool)
     (starts : (wiped : Bool) (points : List PointReached) → W (reached Start wiped ∷ points) →
     (wiped ≡ wipes Start) × V points)
@@ -37,7 +37,7 @@ module _ (book book' : Book) (who : Who) (set : Setting) (W V : List PointReache
     pub attempt : SameAttempt H a a'
     pub points : points_of more ≡ points_of more' → points_of (steps ++ more) ≡ points_of (steps' ++ more')
 
-  -- if two relations hold with the same steps, the attempts go alike; U holds for the points
+  -- if F and F' hold for two attempts with the same steps, the attempts go alike; U holds for their points
   abbrev pub GoAlike : (List PointReached → Type 0) → (List HostStep → Attempt → Type 0) →
       (List HostStep → Attempt → Type 0) → Type 0
   GoAlike U F F' = (steps steps' : List HostStep) (a a' : Attempt) (ds ds' : List Deed) → F steps a → F' steps' a' →
@@ -173,7 +173,7 @@ module _ (book book' : Book) (who : Who) (set : Setting) (W V : List PointReache
       (written_alike n c) steps steps' a a' ds ds' x y here)
       f f'
 
-  -- attempts with the same steps, on states that answer alike
+  -- attempts with the same steps, on states that answer alike, go alike
   pub attempt_alike : (n c : ℕ) (s s' : VgetrandomState) → SameState H s s' →
       GoAlike W (IsAttempt n c s) (IsAttempt n c s')
   attempt_alike n c s s' same steps steps' a a' ds ds' is is' here =

@@ -7,9 +7,9 @@ use Rattle.key_names.specs.declared.names.KeyName.TheVariants.{Root, Base, Cpu, 
 use Rattle.key_names.specs.declared.entries.BaseEntry.{BaseEntry}
 use Rattle.key_names.specs.declared.entries.BaseEntry.TheVariants.{Early, Reseed, Tick, Draw, Refill, Fork, End, Wait, Resume, Interrupt, Stall, Unstall}
 use Rattle.key_names.specs.declared.entries.PoolEntry.{PoolEntry}
-use Rattle.key_names.specs.Uses.{Use, kept, use_of, IsUsed, Disjoint, read_uses, base_uses_at}
-use Rattle.key_names.specs.LiveMaterial.{BaseReplaces}
-use Rattle.key_names.specs.BaseList.{BaseState, BaseMayCome, RootStands, base_step, base_start, base_erases, base_key_in_use, base_key_after, root_or, root_of, roots_after, refill_of, refill_at, LawfulBase}
+use Rattle.key_names.specs.Keys.Uses.{Use, kept, use_of, IsUsed, Disjoint, read_uses, base_uses_at}
+use Rattle.key_names.specs.Keys.LiveMaterial.{BaseReplaces}
+use Rattle.key_names.specs.Lanes.BaseList.{BaseState, BaseMayCome, RootStands, base_step, base_start, base_erases, base_key_in_use, base_key_after, root_or, root_of, roots_after, refill_of, refill_at, LawfulBase}
 use Rattle.key_names.proofs.Uses.UseLists.{Disjoint-two, named_uses_cases, named_uses_disjoint, read_disjoint, read_within, choice_cases}
 use Rattle.key_names.proofs.Uses.Walks.{StepFacts, Walk, walk, lawful_and_told}
 
@@ -59,7 +59,7 @@ old_not_later refill place roots (Cpu c k) old later = old
 old_not_later refill place roots (Call lane i) old later = old
 old_not_later refill place roots (Vdso c v n) old later = old
 
--- the key in use is the one before, or the root that the entry names
+-- the key in use is the key before the entry, or the root that the entry names
 pub in_use_cases : (e : BaseEntry) (key : Option KeyName) (k : KeyName) → base_key_in_use e key ≡ Some k →
     ((root_of e ≡ None) × (key ≡ Some k)) ⊎ ((r : ℕ) × (root_of e ≡ Some r) × (Root r ≡ k))
 in_use_cases e key k = go (root_of e) refl

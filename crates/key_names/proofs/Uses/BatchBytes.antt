@@ -7,14 +7,14 @@ use Rattle.key_names.specs.declared.entries.CpuEntry.{CpuEntry}
 use Rattle.key_names.specs.declared.entries.CpuEntry.TheVariants.{Read, Int, Irq, Dump, Prepare, Online}
 use Rattle.key_names.specs.declared.entries.VEntry.{VEntry}
 use Rattle.key_names.specs.declared.entries.VEntry.TheVariants.{Rekey, Blocks, Refill, Serve, Wipe}
-use Rattle.key_names.specs.Keystream.{keystream}
-use Rattle.key_names.specs.LawfulList.{LawfulFrom}
-use Rattle.key_names.specs.Batches.{Fill, batch_pos, batch_step, with_zeros, must_fill, one_more_served, fills_after}
-use Rattle.key_names.specs.CpuList.{CpuState, CpuFits, CpuMayCome, cpu_step, cpu_key_in_use}
-use Rattle.key_names.specs.StateList.{NamedState, anything, StateMayCome, state_step}
-use Rattle.key_names.specs.KeyInUse.{cpu_value_in_use}
-use Rattle.key_names.specs.LiveMaterial.{CpuBytes, cpu_bytes_step, StateBytes, state_bytes_step}
-use Rattle.key_names.specs.Book.{Lists}
+use Rattle.key_names.specs.Kernel.Keystream.{keystream}
+use Rattle.key_names.specs.Lanes.LawfulList.{LawfulFrom}
+use Rattle.key_names.specs.Kernel.Batches.{Fill, batch_pos, batch_step, with_zeros, must_fill, one_more_served, fills_after}
+use Rattle.key_names.specs.Lanes.CpuList.{CpuState, CpuFits, CpuMayCome, cpu_step, cpu_key_in_use}
+use Rattle.key_names.specs.Lanes.StateList.{NamedState, anything, StateMayCome, state_step}
+use Rattle.key_names.specs.Keys.KeyInUse.{cpu_value_in_use}
+use Rattle.key_names.specs.Keys.LiveMaterial.{CpuBytes, cpu_bytes_step, StateBytes, state_bytes_step}
+use Rattle.key_names.specs.Lanes.Book.{Lists}
 
 -- the first n bytes are 0
 abbrev pub StartsZero : ℕ → List ℕ → Type 0
@@ -31,7 +31,7 @@ zeros_both (suc m) n rest = let p : suc (m + n) ≡ suc m + n = omega arith in
     let P : ℕ → Type 0 = λ x. StartsZero x (0 ∷ (replicate m 0 ++ replicate n 0 ++ rest)) in
     subst P p (ap (λ xs. 0 ∷ xs) (zeros_both m n rest))
 
--- more zeros after those at the front
+-- if the first `from` bytes are 0, and the next `len` become 0, the first `from + len` are 0
 pub zeros_more : (from len : ℕ) (bytes : List ℕ) → StartsZero from bytes →
     StartsZero (from + len) (with_zeros from len bytes)
 zeros_more from len bytes h = rw h (zeros_both from len (drop (from + len) bytes))

@@ -4,8 +4,8 @@ use Rattle.std.specs.Prelude.{◌==◌, if◌then◌else◌}
 use Rattle.std.proofs.lemmas.Bool.{eqb-true}
 use Rattle.std.specs.Option.{option_map_or}
 use Rattle.key_names.specs.declared.names.KeyName.{KeyName}
-use Rattle.key_names.specs.Uses.{kept, served, use_of, IsUsed, Disjoint, batch_uses}
-use Rattle.key_names.specs.Batches.{Fill, one_more_served}
+use Rattle.key_names.specs.Keys.Uses.{kept, served, use_of, IsUsed, Disjoint, batch_uses}
+use Rattle.key_names.specs.Kernel.Batches.{Fill, one_more_served}
 use Rattle.key_names.proofs.Uses.UseLists.{UsesByte, one_use, one_use_disjoint, choice_cases}
 
 -- the byte belongs to a batch that was filled with the key, and is not yet served
@@ -53,7 +53,7 @@ filled_cases place width look used fills w f is =
 abbrev pub served_after : ℕ → (ℕ → Option Fill) → ℕ → Option Fill
 served_after width fills w = if w == width then one_more_served (fills w) else fills w
 
--- a fill before one more integer of its width was served, or as it is at another width
+-- the fill f as it was before an integer of this width was served; a fill of another width has not changed
 pub record Before (width : ℕ) (fills : ℕ → Option Fill) (w : ℕ) (f : Fill) : Type 0 where
   pub fill : Fill
   pub is : fills w ≡ Some fill
@@ -110,7 +110,7 @@ batch_disjoint width (Some fill) = one_use_disjoint served fill.key _ _
 pub same_fill : (fills : ℕ → Option Fill) (w : ℕ) (f g : Fill) → fills w ≡ Some f → fills w ≡ Some g → f.count ≡ g.count
 same_fill fills w f g p q = ap (λ o. option_map_or (λ (x : Fill). x.count) o 0) (sym p ∙ q)
 
--- a filling integer uses the key in use up to its own bytes
+-- an integer that fills its batch uses bytes of the key in use, up to its own bytes
 pub fill_within : (key : KeyName) (width : ℕ) (k : KeyName) (q : ℕ) →
     IsUsed (use_of kept key 0 32 ∷ use_of served key 32 width ∷ []) k q →
     (key ≡ k) × (q < 32 + width)

@@ -9,16 +9,16 @@ use Rattle.key_names.specs.declared.entries.Taken.TheVariants.{User}
 use Rattle.key_names.specs.declared.entries.CpuEntry.{CpuEntry}
 use Rattle.key_names.specs.declared.entries.VEntry.{VEntry}
 use Rattle.key_names.specs.declared.entries.VEntry.TheVariants.{Rekey, Blocks, Refill, Serve, Wipe}
-use Rattle.key_names.specs.LawfulList.{LawfulFrom}
+use Rattle.key_names.specs.Lanes.LawfulList.{LawfulFrom}
 use Rattle.key_names.specs.declared.names.Span.{Span}
-use Rattle.key_names.specs.Batches.{Fill}
+use Rattle.key_names.specs.Kernel.Batches.{Fill}
 use Rattle.key_names.proofs.Uses.BatchBytes.{BatchOk, cpu_batches_ok, state_batches_ok}
-use Rattle.key_names.specs.BaseList.{refill_at}
-use Rattle.key_names.specs.CpuList.{taken_at}
-use Rattle.key_names.specs.StateList.{NamedState, state_start, state_step, StateMayCome, rekey_at}
-use Rattle.key_names.specs.Book.{Lists, list_at, cpu_list, state_list, ForwardLawful, LawfulStates, StatePlace, rekey_in}
-use Rattle.key_names.specs.Uses.{Use, HoldsByte, IsUsed, IsDisjoint, Disjoint, base_uses, cpu_uses, state_uses, caller_uses, uses, uses_below, is_rekeyed}
-use Rattle.key_names.specs.LiveMaterial.{KeyHolder, base_key, cpu_key, state_key, BatchHolder, cpu_batch, state_batch, live_key, live_rest, served_len, fill_rest, named_span, state_rest, cpu_end, state_end, WasReplaced, replayed_batch, cpu_bytes_start, state_bytes_start, IsErased, LawfulIsDisjoint, LawfulIsErased, HalfFinishedIsDisjoint, HalfFinishedIsErased}
+use Rattle.key_names.specs.Lanes.BaseList.{refill_at}
+use Rattle.key_names.specs.Lanes.CpuList.{taken_at}
+use Rattle.key_names.specs.Lanes.StateList.{NamedState, state_start, state_step, StateMayCome, rekey_at}
+use Rattle.key_names.specs.Lanes.Book.{Lists, list_at, cpu_list, state_list, ForwardLawful, LawfulStates, StatePlace, rekey_in}
+use Rattle.key_names.specs.Keys.Uses.{Use, HoldsByte, IsUsed, IsDisjoint, Disjoint, base_uses, cpu_uses, state_uses, caller_uses, uses, uses_below, is_rekeyed}
+use Rattle.key_names.specs.Keys.LiveMaterial.{KeyHolder, base_key, cpu_key, state_key, BatchHolder, cpu_batch, state_batch, live_key, live_rest, served_len, fill_rest, named_span, state_rest, cpu_end, state_end, WasReplaced, replayed_batch, cpu_bytes_start, state_bytes_start, IsErased, LawfulIsDisjoint, LawfulIsErased, HalfFinishedIsDisjoint, HalfFinishedIsErased}
 use Rattle.key_names.proofs.Uses.UseLists.{IsUsed-append_cases, Disjoint-append, Part, OwnFrom, parts_below, used_below, UsesByte, IsLong}
 use Rattle.key_names.proofs.Uses.BaseUses as base_side
 use Rattle.key_names.proofs.Uses.BatchFills.{InBatch}
@@ -100,7 +100,7 @@ abbrev pub owner : BatchHolder → KeyHolder
 owner (cpu_batch c width) = cpu_key c
 owner (state_batch caller state) = state_key caller state
 
--- a byte of a named span
+-- a byte in a key's named span is a byte of that key
 pub named_byte : (o : Option KeyName) (from len : ℕ) (span : Span) (k : KeyName) (q : ℕ) →
     named_span o from len ≡ Some span → HoldsByte span k q → UsesByte o from len k q
 named_byte None from len span k q is h = cc
@@ -111,7 +111,7 @@ named_byte (Some key) from len span k q is h =
     let b : HoldsByte (record { key = key; from = from; len = len }) k q = subst P (sym e) h in
     record { key_is = ap Some b.same_key; above = b.from; below = b.below }
 
--- an unserved byte of a CPU's batch
+-- a byte in the unserved span of a CPU's batch is in the batch
 pub fill_byte : (fills : ℕ → Option Fill) (width : ℕ) (span : Span) (k : KeyName) (q : ℕ) →
     fill_rest width (fills width) ≡ Some span → HoldsByte span k q → (b : InBatch fills k q) × (b.width ≡ width)
 fill_byte fills width span k q is h = go (fills width) refl is
@@ -274,7 +274,7 @@ module _ (lists : Lists) (lanes : ForwardLawful lists) (states : LawfulStates li
       let same : a ≡ b = own_once a b k ((held_ok a).live k live) ((held_ok b).replaced k replaced) in
       let P : KeyHolder → Type 0 = λ h. live_key lists h ≡ Some k in (held_ok b).gone k replaced (subst P same live)
 
-  -- a live byte of a state's batch
+  -- a byte in the live span of a state's batch is in the batch
   state_byte : (caller state : ℕ) (s : NamedState) (span : Span) (k : KeyName) (q : ℕ) → state_rest s ≡ Some span →
       HoldsByte span k q →
       state_side.InBatch caller state (rekey_at (state_list lists caller state)) s k q

@@ -8,8 +8,8 @@ use Rattle.key_names.specs.declared.entries.Taken.{Taken}
 use Rattle.key_names.specs.declared.entries.BaseEntry.{BaseEntry}
 use Rattle.key_names.specs.declared.entries.CpuEntry.{CpuEntry}
 use Rattle.key_names.specs.declared.entries.CpuEntry.TheVariants.{Read, Int, Irq, Dump, Prepare, Online}
-use Rattle.key_names.specs.BaseList.{refill_at}
-use Rattle.key_names.specs.CpuList.{RefillNames, RefillStands, cpu_key_in_use, cpu_key_after, cpu_erases, base_refill_of}
+use Rattle.key_names.specs.Lanes.BaseList.{refill_at}
+use Rattle.key_names.specs.Lanes.CpuList.{RefillNames, RefillStands, cpu_key_in_use, cpu_key_after, cpu_erases, base_refill_of}
 use Rattle.key_names.proofs.Uses.UseLists.{IsLong, choice_cases}
 
 module _ (base : List BaseEntry) (c : ℕ) (taken : ℕ → Option Taken) where

@@ -10,9 +10,9 @@ use Rattle.key_names.specs.declared.entries.BaseEntry.{BaseEntry}
 use Rattle.key_names.specs.declared.entries.CpuEntry.{CpuEntry}
 use Rattle.key_names.specs.declared.entries.CpuEntry.TheVariants.{Read, Int, Irq, Dump, Prepare, Online}
 use Rattle.key_names.specs.declared.entries.Taken.{Taken}
-use Rattle.key_names.specs.Uses.{Use, kept, served, use_of, IsUsed, Disjoint, read_uses, batch_uses, cpu_uses_at}
-use Rattle.key_names.specs.Batches.{Fill, fills_after}
-use Rattle.key_names.specs.CpuList.{CpuState, RefillStands, cpu_key_in_use, cpu_key_after, call_or, taken_of}
+use Rattle.key_names.specs.Keys.Uses.{Use, kept, served, use_of, IsUsed, Disjoint, read_uses, batch_uses, cpu_uses_at}
+use Rattle.key_names.specs.Kernel.Batches.{Fill, fills_after}
+use Rattle.key_names.specs.Lanes.CpuList.{CpuState, RefillStands, cpu_key_in_use, cpu_key_after, call_or, taken_of}
 use Rattle.key_names.proofs.Uses.UseLists.{Disjoint-two, named_uses_cases, named_uses_disjoint, IsLong, read_disjoint, read_within}
 use Rattle.key_names.proofs.Uses.BatchFills.{InBatch, Filled, in_batch, none_filled, filled_after, filled_cases, served_after, Before, before_serving, filled_before, Serves, serves, batch_disjoint, same_fill, fill_within}
 use Rattle.key_names.proofs.Uses.CpuNames as names
@@ -187,7 +187,7 @@ module _ (base : List BaseEntry) (c : ℕ) (taken : ℕ → Option Taken) where
       long_not_later k e h = let P : KeyName → Type 0 = λ x. IsLater (suc place) x in
           let m : (c ≡ c) × (suc place ≤ place) × IsLong (taken place) = subst P (sym e) h in omega arith
 
-  -- an integer that fills its batch first
+  -- StepOk holds for an integer that fills its batch first
   fill_step : (place : ℕ) (key used : Option KeyName) (fills : ℕ → Option Fill) (now : List Use)
       (width look : ℕ) →
       Disjoint now → ((k : KeyName) (q : ℕ) → IsUsed now k q → (used ≡ Some k) × (q < 32 + width)) →
@@ -250,7 +250,7 @@ module _ (base : List BaseEntry) (c : ℕ) (taken : ℕ → Option Taken) where
           ((w ≡ width) × (used ≡ f.key) × (1 ≡ f.count)) ⊎ (fills w ≡ Some f)
       cases w f is = filled_cases place width look used fills w f is
 
-  -- an integer of a batch that was filled before
+  -- StepOk holds for an integer of a batch that was filled before
   serve_step : (place : ℕ) (key used : Option KeyName) (fills : ℕ → Option Fill) (width : ℕ) →
       KeysApart place key fills → InUse place key used fills →
       StepOk place key fills (batch_uses width (fills width)) used (served_after width fills)
@@ -309,7 +309,7 @@ module _ (base : List BaseEntry) (c : ℕ) (taken : ℕ → Option Taken) where
         | inr a ↦ (let yes : (b.width == width) ≡ true = eq-eqb b.width width (sym same) in let no = a.0 in cc)
       ]
 
-  -- one entry of a CPU's list
+  -- StepOk holds for each entry of a CPU's list
   pub entry_step : (rekeys : ℕ → Bool) (s : CpuState) (e : CpuEntry) → RefillStands base c s.place e →
       taken s.place ≡ taken_of e →
       KeysApart s.place s.key s.fills →

@@ -5,10 +5,10 @@ use Rattle.key_names.specs.declared.names.KeyName.{KeyName}
 use Rattle.key_names.specs.declared.entries.BaseEntry.{BaseEntry}
 use Rattle.key_names.specs.declared.entries.CpuEntry.{CpuEntry}
 use Rattle.key_names.specs.declared.entries.Taken.{Taken}
-use Rattle.key_names.specs.Uses.{cpu_uses_at}
-use Rattle.key_names.specs.LiveMaterial.{CpuReplaces}
-use Rattle.key_names.specs.Batches.{fills_after}
-use Rattle.key_names.specs.CpuList.{CpuState, CpuMayCome, cpu_step, cpu_start, cpu_key_in_use, cpu_key_after, call_or, base_refill_of, taken_of, taken_at, LawfulCpu}
+use Rattle.key_names.specs.Keys.Uses.{cpu_uses_at}
+use Rattle.key_names.specs.Keys.LiveMaterial.{CpuReplaces}
+use Rattle.key_names.specs.Kernel.Batches.{fills_after}
+use Rattle.key_names.specs.Lanes.CpuList.{CpuState, CpuMayCome, cpu_step, cpu_start, cpu_key_in_use, cpu_key_after, call_or, base_refill_of, taken_of, taken_at, LawfulCpu}
 use Rattle.key_names.proofs.Uses.BatchFills.{none_filled}
 use Rattle.key_names.proofs.Uses.CpuNames as names
 use Rattle.key_names.proofs.Uses.CpuSteps as steps
@@ -28,7 +28,7 @@ module _ (base : List BaseEntry) (c : ℕ) (taken : ℕ → Option Taken) where
   abbrev pub MayComeTold : CpuState → CpuEntry → Type 0
   MayComeTold s e = CpuMayCome base c s e × (taken s.place ≡ taken_of e)
 
-  -- a key that a refill replaces is not in use with it
+  -- the key that a refill replaces is never the key in use at that refill
   replaced_not_used : (place : ℕ) (key : Option KeyName) (o : Option ℕ) →
       ((b : ℕ) → o ≡ Some b → names.MadeFor base c taken b place) →
       (k : KeyName) → is_some o ≡ true → names.IsOld base c taken place k → call_or o key ≡ Some k → ⊥

@@ -7,13 +7,13 @@ use Rattle.key_names.specs.declared.names.KeyName.TheVariants.{Call, Vdso}
 use Rattle.key_names.specs.declared.entries.CpuEntry.{CpuEntry}
 use Rattle.key_names.specs.declared.entries.VEntry.{VEntry}
 use Rattle.key_names.specs.declared.entries.VEntry.TheVariants.{Rekey, Blocks, Refill, Serve, Wipe}
-use Rattle.key_names.specs.Uses.{kept, served, state_uses_at}
-use Rattle.key_names.specs.LiveMaterial.{StateReplaces}
-use Rattle.key_names.specs.StateList.{Expected, anything, new_key, refill_from, NamedState, state_start, state_step, refill_key, MayStart, MayRefill, StateMayCome, LawfulStateList, rekey_of, rekey_at}
+use Rattle.key_names.specs.Keys.Uses.{kept, served, state_uses_at}
+use Rattle.key_names.specs.Keys.LiveMaterial.{StateReplaces}
+use Rattle.key_names.specs.Lanes.StateList.{Expected, anything, new_key, refill_from, NamedState, state_start, state_step, refill_key, MayStart, MayRefill, StateMayCome, LawfulStateList, rekey_of, rekey_at}
 use Rattle.key_names.proofs.Uses.UseLists.{one_use, one_use_disjoint}
 use Rattle.key_names.proofs.Uses.Walks.{StepFacts, Walk, walk, lawful_and_told}
 
--- the bytes of the key in use that are not yet used: after blocks, those after them
+-- if a refill from block n comes next, the unused bytes of the key in use are those from 64 n on
 abbrev pub IsUnused : Expected → ℕ → Type 0
 IsUnused anything q = Unit {0}
 IsUnused new_key q = Unit {0}
@@ -86,7 +86,7 @@ module _ (caller state : ℕ) (rekeys : ℕ → Option (ℕ × ℕ)) where
   later_next : (s : NamedState) (k : KeyName) → IsLater (suc s.place) s.refills k → IsLater s.place s.refills k
   later_next s k l = later_less s.place s.refills s.refills k (omega arith) l
 
-  -- a rekey's own key, and a refill's
+  -- the key that a rekey takes here belongs to the entries from here on, and so does the key that a refill keeps
   taken_here : (s : NamedState) (cpu cpu_place : ℕ) (k : KeyName) → rekeys s.place ≡ Some (cpu, cpu_place) →
       Call (CpuLane cpu) cpu_place ≡ k →
       IsLater s.place s.refills k

@@ -6,7 +6,7 @@ use Rattle.std.proofs.lemmas.Bool.{ltb-true}
 use Rattle.key_names.specs.declared.names.KeyName.{KeyName}
 use Rattle.key_names.specs.declared.entries.Taken.{Taken}
 use Rattle.key_names.specs.declared.entries.Taken.TheVariants.{User, Kernel}
-use Rattle.key_names.specs.Uses.{Use, Purpose, kept, served, use_of, HoldsByte, IsUsed, Disjoint, read_uses, named_uses, named_use, uses_below}
+use Rattle.key_names.specs.Keys.Uses.{Use, Purpose, kept, served, use_of, HoldsByte, IsUsed, Disjoint, read_uses, named_uses, named_use, uses_below}
 
 pub IsUsed-append_cases : (us vs : List Use) (key : KeyName) (q : ℕ) → IsUsed (us ++ vs) key q →
     IsUsed us key q ⊎ IsUsed vs key q
@@ -53,7 +53,7 @@ Disjoint-append (u ∷ us) vs a b apart = (
   Disjoint-append us vs a.1 b (λ key q h r. apart key q (inr h) r),
 )
 
--- a use that ends before another begins
+-- if a use ends before another begins, they have no byte in common
 apart_spans : (u v : Use) (key : KeyName) (q : ℕ) → u.span.from + u.span.len ≤ v.span.from → HoldsByte u.span key q →
     HoldsByte v.span key q → ⊥
 apart_spans u v key q le h m = omega arith
@@ -78,7 +78,7 @@ Disjoint-three u v w uv uw vw = (
   Disjoint-two v w vw,
 )
 
--- the uses of a key that may have no name
+-- if the uses of each named key are disjoint, so are those of a key that may have no name
 pub named_uses_disjoint : (o : Option KeyName) (f : KeyName → List Use) → ((k : KeyName) → Disjoint (f k)) →
     Disjoint (named_uses o f)
 named_uses_disjoint None f d = tt
@@ -108,7 +108,7 @@ pub one_use_disjoint : (purpose : Purpose) (o : Option KeyName) (from len : ℕ)
 one_use_disjoint purpose None from len = tt
 one_use_disjoint purpose (Some key) from len = Disjoint-one (use_of purpose key from len)
 
--- a read that is served from a key of its own
+-- the read is for a user and longer than 32 bytes, so a key of its own serves it
 abbrev pub IsLong : Option Taken → Type 0
 IsLong None = ⊥
 IsLong (Some (User n)) = 32 < n
@@ -152,7 +152,7 @@ read_within rekeys key call (User n) k q (inr h) = go (nat_lt 32 n) refl h
     ]
     go false is h = inl (one rekeys h)
 
--- the side that a choice took
+-- a value that a choice gave is that of one of its sides
 pub choice_cases : {A : Type 0} (b : Bool) (x y z : A) → (if b then x else y) ≡ z →
     ((b ≡ true) × (x ≡ z)) ⊎ ((b ≡ false) × (y ≡ z))
 choice_cases true x y z e = inl (refl, e)
@@ -202,7 +202,7 @@ used_from f from (suc count) k q h =
     elim (IsUsed-append_cases (f from) (flat_map f (range_with_len (from + 1) count)) k q h)
     [ inl a ↦ (from, a) | inr b ↦ used_from f (from + 1) count k q b ]
 
--- the number whose uses have a byte
+-- a byte in the uses of all numbers is a byte in the uses of some number
 pub used_below : (f : ℕ → List Use) (count : ℕ) (k : KeyName) (q : ℕ) → IsUsed (uses_below count f) k q →
     (n : ℕ) × IsUsed (f n) k q
 used_below f count k q h = used_from f 0 count k q h

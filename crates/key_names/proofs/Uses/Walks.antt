@@ -3,8 +3,8 @@ use Rattle.std.proofs.Common.{◌≡◌, ℕ, suc, ◌+◌, List, [], ◌∷◌,
 use Rattle.std.specs.Prelude.{slice_get}
 use Rattle.std.specs.List.{fold}
 use Rattle.key_names.specs.declared.names.KeyName.{KeyName}
-use Rattle.key_names.specs.LawfulList.{LawfulFrom, SomeFrom}
-use Rattle.key_names.specs.Uses.{Use, IsUsed, Disjoint, uses_from}
+use Rattle.key_names.specs.Lanes.LawfulList.{LawfulFrom, SomeFrom}
+use Rattle.key_names.specs.Keys.Uses.{Use, IsUsed, Disjoint, uses_from}
 use Rattle.key_names.proofs.Uses.UseLists.{IsUsed-append_cases, Disjoint-append}
 
 -- MayUse relates a state to the bytes that may still be used, and MayHold to the keys that it may still have.
@@ -24,7 +24,8 @@ module _ {S E : Type 0} (May : S → E → Type 0) (step : S → E → S) (uses_
     pub gone : (k : KeyName) → Replaces k s e → MayHold (step s e) k → ⊥
     pub holds : Holds (step s e)
 
-  -- the same for a list
+  -- a list uses only bytes that may be used before it and not after it, and the keys that it replaces may not be used
+  -- after it
   pub record Walk (s : S) (es : List E) : Type 0 where
     pub disjoint : Disjoint (uses_from uses_at step s es)
     pub within : (k : KeyName) (q : ℕ) → IsUsed (uses_from uses_at step s es) k q → MayUse s k q
@@ -66,7 +67,7 @@ module _ {S E : Type 0} (May : S → E → Type 0) (step : S → E → S) (uses_
       let now : StepFacts s e = facts s e lawful.0 holds in
       join s e es now (walk facts (step s e) es lawful.1 now.holds)
 
--- a lawful list stays lawful with a fact that is given for each place
+-- if a fact is given for each place, a lawful list is lawful together with that fact
 pub lawful_and_told : {S E A : Type 0} (May : S → E → Type 0) (step : S → E → S) (place : S → ℕ) →
     ((s : S) (e : E) → place (step s e) ≡ suc (place s)) → (at : ℕ → A) (of : E → A) (s : S) (es : List E) →
     ((j : ℕ) (e : E) → slice_get es j ≡ Some e → at (place s + j) ≡ of e) → LawfulFrom May step s es →

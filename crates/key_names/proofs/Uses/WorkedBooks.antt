@@ -7,16 +7,16 @@ use Rattle.key_names.specs.declared.entries.PoolEntry.TheVariants.{Mix, Extract}
 use Rattle.key_names.specs.declared.entries.BaseEntry.TheVariants.{Reseed, Refill as BaseRefill}
 use Rattle.key_names.specs.declared.entries.CpuEntry.TheVariants.{Read, Int}
 use Rattle.key_names.specs.declared.entries.VEntry.TheVariants.{Rekey, Blocks, Refill, Serve}
-use Rattle.key_names.specs.PoolList.{extraction_at}
-use Rattle.key_names.specs.BaseList.{refill_at}
+use Rattle.key_names.specs.Lanes.PoolList.{extraction_at}
+use Rattle.key_names.specs.Lanes.BaseList.{refill_at}
 use Rattle.std.specs.Option.{option_map_or}
-use Rattle.key_names.specs.LawfulList.{LawfulFrom}
-use Rattle.key_names.specs.CpuList.{LawfulCpu, CpuMayCome, cpu_step, cpu_start, base_refill_at}
+use Rattle.key_names.specs.Lanes.LawfulList.{LawfulFrom}
+use Rattle.key_names.specs.Lanes.CpuList.{LawfulCpu, CpuMayCome, cpu_step, cpu_start, base_refill_at}
 use Rattle.key_names.proofs.Lists.Growing.{lawful_append}
-use Rattle.key_names.specs.StateList.{LawfulStateList}
-use Rattle.key_names.specs.Book.{Lists, cpu_list, state_list, LawfulBook, StatePlace, rekey_in, ExtractionAnswered, RefillAnswered}
-use Rattle.key_names.specs.Uses.{kept, served, use_of, uses}
-use Rattle.key_names.specs.LiveMaterial.{base_key, cpu_key, state_key, cpu_batch, state_batch, live_key, live_rest, named_span}
+use Rattle.key_names.specs.Lanes.StateList.{LawfulStateList}
+use Rattle.key_names.specs.Lanes.Book.{Lists, cpu_list, state_list, LawfulBook, StatePlace, rekey_in, ExtractionAnswered, RefillAnswered}
+use Rattle.key_names.specs.Keys.Uses.{kept, served, use_of, uses}
+use Rattle.key_names.specs.Keys.LiveMaterial.{base_key, cpu_key, state_key, cpu_batch, state_batch, live_key, live_rest, named_span}
 
 -- one reseed, a CPU that fills a batch and reads a key for a vgetrandom state, and 140 bytes from that state
 abbrev book : Lists

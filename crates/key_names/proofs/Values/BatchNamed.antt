@@ -6,15 +6,15 @@ use Rattle.std.proofs.lemmas.Bool.{leb-true, leb-false}
 use Rattle.key_names.specs.declared.names.KeyName.{KeyName}
 use Rattle.key_names.specs.declared.entries.VEntry.{VEntry}
 use Rattle.key_names.specs.declared.entries.VEntry.TheVariants.{Blocks, Refill}
-use Rattle.key_names.specs.Keystream.{keystream}
-use Rattle.key_names.specs.KeyInUse.{value_of}
-use Rattle.key_names.specs.Book.{Lists}
-use Rattle.key_names.specs.StateList.{NamedState, state_step}
-use Rattle.key_names.specs.Uses.{Use, kept, served, named_use, state_uses_at, uses_from}
-use Rattle.key_names.specs.VgetrandomState.{VgetrandomState}
-use Rattle.key_names.specs.BatchCopy.{bytes_left, whole_blocks, new_batch_bytes, has_left, copy_bytes, serve_entry, refill_entries, copy_entries}
-use Rattle.key_names.specs.ServedNamed.{served_in, span_bytes, bytes_for}
-use Rattle.key_names.specs.StatesReplayed.{HasName}
+use Rattle.key_names.specs.Kernel.Keystream.{keystream}
+use Rattle.key_names.specs.Keys.KeyInUse.{value_of}
+use Rattle.key_names.specs.Lanes.Book.{Lists}
+use Rattle.key_names.specs.Lanes.StateList.{NamedState, state_step}
+use Rattle.key_names.specs.Keys.Uses.{Use, kept, served, named_use, state_uses_at, uses_from}
+use Rattle.key_names.specs.Kernel.VgetrandomState.{VgetrandomState}
+use Rattle.key_names.specs.Kernel.BatchCopy.{bytes_left, whole_blocks, new_batch_bytes, has_left, copy_bytes, serve_entry, refill_entries, copy_entries}
+use Rattle.key_names.specs.Keys.ServedNamed.{served_in, span_bytes, bytes_for}
+use Rattle.key_names.specs.Transcripts.StatesReplayed.{HasName}
 use Rattle.std.specs.Prelude.{◌==◌}
 use Rattle.std.proofs.lemmas.Bool.{eqb-true}
 use Rattle.std.proofs.lemmas.List.Sums.{fold-append}
@@ -23,10 +23,10 @@ use Rattle.key_names.specs.declared.names.LaneId.TheVariants.{Cpu as CpuLane}
 use Rattle.key_names.specs.declared.names.KeyName.TheVariants.{Call}
 use Rattle.key_names.specs.declared.point.Point.{Point}
 use Rattle.key_names.specs.declared.point.Point.TheVariants.{Start, Written, Serve as ServePoint, End}
-use Rattle.key_names.specs.Flags.{is_bad}
-use Rattle.key_names.specs.VgetrandomState.{wiped_state, state_left}
-use Rattle.key_names.specs.BatchCopy.{state_after_copy, block_after_copy, state_of_same_batch, state_of_new_batch}
-use Rattle.key_names.specs.Vgetrandom.{SystemAnswer, read, failed, HostStep, publishes, system_call, AttemptEnd, holds, outdated, not_keyed, Attempt, attempt_behind, wipe_entry, AtPoint, AfterKeyRead, FromEnd, FromServe, FromWritten, FromStart, IsAttempt, Ending, no_bytes, by_batch, by_system, Outcome, outcome_behind, BySystem, ByNothing, AfterAttempt, AttemptAndRest, AfterBoth, state_after_call, SecondAttempt, FirstAttempt, FromLook, IsCall}
+use Rattle.key_names.specs.Kernel.Flags.{is_bad}
+use Rattle.key_names.specs.Kernel.VgetrandomState.{wiped_state, state_left}
+use Rattle.key_names.specs.Kernel.BatchCopy.{state_after_copy, block_after_copy, state_of_same_batch, state_of_new_batch}
+use Rattle.key_names.specs.Kernel.Vgetrandom.{SystemAnswer, read, failed, HostStep, publishes, system_call, AttemptEnd, holds, outdated, not_keyed, Attempt, attempt_behind, wipe_entry, AtPoint, AfterKeyRead, FromEnd, FromServe, FromWritten, FromStart, IsAttempt, Ending, no_bytes, by_batch, by_system, Outcome, outcome_behind, BySystem, ByNothing, AfterAttempt, AttemptAndRest, AfterBoth, state_after_call, SecondAttempt, FirstAttempt, FromLook, IsCall}
 use Rattle.key_names.proofs.Vgetrandom.CallsKeep.{match_cases, some_bytes}
 use Rattle.key_names.proofs.Vgetrandom.StatesReplay.{Good, good_append, KeyIs}
 use Rattle.key_names.proofs.Standards.Keystreams.{keystream-add, take-keystream}
@@ -63,7 +63,7 @@ module _ (lists : Lists) (caller k : ℕ) where
         drop x.named.pos x.bytes.batch
         ≡ keystream (value_of lists name) (64 * x.named.batch_from + x.named.pos) (96 - x.named.pos)
 
-  -- a use of a named key
+  -- a use of a named key serves the bytes of its span
   one_served : (o : Option KeyName) (name : KeyName) (from len : ℕ) → o ≡ Some name →
       served_in lists (named_use served o from len) ≡ keystream (value_of lists name) from len
   one_served o name from len is =
@@ -74,7 +74,7 @@ module _ (lists : Lists) (caller k : ℕ) where
   none_kept None from len = refl
   none_kept (Some name) from len = refl
 
-  -- the entry for some bytes of a batch with a named key
+  -- the entry for some bytes of a batch with a named key serves those bytes of the key's keystream
   serve_named : (t : NamedState) (name : KeyName) (pos n : ℕ) → t.batch_key ≡ Some name →
       served_in lists (entry_uses t (serve_entry pos n))
       ≡ keystream (value_of lists name) (64 * t.batch_from + pos) n
@@ -83,7 +83,7 @@ module _ (lists : Lists) (caller k : ℕ) where
       ap (served_in lists) (append-nil (named_use served t.batch_key (64 * t.batch_from + pos) (suc n)))
       ∙ one_served t.batch_key name (64 * t.batch_from + pos) (suc n) is
 
-  -- the entries for blocks and a new batch of a named key
+  -- after a refill from a named key, the entries serve the front of the new batch
   new_named : (t : NamedState) (name : KeyName) (at r : ℕ) → t.key ≡ Some name →
       served_in lists (entry_uses t (Refill at ∷ serve_entry 0 r)) ≡ keystream (value_of lists name) (64 * at) r
   new_named t name at r is =
@@ -111,7 +111,7 @@ module _ (lists : Lists) (caller k : ℕ) where
       (new_named u name (c + suc m) r is ∙ ap (λ f. keystream (value_of lists name) f r) at)
       ∙ sym (keystream-add (value_of lists name) (64 * c) (64 * suc m) r)
 
-  -- a copy out of a state with named keys
+  -- a copy out of a state with named keys serves the bytes of its entries' served spans
   pub copy_named : (x : Both) (s : VgetrandomState) (c n : ℕ) → 1 ≤ n → replay.Holds lists caller k x s →
       1 ≤ s.generation → NamesTell x →
       copy_bytes s c n ≡ served_in lists (entry_uses x.named (copy_entries s c n))
@@ -123,7 +123,7 @@ module _ (lists : Lists) (caller k : ℕ) where
       left : ℕ
       left = bytes_left s
 
-      -- the front of the rest of the batch
+      -- the front of the batch's rest is what its entry serves
       front : (len : ℕ) → len ≤ 96 - s.pos →
           take len (drop s.pos s.batch) ≡ served_in lists (entry_uses x.named (serve_entry s.pos len))
       front zero le = refl
@@ -203,7 +203,7 @@ module _ (lists : Lists) (caller k : ℕ) where
       ∙ served_append lists (entry_uses x.named xs) (entry_uses (fold (state_step caller k) x.named xs) ys)
       ∙ ap (λ t. bytes_of x xs ++ served_in lists (entry_uses t ys)) (sym (named_is x xs))
 
-  -- an attempt that held copied the bytes of its entries
+  -- if the names match at each front, an attempt that ended with `holds` copied the bytes that its entries serve
   abbrev pub AttemptNamed : Both → Attempt → Type 0
   AttemptNamed x attempt = Fronts x attempt.entries → attempt.end ≡ holds → attempt.out ≡ bytes_of x attempt.entries
 
@@ -351,7 +351,7 @@ module _ (lists : Lists) (caller k : ℕ) where
     pub entries_are : es ≡ earlier ++ last
     pub bytes_are : out ≡ bytes_of (after x earlier) last
 
-  -- a call that its batch ended served the bytes of its last entries
+  -- if the names match at each front, a call that its batch ended served the bytes of its last entries
   abbrev pub OutcomeNamed : Both → Outcome → Type 0
   OutcomeNamed x outcome = Fronts x outcome.entries → (out : List ℕ) → outcome.ending ≡ by_batch out →
       LastServes x outcome.entries out
@@ -366,7 +366,7 @@ module _ (lists : Lists) (caller k : ℕ) where
   system_named n flags x s steps outcome by fronts out ends =
       let e : by_system by.answer ≡ by_batch out = sym (ap (λ (o : Outcome). o.ending) by.outcome_is) ∙ ends in cc
 
-  -- an attempt for which Tried holds, and the rest of the call
+  -- an attempt for which Tried holds, and the rest of the call, are named if each of them is
   pub rest_named : (n flags : ℕ) (Outdated : ℕ → VgetrandomState → List HostStep → Outcome → Type 0)
       (Tried : List HostStep → Attempt → Type 0) (x : Both) (steps : List HostStep) (outcome : Outcome) →
       ((tried : List HostStep) (attempt : Attempt) → Good lists tried → Tried tried attempt → AttemptNamed x attempt) →
@@ -451,7 +451,8 @@ module _ (lists : Lists) (caller k : ℕ) where
   nothing_named x s steps outcome by fronts out ends =
       let e : no_bytes ≡ by_batch out = sym (ap (λ (o : Outcome). o.ending) by.outcome_is) ∙ ends in cc
 
-  -- a vgetrandom call on a state that matches the replay of its list
+  -- OutcomeNamed holds for a vgetrandom call on a state that matches the replay of its list, if the call's steps are
+  -- good
   pub call_named : (n flags : ℕ) (x : Both) (s : VgetrandomState) (steps : List HostStep) (outcome : Outcome) →
       replay.GoodBehind lists caller k steps → IsCall n flags s steps outcome → replay.Holds lists caller k x s →
       OutcomeNamed x outcome

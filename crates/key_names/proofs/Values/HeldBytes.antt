@@ -11,21 +11,21 @@ use Rattle.key_names.specs.declared.entries.CpuEntry.{CpuEntry}
 use Rattle.key_names.specs.declared.entries.CpuEntry.TheVariants.{Read, Int, Irq, Dump, Prepare, Online}
 use Rattle.key_names.specs.declared.entries.VEntry.{VEntry}
 use Rattle.key_names.specs.declared.entries.VEntry.TheVariants.{Rekey, Blocks, Refill, Serve, Wipe}
-use Rattle.key_names.specs.Keystream.{keystream}
-use Rattle.key_names.specs.Batches.{Fill, batch_pos, batch_step, with_zeros, one_more_served, fills_after}
-use Rattle.key_names.specs.KeyInUse.{value_of, cpu_value_after, cpu_value_step, cpu_value_in_use, state_value_step}
-use Rattle.key_names.specs.LiveMaterial.{KeyHolder, base_key, cpu_key, state_key, BatchHolder, cpu_batch, state_batch, live_key, live_rest, served_len, named_span, fill_rest, cpu_end, state_end, CpuBytes, cpu_bytes_start, cpu_bytes_step, StateBytes, state_bytes_start, state_bytes_step, replayed_key, replayed_batch, HoldsNamed, LawfulHoldsNamed, HalfFinishedHoldsNamed}
+use Rattle.key_names.specs.Kernel.Keystream.{keystream}
+use Rattle.key_names.specs.Kernel.Batches.{Fill, batch_pos, batch_step, with_zeros, one_more_served, fills_after}
+use Rattle.key_names.specs.Keys.KeyInUse.{value_of, cpu_value_after, cpu_value_step, cpu_value_in_use, state_value_step}
+use Rattle.key_names.specs.Keys.LiveMaterial.{KeyHolder, base_key, cpu_key, state_key, BatchHolder, cpu_batch, state_batch, live_key, live_rest, served_len, named_span, fill_rest, cpu_end, state_end, CpuBytes, cpu_bytes_start, cpu_bytes_step, StateBytes, state_bytes_start, state_bytes_step, replayed_key, replayed_batch, HoldsNamed, LawfulHoldsNamed, HalfFinishedHoldsNamed}
 use Rattle.key_names.proofs.Uses.BatchBytes.{StartsZero, BatchOk, cpu_batches_ok, StateOk, state_batches_ok}
 use Rattle.key_names.proofs.Lists.Growing.{lawful_take, may_at}
 use Rattle.key_names.proofs.Values.Named.{every_front, call_or_named, BaseNamed, CpuNamed, cpu_named, base_named}
 use Rattle.key_names.proofs.Values.StateNamed.{StateNamed, state_named}
-use Rattle.key_names.specs.CpuList.{CpuState, CpuMayCome, LawfulCpu, cpu_start, cpu_step, cpu_after, cpu_key_in_use, base_refill_of}
-use Rattle.key_names.specs.StateList.{NamedState, StateMayCome, LawfulStateList, state_start, state_step, state_after}
-use Rattle.key_names.specs.LawfulList.{LawfulFrom}
+use Rattle.key_names.specs.Lanes.CpuList.{CpuState, CpuMayCome, LawfulCpu, cpu_start, cpu_step, cpu_after, cpu_key_in_use, base_refill_of}
+use Rattle.key_names.specs.Lanes.StateList.{NamedState, StateMayCome, LawfulStateList, state_start, state_step, state_after}
+use Rattle.key_names.specs.Lanes.LawfulList.{LawfulFrom}
 use Rattle.key_names.specs.declared.entries.BaseEntry.{BaseEntry}
-use Rattle.key_names.specs.Book.{Lists, cpu_list, state_list, ForwardLawful, LawfulStates}
+use Rattle.key_names.specs.Lanes.Book.{Lists, cpu_list, state_list, ForwardLawful, LawfulStates}
 
--- the keystream from a later byte on
+-- keystream without its first n bytes is keystream from n bytes later on
 keystream-drop : (key : List ℕ) (from n len : ℕ) → drop n (keystream key from len) ≡ keystream key (from + n) (len - n)
 keystream-drop key from zero len = let p : from ≡ from + 0 = omega arith in let q : len ≡ len - 0 = omega arith in
     ap (λ f. keystream key f len) p ∙ ap (keystream key (from + 0)) q
@@ -44,7 +44,7 @@ drop_both zero n rest = let p : zero + n ≡ n = omega arith in ap (λ i. drop i
 drop_both (suc m) n rest = let p : suc m + n ≡ suc (m + n) = omega arith in
     ap (λ i. drop i (0 ∷ (replicate m 0 ++ replicate n 0 ++ rest))) p ∙ drop_both m n rest
 
--- the rest of a new batch, from byte at of the keystream on
+-- the rest of a new batch is keystream of the key, after the bytes that were served
 new_rest : (at n w : ℕ) (key used : List ℕ) → n ≡ w → key ≡ used →
     drop n (with_zeros 0 w (keystream used at 96)) ≡ keystream key (at + n) (96 - n)
 new_rest at n w key used same is =
@@ -53,7 +53,7 @@ new_rest at n w key used same is =
     ∙ keystream-drop used at (0 + w) 96 ∙ ap (λ i. keystream used (at + i) (96 - i)) q
     ∙ ap (λ k. keystream k (at + n) (96 - n)) (sym is)
 
--- the rest of a batch after more bytes
+-- after more bytes were served, the rest of a batch is still the key's keystream from there on
 less_rest : (at pos n : ℕ) (key bytes : List ℕ) → StartsZero pos bytes →
     drop pos bytes ≡ keystream key (at + pos) (96 - pos) →
     drop (pos + n) (with_zeros pos n bytes) ≡ keystream key (at + (pos + n)) (96 - (pos + n))
@@ -65,7 +65,7 @@ less_rest at pos n key bytes zeros is =
     ∙ sym (drop-drop n pos bytes) ∙ ap (drop n) is ∙ keystream-drop key (at + pos) n (96 - pos)
     ∙ ap (λ f. keystream key f ((96 - pos) - n)) p ∙ ap (keystream key (at + (pos + n))) q
 
--- the entry after a front
+-- the entry after a front has the front's length as its place
 pub entry_behind : {A : Type 0} (xs front : List A) (e : A) (rest : List A) → xs ≡ (front ++ e ∷ []) ++ rest →
     slice_get xs (length front) ≡ Some e
 entry_behind {A = A} xs front e rest is = ap (λ ys. slice_get ys (length front)) is ∙ go front
@@ -249,7 +249,7 @@ module _ (lists : Lists) where
       (state_list lists caller state) refl (λ k is. cc)
       (state_front_more caller state lawful) (length (state_list lists caller state)))
 
-  -- a named span, as the bytes of its key
+  -- the bytes of a named span are those of its key
   span_bytes : (o : Option KeyName) (from len : ℕ) (span : Span) (bytes : List ℕ) → named_span o from len ≡ Some span →
       ((k : KeyName) → o ≡ Some k → bytes ≡ keystream (value_of lists k) from len) →
       bytes ≡ keystream (value_of lists span.key) span.from span.len

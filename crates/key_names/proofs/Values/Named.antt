@@ -10,10 +10,10 @@ use Rattle.key_names.specs.declared.names.KeyName.TheVariants.{Call}
 use Rattle.key_names.specs.declared.entries.BaseEntry.{BaseEntry}
 use Rattle.key_names.specs.declared.entries.PoolEntry.{PoolEntry}
 use Rattle.key_names.specs.declared.entries.CpuEntry.{CpuEntry}
-use Rattle.key_names.specs.BaseList.{base_step, base_start, base_after, base_erases, base_key_in_use}
-use Rattle.key_names.specs.CpuList.{CpuState, cpu_step, cpu_start, cpu_after, cpu_erases, cpu_key_in_use, call_or, base_refill_of}
-use Rattle.key_names.specs.Book.{Lists, cpu_list}
-use Rattle.key_names.specs.KeyInUse.{zero_key, value_of, root_value_or, base_value_in_use, base_value_step, base_value_after, base_used_at, call_value_or, cpu_value_in_use, cpu_value_step, cpu_value_after, cpu_used_at}
+use Rattle.key_names.specs.Lanes.BaseList.{base_step, base_start, base_after, base_erases, base_key_in_use}
+use Rattle.key_names.specs.Lanes.CpuList.{CpuState, cpu_step, cpu_start, cpu_after, cpu_erases, cpu_key_in_use, call_or, base_refill_of}
+use Rattle.key_names.specs.Lanes.Book.{Lists, cpu_list}
+use Rattle.key_names.specs.Keys.KeyInUse.{zero_key, value_of, root_value_or, base_value_in_use, base_value_step, base_value_after, base_used_at, call_value_or, cpu_value_in_use, cpu_value_step, cpu_value_after, cpu_used_at}
 use Rattle.key_names.proofs.Uses.BaseUses.{in_use_cases, after_cases}
 use Rattle.key_names.proofs.Uses.CpuNames.{after_cases as cpu_after_cases}
 
@@ -27,7 +27,7 @@ cpu_key_at lists c k =
     option_and_then (λ e. cpu_key_in_use e (cpu_after lists.base c (take k (cpu_list lists c))).key)
     (slice_get (cpu_list lists c) k)
 
--- a fact that each entry keeps holds for each front of a list
+-- if each entry keeps a fact, the fact holds for each front of a list
 pub every_front : {A : Type 0} (P : List A → Type 0) (xs front rest : List A) → xs ≡ front ++ rest → P front →
     ((front : List A) (e : A) (rest : List A) → xs ≡ (front ++ e ∷ []) ++ rest → P front → P (front ++ e ∷ [])) →
     (j : ℕ) → P (front ++ take j rest)
@@ -57,7 +57,7 @@ abbrev pub BaseNamed : Lists → List BaseEntry → Type 0
 BaseNamed lists front = (k : KeyName) → (base_after front).key ≡ Some k →
     value_of lists k ≡ base_value_after lists.pool front
 
--- the same for the key in use at an entry
+-- the value of the base's key in use at an entry is that of its name
 base_in_use_named : (lists : Lists) (front : List BaseEntry) (e : BaseEntry) → BaseNamed lists front →
     (k : KeyName) → base_key_in_use e (base_after front).key ≡ Some k →
     value_of lists k ≡ base_value_in_use lists.pool e (base_value_after lists.pool front)

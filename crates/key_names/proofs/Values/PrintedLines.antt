@@ -17,18 +17,18 @@ use Rattle.key_names.specs.declared.events.Event.{Event}
 use Rattle.key_names.specs.declared.events.Event.TheVariants.{Bits, Read, Kread, Dread, Uread, Int8, Int16, Int32, Int64}
 use Rattle.key_names.specs.declared.events.InsideAct.{InsideAct}
 use Rattle.key_names.specs.declared.events.InsideAct.TheVariants.{Wipe as WipeAct, Vread as VreadAct, Reseed as ReseedAct}
-use Rattle.key_names.specs.Answers.{deed_bytes, served_bytes, shown_of, bits_read}
-use Rattle.key_names.specs.Book.{Lists, cpu_list, state_list}
-use Rattle.key_names.specs.Calls.{Setting, BoundAct}
-use Rattle.key_names.specs.Deeds.{Deed, looked, at_pool, at_base, at_cpu, nothing_there, deed_or, deed_at, deeds_of, pool_visit, base_visit, cpu_visit}
-use Rattle.key_names.specs.Meaning.{CallMeaning, LineMeaning, AloneMeans, ActMeans, ActsMean, unused_line}
-use Rattle.key_names.specs.SeenLine.{SeenLine, bytes_in, bytes_or_none}
-use Rattle.key_names.specs.IsTranscript.{EachAct}
-use Rattle.key_names.specs.StateList.{state_step, state_start, state_after}
-use Rattle.key_names.specs.Uses.{is_rekeyed, uses_from, state_uses_at}
-use Rattle.key_names.specs.VreadSteps.{last_place}
-use Rattle.key_names.specs.ServedNamed.{served_in, uses_or, base_place_uses, cpu_place_uses, place_uses, VisitsServeNamed}
-use Rattle.key_names.specs.PrintedBytes.{Origin, at_state, origin_uses, origins_uses, last_origin, StateEntries, state_origins, no_entries, by_none, by_visit, by_entries, LinePrints, LinesPrint}
+use Rattle.key_names.specs.Callers.Answers.{deed_bytes, served_bytes, shown_of, bits_read}
+use Rattle.key_names.specs.Lanes.Book.{Lists, cpu_list, state_list}
+use Rattle.key_names.specs.Callers.Calls.{Setting, BoundAct}
+use Rattle.key_names.specs.Callers.Deeds.{Deed, looked, at_pool, at_base, at_cpu, nothing_there, deed_or, deed_at, deeds_of, pool_visit, base_visit, cpu_visit}
+use Rattle.key_names.specs.Callers.Meaning.{CallMeaning, LineMeaning, AloneMeans, ActMeans, ActsMean, unused_line}
+use Rattle.key_names.specs.Transcripts.SeenLine.{SeenLine, bytes_in, bytes_or_none}
+use Rattle.key_names.specs.Transcripts.IsTranscript.{EachAct}
+use Rattle.key_names.specs.Lanes.StateList.{state_step, state_start, state_after}
+use Rattle.key_names.specs.Keys.Uses.{is_rekeyed, uses_from, state_uses_at}
+use Rattle.key_names.specs.Callers.VreadSteps.{last_place}
+use Rattle.key_names.specs.Keys.ServedNamed.{served_in, uses_or, base_place_uses, cpu_place_uses, place_uses, VisitsServeNamed}
+use Rattle.key_names.specs.Transcripts.PrintedBytes.{Origin, at_state, origin_uses, origins_uses, last_origin, StateEntries, state_origins, no_entries, by_none, by_visit, by_entries, LinePrints, LinesPrint}
 use Rattle.key_names.proofs.Vgetrandom.CallsKeep.{match_cases}
 use Rattle.key_names.proofs.Values.HeldBytes.{entry_behind, front_of}
 use Rattle.key_names.proofs.Vgetrandom.KeyTakes.{place_takes, last_takes}
@@ -73,7 +73,7 @@ module _ (lists : Lists) where
       (ap (λ n. origins_uses lists (map (at_state caller k) (range_with_len n (length es)))) (sym len) ∙ rest
       ∙ ap (λ s. uses_from state_uses_at (state_step caller k) s es) next)
 
-  -- a line that shows the bytes that some entries of its own serve
+  -- if a line shows the bytes that some of its own entries serve, it prints by these entries
   pub prints_entries : (own : StateEntries) (line : SeenLine) (front es post : List VEntry) (out : List ℕ) →
       state_list lists own.caller own.state ≡ (front ++ es) ++ post → own.from ≤ length front →
       length front + length es ≤ own.from + own.count → line.shown ≡ bytes_or_none out →
@@ -92,7 +92,7 @@ module _ (lists : Lists) where
   abbrev pub IsFree : List Deed → Type 0
   IsFree deeds = (c p : ℕ) → is_rekeyed lists c p ≡ true → place_takes c p (last_place deeds) ≡ 0
 
-  -- this holds if the line has no mark of a read that is taken
+  -- the line has no mark of a read that a vgetrandom state takes; then IsFree holds for its deeds
   abbrev pub IsUntaken : SeenLine → Type 0
   IsUntaken line = (c p : ℕ) → is_rekeyed lists c p ≡ true → mark_takes (CpuLane c) p line.steps ≡ 0
 
@@ -136,7 +136,7 @@ module _ (lists : Lists) (named : VisitsServeNamed lists) where
   place_named BaseLane place free = base_place place (slice_get lists.base place) refl
   place_named (CpuLane c) place free = cpu_place c place (slice_get (cpu_list lists c) place) refl free
 
-  -- the bytes that a call serves, by names
+  -- the bytes that a call serves are those of its served spans, by names
   served_named : (steps : List Step) → IsFree lists (deeds_of lists steps) →
       served_bytes (deeds_of lists steps) ≡ served_in lists (origins_uses lists (last_origin steps))
   served_named [] free = refl
@@ -146,7 +146,8 @@ module _ (lists : Lists) (named : VisitsServeNamed lists) where
   served_named (Look g ∷ next ∷ steps) free = served_named (next ∷ steps) free
   served_named (Marked mark ∷ next ∷ steps) free = served_named (next ∷ steps) free
 
-  -- a line that shows the bytes that its last visit serves
+  -- if a line shows the bytes that its last visit serves, and no state takes that visit as its key, it prints by that
+  -- visit
   pub prints_visit : (own : StateEntries) (line : SeenLine) (deeds : List Deed) → deeds_of lists line.steps ≡ deeds →
       line.shown ≡ bytes_or_none (served_bytes deeds) → IsFree lists (deeds_of lists line.steps) → Prints lists own line
   prints_visit own line deeds is shown free = (
@@ -180,7 +181,7 @@ module _ (lists : Lists) (named : VisitsServeNamed lists) where
   shown_cases Int64 deeds = inr refl
   shown_cases _ deeds = inl refl
 
-  -- a line of an event by itself
+  -- a line of an event by itself prints named bytes
   pub alone_prints : (own : StateEntries) (event : Event) (line : SeenLine) (m : CallMeaning) →
       deeds_of lists line.steps ≡ m.own.deeds → line.shown ≡ m.own.shown → IsUntaken lists line →
       AloneMeans event m → Prints lists own line
@@ -190,7 +191,7 @@ module _ (lists : Lists) (named : VisitsServeNamed lists) where
         (untaken_free lists line untaken)
   ]
 
-  -- the line of an act inside a vread that is done
+  -- the line of an act inside a vread that was done prints named bytes
   act_prints : (own : StateEntries) (set : Setting) (act : InsideAct) (line : SeenLine) (m : LineMeaning) →
       deeds_of lists line.steps ≡ m.deeds → line.shown ≡ m.shown → IsUntaken lists line →
       ActMeans set act m → Prints lists own line
@@ -210,7 +211,7 @@ module _ (lists : Lists) (named : VisitsServeNamed lists) where
   abbrev act_lines : List BoundAct → List SeenLine
   act_lines acts = map (λ (bound : BoundAct). bound.line) acts
 
-  -- the lines of the acts inside a vread
+  -- the lines of the acts inside a vread print named bytes
   pub acts_print : (own : StateEntries) (set : Setting) (reached : BoundAct → Bool) (acts : List BoundAct)
       (ms : List LineMeaning) → EachAct DeedsAre acts ms → EachAct ShownIs acts ms → ActsMean set reached acts ms →
       ((c p : ℕ) → is_rekeyed lists c p ≡ true → acts_marks (CpuLane c) p acts ≡ 0) →

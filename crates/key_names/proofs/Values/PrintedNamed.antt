@@ -7,20 +7,20 @@ use Rattle.std.proofs.lemmas.List.{length-append}
 use Rattle.key_names.specs.declared.events.Event.{Event}
 use Rattle.key_names.specs.declared.names.LaneId.TheVariants.{Cpu as CpuLane}
 use Rattle.key_names.specs.declared.entries.VEntry.{VEntry}
-use Rattle.key_names.specs.Book.{Lists, lists_of, state_list}
-use Rattle.key_names.specs.Calls.{Setting, Call, alone, vread_call, unbound, ending, BoundAct, all_calls}
-use Rattle.key_names.specs.Deeds.{deeds_of}
-use Rattle.key_names.specs.Forms.{Looked}
-use Rattle.key_names.specs.BatchCopy.{serves_locally}
-use Rattle.key_names.specs.SeenLine.{SeenLine, bytes_in}
+use Rattle.key_names.specs.Lanes.Book.{Lists, lists_of, state_list}
+use Rattle.key_names.specs.Callers.Calls.{Setting, Call, alone, vread_call, unbound, ending, BoundAct, all_calls}
+use Rattle.key_names.specs.Callers.Deeds.{deeds_of}
+use Rattle.key_names.specs.Callers.Forms.{Looked}
+use Rattle.key_names.specs.Kernel.BatchCopy.{serves_locally}
+use Rattle.key_names.specs.Transcripts.SeenLine.{SeenLine, bytes_in}
 use Rattle.key_names.specs.Texts.ScriptGrammar.{InRange}
-use Rattle.key_names.specs.Vgetrandom.{by_system}
-use Rattle.key_names.specs.VreadSteps.{is_reached, points_of, published_by, ending_shown, last_place, system_line_shown}
-use Rattle.key_names.specs.Meaning.{CallerState, CallMeaning, LineMeaning, ByLocalCopy, ByVgetrandom, LocalOrCall, current_state, tries_local, VreadMeans, Means}
-use Rattle.key_names.specs.IsTranscript.{CallsMean, CallerMeans, EachAct, EachCaller, EachLine, EachOfCall, entries_of_state, script_calls, start_setting}
-use Rattle.key_names.specs.Uses.{is_rekeyed}
-use Rattle.key_names.specs.ServedNamed.{VisitsServeNamed}
-use Rattle.key_names.specs.PrintedBytes.{Origin, StateEntries, entries_of_call, call_lines, no_entries, LinesPrint, CallsPrint, CallersPrint, all_origins, TranscriptPrintsNamed}
+use Rattle.key_names.specs.Kernel.Vgetrandom.{by_system}
+use Rattle.key_names.specs.Callers.VreadSteps.{is_reached, points_of, published_by, ending_shown, last_place, system_line_shown}
+use Rattle.key_names.specs.Callers.Meaning.{CallerState, CallMeaning, LineMeaning, ByLocalCopy, ByVgetrandom, LocalOrCall, current_state, tries_local, VreadMeans, Means}
+use Rattle.key_names.specs.Transcripts.IsTranscript.{CallsMean, CallerMeans, EachAct, EachCaller, EachLine, EachOfCall, entries_of_state, script_calls, start_setting}
+use Rattle.key_names.specs.Keys.Uses.{is_rekeyed}
+use Rattle.key_names.specs.Keys.ServedNamed.{VisitsServeNamed}
+use Rattle.key_names.specs.Transcripts.PrintedBytes.{Origin, StateEntries, entries_of_call, call_lines, no_entries, LinesPrint, CallsPrint, CallersPrint, all_origins, TranscriptPrintsNamed}
 use Rattle.key_names.proofs.Vgetrandom.AskedSystem.{asked_shown}
 use Rattle.key_names.proofs.Vgetrandom.CallsKeep.{match_cases}
 use Rattle.key_names.proofs.Transcripts.CallTakes as marks
@@ -43,7 +43,8 @@ module _ (lists : Lists) (named : VisitsServeNamed lists) (caller : ℕ) where
   abbrev ShownOf : SeenLine → LineMeaning → Type 0
   ShownOf = ShownIs lists named
 
-  -- a call whose lines have no marks of taken reads except those that its own entries take
+  -- if a state takes a read as its key, the lines of this call have the read's mark no more often than the call's own
+  -- entries take it
   abbrev IsQuiet : Call → CallMeaning → Type 0
   IsQuiet call m = (c p : ℕ) → is_rekeyed lists c p ≡ true → marks.call_marks (CpuLane c) p call ≤ takes c p m.entries
 
@@ -54,7 +55,7 @@ module _ (lists : Lists) (named : VisitsServeNamed lists) (caller : ℕ) where
       go true is = refl
       go false is = cc
 
-  -- a vread's own line
+  -- a vread's own line prints named bytes
   vread_prints : (before : List CallMeaning) (n flags : ℕ) (line : SeenLine) (acts : List BoundAct) (m : CallMeaning)
       (post : List VEntry) → state_list lists caller m.before.current
       ≡ (entries_of_state m.before.current before ++ m.entries) ++ post →
@@ -95,7 +96,7 @@ module _ (lists : Lists) (named : VisitsServeNamed lists) (caller : ℕ) where
   none_inside own (bound ∷ acts) [] none deeds = absurd deeds
   none_inside own (bound ∷ acts) (m ∷ ms) none deeds = cc
 
-  -- the lines of the acts inside a vread
+  -- the lines of the acts inside a vread print named bytes
   inside_print : (own : StateEntries) (n flags : ℕ) (line : SeenLine) (acts : List BoundAct) (m : CallMeaning) →
       EachOfCall DeedsOf (vread_call n flags line acts) m → EachOfCall ShownOf (vread_call n flags line acts) m →
       VreadMeans n flags acts m →
@@ -117,7 +118,7 @@ module _ (lists : Lists) (named : VisitsServeNamed lists) (caller : ℕ) where
       by_call by = acts_print lists named own m.before.setting (is_reached (points_of by.steps)) acts m.acts deeds.1
           shown.1 by.inside untaken
 
-  -- the lines of a call
+  -- the lines of a call print named bytes
   call_prints : (before : List CallMeaning) (call : Call) (m : CallMeaning) (post : List VEntry) →
       state_list lists caller m.before.current ≡ (entries_of_state m.before.current before ++ m.entries) ++ post →
       EachOfCall DeedsOf call m → EachOfCall ShownOf call m → Means call m → IsQuiet call m →

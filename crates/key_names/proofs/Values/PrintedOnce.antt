@@ -1,23 +1,23 @@
--- No two of the entries that the lines of a transcript print by are the same, so no byte is printed twice.
+-- The lines of a transcript print by no entry twice, so no byte is printed twice.
 use Rattle.std.proofs.Common.{◌≡◌, ℕ, zero, suc, ◌+◌, ◌≤◌, true, List, [], ◌∷◌, ◌++◌, inl, inr, refl, sym, subst, ap, arith, take}
 use Rattle.std.specs.Prelude.{◌==◌, ◌&&◌, slice_get}
 use Rattle.std.specs.List.{fold}
 use Rattle.std.proofs.lemmas.Bool.{eq-eqb}
 use Rattle.key_names.specs.declared.names.LaneId.TheVariants.{Pool as PoolLane, Base as BaseLane, Cpu as CpuLane}
 use Rattle.key_names.specs.declared.names.KeyName.{KeyName}
-use Rattle.key_names.specs.Book.{Lists, cpu_list, state_list, ForwardLawful, LawfulStates}
-use Rattle.key_names.specs.BaseList.{base_start, base_step}
-use Rattle.key_names.specs.CpuList.{cpu_start, cpu_step}
-use Rattle.key_names.specs.StateList.{state_start, state_step}
-use Rattle.key_names.specs.LiveMaterial.{KeyHolder, base_key, cpu_key, state_key}
-use Rattle.key_names.specs.Uses.{Use, IsUsed, Disjoint, uses_from, base_uses_at, cpu_uses_at, state_uses_at, is_rekeyed}
-use Rattle.key_names.specs.ServedNamed.{uses_or}
-use Rattle.key_names.specs.PrintedBytes.{Origin, at_lane, at_state, origin_uses, origins_uses}
+use Rattle.key_names.specs.Lanes.Book.{Lists, cpu_list, state_list, ForwardLawful, LawfulStates}
+use Rattle.key_names.specs.Lanes.BaseList.{base_start, base_step}
+use Rattle.key_names.specs.Lanes.CpuList.{cpu_start, cpu_step}
+use Rattle.key_names.specs.Lanes.StateList.{state_start, state_step}
+use Rattle.key_names.specs.Keys.LiveMaterial.{KeyHolder, base_key, cpu_key, state_key}
+use Rattle.key_names.specs.Keys.Uses.{Use, IsUsed, Disjoint, uses_from, base_uses_at, cpu_uses_at, state_uses_at, is_rekeyed}
+use Rattle.key_names.specs.Keys.ServedNamed.{uses_or}
+use Rattle.key_names.specs.Transcripts.PrintedBytes.{Origin, at_lane, at_state, origin_uses, origins_uses}
 use Rattle.key_names.proofs.Uses.UseLists.{IsUsed-append_cases, Disjoint-append, disjoint_parts, used_first, used_second}
 use Rattle.key_names.proofs.Uses.BookUses.{own_once, own_uses, uses_of}
 use Rattle.key_names.proofs.Transcripts.TakenMarks.{hit, lane_takes}
 
--- the uses of the entry at a place are a part of those of the whole list, and share no byte with the other parts
+-- the uses of the entry at a place are part of the uses of the whole list, and share no byte with the other parts
 module _ {S E : Type 0} (uses_at : S → E → List Use) (step : S → E → S) where
   abbrev at_place : S → List E → ℕ → List Use
   at_place s es i = uses_or (uses_at (fold step s (take i es))) (slice_get es i)
@@ -98,7 +98,7 @@ module _ (lists : Lists) (lanes : ForwardLawful lists) (states : LawfulStates li
       ((own_uses lists lanes states (holder o)).within k q (of_holder o k q h))
       ((own_uses lists lanes states (holder x)).within k q (of_holder x k q m))
 
-  -- two entries that use the same byte are the same
+  -- if two entries use one byte, they are the same entry
   meet : (o x : Origin) (k : KeyName) (q : ℕ) → IsUsed (origin_uses lists o) k q →
       IsUsed (origin_uses lists x) k q → is_same o x ≡ 1
   meet (at_lane PoolLane place) x k q h m = absurd h
@@ -143,7 +143,7 @@ module _ (lists : Lists) (lanes : ForwardLawful lists) (states : LawfulStates li
   meet (at_state c s i) (at_lane (CpuLane d) j) k q h m =
       let e = one_holder (at_state c s i) (at_lane (CpuLane d) j) k q h m in cc
 
-  -- an entry that uses a byte of a list's uses is in the list
+  -- if an entry uses a byte that a list uses, the list contains the entry
   found : (o : Origin) (xs : List Origin) (k : KeyName) (q : ℕ) → IsUsed (origin_uses lists o) k q →
       IsUsed (origins_uses lists xs) k q → 1 ≤ times o xs
   found o [] k q h m = absurd m

@@ -1,4 +1,4 @@
--- Each entry that lines of a transcript print by is used once: its mark is in one line, or it belongs to one call.
+-- The lines of a transcript print by each entry at most once: its mark is in one line, or it belongs to one call.
 use Rattle.std.proofs.Common.{◌≡◌, ℕ, zero, suc, ◌+◌, ◌<◌, ◌≤◌, Bool, true, false, List, [], ◌∷◌, ◌++◌, inl, inr, refl, ap, arith, length}
 use Rattle.std.specs.Prelude.{◌==◌, ◌&&◌, map, if◌then◌else◌}
 use Rattle.std.specs.List.{flat_map, range_with_len}
@@ -8,18 +8,18 @@ use Rattle.key_names.specs.declared.names.LaneId.{LaneId}
 use Rattle.key_names.specs.declared.names.Step.{Step}
 use Rattle.key_names.specs.declared.names.Step.TheVariants.{Look, Visit as Marked}
 use Rattle.key_names.specs.declared.entries.VEntry.{VEntry}
-use Rattle.key_names.specs.Book.{Lists}
-use Rattle.key_names.specs.Calls.{Call, alone, vread_call, unbound, ending, BoundAct}
-use Rattle.key_names.specs.SeenLine.{SeenLine}
-use Rattle.key_names.specs.Meaning.{CallMeaning}
-use Rattle.key_names.specs.IsTranscript.{entries_of_state}
-use Rattle.key_names.specs.PrintedBytes.{Origin, at_lane, at_state, last_origin, StateEntries, entries_of_call, no_entries, PrintsBy, by_none, by_visit, by_entries, call_lines, LinesPrint, CallsPrint, CallersPrint, all_origins}
+use Rattle.key_names.specs.Lanes.Book.{Lists}
+use Rattle.key_names.specs.Callers.Calls.{Call, alone, vread_call, unbound, ending, BoundAct}
+use Rattle.key_names.specs.Transcripts.SeenLine.{SeenLine}
+use Rattle.key_names.specs.Callers.Meaning.{CallMeaning}
+use Rattle.key_names.specs.Transcripts.IsTranscript.{entries_of_state}
+use Rattle.key_names.specs.Transcripts.PrintedBytes.{Origin, at_lane, at_state, last_origin, StateEntries, entries_of_call, no_entries, PrintsBy, by_none, by_visit, by_entries, call_lines, LinesPrint, CallsPrint, CallersPrint, all_origins}
 use Rattle.key_names.proofs.Transcripts.TakenMarks.{hit, mark_takes, lines_takes}
 use Rattle.key_names.proofs.Transcripts.CallTakes.{acts_marks, call_marks, calls_marks, all_calls_marks}
 use Rattle.key_names.proofs.Transcripts.TranscriptBooks.{lt_or_le}
 use Rattle.key_names.proofs.Values.PrintedOnce.{is_same, times, times_append}
 
--- an entry of a lane is used no more often than its place has marks
+-- lines print by an entry of a lane no more often than they have marks of its place
 module _ (lane : LaneId) (p : ℕ) (lists : Lists) where
   abbrev here : Origin
   here = at_lane lane p
@@ -109,7 +109,7 @@ pub record Once (n : ℕ) (P : Type 0) : Type 0 where
   pub most : n ≤ 1
   pub only : 1 ≤ n → P
 
--- two such numbers that are not both 1
+-- if two numbers are 0 or 1, and not both 1, their sum is 0 or 1
 once_or : (n a b : ℕ) (P Q R : Type 0) → n ≡ a + b → Once a P → Once b Q → (P → R) → (Q → R) → (P → Q → ⊥) → Once n R
 once_or n a b P Q R is first second left right both = elim (lt_or_le 0 a) [
   | inl some ↦ (elim (lt_or_le 0 b) [
@@ -130,7 +130,7 @@ module _ (c k i : ℕ) (lists : Lists) where
   abbrev this : Origin
   this = at_state c k i
 
-  -- the entry is among some of a state's
+  -- the entry is one of these entries of a state
   record IsAmong (own : StateEntries) : Type 0 where
     caller : own.caller ≡ c
     state : own.state ≡ k

@@ -9,14 +9,14 @@ use Rattle.key_names.specs.declared.entries.Taken.{Taken}
 use Rattle.key_names.specs.declared.entries.Taken.TheVariants.{User, Kernel}
 use Rattle.key_names.specs.declared.entries.BaseEntry.{BaseEntry}
 use Rattle.key_names.specs.declared.entries.BaseEntry.TheVariants.{Early, Reseed, Tick, Draw, Refill, Fork, End, Wait, Resume, Interrupt, Stall, Unstall}
-use Rattle.key_names.specs.Keystream.{keystream}
-use Rattle.key_names.specs.KeyInUse.{value_of, taken_bytes, base_used_at, base_value_at, base_value_after, base_value_in_use}
-use Rattle.key_names.specs.Book.{Lists}
-use Rattle.key_names.specs.BaseList.{BaseState, Phase, empty, early, base_after, base_step, base_start, base_key_in_use, BaseFits, BaseMayCome, LawfulBase}
-use Rattle.key_names.specs.Deeds.{base_visit}
-use Rattle.key_names.specs.Uses.{read_uses, use_of, kept, served, named_uses}
-use Rattle.key_names.specs.ServedNamed.{served_in, base_place_uses}
-use Rattle.key_names.specs.StatesReplayed.{HasName}
+use Rattle.key_names.specs.Kernel.Keystream.{keystream}
+use Rattle.key_names.specs.Keys.KeyInUse.{value_of, taken_bytes, base_used_at, base_value_at, base_value_after, base_value_in_use}
+use Rattle.key_names.specs.Lanes.Book.{Lists}
+use Rattle.key_names.specs.Lanes.BaseList.{BaseState, Phase, empty, early, base_after, base_step, base_start, base_key_in_use, BaseFits, BaseMayCome, LawfulBase}
+use Rattle.key_names.specs.Callers.Deeds.{base_visit}
+use Rattle.key_names.specs.Keys.Uses.{read_uses, use_of, kept, served, named_uses}
+use Rattle.key_names.specs.Keys.ServedNamed.{served_in, base_place_uses}
+use Rattle.key_names.specs.Transcripts.StatesReplayed.{HasName}
 use Rattle.key_names.proofs.Lists.Growing.{may_at}
 use Rattle.key_names.proofs.Values.Named.{base_key_at, base_key_named}
 use Rattle.std.specs.Option.{option_map_or}
@@ -26,13 +26,13 @@ use Rattle.std.proofs.Common.{length}
 use Rattle.key_names.specs.declared.names.KeyName.TheVariants.{Cpu}
 use Rattle.key_names.specs.declared.entries.CpuEntry.{CpuEntry}
 use Rattle.key_names.specs.declared.entries.CpuEntry.TheVariants.{Read, Int, Irq, Dump, Prepare, Online}
-use Rattle.key_names.specs.Batches.{Fill, one_more_served}
-use Rattle.key_names.specs.CpuList.{CpuState, CpuMayCome, LawfulCpu, ReadFits, IntFits, cpu_start, cpu_step, cpu_after, cpu_key_in_use, call_or, generation_or}
-use Rattle.key_names.specs.KeyInUse.{cpu_used_at, cpu_value_at, cpu_value_after, cpu_value_in_use}
-use Rattle.key_names.specs.Book.{cpu_list}
-use Rattle.key_names.specs.Deeds.{cpu_visit, int_of}
-use Rattle.key_names.specs.Uses.{is_rekeyed, batch_uses, named_use}
-use Rattle.key_names.specs.ServedNamed.{cpu_place_uses, LawfulServesNamed}
+use Rattle.key_names.specs.Kernel.Batches.{Fill, one_more_served}
+use Rattle.key_names.specs.Lanes.CpuList.{CpuState, CpuMayCome, LawfulCpu, ReadFits, IntFits, cpu_start, cpu_step, cpu_after, cpu_key_in_use, call_or, generation_or}
+use Rattle.key_names.specs.Keys.KeyInUse.{cpu_used_at, cpu_value_at, cpu_value_after, cpu_value_in_use}
+use Rattle.key_names.specs.Lanes.Book.{cpu_list}
+use Rattle.key_names.specs.Callers.Deeds.{cpu_visit, int_of}
+use Rattle.key_names.specs.Keys.Uses.{is_rekeyed, batch_uses, named_use}
+use Rattle.key_names.specs.Keys.ServedNamed.{cpu_place_uses, LawfulServesNamed}
 use Rattle.key_names.proofs.Values.Named.{cpu_key_at, cpu_key_named, every_front}
 use Rattle.key_names.proofs.Values.HeldBytes.{entry_behind, front_of}
 
@@ -189,7 +189,7 @@ module _ (lists : Lists) (c : ℕ) where
       same_fill_ok g f (ap (λ o. option_map_or (λ (x : Fill). x.place) o 0) is)
       (ap (λ o. option_map_or (λ (x : Fill). x.key) o None) is) (old g refl)
 
-  -- the key in use at a read, and at an integer that fills its batch
+  -- a read has a key in use, and so has an integer that fills its batch
   read_keyed : (s : CpuState) (look : ℕ) (refill : Option ℕ) → CpuOk s → ReadFits s look refill →
       HasName (call_or refill s.key)
   read_keyed s look None ok fits =

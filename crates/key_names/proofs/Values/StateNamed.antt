@@ -7,9 +7,9 @@ use Rattle.key_names.specs.declared.names.KeyName.{KeyName}
 use Rattle.key_names.specs.declared.names.KeyName.TheVariants.{Call, Vdso}
 use Rattle.key_names.specs.declared.entries.VEntry.{VEntry}
 use Rattle.key_names.specs.declared.entries.VEntry.TheVariants.{Rekey, Blocks, Refill, Serve, Wipe}
-use Rattle.key_names.specs.StateList.{NamedState, state_step, state_start, state_after, refill_key}
-use Rattle.key_names.specs.Book.{Lists, state_list}
-use Rattle.key_names.specs.KeyInUse.{zero_key, value_of, cpu_call_value, refill_value, refill_value_from, state_value_step, state_value_after}
+use Rattle.key_names.specs.Lanes.StateList.{NamedState, state_step, state_start, state_after, refill_key}
+use Rattle.key_names.specs.Lanes.Book.{Lists, state_list}
+use Rattle.key_names.specs.Keys.KeyInUse.{zero_key, value_of, cpu_call_value, refill_value, refill_value_from, state_value_step, state_value_after}
 use Rattle.key_names.proofs.Values.Named.{every_front}
 
 -- the number of refills
@@ -35,7 +35,7 @@ module _ (lists : Lists) (caller state : ℕ) where
   refills_after s (Serve pos len ∷ es) = refills_after (state_step caller state s (Serve pos len)) es
   refills_after s (Wipe ∷ es) = refills_after (state_step caller state s Wipe) es
 
-  -- the value that a refill keeps after a front
+  -- a refill right after a front keeps the value that the key after the front gives
   refill_value_at : (v : List ℕ) (front : List VEntry) (from : ℕ) (rest : List VEntry) →
       refill_value_from lists v (refills_in front) ((front ++ Refill from ∷ []) ++ rest) ≡ refill_value
       (fold (state_value_step lists) v front) from

@@ -1,4 +1,4 @@
--- A vread that its batch ended shows the bytes of the spans that its last attempt serves, by names.
+-- If the batch ended a vread, the vread shows the bytes of the spans that its last attempt serves, by names.
 use Rattle.std.proofs.Common.{◌≡◌, ℕ, zero, suc, ◌<◌, ◌≤◌, Bool, true, false, List, [], ◌∷◌, ◌++◌, refl, sym, subst, ap, ◌∙◌, arith, length, take, append_assoc}
 use Rattle.std.specs.Prelude.{◌==◌, not, ⊤, if◌then◌else◌}
 use Rattle.std.specs.List.{fold}
@@ -6,29 +6,29 @@ use Rattle.std.proofs.Math.Seq.{take-append_seam}
 use Rattle.std.proofs.lemmas.Bool.{eqb-true, eq-eqb}
 use Rattle.std.proofs.lemmas.List.Sums.{fold-append}
 use Rattle.key_names.specs.declared.entries.VEntry.{VEntry}
-use Rattle.key_names.specs.Book.{Lists, cpu_list, state_list}
-use Rattle.key_names.specs.Calls.{Setting, Call, alone, vread_call, unbound, ending, BoundAct}
-use Rattle.key_names.specs.Deeds.{Deed, deeds_of}
-use Rattle.key_names.specs.Forms.{Looked}
-use Rattle.key_names.specs.StateList.{NamedState, state_start, state_after, LawfulStateList}
-use Rattle.key_names.specs.LiveMaterial.{StateBytes, state_bytes_start, state_bytes_step}
-use Rattle.key_names.specs.SeenLine.{no_data, bytes_or_none}
-use Rattle.key_names.specs.VgetrandomState.{VgetrandomState}
-use Rattle.key_names.specs.BatchCopy.{serves_locally, copy_bytes}
-use Rattle.key_names.specs.Vgetrandom.{SystemAnswer, Ending, no_bytes, by_batch, by_system}
-use Rattle.key_names.specs.VreadSteps.{published_by, NeverFall, looks_of, ending_shown}
-use Rattle.key_names.specs.Meaning.{CallerState, caller_start, CallMeaning, current_state, ByLocalCopy, ByVgetrandom, tries_local, LocalOrCall, VreadMeans, Means}
-use Rattle.key_names.specs.IsTranscript.{CallsMean, EachOfCall, EachLine, entries_of_state, CallerMeans}
-use Rattle.key_names.specs.StatesReplayed.{state_number}
+use Rattle.key_names.specs.Lanes.Book.{Lists, cpu_list, state_list}
+use Rattle.key_names.specs.Callers.Calls.{Setting, Call, alone, vread_call, unbound, ending, BoundAct}
+use Rattle.key_names.specs.Callers.Deeds.{Deed, deeds_of}
+use Rattle.key_names.specs.Callers.Forms.{Looked}
+use Rattle.key_names.specs.Lanes.StateList.{NamedState, state_start, state_after, LawfulStateList}
+use Rattle.key_names.specs.Keys.LiveMaterial.{StateBytes, state_bytes_start, state_bytes_step}
+use Rattle.key_names.specs.Transcripts.SeenLine.{no_data, bytes_or_none}
+use Rattle.key_names.specs.Kernel.VgetrandomState.{VgetrandomState}
+use Rattle.key_names.specs.Kernel.BatchCopy.{serves_locally, copy_bytes}
+use Rattle.key_names.specs.Kernel.Vgetrandom.{SystemAnswer, Ending, no_bytes, by_batch, by_system}
+use Rattle.key_names.specs.Callers.VreadSteps.{published_by, NeverFall, looks_of, ending_shown}
+use Rattle.key_names.specs.Callers.Meaning.{CallerState, caller_start, CallMeaning, current_state, ByLocalCopy, ByVgetrandom, tries_local, LocalOrCall, VreadMeans, Means}
+use Rattle.key_names.specs.Transcripts.IsTranscript.{CallsMean, EachOfCall, EachLine, entries_of_state, CallerMeans}
+use Rattle.key_names.specs.Transcripts.StatesReplayed.{state_number}
 use Rattle.std.proofs.Common.{Some, append-nil}
 use Rattle.std.specs.Prelude.{slice_get}
 use Rattle.std.specs.Option.{option_map_or}
-use Rattle.key_names.specs.Book.{LawfulStates}
-use Rattle.key_names.specs.SeenLine.{SeenLine}
-use Rattle.key_names.specs.ServedNamed.{served_in}
-use Rattle.key_names.specs.StateList.{state_step}
-use Rattle.key_names.specs.Uses.{state_uses_at, uses_from}
-use Rattle.key_names.specs.IsTranscript.{EachCaller}
+use Rattle.key_names.specs.Lanes.Book.{LawfulStates}
+use Rattle.key_names.specs.Transcripts.SeenLine.{SeenLine}
+use Rattle.key_names.specs.Keys.ServedNamed.{served_in}
+use Rattle.key_names.specs.Lanes.StateList.{state_step}
+use Rattle.key_names.specs.Keys.Uses.{state_uses_at, uses_from}
+use Rattle.key_names.specs.Transcripts.IsTranscript.{EachCaller}
 use Rattle.key_names.proofs.Vgetrandom.VreadEnds.{VreadEnd, VreadsNamed}
 use Rattle.key_names.proofs.Vgetrandom.VreadEnds as spec
 use Rattle.key_names.proofs.Transcripts.TranscriptBooks.{HasStates, later_states, own_list}
@@ -52,7 +52,7 @@ module _ (lists : Lists) (caller k : ℕ) (below : k < 16) where
   abbrev Holds : Both → VgetrandomState → Type 0
   Holds = replay.Holds lists caller k
 
-  -- how a vread ended: without bytes, with those that its last entries serve, or with a system call's answer
+  -- how a vread ended: without bytes, with the bytes that its last entries serve, or with a system call's answer
   pub data VreadEnds (n flags : ℕ) (acts : List BoundAct) (x : Both) (m : CallMeaning) : Type 0 where
     showed_none : m.own.shown ≡ no_data → VreadEnds n flags acts x m
     showed_batch : (out : List ℕ) → m.own.shown ≡ bytes_or_none out → batch.LastServes lists caller k x m.entries out →
@@ -111,7 +111,7 @@ module _ (lists : Lists) (caller k : ℕ) (below : k < 16) where
       (λ no by. vgetrandom_ends x n flags acts m h there means.looks fronts by)
       means.ways
 
-  -- a vread of this state ends so after these entries
+  -- a vread of this state ends in one of these ways after these entries
   abbrev pub CallEnds : Both → Call → CallMeaning → Type 0
   CallEnds x (alone event line) m = ⊤
   CallEnds x (vread_call n flags line acts) m = m.before.current ≡ k → VreadEnds n flags acts x m
@@ -215,7 +215,7 @@ module _ (lists : Lists) (caller k : ℕ) (below : k < 16) where
   })
   named_end n flags acts front m (asked_system by answer is) = spec.asked_system by answer is
 
-  -- the vread at a place of the calls
+  -- the vread at a place of the calls ends in one of these ways
   vread_at : (j : ℕ) (front : List VEntry) (calls : List Call) (ms : List CallMeaning) →
       EachEnds (after start front) calls ms → (n flags : ℕ) (line : SeenLine) (acts : List BoundAct)
       (m : CallMeaning) → m.before.current ≡ k → slice_get calls j ≡ Some (vread_call n flags line acts) →

@@ -1,19 +1,19 @@
--- A vread that a system call ended shows the bytes of its line's last visit.
+-- If a system call ended a vread, the vread shows the bytes of its line's last visit.
 use Rattle.std.proofs.Common.{◌≡◌, ℕ, ◌⊎◌, inl, inr, true, List, [], ◌∷◌, ◌++◌, refl, sym, subst, ap, ◌∙◌, append_assoc, append-nil, Option, Some, None}
 use Rattle.std.specs.Prelude.{◌==◌}
 use Rattle.key_names.specs.declared.errno.Errno.{Errno}
-use Rattle.key_names.specs.Calls.{Setting}
-use Rattle.key_names.specs.Flags.{is_bad}
-use Rattle.key_names.specs.Deeds.{Deed, looked}
-use Rattle.key_names.specs.Answers.{served_bytes, system_answer}
-use Rattle.key_names.specs.SeenLine.{no_data, bytes_or_none}
-use Rattle.key_names.specs.VgetrandomState.{VgetrandomState}
-use Rattle.key_names.specs.Vgetrandom.{SystemAnswer, HostStep, publishes, system_call, at_point, AttemptEnd, holds, outdated, not_keyed, Attempt, by_system, IsAttempt, Outcome, BySystem, ByNothing, AfterAttempt, AttemptAndRest, AfterBoth, state_after_call, SecondAttempt, FirstAttempt, FromLook, IsCall}
-use Rattle.key_names.specs.VreadSteps.{last_place, answer_with, answer_behind, errno_of, Shows, system_line_shown}
+use Rattle.key_names.specs.Callers.Calls.{Setting}
+use Rattle.key_names.specs.Kernel.Flags.{is_bad}
+use Rattle.key_names.specs.Callers.Deeds.{Deed, looked}
+use Rattle.key_names.specs.Callers.Answers.{served_bytes, system_answer}
+use Rattle.key_names.specs.Transcripts.SeenLine.{no_data, bytes_or_none}
+use Rattle.key_names.specs.Kernel.VgetrandomState.{VgetrandomState}
+use Rattle.key_names.specs.Kernel.Vgetrandom.{SystemAnswer, HostStep, publishes, system_call, at_point, AttemptEnd, holds, outdated, not_keyed, Attempt, by_system, IsAttempt, Outcome, BySystem, ByNothing, AfterAttempt, AttemptAndRest, AfterBoth, state_after_call, SecondAttempt, FirstAttempt, FromLook, IsCall}
+use Rattle.key_names.specs.Callers.VreadSteps.{last_place, answer_with, answer_behind, errno_of, Shows, system_line_shown}
 use Rattle.key_names.proofs.Vgetrandom.CallsKeep.{match_cases}
 use Rattle.key_names.proofs.Vgetrandom.KeyTakes.{place_takes, answer_takes}
 
--- the last step of the host is the system call with this answer
+-- the host's last step is the system call with this answer
 pub record EndsAsked (answer : SystemAnswer) (steps : List HostStep) : Type 0 where
   before : List HostStep
   n : ℕ
@@ -84,7 +84,7 @@ module _ (answer : SystemAnswer) where
       look.goes_on))
       is
 
-  -- the deeds of that call are the last of the line
+  -- the deeds of that system call are the last of the line
   record ShowsAsked (deeds : List Deed) : Type 0 where
     before : List Deed
     call : List Deed
@@ -117,7 +117,7 @@ module _ (answer : SystemAnswer) where
       deeds_behind shows.call shows.rest deeds shows.deeds_are
       (shows_asked set before n flags shows.rest shows.goes_on)
 
-  -- the line then shows the bytes that its last visit serves, if any, and that visit is the answer's
+  -- the line then shows the bytes, if any, that its last visit serves, and the answer came from that visit
   pub record AskedShown (deeds : List Deed) : Type 0 where
     pub shown : system_line_shown answer ≡ bytes_or_none (served_bytes deeds)
     pub place : (c p : ℕ) → place_takes c p (last_place deeds) ≡ answer_takes c p answer
@@ -145,7 +145,7 @@ module _ (answer : SystemAnswer) where
     place = λ c p. ap (place_takes c p) (last_visit before d ds) ∙ sym (ap (answer_takes c p) is);
   })
 
-  -- the data of a line if the host's last step was a system call
+  -- if the host's last step was a system call, the line shows no data, or the bytes of its last visit
   pub steps_shown : (set : Setting) (steps : List HostStep) (deeds : List Deed) → EndsAsked answer steps →
       Shows set steps deeds → ShowsOrNone deeds
   steps_shown set steps deeds e shows =

@@ -2,9 +2,9 @@
 use Rattle.std.proofs.Common.{◌≡◌, ℕ, Bool, true, false, Option, List, [], ◌∷◌, ◌++◌, refl, sym, subst}
 use Rattle.std.specs.Prelude.{◌==◌, MatchBool, if◌then◌else◌}
 use Rattle.key_names.specs.declared.point.Point.TheVariants.{Start, Written, Serve, End}
-use Rattle.key_names.specs.VgetrandomState.{VgetrandomState, state_left}
-use Rattle.key_names.specs.BatchCopy.{copy_bytes, state_after_copy, block_after_copy, copy_entries}
-use Rattle.key_names.specs.Vgetrandom.{CpuPlace, read, HostStep, publishes, system_call, at_point, Attempt, holds, outdated, attempt_behind, wipe_entry, rekey_entry, AtPoint, FromServe, IsAttempt}
+use Rattle.key_names.specs.Kernel.VgetrandomState.{VgetrandomState, state_left}
+use Rattle.key_names.specs.Kernel.BatchCopy.{copy_bytes, state_after_copy, block_after_copy, copy_entries}
+use Rattle.key_names.specs.Kernel.Vgetrandom.{CpuPlace, read, HostStep, publishes, system_call, at_point, Attempt, holds, outdated, attempt_behind, wipe_entry, rekey_entry, AtPoint, FromServe, IsAttempt}
 
 pub match_true : (A B : Type 0) (b : Bool) → b ≡ true → A → MatchBool b A B
 match_true A B b is a = subst (λ (x : Bool). MatchBool x A B) (sym is) a

@@ -9,25 +9,25 @@ use Rattle.key_names.specs.declared.entries.VEntry.{VEntry}
 use Rattle.key_names.specs.declared.entries.VEntry.TheVariants.{Rekey, Wipe}
 use Rattle.key_names.specs.declared.point.Point.{Point}
 use Rattle.key_names.specs.declared.point.Point.TheVariants.{Start, Written, Serve as ServePoint, End}
-use Rattle.key_names.specs.LawfulList.{LawfulFrom}
-use Rattle.key_names.specs.StateList.{NamedState, anything, MayStart, MayFollow, TakesRead, StateMayCome}
-use Rattle.key_names.specs.StateList.{OrderedStateList, LawfulStateList, state_start, state_step}
-use Rattle.key_names.specs.Flags.{is_bad}
-use Rattle.key_names.specs.VgetrandomState.{VgetrandomState, wiped_state, state_left}
-use Rattle.key_names.specs.BatchCopy.{bytes_left, has_left, copy_bytes, state_of_same_batch, state_after_copy}
-use Rattle.key_names.specs.BatchCopy.{block_after_copy, serve_entry, copy_entries}
-use Rattle.key_names.specs.Vgetrandom.{CpuPlace, SystemAnswer, read, failed, HostStep, AttemptEnd, holds, outdated}
-use Rattle.key_names.specs.Vgetrandom.{not_keyed, Attempt, wipe_entry, rekey_entry, AtPoint, AfterKeyRead, FromEnd}
-use Rattle.key_names.specs.Vgetrandom.{FromServe, Keyed, FromWritten, FromStart, IsAttempt, Outcome, BySystem}
-use Rattle.key_names.specs.Vgetrandom.{ByNothing, AfterAttempt, AttemptAndRest, AfterBoth, state_after_call}
-use Rattle.key_names.specs.Vgetrandom.{SecondAttempt, FirstAttempt, FromPublished, FromLook, IsCall}
-use Rattle.key_names.specs.StateCalls.{StateUse, by_call, by_copy, by_wipe, StateUseStands, state_after_use}
-use Rattle.key_names.specs.StateCalls.{entries_of_use, entries_of_uses, UsesLeaveLawfulLists}
+use Rattle.key_names.specs.Lanes.LawfulList.{LawfulFrom}
+use Rattle.key_names.specs.Lanes.StateList.{NamedState, anything, MayStart, MayFollow, TakesRead, StateMayCome}
+use Rattle.key_names.specs.Lanes.StateList.{OrderedStateList, LawfulStateList, state_start, state_step}
+use Rattle.key_names.specs.Kernel.Flags.{is_bad}
+use Rattle.key_names.specs.Kernel.VgetrandomState.{VgetrandomState, wiped_state, state_left}
+use Rattle.key_names.specs.Kernel.BatchCopy.{bytes_left, has_left, copy_bytes, state_of_same_batch, state_after_copy}
+use Rattle.key_names.specs.Kernel.BatchCopy.{block_after_copy, serve_entry, copy_entries}
+use Rattle.key_names.specs.Kernel.Vgetrandom.{CpuPlace, SystemAnswer, read, failed, HostStep, AttemptEnd, holds, outdated}
+use Rattle.key_names.specs.Kernel.Vgetrandom.{not_keyed, Attempt, wipe_entry, rekey_entry, AtPoint, AfterKeyRead, FromEnd}
+use Rattle.key_names.specs.Kernel.Vgetrandom.{FromServe, Keyed, FromWritten, FromStart, IsAttempt, Outcome, BySystem}
+use Rattle.key_names.specs.Kernel.Vgetrandom.{ByNothing, AfterAttempt, AttemptAndRest, AfterBoth, state_after_call}
+use Rattle.key_names.specs.Kernel.Vgetrandom.{SecondAttempt, FirstAttempt, FromPublished, FromLook, IsCall}
+use Rattle.key_names.specs.Callers.StateCalls.{StateUse, by_call, by_copy, by_wipe, StateUseStands, state_after_use}
+use Rattle.key_names.specs.Callers.StateCalls.{entries_of_use, entries_of_uses, UsesLeaveLawfulLists}
 use Rattle.key_names.proofs.Uses.BatchBytes.{zeros_more}
 use Rattle.key_names.proofs.Vgetrandom.CopiesKeep.{Settled, Ready, ready, ready_start, may_start}
 use Rattle.key_names.proofs.Vgetrandom.CopiesKeep as copies
 
--- a choice between two facts
+-- a conclusion that follows from either side of a choice follows from the choice
 pub match_cases : (A B C : Type 0) (b : Bool) → ((b ≡ true) → A → C) → ((b ≡ false) → B → C) → MatchBool b A B → C
 match_cases A B C true f g h = f refl h
 match_cases A B C false f g h = g refl h
@@ -51,7 +51,7 @@ module _ (caller state : ℕ) where
       (es : List VEntry) → Keeps After t es → Keeps Also t es
   keeps_weaker = copies.keeps_weaker caller state
 
-  -- after the entries of an attempt, and of a call, the state is settled
+  -- after the entries of an attempt, or of a call, the state is settled
   abbrev pub AttemptKeeps : NamedState → Attempt → Type 0
   AttemptKeeps t attempt = Keeps (λ u. Settled u attempt.state) t attempt.entries
 
@@ -65,7 +65,7 @@ module _ (caller state : ℕ) where
       let P : Attempt → Type 0 = λ a. AttemptKeeps t a in
       subst P (sym is) (keeps_append (λ u. Settled u after.state) t es after.entries h)
 
-  -- a point, in a state for which Before holds
+  -- if the steps after a point keep the list in order, so do the point and those steps; Before holds at the point
   point_keeps : (Before : NamedState → VgetrandomState → Type 0) →
       ((t : NamedState) (s : VgetrandomState) → Before t s → MayStart t.expected) →
       ((t : NamedState) → Settled t wiped_state → Before t wiped_state) →
@@ -184,7 +184,7 @@ module _ (caller state : ℕ) where
       point_keeps Settled settled_start (λ u x. x) Start (FromStart n c is.published) t s is.rest attempt
       (λ u r rest after g x. start_keeps n c is.published some u r rest after g x) is.goes_on h
 
-  -- an outcome without entries, and with this state
+  -- an outcome without entries that leaves the state as it was keeps the list in order
   none_keeps : (t : NamedState) (s : VgetrandomState) (outcome : Outcome) → outcome.entries ≡ [] →
       outcome.state ≡ s → Settled t s → OutcomeKeeps t outcome
   none_keeps t s outcome none same h =
@@ -203,7 +203,7 @@ module _ (caller state : ℕ) where
   settled_after : (t : NamedState) (s : VgetrandomState) → Settled t s → Settled t (state_after_call s)
   settled_after t s h = record { same_pos = h.same_pos; within = h.within; expects = h.expects; zeros = h.zeros }
 
-  -- an attempt and the rest of the call
+  -- an attempt and the rest of its call keep the list in order, if each of the two does
   tried_keeps : (n flags : ℕ) (Outdated : ℕ → VgetrandomState → List HostStep → Outcome → Type 0)
       (Tried : List HostStep → Attempt → Type 0) →
       (t : NamedState) (steps : List HostStep) (outcome : Outcome) →
@@ -272,7 +272,7 @@ module _ (caller state : ℕ) where
       (λ good look. published_keeps n flags look.published t s look.rest outcome look.goes_on h)
       is
 
-  -- so do a wipe, and a copy without a call
+  -- a wipe keeps the list of its state in order, and so does a copy without a call
   pub wipe_keeps : (t : NamedState) (s : VgetrandomState) → Settled t s →
       Keeps (λ u. Settled u wiped_state) t (Wipe ∷ [])
   wipe_keeps t s h = record {
@@ -296,7 +296,7 @@ module _ (caller state : ℕ) where
   use_keeps t s (by_copy n) stands h = local_keeps t s n stands h
   use_keeps t s by_wipe stands h = wipe_keeps t s h
 
-  -- any uses in a row keep the list in order
+  -- any uses one after another keep the list in order
   pub uses_keep : (t : NamedState) (s : VgetrandomState) (uses : List StateUse) →
       LawfulFrom StateUseStands state_after_use s uses →
       Settled t s → Keeps (λ v. Settled v (fold state_after_use s uses)) t (entries_of_uses s uses)

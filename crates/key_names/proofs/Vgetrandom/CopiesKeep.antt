@@ -1,4 +1,4 @@
--- A copy out of a vgetrandom state leaves the state's list in order, and its served bytes 0.
+-- A copy out of a vgetrandom state keeps the state's list in order, and the served bytes 0.
 use Rattle.std.proofs.Common.{◌≡◌, ℕ, zero, suc, ◌+◌, ◌-◌, ◌*◌, drop, ◌≤◌, Bool, true, false, List, [], ◌++◌, ◌⊎◌, inl}
 use Rattle.std.proofs.Common.{inr, refl, sym, subst, arith}
 use Rattle.std.specs.Prelude.{nat_le, if◌then◌else◌}
@@ -6,14 +6,14 @@ use Rattle.std.specs.List.{fold}
 use Rattle.std.proofs.lemmas.List.Sums.{fold-append}
 use Rattle.std.proofs.lemmas.Bool.{leb-true}
 use Rattle.key_names.specs.declared.entries.VEntry.{VEntry}
-use Rattle.key_names.specs.LawfulList.{LawfulFrom}
-use Rattle.key_names.specs.StateList.{NamedState, anything, new_key, refill_from, Expected, MayStart, MayRefill}
-use Rattle.key_names.specs.StateList.{MayFollow, state_step}
-use Rattle.key_names.specs.VgetrandomState.{VgetrandomState}
-use Rattle.key_names.specs.BatchCopy.{bytes_left, whole_blocks, new_batch_bytes, has_left, state_of_same_batch}
-use Rattle.key_names.specs.BatchCopy.{state_of_new_batch, state_after_copy, serve_entry, refill_entries, copy_entries}
+use Rattle.key_names.specs.Lanes.LawfulList.{LawfulFrom}
+use Rattle.key_names.specs.Lanes.StateList.{NamedState, anything, new_key, refill_from, Expected, MayStart, MayRefill}
+use Rattle.key_names.specs.Lanes.StateList.{MayFollow, state_step}
+use Rattle.key_names.specs.Kernel.VgetrandomState.{VgetrandomState}
+use Rattle.key_names.specs.Kernel.BatchCopy.{bytes_left, whole_blocks, new_batch_bytes, has_left, state_of_same_batch}
+use Rattle.key_names.specs.Kernel.BatchCopy.{state_of_new_batch, state_after_copy, serve_entry, refill_entries, copy_entries}
 use Rattle.key_names.proofs.Uses.BatchBytes.{StartsZero, zeros_front, zeros_more}
-use Rattle.key_names.specs.Keystream.{keystream}
+use Rattle.key_names.specs.Kernel.Keystream.{keystream}
 use Rattle.key_names.proofs.Lists.Growing.{lawful_append}
 
 pub copy_keeps_generation : (s : VgetrandomState) (c n : ℕ) → (state_after_copy s c n).generation ≡ s.generation
@@ -31,7 +31,7 @@ pub record Settled (t : NamedState) (s : VgetrandomState) : Type 0 where
   pub expects : t.expected ≡ anything
   pub zeros : StartsZero s.pos s.batch
 
--- the same, or a key was read that has no batch yet
+-- the state is settled, or a key was read that has no batch yet
 pub record Ready (t : NamedState) (s : VgetrandomState) : Type 0 where
   pub within : s.pos ≤ 96
   pub expects : ((t.expected ≡ anything) × (t.pos ≡ s.pos) × StartsZero s.pos s.batch)
@@ -72,7 +72,7 @@ module _ (caller state : ℕ) where
       Keeps After t es → Keeps Also t es
   keeps_weaker After Also weaker t es h = record { lawful = h.lawful; after = weaker _ h.after }
 
-  -- the entry for some bytes of the batch
+  -- the entry for some bytes of the batch keeps the list in order
   pub serve_keeps : (t : NamedState) (s : VgetrandomState) (n : ℕ) → t.expected ≡ anything → t.pos ≡ s.pos →
       s.pos + n ≤ 96 →
       Keeps (λ u. (u.pos ≡ s.pos + n) × (u.expected ≡ anything)) t (serve_entry s.pos n)
@@ -86,7 +86,7 @@ module _ (caller state : ℕ) where
   from_zero : (r : ℕ) → suc r ≤ 96 → 0 + suc r ≤ 96
   from_zero r le = omega arith
 
-  -- the entries for blocks and a new batch
+  -- the entries for blocks and a new batch keep the list in order
   refill_keeps : (t : NamedState) (c m r : ℕ) → MayStart t.expected → r ≤ 96 →
       Keeps (λ u. (u.pos ≡ r) × (u.expected ≡ anything)) t (refill_entries c m r)
   refill_keeps t c zero zero x fits = record { lawful = (may_refill t.expected (c + 0) x, tt); after = (refl, refl) }
@@ -104,7 +104,7 @@ module _ (caller state : ℕ) where
             (zero_first (suc r), refl);
       }
 
-  -- a copy of some bytes
+  -- a copy of some bytes keeps the list in order
   pub copy_keeps : (t : NamedState) (s : VgetrandomState) (c n : ℕ) → 1 ≤ n → Ready t s →
       Keeps (λ u. Settled u (state_after_copy s c n)) t (copy_entries s c n)
   copy_keeps t s c n some r = go (has_left s n) refl
@@ -123,7 +123,7 @@ module _ (caller state : ℕ) where
       small : new_batch_bytes s n ≤ 96
       small = omega arith
 
-      -- the rest of the batch
+      -- the entry for the rest of the batch keeps the list in order
       rest_keeps : Keeps (λ u. MayStart u.expected) t (serve_entry s.pos (bytes_left s))
       rest_keeps = elim r.expects [
         | inl batch ↦ keeps_weaker (λ u. (u.pos ≡ s.pos + bytes_left s) × (u.expected ≡ anything))

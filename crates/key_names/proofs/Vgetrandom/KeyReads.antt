@@ -7,26 +7,26 @@ use Rattle.key_names.specs.declared.entries.CpuEntry.{CpuEntry}
 use Rattle.key_names.specs.declared.entries.VEntry.{VEntry}
 use Rattle.key_names.specs.declared.point.Point.{Point}
 use Rattle.key_names.specs.declared.point.Point.TheVariants.{Start, Written, Serve as ServePoint, End}
-use Rattle.key_names.specs.Flags.{is_bad}
-use Rattle.key_names.specs.CpuList.{taken_at}
-use Rattle.key_names.specs.StateList.{TakesRead}
-use Rattle.key_names.specs.VgetrandomState.{VgetrandomState, state_left}
-use Rattle.key_names.specs.BatchCopy.{bytes_left, has_left, whole_blocks, new_batch_bytes, serve_entry, refill_entries}
-use Rattle.key_names.specs.BatchCopy.{copy_entries}
-use Rattle.key_names.specs.Vgetrandom.{SystemAnswer, read, failed, HostStep, publishes, system_call, at_point, Attempt}
-use Rattle.key_names.specs.Vgetrandom.{AttemptEnd, holds, outdated, not_keyed, wipe_entry, AtPoint, FromEnd, FromServe}
-use Rattle.key_names.specs.Vgetrandom.{AfterKeyRead, FromWritten, FromStart, IsAttempt, Outcome, BySystem}
-use Rattle.key_names.specs.Vgetrandom.{state_after_call, AfterAttempt, AttemptAndRest, AfterBoth, SecondAttempt, IsCall}
+use Rattle.key_names.specs.Kernel.Flags.{is_bad}
+use Rattle.key_names.specs.Lanes.CpuList.{taken_at}
+use Rattle.key_names.specs.Lanes.StateList.{TakesRead}
+use Rattle.key_names.specs.Kernel.VgetrandomState.{VgetrandomState, state_left}
+use Rattle.key_names.specs.Kernel.BatchCopy.{bytes_left, has_left, whole_blocks, new_batch_bytes, serve_entry, refill_entries}
+use Rattle.key_names.specs.Kernel.BatchCopy.{copy_entries}
+use Rattle.key_names.specs.Kernel.Vgetrandom.{SystemAnswer, read, failed, HostStep, publishes, system_call, at_point, Attempt}
+use Rattle.key_names.specs.Kernel.Vgetrandom.{AttemptEnd, holds, outdated, not_keyed, wipe_entry, AtPoint, FromEnd, FromServe}
+use Rattle.key_names.specs.Kernel.Vgetrandom.{AfterKeyRead, FromWritten, FromStart, IsAttempt, Outcome, BySystem}
+use Rattle.key_names.specs.Kernel.Vgetrandom.{state_after_call, AfterAttempt, AttemptAndRest, AfterBoth, SecondAttempt, IsCall}
 use Rattle.key_names.proofs.Lists.Each.{each_append}
 use Rattle.key_names.proofs.Vgetrandom.CallsKeep.{match_cases}
 
--- a successful system call for a new key gives the visit of a CPU that took 32 bytes
+-- if a system call for a new key succeeded, its answer names the visit of a CPU that took 32 bytes
 abbrev pub IsKeyRead : (ℕ → List CpuEntry) → SystemAnswer → Type 0
 IsKeyRead cpus (failed errno) = ⊤
 IsKeyRead cpus (read bytes None) = ⊥
 IsKeyRead cpus (read bytes (Some at)) = taken_at (cpus at.cpu) at.place ≡ Some (User 32)
 
--- this holds for each system call of 32 bytes without flags
+-- `IsKeyRead` holds for the answer of each system call of 32 bytes without flags
 abbrev pub KeyReads : (ℕ → List CpuEntry) → List HostStep → Type 0
 KeyReads cpus [] = ⊤
 KeyReads cpus (publishes g ∷ steps) = KeyReads cpus steps
@@ -139,7 +139,7 @@ module _ (cpus : ℕ → List CpuEntry) where
       (after_names n flags IfOutdated goes by.attempt.end by.attempt by.rest by.outcome_after
       all.1 by.goes_on))
 
-  -- the rekeys of a call
+  -- each rekey of a call takes a read of 32 bytes
   pub call_names : (n flags : ℕ) (s : VgetrandomState) (steps : List HostStep) (outcome : Outcome) →
       KeyReads cpus steps → IsCall n flags s steps outcome → AllByRecursion (TakesRead cpus) outcome.entries
   call_names n flags s steps outcome names is = match_cases _ _ _ (is_bad flags)

@@ -1,19 +1,19 @@
--- The number of times that a state's list takes a read as a key: at most as often as its calls' steps have the read.
+-- A state's list takes a read as a key no more often than the steps of its calls have the read.
 use Rattle.std.proofs.Common.{◌≡◌, ℕ, zero, suc, ◌+◌, ◌≤◌, Bool, true, false, cond, List, [], ◌∷◌, ◌++◌, refl, ap, ◌∙◌, arith, Some, None, Option}
 use Rattle.std.specs.Prelude.{◌==◌, ◌&&◌, if◌then◌else◌}
 use Rattle.key_names.specs.declared.entries.VEntry.{VEntry}
 use Rattle.key_names.specs.declared.entries.VEntry.TheVariants.{Rekey, Blocks, Refill, Serve, Wipe}
 use Rattle.key_names.specs.declared.point.Point.{Point}
 use Rattle.key_names.specs.declared.point.Point.TheVariants.{Start, Written, Serve as ServePoint, End}
-use Rattle.key_names.specs.Calls.{Setting}
-use Rattle.key_names.specs.Deeds.{Deed, looked, at_pool, at_base, at_cpu, nothing_there}
-use Rattle.key_names.specs.Flags.{is_bad}
-use Rattle.key_names.specs.VgetrandomState.{VgetrandomState, state_left}
-use Rattle.key_names.specs.BatchCopy.{has_left, bytes_left, whole_blocks, new_batch_bytes, copy_bytes, state_after_copy, block_after_copy, serve_entry, refill_entries, copy_entries}
-use Rattle.key_names.specs.Vgetrandom.{CpuPlace, SystemAnswer, read, failed, HostStep, publishes, system_call, at_point, AttemptEnd, holds, outdated, not_keyed, Attempt, Ending, no_bytes, by_batch, by_system, wipe_entry, rekey_entry, AtPoint, FromEnd, FromServe, AfterKeyRead, FromWritten, FromStart, IsAttempt, Outcome, BySystem, ByNothing, AfterAttempt, AttemptAndRest, AfterBoth, state_after_call, SecondAttempt, FirstAttempt, FromPublished, FromLook, IsCall}
-use Rattle.key_names.specs.VreadSteps.{place_of, last_place, answer_with, answer_behind, errno_of, Shows}
+use Rattle.key_names.specs.Callers.Calls.{Setting}
+use Rattle.key_names.specs.Callers.Deeds.{Deed, looked, at_pool, at_base, at_cpu, nothing_there}
+use Rattle.key_names.specs.Kernel.Flags.{is_bad}
+use Rattle.key_names.specs.Kernel.VgetrandomState.{VgetrandomState, state_left}
+use Rattle.key_names.specs.Kernel.BatchCopy.{has_left, bytes_left, whole_blocks, new_batch_bytes, copy_bytes, state_after_copy, block_after_copy, serve_entry, refill_entries, copy_entries}
+use Rattle.key_names.specs.Kernel.Vgetrandom.{CpuPlace, SystemAnswer, read, failed, HostStep, publishes, system_call, at_point, AttemptEnd, holds, outdated, not_keyed, Attempt, Ending, no_bytes, by_batch, by_system, wipe_entry, rekey_entry, AtPoint, FromEnd, FromServe, AfterKeyRead, FromWritten, FromStart, IsAttempt, Outcome, BySystem, ByNothing, AfterAttempt, AttemptAndRest, AfterBoth, state_after_call, SecondAttempt, FirstAttempt, FromPublished, FromLook, IsCall}
+use Rattle.key_names.specs.Callers.VreadSteps.{place_of, last_place, answer_with, answer_behind, errno_of, Shows}
 use Rattle.key_names.specs.declared.errno.Errno.{Errno}
-use Rattle.key_names.specs.Answers.{system_answer}
+use Rattle.key_names.specs.Callers.Answers.{system_answer}
 use Rattle.key_names.proofs.Vgetrandom.CallsKeep.{match_cases}
 
 -- c and p name a place of a CPU
@@ -90,7 +90,7 @@ module _ (c p : ℕ) where
           takes_append (serve_entry s.pos (bytes_left s))
           (refill_entries from (whole_blocks s n) (new_batch_bytes s n)) ∙ omega arith
 
-  -- the entries of an attempt take the read no more often than its steps have it
+  -- the entries of an attempt take the read no more often than the attempt's steps have it
   pub record Bounded (steps : List HostStep) (attempt : Attempt) : Type 0 where
     pub is : takes attempt.entries ≤ step_takes steps
 
@@ -160,13 +160,13 @@ module _ (c p : ℕ) where
       (start_bounded n from is.published) is.goes_on in
       record { is = (let h = b.is in omega arith) }
 
-  -- the visit of a call's answer is not among those that its entries take
+  -- 1 if the answer of a call is from the read at this place, else 0
   abbrev pub ending_takes : Ending → ℕ
   ending_takes no_bytes = 0
   ending_takes (by_batch out) = 0
   ending_takes (by_system answer) = answer_takes answer
 
-  -- the entries of a call take the read no more often than its steps have it, apart from the answer
+  -- a call's entries and its answer together take the read at most as often as the call's steps
   pub record OutcomeBounded (steps : List HostStep) (outcome : Outcome) : Type 0 where
     pub is : takes outcome.entries + ending_takes outcome.ending ≤ step_takes steps
 
@@ -310,7 +310,7 @@ module _ (c p : ℕ) where
       let rest : step_takes steps ≤ deed_takes shows.rest = shown_takes set steps shows.rest shows.goes_on in
       omega arith
 
-  -- so a call takes the read no more often than the deeds of its line have it, apart from the answer
+  -- a call's entries and its answer together take the read at most as often as the deeds of the call's line
   pub call_takes : (set : Setting) (n flags : ℕ) (s : VgetrandomState) (steps : List HostStep) (outcome : Outcome)
       (ds : List Deed) →
       IsCall n flags s steps outcome → Shows set steps ds →

@@ -12,20 +12,20 @@ use Rattle.key_names.specs.declared.entries.VEntry.{VEntry}
 use Rattle.key_names.specs.declared.entries.VEntry.TheVariants.{Rekey, Blocks, Refill, Wipe}
 use Rattle.key_names.specs.declared.point.Point.{Point}
 use Rattle.key_names.specs.declared.point.Point.TheVariants.{Start, Written, Serve as ServePoint, End}
-use Rattle.key_names.specs.Batches.{with_zeros}
-use Rattle.key_names.specs.Keystream.{keystream}
-use Rattle.key_names.specs.KeyInUse.{cpu_call_value}
-use Rattle.key_names.specs.Book.{Lists}
-use Rattle.key_names.specs.Flags.{is_bad}
-use Rattle.key_names.specs.StateList.{NamedState, state_step, refill_key}
-use Rattle.key_names.specs.LiveMaterial.{StateBytes, state_bytes_step}
-use Rattle.key_names.specs.StatesReplayed.{HasName, IsNamed}
-use Rattle.key_names.specs.VgetrandomState.{VgetrandomState, wiped_state, state_left}
-use Rattle.key_names.specs.BatchCopy.{bytes_left, whole_blocks, new_batch_bytes, has_left, copy_bytes, state_of_same_batch, state_of_new_batch, state_after_copy, block_after_copy, serve_entry, refill_entries, copy_entries}
-use Rattle.key_names.specs.Vgetrandom.{SystemAnswer, read, failed, HostStep, publishes, system_call, at_point, AttemptEnd, holds, outdated, not_keyed, Attempt, wipe_entry, AtPoint, AfterKeyRead, FromEnd, FromServe, FromWritten, FromStart, IsAttempt, Outcome, BySystem, ByNothing, AfterAttempt, AttemptAndRest, AfterBoth, state_after_call, SecondAttempt, FirstAttempt, FromPublished, FromLook, IsCall}
+use Rattle.key_names.specs.Kernel.Batches.{with_zeros}
+use Rattle.key_names.specs.Kernel.Keystream.{keystream}
+use Rattle.key_names.specs.Keys.KeyInUse.{cpu_call_value}
+use Rattle.key_names.specs.Lanes.Book.{Lists}
+use Rattle.key_names.specs.Kernel.Flags.{is_bad}
+use Rattle.key_names.specs.Lanes.StateList.{NamedState, state_step, refill_key}
+use Rattle.key_names.specs.Keys.LiveMaterial.{StateBytes, state_bytes_step}
+use Rattle.key_names.specs.Transcripts.StatesReplayed.{HasName, IsNamed}
+use Rattle.key_names.specs.Kernel.VgetrandomState.{VgetrandomState, wiped_state, state_left}
+use Rattle.key_names.specs.Kernel.BatchCopy.{bytes_left, whole_blocks, new_batch_bytes, has_left, copy_bytes, state_of_same_batch, state_of_new_batch, state_after_copy, block_after_copy, serve_entry, refill_entries, copy_entries}
+use Rattle.key_names.specs.Kernel.Vgetrandom.{SystemAnswer, read, failed, HostStep, publishes, system_call, at_point, AttemptEnd, holds, outdated, not_keyed, Attempt, wipe_entry, AtPoint, AfterKeyRead, FromEnd, FromServe, FromWritten, FromStart, IsAttempt, Outcome, BySystem, ByNothing, AfterAttempt, AttemptAndRest, AfterBoth, state_after_call, SecondAttempt, FirstAttempt, FromPublished, FromLook, IsCall}
 use Rattle.key_names.proofs.Vgetrandom.CallsKeep.{match_cases, some_bytes}
 
--- bytes with none of them set to 0
+-- bytes of which none was set to 0 are unchanged
 no_zeros : (pos : ℕ) (bytes : List ℕ) → bytes ≡ with_zeros pos 0 bytes
 no_zeros pos bytes =
     let p : pos ≡ pos + 0 = omega arith in
@@ -84,7 +84,7 @@ module _ (lists : Lists) (caller k : ℕ) where
   pub wiped_holds : (x : Both) → Holds (step x Wipe) wiped_state
   wiped_holds x = record { batch = refl; pos = refl; key = refl; named = λ some. absurd (omega arith) }
 
-  -- the state after the entry for some bytes of the batch
+  -- how an entry for some bytes of the batch changes the names and the bytes
   pub record Served (x y : Both) (pos n : ℕ) : Type 0 where
     pub batch : y.bytes.batch ≡ with_zeros pos n x.bytes.batch
     pub key : y.bytes.key ≡ x.bytes.key
@@ -103,7 +103,7 @@ module _ (lists : Lists) (caller k : ℕ) where
   serve_after x pos (suc n) at =
       record { batch = refl; key = refl; pos_is = refl; name = refl; batch_name = refl }
 
-  -- the state after the entries for blocks and a new batch
+  -- how the entries for blocks and a new batch change the names and the bytes
   pub record Refilled (x y : Both) (at r : ℕ) : Type 0 where
     pub batch : y.bytes.batch ≡ with_zeros 0 r (keystream x.bytes.key (64 * at) 96)
     pub key : y.bytes.key ≡ keystream x.bytes.key (64 * at + 96) 32
@@ -176,7 +176,7 @@ module _ (lists : Lists) (caller k : ℕ) where
                 (w.name name, inr (has_name u.named.key (after u es).named.batch_key w.batch_name name));
           } in m)
 
-  -- the state after an attempt, and after a call, is that of the replay
+  -- the state after an attempt, or after a call, is that of the replay
   abbrev pub AttemptHolds : Both → Attempt → Type 0
   AttemptHolds x attempt = Holds (after x attempt.entries) attempt.state
 
@@ -318,7 +318,7 @@ module _ (lists : Lists) (caller k : ℕ) where
       (λ u d v rest later g by b. system_holds n flags u (state_after_call v) rest later by (called_holds u v b))
       good second h
 
-  -- after a first look that found a generation, which is not 0
+  -- a first attempt and the rest of its call leave the state of the replay, if the steps are good
   pub first_holds : (n flags : ℕ) → 1 ≤ n → (x : Both) (s : VgetrandomState) (steps : List HostStep)
       (outcome : Outcome) → Good lists steps → FirstAttempt n flags s steps outcome → Holds x s →
       OutcomeHolds x outcome

@@ -1,30 +1,30 @@
--- How a vread of a transcript ended: if its batch served it, the bytes that it shows are those of the named spans that
--- its state's entries serve.
+-- How a vread of a transcript ended: if the batch served it, the vread shows the bytes of the named spans that its
+-- state's entries serve.
 use Rattle.std.specs.Prelude.{ℕ, ◌≡◌, ◌<◌, Some, List, ◌++◌, take, slice_get}
 use Rattle.key_names.specs.declared.entries.VEntry.{VEntry}
-use Rattle.key_names.specs.Book.{Lists}
-use Rattle.key_names.specs.Calls.{Call, vread_call, BoundAct}
-use Rattle.key_names.specs.SeenLine.{SeenLine, no_data, bytes_or_none}
-use Rattle.key_names.specs.ServedNamed.{served_in}
-use Rattle.key_names.specs.StateList.{state_step, state_after}
-use Rattle.key_names.specs.Uses.{state_uses_at, uses_from}
-use Rattle.key_names.specs.Vgetrandom.{SystemAnswer, by_system}
-use Rattle.key_names.specs.Meaning.{CallMeaning, ByVgetrandom}
-use Rattle.key_names.specs.IsTranscript.{entries_of_state}
+use Rattle.key_names.specs.Lanes.Book.{Lists}
+use Rattle.key_names.specs.Callers.Calls.{Call, vread_call, BoundAct}
+use Rattle.key_names.specs.Transcripts.SeenLine.{SeenLine, no_data, bytes_or_none}
+use Rattle.key_names.specs.Keys.ServedNamed.{served_in}
+use Rattle.key_names.specs.Lanes.StateList.{state_step, state_after}
+use Rattle.key_names.specs.Keys.Uses.{state_uses_at, uses_from}
+use Rattle.key_names.specs.Kernel.Vgetrandom.{SystemAnswer, by_system}
+use Rattle.key_names.specs.Callers.Meaning.{CallMeaning, ByVgetrandom}
+use Rattle.key_names.specs.Transcripts.IsTranscript.{entries_of_state}
 
--- the bytes of the spans that entries serve after others in a state's list
+-- after a front of a state's list, the bytes of the spans that the next entries serve
 abbrev pub entry_bytes : Lists → ℕ → ℕ → List VEntry → List VEntry → List ℕ
 entry_bytes lists caller k front es =
     served_in lists (uses_from state_uses_at (state_step caller k) (state_after caller k front) es)
 
--- the last of the entries after a front, those of the attempt that held, serve these bytes
+-- after a front, these entries end with those of the attempt that held, which serve these bytes
 pub record LastServe (lists : Lists) (caller k : ℕ) (front es : List VEntry) (out : List ℕ) : Type 0 where
   pub earlier : List VEntry
   pub last : List VEntry
   pub entries_are : es ≡ earlier ++ last
   pub bytes_are : out ≡ entry_bytes lists caller k (front ++ earlier) last
 
--- how a vread ended: without bytes, with those that its last entries serve, or with a system call's answer
+-- how a vread ended: without bytes, with the bytes that its last entries serve, or with a system call's answer
 pub data VreadEnd (lists : Lists) (caller k : ℕ) (front : List VEntry) (n flags : ℕ) (acts : List BoundAct)
     (m : CallMeaning) : Type 0 where
   showed_none : m.own.shown ≡ no_data → VreadEnd lists caller k front n flags acts m
@@ -33,7 +33,7 @@ pub data VreadEnd (lists : Lists) (caller k : ℕ) (front : List VEntry) (n flag
   asked_system : (by : ByVgetrandom n flags acts m) (answer : SystemAnswer) → by.outcome.ending ≡ by_system answer →
       VreadEnd lists caller k front n flags acts m
 
--- each vread of a caller, after the entries that its earlier calls appended to the state's list
+-- each vread of a caller ended in one of these ways, after the entries that earlier calls appended to the state's list
 abbrev pub VreadsNamed : Lists → ℕ → List Call → List CallMeaning → Type 0
 VreadsNamed lists caller calls ms = (k j n flags : ℕ) (line : SeenLine) (acts : List BoundAct) (m : CallMeaning) →
     k < 16 → m.before.current ≡ k → slice_get calls j ≡ Some (vread_call n flags line acts) →

@@ -1,9 +1,9 @@
 -- Lines that a vread cannot have.
 use Rattle.std.proofs.Common.{◌≡◌, ℕ, ◌≤◌, List, ◌∷◌, subst}
-use Rattle.key_names.specs.Calls.{BoundAct}
-use Rattle.key_names.specs.Deeds.{Deed, looked}
-use Rattle.key_names.specs.VreadSteps.{NeverFall, looks_of}
-use Rattle.key_names.specs.Meaning.{CallMeaning, VreadMeans}
+use Rattle.key_names.specs.Callers.Calls.{BoundAct}
+use Rattle.key_names.specs.Callers.Deeds.{Deed, looked}
+use Rattle.key_names.specs.Callers.VreadSteps.{NeverFall, looks_of}
+use Rattle.key_names.specs.Callers.Meaning.{CallMeaning, VreadMeans}
 
 -- the looks of a vread's line do not fall
 pub looks_do_not_fall : (n flags a b : ℕ) (acts : List BoundAct) (m : CallMeaning) (rest : List Deed) →

@@ -23,7 +23,7 @@ use Rattle.key_names.specs.declared.faults.FaultKind.TheVariants.{BadNumber, Bad
 use Rattle.key_names.specs.declared.faults.FaultKind.TheVariants.{TooMany, Unfinished}
 use Rattle.key_names.specs.declared.faults.ScriptFault.{ScriptFault}
 use Rattle.key_names.specs.declared.point.Point.{Point}
-use Rattle.key_names.specs.Points.{point_numbered}
+use Rattle.key_names.specs.Kernel.Points.{point_numbered}
 use Rattle.key_names.specs.Texts.Spelling.{hex, word_text}
 use Rattle.key_names.specs.Texts.ScriptGrammar.{InRange, Script, most_cpus, times_forked, bytes_read, acts_after}
 
@@ -41,7 +41,7 @@ kind_number Unforked = 10
 kind_number TooMany = 11
 kind_number Unfinished = 12
 
--- the error of the first of two steps that fails, or else the value of the second
+-- two steps in a row give the first error, or else the value of the second step
 infixl 10 ◌>>=◌
 abbrev pub ◌>>=◌ : {A B E : Type 0} → Result A E → (A → Result B E) → Result B E
 (Ok x) >>= f = f x
@@ -157,7 +157,7 @@ inside_of (point ∷ act ∷ len ∷ more) = do
   if bytes_eq act (codes "vread") then vread_at point field else Err UnknownWord
 inside_of _ = Err UnknownWord
 
--- a version of scripts does not know the words that later versions added
+-- a word that a later version added is unknown in a script of an earlier version
 abbrev pub since : ℕ → ℕ → Result Event FaultKind → Result Event FaultKind
 since first version event = if nat_le first version then event else Err UnknownWord
 
@@ -231,7 +231,7 @@ said_by version cpus (first ∷ fields) =
 abbrev pub parts : ℕ → List ℕ → List (List ℕ)
 parts byte text = slice_split (λ b. b == byte) text
 
--- the content of a line. Of its faults kind 5 comes first, and then that of the leftmost bad field, 6 or 7
+-- the content of a line, or its fault: kind 5 comes first, and then kind 6 or 7 of the leftmost bad field
 abbrev pub said : ℕ → ℕ → List ℕ → Result Said FaultKind
 said version cpus line = said_by version cpus (parts 32 line)
 
@@ -339,7 +339,7 @@ abbrev pub behind : List (List ℕ) → List (List ℕ)
 behind [] = []
 behind (line ∷ more) = more
 
--- no text may follow the line end
+-- no text may follow the line `end`
 abbrev pub nothing_behind : ℕ → List (List ℕ) → Result Next ScriptFault
 nothing_behind n ([] ∷ []) = Ok Ends
 nothing_behind n lines = at_line n (line_of lines >>= λ line. Err UnknownWord)

@@ -13,7 +13,7 @@ use Rattle.key_names.specs.declared.events.InsideAct.{InsideAct}
 use Rattle.key_names.specs.declared.events.InsideAct.TheVariants.{Wipe, Vread as VreadAct, Reseed as ReseedAct}
 use Rattle.key_names.specs.declared.events.Word.{Word}
 use Rattle.key_names.specs.declared.events.Word.TheVariants as words
-use Rattle.key_names.specs.Points.{number_of}
+use Rattle.key_names.specs.Kernel.Points.{number_of}
 use Rattle.key_names.specs.Texts.Spelling.{hex, spaced, lined, word_text}
 
 -- a script: its version, its number of CPUs, and the events of each caller
@@ -150,21 +150,21 @@ InRange version cpus Reseed = ⊤
 InRange version cpus Tick = ⊤
 InRange version cpus Drop = ⊤
 
--- whether an event forks the number
+-- whether the event forks the caller with this number
 abbrev pub is_fork_of : ℕ → Event → Bool
 is_fork_of number (Fork child) = child == number
 is_fork_of number _ = false
 
--- the number of events that fork the number
+-- how many events fork the caller with this number
 abbrev pub times_forked : List (List Event) → ℕ → ℕ
 times_forked callers number = sum_by (count_by (is_fork_of number)) callers
 
--- an event of caller c; if it forks, the number is above c
+-- if an event of caller c forks a caller, that caller's number is above c
 abbrev pub IsForkAbove : ℕ → Event → Type 0
 IsForkAbove c (Fork child) = c < child
 IsForkAbove c _ = ⊤
 
--- each caller forks only numbers above its own; c is the number of the first
+-- each caller forks only callers with higher numbers; c is the number of the first
 abbrev pub ForksAbove : ℕ → List (List Event) → Type 0
 ForksAbove c [] = ⊤
 ForksAbove c (events ∷ callers) = AllByRecursion (IsForkAbove c) events × ForksAbove (suc c) callers

@@ -1,4 +1,4 @@
--- A text is either a script's or has a fault, and never both.
+-- Each text either is a script's or has a fault.
 use Rattle.std.specs.Prelude.{ℕ, ◌≡◌, Some, None, List, Ok}
 use Rattle.key_names.specs.declared.faults.ScriptFault.{ScriptFault}
 use Rattle.key_names.specs.Texts.ScriptGrammar.{Script, IsScript}

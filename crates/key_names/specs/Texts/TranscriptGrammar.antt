@@ -13,7 +13,7 @@ use Rattle.key_names.specs.declared.names.LaneId.TheVariants.{Pool, Base, Cpu}
 use Rattle.key_names.specs.declared.names.Mark.{Mark}
 use Rattle.key_names.specs.declared.names.Step.{Step}
 use Rattle.key_names.specs.declared.names.Step.TheVariants.{Look, Visit}
-use Rattle.key_names.specs.SeenLine.{Shown, no_data, bytes, count, SeenLine}
+use Rattle.key_names.specs.Transcripts.SeenLine.{Shown, no_data, bytes, count, SeenLine}
 use Rattle.key_names.specs.Texts.Spelling.{word_text, spaced, lined}
 
 unfoldable pub answer_text : Answer → List ℕ
@@ -123,8 +123,8 @@ pub record BeginsTranscript (front : List (List ℕ)) : Type 0 where
   pub own : UnderOwnNumber 0 callers
   pub lines : front ++ rest ≡ transcript_lines callers
 
--- The text is no transcript's. The lines before the one with this number begin a transcript, and no whole line
--- after them continues one.
+-- The text is no transcript's, and this is the number of its first faulty line: the lines before that line begin a
+-- transcript, and together with it, if it is whole, they begin none.
 pub record IsFirstFault (text : List ℕ) (number : ℕ) : Type 0 where
   pub front : List (List ℕ)
   pub rest : List ℕ

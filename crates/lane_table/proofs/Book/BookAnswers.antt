@@ -1,13 +1,12 @@
--- If all references ahead are answered, the lanes of the book are lawful; if some are not yet, they are half
--- finished.
+-- If all references ahead are answered, the lanes of the book are lawful; until then they are half finished.
 use Rattle.std.proofs.Common.{◌≡◌, ℕ, ◌+◌, ◌<◌, inl, inr, List, length, sym, ap, ◌∙◌, subst, arith, Some}
 use Rattle.std.specs.Prelude.{slice_get, option_and_then}
 use mathlib.Core.Option.{some}
 use lib.ListN.{get_elem?}
-use Rattle.key_names.specs.PoolList.{base_place_of, extraction_at}
-use Rattle.key_names.specs.BaseList.{root_of, refill_of, refill_at}
-use Rattle.key_names.specs.CpuList.{base_refill_of}
-use Rattle.key_names.specs.Book.{Lists, cpu_list, ExtractionAnswered, RefillAnswered, HalfFinishedLanes, LawfulLanes}
+use Rattle.key_names.specs.Lanes.PoolList.{base_place_of, extraction_at}
+use Rattle.key_names.specs.Lanes.BaseList.{root_of, refill_of, refill_at}
+use Rattle.key_names.specs.Lanes.CpuList.{base_refill_of}
+use Rattle.key_names.specs.Lanes.Book.{Lists, cpu_list, ExtractionAnswered, RefillAnswered, HalfFinishedLanes, LawfulLanes}
 use Rattle.key_names.proofs.Lists.Growing.{named_entry}
 use Rattle.lane_table.specs.declared.view.LaneEntry.TheVariants.{Base}
 use Rattle.lane_table.specs.declared.view.Visit.{Visit}

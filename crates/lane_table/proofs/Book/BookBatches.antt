@@ -6,11 +6,11 @@ use Rattle.std.proofs.lemmas.Bool.Decides.{nat_tests}
 use Rattle.key_names.specs.declared.names.KeyName.{KeyName}
 use Rattle.key_names.specs.declared.entries.CpuEntry.{CpuEntry}
 use Rattle.key_names.specs.declared.entries.CpuEntry.TheVariants.{Read, Int, Irq, Dump, Prepare, Online}
-use Rattle.key_names.specs.Keystream.{keystream}
-use Rattle.key_names.specs.Batches.{Fill, fills_after, one_more_served, must_fill, batch_step, batch_pos, with_zeros}
-use Rattle.key_names.specs.CpuList.{CpuState, CpuFits, cpu_key_in_use}
-use Rattle.key_names.specs.KeyInUse.{cpu_used_at}
-use Rattle.key_names.specs.Book.{Lists}
+use Rattle.key_names.specs.Kernel.Keystream.{keystream}
+use Rattle.key_names.specs.Kernel.Batches.{Fill, fills_after, one_more_served, must_fill, batch_step, batch_pos, with_zeros}
+use Rattle.key_names.specs.Lanes.CpuList.{CpuState, CpuFits, cpu_key_in_use}
+use Rattle.key_names.specs.Keys.KeyInUse.{cpu_used_at}
+use Rattle.key_names.specs.Lanes.Book.{Lists}
 use Rattle.int_batch.specs.BatchValue.{BatchValue, IsBatchOf, filled}
 use Rattle.int_batch.proofs.Fills.{IsBatchOf-filled, IsBatchOf-after_serving}
 
@@ -71,7 +71,7 @@ module _ (lists : Lists) (c width : ℕ) (some : 1 ≤ width) (within : width �
       one_served (fills width) bytes
       (λ fill filled. not_used_up look width fill (subst P same keeps ∙ ap (must_fill look width) filled)) rest
 
-  -- each entry that fits preserves it
+  -- each entry that fits preserves RestOf
   pub rest_next : (s : CpuState) (e : CpuEntry) (used bytes : List ℕ) → used ≡ cpu_used_at lists c s.place →
       CpuFits s e → RestOf (s.fills width) bytes →
       RestOf (fills_after s.place e (cpu_key_in_use e s.key) s.fills width)

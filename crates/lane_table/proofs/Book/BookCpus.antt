@@ -7,13 +7,13 @@ use Rattle.std.proofs.lemmas.Option.{slice_get_within}
 use Rattle.key_names.specs.declared.names.KeyName.{KeyName}
 use Rattle.key_names.specs.declared.entries.CpuEntry.{CpuEntry}
 use Rattle.key_names.specs.declared.entries.CpuEntry.TheVariants.{Read, Int, Irq, Dump, Prepare, Online}
-use Rattle.key_names.specs.Batches.{Fill, fills_after, one_more_served, batch_step, batch_pos, with_zeros}
-use Rattle.key_names.specs.BaseList.{refill_at}
-use Rattle.key_names.specs.CpuList.{cpu_after, cpu_key_in_use, base_refill_of}
-use Rattle.key_names.specs.FastPool.{fast_start, fast_step, fast_after}
-use Rattle.key_names.specs.KeyInUse.{cpu_value_in_use, cpu_value_after}
-use Rattle.key_names.specs.LiveMaterial.{CpuBytes, cpu_bytes_start, cpu_bytes_step}
-use Rattle.key_names.specs.Book.{Lists, cpu_list}
+use Rattle.key_names.specs.Kernel.Batches.{Fill, fills_after, one_more_served, batch_step, batch_pos, with_zeros}
+use Rattle.key_names.specs.Lanes.BaseList.{refill_at}
+use Rattle.key_names.specs.Lanes.CpuList.{cpu_after, cpu_key_in_use, base_refill_of}
+use Rattle.key_names.specs.Kernel.FastPool.{fast_start, fast_step, fast_after}
+use Rattle.key_names.specs.Keys.KeyInUse.{cpu_value_in_use, cpu_value_after}
+use Rattle.key_names.specs.Keys.LiveMaterial.{CpuBytes, cpu_bytes_start, cpu_bytes_step}
+use Rattle.key_names.specs.Lanes.Book.{Lists, cpu_list}
 use Rattle.key_names.proofs.Values.HeldBytes.{bytes_named, bytes_value}
 use Rattle.cpu_gen.specs.CpuValue.{CpuValue, cpu_at, after_entry, after_entries}
 use Rattle.cpu_gen.proofs.Entries.{HandsRefill, refilled-handed_at, after_entry-cpu_at}
@@ -67,7 +67,7 @@ batch_bare w used o bytes (Dump now) = refl
 batch_bare w used o bytes Prepare = refl
 batch_bare w used o bytes Online = refl
 
--- a model and the values of a prefix of the list, with this many entries
+-- the model m has the values s of the list's first i entries
 pub record CpuAlike (i : ℕ) (m : CpuModel) (s : CpuBytes) : Type 0 where
   pub at : s.named.place ≡ i
   pub cpu : m.cpu ≡ cpu_at s.named s.value
@@ -75,7 +75,7 @@ pub record CpuAlike (i : ℕ) (m : CpuModel) (s : CpuBytes) : Type 0 where
   pub bytes : (w : ℕ) → m.bytes w ≡ s.batch w
 
 module _ (lists : Lists) (c : ℕ) where
-  -- the value of the key in use
+  -- the model's key in use at an entry has the value that the list gives
   pub used_met : (i : ℕ) (m : CpuModel) (s : CpuBytes) (e : CpuEntry) (got : Handed) →
       HandsRefill lists e (generator_of got) →
       CpuAlike i m s → cpu_used e got m.cpu ≡ cpu_value_in_use lists e s.value
@@ -150,7 +150,7 @@ module _ (lanes c : ℕ) (lists : Lists) (xs : List Visit) (lane : CpuLane lanes
       ∙ ap (λ f. fast_step f v.entry) now
       ∙ sym (fold_next fast_step fast_start es i v.entry v.stands))
 
-  -- the same before each place, as the book has it
+  -- before each place, the values are those of the book
   pub state_before : (i : ℕ) → (bytes_before i).named ≡ cpu_after lists.base c (take i es)
   state_before i = bytes_named lists c cpu_bytes_start (take i es)
 

@@ -6,13 +6,13 @@ use Rattle.key_names.specs.declared.entries.PoolEntry.{PoolEntry}
 use Rattle.key_names.specs.declared.entries.BaseEntry.{BaseEntry}
 use Rattle.key_names.specs.declared.entries.CpuEntry.{CpuEntry}
 use Rattle.key_names.specs.declared.entries.CpuEntry.TheVariants.{Read, Int, Irq, Dump, Prepare, Online}
-use Rattle.key_names.specs.PoolList.{pool_after, pool_step}
-use Rattle.key_names.specs.BaseList.{BaseState, base_after, base_step}
-use Rattle.key_names.specs.Batches.{Fill, must_fill, batched_int}
-use Rattle.key_names.specs.CpuList.{CpuState, CpuFits, cpu_after, cpu_step}
-use Rattle.key_names.specs.KeyInUse.{base_value_after, base_value_step, cpu_value_in_use, cpu_value_after, cpu_used_at, taken_bytes}
-use Rattle.key_names.specs.Deeds.{at_pool, at_base, at_cpu, deed_or, pool_visit, base_visit, cpu_visit, base_serves, cpu_serves, int_of}
-use Rattle.key_names.specs.Book.{Lists, cpu_list}
+use Rattle.key_names.specs.Lanes.PoolList.{pool_after, pool_step}
+use Rattle.key_names.specs.Lanes.BaseList.{BaseState, base_after, base_step}
+use Rattle.key_names.specs.Kernel.Batches.{Fill, must_fill, batched_int}
+use Rattle.key_names.specs.Lanes.CpuList.{CpuState, CpuFits, cpu_after, cpu_step}
+use Rattle.key_names.specs.Keys.KeyInUse.{base_value_after, base_value_step, cpu_value_in_use, cpu_value_after, cpu_used_at, taken_bytes}
+use Rattle.key_names.specs.Callers.Deeds.{at_pool, at_base, at_cpu, deed_or, pool_visit, base_visit, cpu_visit, base_serves, cpu_serves, int_of}
+use Rattle.key_names.specs.Lanes.Book.{Lists, cpu_list}
 use Rattle.base_gen.specs.BaseValue.{BaseValue, base_at, after_entry}
 use Rattle.base_gen.proofs.Rows.{after_entry-base_at}
 use Rattle.cpu_gen.specs.CpuValue.{CpuValue}
@@ -117,7 +117,7 @@ module _ (lanes : ℕ) (visits : ℕ → List Visit) (callers : StateLists) (ok 
   sides : SameHeldLane lanes (visits 0) (visits 1)
   sides = beside lanes visits callers ok
 
-  -- a visit of the pool
+  -- the deed of a visit of the pool agrees with the model before it
   pub pool_deed : (i : ℕ) (x : Visit) (e : PoolEntry) → slice_get (visits 0) i ≡ Some x → x.entry ≡ Pool e →
       PoolMet book i (replay (take i (visits 0))).pool e
   pool_deed i x e at is =
@@ -131,7 +131,7 @@ module _ (lanes : ℕ) (visits : ℕ → List Visit) (callers : StateLists) (ok 
         after = ap (λ s. pool_step s e) before;
       }
 
-  -- a visit of the base
+  -- the deed of a visit of the base agrees with the model before it
   pub base_deed : (i : ℕ) (x : Visit) (e : BaseEntry) → slice_get (visits 1) i ≡ Some x → x.entry ≡ Base e →
       BaseMet book i (replay (take i (visits 1))).base x.got e
   base_deed i x e at is =
@@ -152,7 +152,7 @@ module _ (lanes : ℕ) (visits : ℕ → List Visit) (callers : StateLists) (ok 
         serves = ap (λ key. base_serves key e) (sym (base_used lanes (visits 0) (visits 1) sides i x e at is));
       }
 
-  -- a visit of a CPU
+  -- the deed of a visit of a CPU agrees with the model before it
   pub cpu_deed : (c i : ℕ) (x : Visit) (e : CpuEntry) → c + 2 < lanes → slice_get (visits (c + 2)) i ≡ Some x →
       x.entry ≡ Cpu e → IsIntOfBatch e → CpuMet book c i (replay (take i (visits (c + 2)))).cpu x.got e
   cpu_deed c i x e below =

@@ -1,9 +1,9 @@
--- The knowledge of a pass, and the effect of the end of the table, as a book.
+-- The lists that a pass knows, and the lists at the table's end, as a book.
 use Rattle.std.proofs.Common.{◌≡◌, ℕ, ◌≤◌, ◌<◌, List, length, map, sym, ◌∙◌, arith}
 use Rattle.std.specs.List.{AllByRecursion, sum_by}
 use Rattle.key_names.specs.declared.names.Mark.{Mark}
-use Rattle.key_names.specs.Book.{HalfFinishedLanes, LawfulLanes}
-use Rattle.key_names.specs.IsTranscript.{MarkBy, PlacesStand, VisitsAre}
+use Rattle.key_names.specs.Lanes.Book.{HalfFinishedLanes, LawfulLanes}
+use Rattle.key_names.specs.Transcripts.IsTranscript.{MarkBy, PlacesStand, VisitsAre}
 use Rattle.lane_table.specs.declared.view.View.{View}
 use Rattle.lane_table.specs.declared.view.Visit.{Visit}
 use Rattle.lane_table.specs.WorldRule.{Consistent, times, at, known_of}
@@ -34,7 +34,7 @@ module _ (v : View) (callers : StateLists) (low : 2 ≤ length v.lanes) (ok : Co
   pub known_half_finished : HalfFinishedLanes (book_lists (length v.lanes) (known_of v) callers)
   known_half_finished = half_finished (length v.lanes) (known_of v) callers known_lanes ok.half
 
--- at the end they are lawful lanes
+-- at the end the known lists of a pass are lawful lanes
 module _ (v : View) (callers : StateLists) (low : 2 ≤ length v.lanes) (ended : Ended (length v.lanes) v) where
   abbrev lanes : ℕ
   lanes = length v.lanes
@@ -45,13 +45,13 @@ module _ (v : View) (callers : StateLists) (low : 2 ≤ length v.lanes) (ended :
   pub ended_lawful : LawfulLanes (book_lists lanes (known_of v) callers)
   ended_lawful = lawful_lanes lanes (known_of v) callers ended_lanes ended.answered
 
-  -- if the number of marks of visits is the end's count, they are the book's visits
+  -- marks of visits are the book's visits if their number is the number of visits made
   pub ended_visits : (marks : List MarkBy) → AllByRecursion (MarksVisit lanes (known_of v)) marks →
       length marks ≡ sum_by made_in v.lanes → VisitsAre (book_of lanes (known_of v) callers) marks
   ended_visits marks all many =
       visits_are lanes (known_of v) callers ended_lanes marks all (many ∙ all_made v ended.made)
 
-  -- if marks of a lane's visits have the places of the lane, `PlacesStand` holds of them
+  -- if marks of a lane's visits have the places of the lane, `PlacesStand` holds for them
   pub ended_places : (lane : ℕ) → lane < lanes → (marks : List Mark) →
       AllByRecursion (MarksPlace (known_of v lane)) marks → length marks ≡ (at lane v).made →
       ((place : ℕ) → times place (map (λ mark. mark.place) marks) ≡ times place (at lane v).places) → PlacesStand marks

@@ -7,7 +7,7 @@ use Rattle.std.proofs.lemmas.Option.{slice_get-map, slice_get_within}
 use Rattle.key_names.specs.declared.entries.PoolEntry.{PoolEntry}
 use Rattle.key_names.specs.declared.entries.BaseEntry.{BaseEntry}
 use Rattle.key_names.specs.declared.entries.CpuEntry.{CpuEntry}
-use Rattle.key_names.specs.Book as of_book
+use Rattle.key_names.specs.Lanes.Book as of_book
 use Rattle.key_names.proofs.Lists.Growing.{may_at}
 use Rattle.lane_table.specs.declared.view.LaneEntry.{LaneEntry}
 use Rattle.lane_table.specs.declared.view.LaneEntry.TheVariants.{Pool, Base, Cpu}
@@ -116,7 +116,7 @@ module _ {E : Type 0} {lane : ℕ} (k : Kind E lane) (lanes : ℕ) (xs : List Vi
         let e = k.only x.entry may.kind in (e.0, ap k.of e.1 ∙ k.unwraps e.0);
   }
 
-  -- the entry of a visit, and the visit of an entry
+  -- a visit's entry is in the book at the visit's place, and the other way round
   pub entered_at : (i : ℕ) (x : Visit) (e : E) → slice_get xs i ≡ Some x → x.entry ≡ k.wrap e →
       slice_get (entries k.of xs) i ≡ Some e
   entered_at i x e at is = entry_at k.of xs one_kind i x e at (ap k.of is ∙ k.unwraps e)
@@ -148,7 +148,7 @@ module _ {E : Type 0} {lane : ℕ} (k : Kind E lane) (lanes : ℕ) (xs : List Vi
         fits = subst (Fits (replay (take i xs)) x.0.got) wrapped v.may.fits;
       }
 
-  -- the lane's visit for a visit of the book
+  -- each visit of the book has its visit in the lane
   pub visited_at : (i : ℕ) (v : of_book.Visit E) → slice_get (book_visits k.of xs) i ≡ Some v → VisitedAt k xs i v
   visited_at i v is =
       let in_book : i < length (book_visits k.of xs) = slice_get_within (book_visits k.of xs) i v is in
@@ -168,7 +168,7 @@ module _ {E : Type 0} {lane : ℕ} (k : Kind E lane) (lanes : ℕ) (xs : List Vi
         who = ap (λ (w : of_book.Visit E). w.who) same;
       }
 
--- a property of a list's full prefix and of its entries holds of both
+-- a property that holds for the full prefixes of a list and of its entries holds for the whole lists
 pub whole : {E : Type 0} {lane : ℕ} (k : Kind E lane) (lanes : ℕ) (xs : List Visit) → LawfulLane lanes lane xs →
     (P : List Visit → List E → Type 0) → P (take (length xs) xs) (take (length xs) (entries k.of xs)) →
     P xs (entries k.of xs)

@@ -7,13 +7,13 @@ use Rattle.key_names.specs.declared.entries.BaseEntry.{BaseEntry}
 use Rattle.key_names.specs.declared.entries.BaseEntry.TheVariants.{Early, Reseed, Tick, Draw}
 use Rattle.key_names.specs.declared.entries.CpuEntry.{CpuEntry}
 use Rattle.key_names.specs.declared.entries.CpuEntry.TheVariants.{Read, Int, Irq, Dump, Prepare, Online}
-use Rattle.key_names.specs.PoolList.{extraction_at}
-use Rattle.key_names.specs.BaseList.{BaseState, BaseFits, BaseMayCome, RootStands, LawfulBase, base_start, base_step, base_after, root_of, roots_after, refill_at, generation_at}
-use Rattle.key_names.specs.Batches.{Fill, must_fill}
-use Rattle.key_names.specs.CpuList.{CpuState, CpuFits, ReadFits, IntFits, CpuMayCome, RefillNames, RefillStands, LawfulCpu, cpu_start, cpu_step, cpu_after, base_refill_of}
-use Rattle.key_names.specs.KeyInUse.{base_value_after}
-use Rattle.key_names.specs.LiveMaterial.{CpuBytes}
-use Rattle.key_names.specs.Book.{Lists}
+use Rattle.key_names.specs.Lanes.PoolList.{extraction_at}
+use Rattle.key_names.specs.Lanes.BaseList.{BaseState, BaseFits, BaseMayCome, RootStands, LawfulBase, base_start, base_step, base_after, root_of, roots_after, refill_at, generation_at}
+use Rattle.key_names.specs.Kernel.Batches.{Fill, must_fill}
+use Rattle.key_names.specs.Lanes.CpuList.{CpuState, CpuFits, ReadFits, IntFits, CpuMayCome, RefillNames, RefillStands, LawfulCpu, cpu_start, cpu_step, cpu_after, base_refill_of}
+use Rattle.key_names.specs.Keys.KeyInUse.{base_value_after}
+use Rattle.key_names.specs.Keys.LiveMaterial.{CpuBytes}
+use Rattle.key_names.specs.Lanes.Book.{Lists}
 use Rattle.base_gen.specs.BaseValue.{BaseValue, base_at, after_entries}
 use Rattle.cpu_gen.specs.CpuValue.{CpuValue}
 use Rattle.lane_table.specs.declared.view.LaneEntry.TheVariants.{Base}
@@ -26,7 +26,7 @@ use Rattle.lane_table.proofs.Lists.Places.{fold_next, at_each_place, counted, la
 use Rattle.lane_table.proofs.Book.BookEntries.{VisitAt, MadeAt, lane_at, made_at, base_kind, cpu_kind}
 use Rattle.lane_table.proofs.Book.BookCpus.{CpuLane, CpuAlike, RefillHanded, cpu_met, state_before, bytes_before}
 
--- the entries that fit a base do not depend on the other counts of its list
+-- whether an entry fits a base does not depend on the other counts in the list's state
 base_fits : (s : BaseState) (value : List ℕ) (e : BaseEntry) → BaseFits (base_state (base_at s value)) e → BaseFits s e
 base_fits s value (Early None) fits = fits
 base_fits s value (Early (Some root)) fits = fits
@@ -81,7 +81,7 @@ module _ (lanes : ℕ) (pool : List PoolEntry) (xs : List Visit) (lawful : Lawfu
   pub lawful_base : LawfulBase pool es
   lawful_base = lawful_by_places (BaseMayCome pool) base_step base_start es base_may
 
--- a fill without its key and place has to be renewed exactly when the full one has
+-- a fill without its key and place has to be renewed if and only if the full one has
 must_fill_bare : (look width : ℕ) (o : Option Fill) → must_fill look width (bare o) ≡ must_fill look width o
 must_fill_bare look width None = refl
 must_fill_bare look width (Some fill) = refl

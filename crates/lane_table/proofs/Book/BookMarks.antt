@@ -1,5 +1,5 @@
--- The marks of visits against the book: each visit is there at its place, with its stamp and its maker, and stamps
--- rise along a lane. For proofs that a transcript's marks are right.
+-- The marks of visits against the book: each visit is in the book at its place, with its stamp and its maker, and
+-- stamps rise along a lane. For proofs that a transcript's marks are right.
 use Rattle.std.proofs.Common.{◌≡◌, ℕ, zero, suc, ◌+◌, ◌-◌, ◌≤◌, ◌<◌, cond, List, [], ◌∷◌, length, map, refl, sym, ap, subst, ◌∙◌, arith, Some}
 use Rattle.std.specs.Prelude.{◌==◌, count_by, slice_get, slice_index_or, option_and_then}
 use Rattle.std.specs.List.{AllByRecursion, sum_by, range_with_len}
@@ -9,9 +9,9 @@ use Rattle.key_names.specs.declared.names.LaneId.{LaneId}
 use Rattle.key_names.specs.declared.names.LaneId.TheVariants.{Pool as PoolLane, Base as BaseLane, Cpu as CpuLane}
 use Rattle.key_names.specs.declared.names.Mark.{Mark}
 use Rattle.key_names.specs.declared.names.Who.{Who}
-use Rattle.key_names.specs.Book.{Book}
-use Rattle.key_names.specs.Book as of_book
-use Rattle.key_names.specs.IsTranscript.{MarkBy, PlacesStand, stamped, stamped_at, visit_count, VisitsAre}
+use Rattle.key_names.specs.Lanes.Book.{Book}
+use Rattle.key_names.specs.Lanes.Book as of_book
+use Rattle.key_names.specs.Transcripts.IsTranscript.{MarkBy, PlacesStand, stamped, stamped_at, visit_count, VisitsAre}
 use Rattle.key_names.proofs.Lists.Each.{each_weaker}
 use Rattle.key_names.proofs.Lists.MarkLists.{each_once}
 use Rattle.lane_table.specs.declared.view.Visit.{Visit}
@@ -98,7 +98,7 @@ module _ (lanes : ℕ) (visits : ℕ → List Visit) (callers : StateLists) (ok 
       let sum : visit_count book ≡ visits_in visits 0 (suc (suc (lanes - 2))) = omega arith in
       sum ∙ ap (visits_in visits 0) (sym all)
 
-  -- if the number of marks of visits is the number of visits, they are the book's
+  -- marks of visits are the book's visits if their number is the number of visits
   pub visits_are : (marks : List MarkBy) → AllByRecursion (MarksVisit lanes visits) marks →
       length marks ≡ visits_in visits 0 lanes → VisitsAre book marks
   visits_are marks all many = record {
@@ -128,7 +128,7 @@ later_stamp first (z ∷ zs) (suc i) zero x y rises at there before = absurd (om
 later_stamp first (z ∷ zs) (suc i) (suc j) x y rises at there before =
     later_stamp z.stamp zs i j x y rises.1 at there (omega arith)
 
--- how often a place is among marks
+-- the two counts of the marks at a place are equal
 pub times_of_marks : (place : ℕ) (marks : List Mark) →
     times place (map (λ mark. mark.place) marks) ≡ count_by (λ mark. mark.place == place) marks
 times_of_marks place [] = refl
@@ -153,7 +153,7 @@ module _ (xs : List Visit) where
       later_stamp first xs a.place b.place at.0 there.0 rises at.1 there.1 before in
       let here : at.0.stamp ≡ a.stamp = at.2 in let other : there.0.stamp ≡ b.stamp = there.2 in omega arith) all)
 
-  -- if marks of a lane's visits have each place once, `PlacesStand` holds of them
+  -- if marks of a lane's visits have each place once, `PlacesStand` holds for them
   pub places_stand : (first : ℕ) (marks : List Mark) → Rising first xs → AllByRecursion MarksPlace marks →
       length marks ≡ length xs →
       ((place : ℕ) → times place (map (λ mark. mark.place) marks) ≡ once_below place (length xs)) →
@@ -165,7 +165,7 @@ module _ (xs : List Visit) where
     rise = each_rises first rises marks marks all all;
   }
 
--- a pass that made each lane's number of visits made them all
+-- if a pass made as many visits of each lane as the lane has, it made all visits
 sum_made : (xs : List LaneView) (count : ℕ → ℕ) (first : ℕ) →
     ((i : ℕ) → i < length xs → (slice_index_or xs i blank).made ≡ count (first + i)) →
     sum_by (λ a. a.made) xs ≡ sum_by count (range_with_len first (length xs))

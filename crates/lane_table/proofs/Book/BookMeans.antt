@@ -4,9 +4,9 @@ use Rattle.std.specs.Prelude.{slice_get}
 use Rattle.key_names.specs.declared.entries.Taken.{Taken}
 use Rattle.key_names.specs.declared.entries.CpuEntry.{CpuEntry}
 use Rattle.key_names.specs.declared.entries.CpuEntry.TheVariants.{Read}
-use Rattle.key_names.specs.PoolList.{pool_after}
-use Rattle.key_names.specs.KeyInUse.{cpu_call_value}
-use Rattle.key_names.specs.Book.{Lists, cpu_list}
+use Rattle.key_names.specs.Lanes.PoolList.{pool_after}
+use Rattle.key_names.specs.Keys.KeyInUse.{cpu_call_value}
+use Rattle.key_names.specs.Lanes.Book.{Lists, cpu_list}
 use Rattle.base_gen.specs.BaseValue.{after_entries}
 use Rattle.lane_table.specs.declared.view.LaneEntry.TheVariants.{Cpu}
 use Rattle.lane_table.specs.declared.view.Visit.{Visit}
@@ -27,7 +27,7 @@ module _ (lanes : ℕ) (visits : ℕ → List Visit) (callers : StateLists) (ok 
   sides : SameHeldLane lanes (visits 0) (visits 1)
   sides = beside lanes visits callers ok
 
-  -- each CPU's model before a place
+  -- before each place, a CPU's model has the values of the book
   pub cpu_met_before : (c : ℕ) → c + 2 < lanes → (i : ℕ) → i ≤ length (visits (c + 2)) →
       CpuReplays book c (take i (cpu_list book c)) (replay (take i (visits (c + 2)))).cpu
   cpu_met_before c below i within =

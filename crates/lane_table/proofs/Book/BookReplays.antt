@@ -3,11 +3,11 @@ use Rattle.std.proofs.Common.{◌≡◌, ℕ, ◌≤◌, ◌<◌, List, length, 
 use Rattle.std.specs.Prelude.{slice_get}
 use Rattle.std.proofs.lemmas.Option.{slice_get_within}
 use Rattle.key_names.specs.declared.entries.CpuEntry.{CpuEntry}
-use Rattle.key_names.specs.Batches.{Fill, batch_pos}
-use Rattle.key_names.specs.CpuList.{CpuState, CpuMayCome, cpu_start, cpu_step, cpu_after}
-use Rattle.key_names.specs.KeyInUse.{cpu_value_in_use, cpu_value_after, cpu_value_at, cpu_used_at}
-use Rattle.key_names.specs.LiveMaterial.{CpuBytes, cpu_bytes_start, cpu_bytes_step}
-use Rattle.key_names.specs.Book.{Lists}
+use Rattle.key_names.specs.Kernel.Batches.{Fill, batch_pos}
+use Rattle.key_names.specs.Lanes.CpuList.{CpuState, CpuMayCome, cpu_start, cpu_step, cpu_after}
+use Rattle.key_names.specs.Keys.KeyInUse.{cpu_value_in_use, cpu_value_after, cpu_value_at, cpu_used_at}
+use Rattle.key_names.specs.Keys.LiveMaterial.{CpuBytes, cpu_bytes_start, cpu_bytes_step}
+use Rattle.key_names.specs.Lanes.Book.{Lists}
 use Rattle.key_names.proofs.Lists.Growing.{lawful_take}
 use Rattle.key_names.proofs.Uses.BatchBytes.{BatchOk, cpu_batches_ok}
 use Rattle.int_batch.specs.BatchValue.{BatchValue}
@@ -39,7 +39,7 @@ module _ (lanes c : ℕ) (lists : Lists) (xs : List Visit) (lane : CpuLane lanes
       ap (cpu_value_at lists (cpu_value_after lists (take i es))) (sym is)
       ∙ ap (λ es. cpu_value_at lists (cpu_value_after lists (take i es)) (slice_get es i)) (sym lane.listed)
 
-  -- the same from the model
+  -- the model's key in use at a visit has the value that the book gives at that place
   pub cpu_used_here : (i : ℕ) (x : Visit) (e : CpuEntry) → slice_get xs i ≡ Some x → x.entry ≡ Cpu e →
       cpu_used e x.got (model i).cpu ≡ cpu_used_at lists c i
   cpu_used_here i x e at is =

@@ -4,9 +4,9 @@ use Rattle.std.proofs.Common.{◌≡◌, ℕ, ◌+◌, ◌≤◌, ◌<◌, inl, 
 use Rattle.std.specs.Prelude.{slice_get}
 use Rattle.key_names.specs.declared.entries.PoolEntry.{PoolEntry}
 use Rattle.key_names.specs.declared.entries.CpuEntry.{CpuEntry}
-use Rattle.key_names.specs.Samples.{fast_before, visits_of}
-use Rattle.key_names.specs.Book.{Book}
-use Rattle.key_names.specs.Book as of_book
+use Rattle.key_names.specs.Lanes.Samples.{fast_before, visits_of}
+use Rattle.key_names.specs.Lanes.Book.{Book}
+use Rattle.key_names.specs.Lanes.Book as of_book
 use Rattle.key_names.proofs.Transcripts.TranscriptBooks.{lt_or_le}
 use Rattle.lane_table.specs.declared.view.Visit.{Visit}
 use Rattle.lane_table.specs.Meaning.{replay}
@@ -44,7 +44,7 @@ module _ (lanes : ℕ) (visits : ℕ → List Visit) (callers : StateLists) wher
           ap (λ vs. slice_get vs place) (sym none) ∙ is in cc)
     ]
 
-    -- the fast pool that it met
+    -- before each place, the fast pool of the book is the model's
     pub fast_met : (c place : ℕ) → c + 2 < lanes → place ≤ length (visits (c + 2)) →
         fast_before (visits_of book c) place ≡ (replay (take place (visits (c + 2)))).cpu.fast
     fast_met c place below within =

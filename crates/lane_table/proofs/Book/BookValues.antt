@@ -7,10 +7,10 @@ use Rattle.key_names.specs.declared.entries.PoolEntry.{PoolEntry}
 use Rattle.key_names.specs.declared.entries.PoolEntry.TheVariants.{Mix, Input, Bits, Extract}
 use Rattle.key_names.specs.declared.entries.BaseEntry.{BaseEntry}
 use Rattle.key_names.specs.declared.entries.BaseEntry.TheVariants.{Draw, Refill}
-use Rattle.key_names.specs.Keystream.{keystream}
-use Rattle.key_names.specs.PoolList.{PoolState, pool_start, pool_step, pool_after, root_given, root_value}
-use Rattle.key_names.specs.BaseList.{base_erases, root_of, refill_of, generation_at}
-use Rattle.key_names.specs.KeyInUse.{base_value_after, base_value_in_use, base_value_at, base_used_at}
+use Rattle.key_names.specs.Kernel.Keystream.{keystream}
+use Rattle.key_names.specs.Lanes.PoolList.{PoolState, pool_start, pool_step, pool_after, root_given, root_value}
+use Rattle.key_names.specs.Lanes.BaseList.{base_erases, root_of, refill_of, generation_at}
+use Rattle.key_names.specs.Keys.KeyInUse.{base_value_after, base_value_in_use, base_value_at, base_used_at}
 use Rattle.base_gen.specs.BaseValue.{BaseValue, key_in_use, after_entries, after_entry}
 use Rattle.base_gen.proofs.Rows.{HandsRoot, key_in_use-root, after_entry-after_entries}
 use Rattle.lane_table.specs.declared.view.LaneEntry.TheVariants.{Base}
@@ -52,7 +52,7 @@ module _ (lanes : ℕ) (xs : List Visit) (lawful : LawfulLane lanes 0 xs) where
       ∙ entry_gives s.pool v.entry ∙ ap (λ t. root_given t (Some v.entry)) (pool_before i (omega arith))
       ∙ ap (root_given (pool_after (take i (entries pool_entry xs)))) (sym v.stands)
 
--- an entry that erases hands on a key of the erased one, and a refill also the generation
+-- an entry that erases a key hands on bytes 32 to 64 of that key's keystream, and a refill also the generation
 erasure_gives : (b : BaseValue) (got : Handed) (e : BaseEntry) → IsTrue (base_erases e) →
     (base_gives b got e).key ≡ keystream (key_in_use (root_of e) got.key b.key) 32 32
 erasure_gives b got (Draw root taken) h = refl
@@ -102,7 +102,7 @@ module _ (lanes : ℕ) (behind xs : List Visit) (ok : SameHeldLane lanes behind 
       slice_get es i ≡ Some e
   base_entered = entered_at base_kind lanes xs ok.base
 
-  -- the value of the key in use
+  -- the model's key in use at an entry has the value that the list gives
   pub base_used : (i : ℕ) (x : Visit) (e : BaseEntry) → slice_get xs i ≡ Some x → x.entry ≡ Base e →
       key_in_use (root_of e) x.got.key (replay (take i xs)).base.key
       ≡ base_value_in_use pool e (base_value_after pool (take i es))
@@ -111,7 +111,7 @@ module _ (lanes : ℕ) (behind xs : List Visit) (ok : SameHeldLane lanes behind 
       ap (λ (b : BaseValue). key_in_use (root_of e) x.got.key b.key) (base_before i (omega arith))
       ∙ key_in_use-root pool (root_of e) x.got.key (base_value_after pool (take i es)) (root_handed i x e at is)
 
-  -- the key that a visit of the base hands on
+  -- a visit of the base hands on the key that its entry makes of the model before it
   gave_as : (i : ℕ) (x : Visit) (e : BaseEntry) → slice_get xs i ≡ Some x → x.entry ≡ Base e →
       x.gave ≡ base_gives (replay (take i xs)).base x.got e
   gave_as i x e at is =

@@ -8,12 +8,12 @@ use Rattle.key_names.specs.declared.entries.PoolEntry.TheVariants.{Extract}
 use Rattle.key_names.specs.declared.entries.BaseEntry.{BaseEntry}
 use Rattle.key_names.specs.declared.entries.BaseEntry.TheVariants.{Refill}
 use Rattle.key_names.specs.declared.entries.CpuEntry.{CpuEntry}
-use Rattle.key_names.specs.PoolList.{base_place_of, extraction_at}
-use Rattle.key_names.specs.BaseList.{base_erases, root_of, refill_of, refill_at, generation_at}
-use Rattle.key_names.specs.CpuList.{LawfulCpu, base_refill_of}
-use Rattle.key_names.specs.KeyInUse.{base_call_value}
-use Rattle.key_names.specs.Book.{Lists, cpu_list, list_at, entries_of, ForwardLawful}
-use Rattle.key_names.specs.Book as of_book
+use Rattle.key_names.specs.Lanes.PoolList.{base_place_of, extraction_at}
+use Rattle.key_names.specs.Lanes.BaseList.{base_erases, root_of, refill_of, refill_at, generation_at}
+use Rattle.key_names.specs.Lanes.CpuList.{LawfulCpu, base_refill_of}
+use Rattle.key_names.specs.Keys.KeyInUse.{base_call_value}
+use Rattle.key_names.specs.Lanes.Book.{Lists, cpu_list, list_at, entries_of, ForwardLawful}
+use Rattle.key_names.specs.Lanes.Book as of_book
 use Rattle.key_names.proofs.Transcripts.TranscriptBooks.{lt_or_le, made_at, made_beyond}
 use Rattle.cpu_gen.proofs.Entries.{handed_at}
 use Rattle.lane_table.specs.declared.view.LaneEntry.TheVariants.{Pool, Base, Cpu}
@@ -32,7 +32,7 @@ use Rattle.lane_table.proofs.Book.BookLawful.{lawful_base, lawful_cpu}
 pub parent_cpu : (c : ℕ) → parent (c + 2) ≡ 1
 parent_cpu c = ap (λ b. cond b 0 1) (ne_eqb (c + 2) 1 (λ e. omega arith))
 
--- the place of a lane ahead, as the entry itself names it
+-- if an entry names a place of a lane ahead, its own field has that place
 extracts : (e : PoolEntry) (lane place : ℕ) → ahead_of (Pool e) ≡ Some (lane, place) → base_place_of e ≡ Some place
 extracts (Extract hw base_place) lane place names =
     let p : ◌≡◌ {A = ℕ × ℕ} (1, base_place) (lane, place) = cc in ap (λ (n : ℕ × ℕ). Some n.1) p
@@ -57,7 +57,7 @@ entries_at (xs ∷ lanes) zero = refl
 entries_at (xs ∷ lanes) (suc c) = entries_at lanes c
 
 module _ (lanes : ℕ) (visits : ℕ → List Visit) (callers : StateLists) where
-  -- the visits of a CPU in the book, and its entries
+  -- the book has a CPU's visits, and its entries
   pub cpu_visits : (c : ℕ) → c + 2 < lanes →
       list_at (book_of lanes visits callers).cpus c ≡ book_visits cpu_entry (visits (c + 2))
   cpu_visits c below =

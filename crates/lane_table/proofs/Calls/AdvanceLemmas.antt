@@ -21,7 +21,7 @@ use Rattle.lane_table.proofs.Rule.Floors.{floor_grown}
 use Rattle.lane_table.proofs.Rule.Sights.{sees_looked, sees_put, sees_append, sees_grown, stand_known}
 use Rattle.lane_table.proofs.Calls.HandLemmas.{names_none, names_one}
 
--- calls with neither a look nor a visit
+-- a call with neither a look nor a visit makes no step
 pub went_idly : (caller event n : ℕ) (v w : View) → SameView v w → Grows v w → w.looks ≡ v.looks →
     w.stamps ≡ v.stamps → w.stamp ≡ v.stamp → 1 < length v.lanes → v.seen ≤ w.seen →
     ((lane : ℕ) → lane < length v.lanes → SameHistory lane v w) → Advances caller event n v w []
@@ -90,7 +90,7 @@ module _ (caller event n : ℕ) (m m' : Seated) (two : 1 < length m.0.lanes) whe
         stand = tt;
       }
 
--- the places of a single mark, in its lane and in another
+-- a single visit has one place in its own lane, and none in another
 places_here : (mark : Mark) (e : LaneEntry) → places_in (index_of mark.lane) (visited mark e ∷ []) ≡ mark.place ∷ []
 places_here mark e = by_test (eqb (index_of mark.lane) (index_of mark.lane)) (same (index_of mark.lane))
   where
@@ -229,7 +229,7 @@ pub climbs_append : (low mid high : ℕ) (xs ys : List ℕ) → Climbs low xs mi
 climbs_append low mid high [] ys h k = subst (λ (z : ℕ). Climbs z ys high) (sym h) k
 climbs_append low mid high (x ∷ xs) ys h k = (h.0, climbs_append x mid high xs ys h.1 k)
 
--- successive calls
+-- two successive calls advance a pass by the steps of both
 pub went_then : (caller event n k : ℕ) (u v w : View) (xs ys : List MadeStep) → k ≡ n + length xs →
     Advances caller event n u v xs → Advances caller event k v w ys → Advances caller event n u w (xs ++ ys)
 went_then caller event n k u v w xs ys next a b = record {

@@ -123,7 +123,7 @@ has_looked t caller hands g p p' k is looked = let same : (j : ℕ) → at j (vi
       every same xs all.2,
     )
 
--- a visit of the last taken lane, with an entry that names no place ahead
+-- a visit of the lane taken last, with an entry that names no place ahead, leaves the pass its other lanes
 pub has_put : (t : Lanes) (caller : ℕ) (h : HeldLane) (hands : List HeldLane) (x : Visit) (p p' : Pass) →
     ahead_of x.entry ≡ None → HoldsLanes t caller (h ∷ hands) p → IsSamePass t p p' →
     Added h.lane x p.seat.me p'.seat.me → HoldsLanes t caller hands p'
@@ -138,7 +138,7 @@ has_put t caller h hands x p p' none k is added = let others : (j : ℕ) → j �
           ∙ k.away j low (ne, no));
     }
 
--- a visit with an entry that names the place of the lane taken before it
+-- a visit with an entry that names the place of the lane taken before leaves the pass its other lanes
 pub has_put_naming : (t : Lanes) (caller : ℕ) (h o : HeldLane) (hands : List HeldLane) (x : Visit) (b : ℕ)
     (p p' : Pass) → ahead_of x.entry ≡ Some (o.lane, b) → HoldsLanes t caller (h ∷ o ∷ hands) p → IsSamePass t p p' →
     Added h.lane x p.seat.me p'.seat.me
@@ -169,7 +169,7 @@ has_put_naming t caller h o hands x b p p' names k is added =
           ∙ k.away j low (ne, no));
     }
 
--- a raise while only the base is held
+-- after a raise the pass still holds the base alone
 pub has_raised : (t : Lanes) (caller : ℕ) (h : HeldLane) (g : ℕ) (p p' : Pass) → h.lane ≡ 1 →
     HoldsLanes t caller (h ∷ []) p →
     IsSamePass t p p' → Raised g p.seat.me p'.seat.me → HoldsLanes t caller (record h { raised = 1 } ∷ []) p'
@@ -210,7 +210,7 @@ has_left t caller h hands p p' k is left = record {
 
 -- Passes that begin, are split and are joined
 
--- a new table's pass
+-- a new table's pass holds no lane
 pub has_new : (t : Lanes) (caller : ℕ) (plan : Plan) (p : Pass) → IsPassOf t p → p.caller ≡ caller →
     p.seat.me ≡ (first_view plan, []) → HoldsLanes t caller [] p
 has_new t caller plan p is own e = let long : length (view p).lanes ≡ plan.count =
@@ -223,7 +223,7 @@ has_new t caller plan p is own e = let long : length (view p).lanes ≡ plan.cou
           ∙ ap (λ (a : LaneView). a.stage) (get_or-replicate plan.count j blank blank (let s = is.sized in omega arith));
     }
 
--- a pass without held lanes, after another was split off from it
+-- a pass without held lanes holds none after another was split off from it
 pub has_halved : (t : Lanes) (caller : ℕ) (p p' : Pass) → HoldsLanes t caller [] p → IsSamePass t p p' →
     p'.seat.me ≡ (halved (view p), slots p) → HoldsLanes t caller [] p'
 has_halved t caller p p' k is e = record {
@@ -234,7 +234,7 @@ has_halved t caller p p' k is e = record {
   away = λ j low no. ap (λ (m : Seated). (at j m.0).stage) e ∙ k.away j low no;
 }
 
--- the pass that was split off
+-- the pass that was split off holds no lane
 pub has_child : (t : Lanes) (caller : ℕ) (v : View) (p : Pass) → IsPassOf t p → p.caller ≡ caller →
     p.seat.me ≡ (child v, []) → HoldsLanes t caller [] p
 has_child t caller v p is own e = record {
@@ -246,7 +246,7 @@ has_child t caller v p is own e = record {
       ∙ ap (λ (a : LaneView). a.stage) (get_or-map told v.lanes j blank);
 }
 
--- a pass without held lanes, after it took in another
+-- a pass without held lanes holds none after it took in another
 pub has_joined : (t : Lanes) (caller : ℕ) (w : View) (p p' : Pass) → length (view p).lanes ≡ length w.lanes →
     HoldsLanes t caller [] p → IsSamePass t p p' → p'.seat.me ≡ (both_of (view p) w, slots p) →
     HoldsLanes t caller [] p'

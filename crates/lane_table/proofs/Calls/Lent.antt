@@ -1,4 +1,4 @@
--- A value after a loan, of a lane with an unchanged model.
+-- After a loan: an equal value represents the same model, and a value represents an equal model.
 use Rattle.std.proofs.Common.{◌≡◌, ℕ, sym}
 use Rattle.lane_table.specs.declared.values.LaneState.{LaneState}
 use Rattle.lane_table.specs.Meaning.{Model, ValueRepresents}

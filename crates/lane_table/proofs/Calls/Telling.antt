@@ -39,7 +39,7 @@ module _ {i t : ℕ} {m m₁ m₂ m₃ : Seated} {c : Content} (near : i < lengt
   pub got_replays : Replays i m₁.0.first got.log c
   got_replays = subst (Replays i m₁.0.first got.log) content_is got.replays
 
-  -- its next place is at most its last stamp
+  -- the value's next place is at most its last stamp
   pub got_early : c.place ≤ c.stamp
   got_early = let p = place_below m₁.0.first got.log got.rising in let a = got_replays.place in let b =
       got_replays.stamp in omega arith
@@ -148,7 +148,7 @@ module _ {i t : ℕ} {m m₁ m₂ m₃ : Seated} {c : Content} (near : i < lengt
     drawn = got_drawn drawn;
   }
 
-  -- the lane was given back at once
+  -- if the lane was given back at once, the call only tried to take it
   pub left_tried : (at i m.0).stage ≡ Away → m₁.0.drawn ≡ m.0.drawn + 1 → 2 ^ 62 ≤ c.stamp → (m₄ : Seated) →
       m₄ ≡ left i m₃ → Tried i m m₄
   left_tried away drawn late m₄ e = let w : View = with_at i (staged Away (at i m₃.0)) m₃.0 in let v₄ : m₄.0 ≡ w =

@@ -7,7 +7,7 @@ use Rattle.key_names.specs.declared.entries.Taken.TheVariants.{User}
 use Rattle.key_names.specs.declared.entries.PoolEntry.TheVariants.{Extract}
 use Rattle.key_names.specs.declared.entries.BaseEntry.TheVariants.{Reseed, Refill}
 use Rattle.key_names.specs.declared.entries.CpuEntry.TheVariants.{Read}
-use Rattle.key_names.specs.Book.{LawfulLanes}
+use Rattle.key_names.specs.Lanes.Book.{LawfulLanes}
 use Rattle.lane_table.specs.declared.view.LaneEntry.{LaneEntry}
 use Rattle.lane_table.specs.declared.view.LaneEntry.TheVariants.{Pool, Base, Cpu}
 use Rattle.lane_table.specs.declared.view.Handed.{Handed}
@@ -115,7 +115,7 @@ answered_cpu (suc zero) b x at names =
     (read, ap (get_elem? (worked 2)) (sym (names_lane refill x 2 0 b same refl names)), refl)
 answered_cpu (suc (suc p)) b x at names = absurd (some-ne-none x (sym at))
 
--- a property of each of the three lanes holds of all
+-- a property of each of the three lanes holds for every lane
 three : (P : ℕ → Type 0) → P 0 → P 1 → P 2 → (lane : ℕ) → lane < 3 → P lane
 three P pool base cpu zero below = pool
 three P pool base cpu (suc zero) below = base

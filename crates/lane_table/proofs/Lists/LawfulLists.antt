@@ -10,10 +10,10 @@ use Rattle.key_names.specs.declared.entries.BaseEntry.{BaseEntry}
 use Rattle.key_names.specs.declared.entries.BaseEntry.TheVariants.{Early, Reseed, Tick, Draw, Refill, Fork, End, Wait, Resume, Interrupt, Stall, Unstall}
 use Rattle.key_names.specs.declared.entries.CpuEntry.{CpuEntry}
 use Rattle.key_names.specs.declared.entries.CpuEntry.TheVariants.{Read, Int, Irq, Dump, Prepare, Online}
-use Rattle.key_names.specs.LawfulList.{LawfulFrom}
-use Rattle.key_names.specs.PoolList.{PoolState}
-use Rattle.key_names.specs.BaseList.{reseeds_at, generation_after}
-use Rattle.key_names.specs.CpuList.{base_refill_of}
+use Rattle.key_names.specs.Lanes.LawfulList.{LawfulFrom}
+use Rattle.key_names.specs.Lanes.PoolList.{PoolState}
+use Rattle.key_names.specs.Lanes.BaseList.{reseeds_at, generation_after}
+use Rattle.key_names.specs.Lanes.CpuList.{base_refill_of}
 use Rattle.base_gen.specs.BaseValue.{BaseValue}
 use Rattle.cpu_gen.specs.CpuValue.{CpuValue, refilled, after_entry}
 use Rattle.lane_table.specs.declared.view.Visit.{Visit}
@@ -83,7 +83,7 @@ generation_fold (x ∷ xs) s = let h = generation_fold xs (model_step s x) in le
 pub base_generation : (xs : List Visit) → (replay xs).base.generation ≡ raises xs
 base_generation xs = let h = generation_fold xs start_model in omega arith
 
--- no generation is handed on that the base has not had
+-- each generation handed on is one that the base has had
 pool_gave : (s : PoolState) (e : PoolEntry) → (pool_gives s e).generation ≡ 0
 pool_gave s (Mix text bits) = refl
 pool_gave s (Input word kind code value now) = refl

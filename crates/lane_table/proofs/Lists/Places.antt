@@ -5,9 +5,9 @@ use Rattle.std.specs.List.{fold, filter_map, cons_option}
 use Rattle.std.proofs.lemmas.List.Sums.{fold-append}
 use mathlib.Core.Option.{some, some-injective, some-ne-none}
 use lib.ListN.{get_elem?}
-use Rattle.key_names.specs.LawfulList.{LawfulFrom}
+use Rattle.key_names.specs.Lanes.LawfulList.{LawfulFrom}
 
--- two ways to name the element at a place
+-- `get_elem?` and `slice_get` give the same element at a place
 pub stands_at : {A : Type 0} (xs : List A) (i : ℕ) (x : A) → get_elem? xs i ≡ some x → slice_get xs i ≡ Some x
 stands_at [] i x is = absurd (some-ne-none x (sym is))
 stands_at (y ∷ ys) zero x is = ap Some (some-injective y x is)
@@ -34,7 +34,7 @@ pub fold_next : {S E : Type 0} (step : S → E → S) (s : S) (es : List E) (i :
     fold step s (take (suc i) es) ≡ step (fold step s (take i es)) e
 fold_next step s es i e is = ap (fold step s) (take_next es i e is) ∙ fold-append step s (take i es) (e ∷ [])
 
--- a property that each element preserves holds before each place
+-- if each element preserves a property, the property holds before each place
 pub at_each_place : {A : Type 0} (xs : List A) (P : ℕ → Type 0) → P 0 →
     ((i : ℕ) (x : A) → slice_get xs i ≡ Some x → P i → P (suc i)) →
     (i : ℕ) → i ≤ length xs → P i
@@ -42,7 +42,7 @@ at_each_place xs P start next zero within = start
 at_each_place xs P start next (suc i) within =
     let x = some_at xs i (omega arith) in next i x.0 x.1 (at_each_place xs P start next i (omega arith))
 
--- a state that counts places
+-- a state that counts places has the count i before place i
 pub counted : {S E : Type 0} (place : S → ℕ) (step : S → E → S) → ((s : S) (e : E) → place (step s e) ≡ suc (place s)) →
     (s : S) (es : List E) → place s ≡ 0 → (i : ℕ) → i ≤ length es → place (fold step s (take i es)) ≡ i
 counted place step next s es none = at_each_place es (λ i. place (fold step s (take i es)) ≡ i) none

@@ -8,7 +8,7 @@ use Rattle.atomic_table.proofs.Lists.{at_longer}
 use Rattle.lane_table.specs.declared.view.Visit.{Visit}
 use Rattle.lane_table.specs.declared.view.LaneEntry.{LaneEntry}
 use Rattle.lane_table.specs.declared.view.LaneEntry.TheVariants.{Pool, Base, Cpu}
-use Rattle.key_names.specs.BaseList.{reseeds_at}
+use Rattle.key_names.specs.Lanes.BaseList.{reseeds_at}
 use Rattle.lane_table.specs.Meaning.{raise_of, once}
 use Rattle.lane_table.specs.WorldRule.{Begins, AllBegin, Rising, last_stamp, raises, times, once_below}
 use Rattle.lane_table.specs.Steps.{longer, with_list}
@@ -26,7 +26,7 @@ begins_length xs ys a = let e = ap length a.1 in omega (arith, length-append xs 
 pub begins_nil : (ys : List Visit) → Begins [] ys
 begins_nil ys = (ys, refl)
 
--- if all lists with one more begin the log, that one does, and so do they
+-- if a list and some others all begin the log, the list does, and so do the others
 pub with_both : (xs : List Visit) (lists : List (List Visit)) (log : List Visit) → AllBegin (with_list xs lists) log →
     Begins xs log × AllBegin lists log
 with_both [] lists log all = (begins_nil log, all)

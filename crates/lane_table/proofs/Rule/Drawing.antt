@@ -33,7 +33,7 @@ module _ {first : ℕ} {s : St} {id : ℕ} {v : View} (h : Here first s id v) (i
   loaded_found : (at i v).loaded ≤ get_or s.words (ticket_word i) 0
   loaded_found = let a = loaded_below in let b = (h.rule.lane i near).ordered in omega arith
 
-  -- a draw of the ticket in the word
+  -- a draw of the ticket in the word keeps the rule
   drawn : (n : ℕ) → IsAway i v → n ≤ get_or s.words (ticket_word i) 0
       → (let t : ℕ = get_or s.words (ticket_word i) 0 in
       WorldRule first record {
@@ -65,7 +65,7 @@ module _ {first : ℕ} {s : St} {id : ℕ} {v : View} (h : Here first s id v) (i
       (let r = plain.w_raised h i near p refl in omega arith) (let o = (h.rule.seen id v h.is).0 in omega arith)
       (plain.w_raised_ok h i near p refl)
 
-  -- a load of the ticket word
+  -- a load of the ticket word keeps the rule
   finds_kept : (let k : ℕ = ticket_word i in let y : ℕ = get_or s.words k 0 in
       WorldRule first record {
         words = set s.words k y;
@@ -88,7 +88,7 @@ module _ {first : ℕ} {s : St} {id : ℕ} {v : View} (h : Here first s id v) (i
       (lane.recast (h.rule.lane i near) id (world.here h i) a' refl refl refl refl loaded_below (le_refl y) refl
       (world.begun h i near) (λ e. e)) refl refl
 
-  -- a load of the serving word
+  -- a load of the serving word keeps the rule
   loads_kept : (let k : ℕ = serving_word i in let y : ℕ = get_or s.words k 0 in
       WorldRule first record {
         words = set s.words k y;

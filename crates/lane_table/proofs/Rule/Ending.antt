@@ -56,7 +56,7 @@ module _ {first : ℕ} {s : St} {id : ℕ} {v : View} (h : Here first s id v) (s
         (λ j u ne e. ap (λ (a : LaneView). a.made) (others i j u ne e)))
         ∙ sym (sum_by-map (λ (a : LaneView). a.made) (at i) s.views) ∙ (h.rule.lane i near).made
 
-    -- it drew all tickets, and none is out
+    -- the pass drew all tickets, and none is out
     pub numbers : (get_or s.words (ticket_word i) 0 ≡ first + (at i v).tickets)
         × (get_or s.words (serving_word i) 0 ≡ first + (at i v).tickets)
     numbers = let ok = h.rule.lane i near in

@@ -4,7 +4,7 @@ use Rattle.std.specs.List.{fold}
 use Rattle.std.proofs.lemmas.List.Sums.{fold-append}
 use Rattle.key_names.specs.declared.entries.BaseEntry.{BaseEntry}
 use Rattle.key_names.specs.declared.entries.BaseEntry.TheVariants.{Early, Reseed, Tick, Draw, Refill, Fork, End, Wait, Resume, Interrupt, Stall, Unstall}
-use Rattle.key_names.specs.BaseList.{BaseState, BaseFits, empty, early, ready, reseeds_at, generation_after}
+use Rattle.key_names.specs.Lanes.BaseList.{BaseState, BaseFits, empty, early, ready, reseeds_at, generation_after}
 use Rattle.base_gen.specs.BaseValue.{BaseValue, after_entry}
 use Rattle.lane_table.specs.declared.view.LaneEntry.{LaneEntry}
 use Rattle.lane_table.specs.declared.view.LaneEntry.TheVariants.{Pool as OfPool, Base as OfBase, Cpu as OfCpu}
@@ -12,7 +12,7 @@ use Rattle.lane_table.specs.declared.view.Visit.{Visit}
 use Rattle.lane_table.specs.declared.view.View.{View}
 use Rattle.lane_table.specs.declared.view.Handed.{Handed}
 use Rattle.lane_table.specs.Meaning.{Model, replay, model_step, start_model, base_after, base_state, LawfulLane, MayCome, Fits}
-use Rattle.key_names.specs.LawfulList.{LawfulFrom}
+use Rattle.key_names.specs.Lanes.LawfulList.{LawfulFrom}
 use Rattle.lane_table.specs.WorldRule.{Begins, known_of}
 use Rattle.lane_table.specs.Steps.{Grows}
 use Rattle.lane_table.specs.Advances.{floor, Agrees}

@@ -127,7 +127,7 @@ module _ {first : ℕ} {s : St} {id : ℕ} {v : View} (h : Here first s id v) (i
         (known_of own (parent l)) ((h.rule.views id v h.is).owed l hi) (ap (λ (z : LaneView). z.stage) a)
         (ap (λ (z : LaneView). z.owes) a) (λ _ _. ap (λ (z : LaneView). z.known) a) (own_grows (parent l)))
 
-    -- a view that owes an answer at this lane is this view
+    -- only this view can owe an answer at this lane
     answers : (p : ℕ) → Owes i p s.views → behind_of x.entry ≡ Some p
     answers p q = let o = (h.rule.views q.0 q.1 q.2).owed i near p q.3 in
         let there = lane.holds_turn (h.rule.lane i near) q.0 (at_map (at i) s.views q.0 q.1 q.2) o.0.0 o.0.1 in
@@ -139,7 +139,7 @@ module _ {first : ℕ} {s : St} {id : ℕ} {v : View} (h : Here first s id v) (i
     log_here j e = ap (pick i log' h.rule.logs) e ∙ pick_here i log' h.rule.logs
         ∙ ap (λ (l : List Visit). l ++ x ∷ []) whole ∙ ap (λ (k : ℕ). h.rule.logs k ++ x ∷ []) (sym e)
 
-    -- the references to a lane that the entry does not name
+    -- references to a lane that the entry does not name are answered or owed as before
     pub pending_at : (w : View) (l : ℕ) → 1 ≤ l → l < length s.homes → (l ≢ i → (at l w).owes ≡ (at l v).owes) →
         (parent l ≡ i → (b : ℕ) → ¬ (ahead_of x.entry ≡ Some (l, b)))
         → Pending l (pick i log' h.rule.logs (parent l)) (pick i log' h.rule.logs l) (set s.views id w)

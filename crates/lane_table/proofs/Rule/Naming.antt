@@ -16,7 +16,7 @@ use Rattle.lane_table.specs.Steps.{longer}
 use Rattle.lane_table.proofs.Lists.Lists.{at_push, bool_cases}
 use Rattle.lane_table.proofs.Lists.VisitLists.{at_begun, at_begun_back, begins_length, longer_left, longer_right, longer_is}
 
--- the parent lane of another one
+-- the parent lane has a lower number
 pub parent_below : (l : ℕ) → 1 ≤ l → parent l < l
 parent_below l h = bool_cases (eqb l 1) (λ b. cond b 0 1 < l) (λ e. omega arith)
     (λ e. let ne : l ≢ 1 = λ q. (let g : true ≡ false = sym (eq-eqb l 1 q) ∙ e in cc g) in omega arith)
@@ -100,7 +100,7 @@ module _ (l : ℕ) where
       (t.0, at_longer here (x ∷ []) b t.0 t.1, t.2))
       (λ (t : (b ≡ length here) × Owes l p views). inl (x, at_last here x b (sym t.0), k p t.1)) (h p b y e n)
 
-  -- a pending reference, by the lists that a view knows
+  -- a pending reference is half answered in the lists that a view knows
   pub half_known : (behind here xs ys : List Visit) (views : List View) → Pending l behind here views →
       Begins xs behind → Begins ys here → HalfAnswered l xs ys
   half_known behind here xs ys views h f g p b x e n = ⊎_elim

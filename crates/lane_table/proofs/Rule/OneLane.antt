@@ -16,7 +16,7 @@ use Rattle.lane_table.specs.Steps.{finding, waiting, holder, told, merged, longe
 use Rattle.lane_table.proofs.Lists.Lists.{at_below, sum_at_set}
 use Rattle.lane_table.proofs.Lists.VisitLists.{begins_trans, begins_length, begins_nil, begins_refl, longer_all, all_trans, all_heard}
 
--- a column with one changed part
+-- if one part of a column changes, a property that holds for the new part and all others holds for each part
 passes_set : (P : ℕ → LaneView → Type 0) (col : List LaneView) (id : ℕ) (a' : LaneView) →
     ((j : ℕ) (a : LaneView) → j ≢ id → get_elem? col j ≡ some a → P j a) → P id a'
     → (j : ℕ) (a : LaneView) → get_elem? (set col id a') j ≡ some a → P j a
@@ -60,7 +60,7 @@ module _ {lane first ticket serving : ℕ} {home : Home} {col : List LaneView} {
     known_stands known (Queued t) h k = k
     known_stands known (Holding t) h k = (k.0, k.1, k.2, h k.3, k.4)
 
-    -- a view learns more of the list or of the words, in the same stage
+    -- if a view learns more of the list or of the words in the same stage, the lane's rule still holds
     pub recast : (b : LaneView) → b.stage ≡ a.stage → b.made ≡ a.made → b.places ≡ a.places → b.tickets ≡ a.tickets →
         b.loaded ≤ serving → b.found ≤ ticket → b.heard ≡ a.heard → Begins b.known log → (a.known ≡ log → b.known ≡ log)
         → LaneOk lane first ticket serving home (set col id b) log owner
@@ -102,7 +102,7 @@ module _ {lane first ticket serving : ℕ} {home : Home} {col : List LaneView} {
     drawn_stands j known (Queued t) h = (h.0, omega arith, drawn_older t h.1 ∙ h.2)
     drawn_stands j known (Holding t) h = (h.0, omega arith, drawn_older t h.1 ∙ h.2, h.3, h.4)
 
-    -- a draw of a ticket
+    -- a draw of a ticket keeps the lane's rule
     pub draws : (n : ℕ) → a.stage ≡ Away → n ≤ ticket →
         (owner' : ℕ → ℕ) × LaneOk lane first (ticket + 1) serving home
         (set col id (waiting ticket (finding n a))) log owner'
@@ -242,7 +242,7 @@ module _ {lane first ticket serving : ℕ} {home : Home} {col : List LaneView} {
           rising = rises;
         }
 
-    -- a new view, with the same knowledge of the lane
+    -- a new view with the same knowledge of the lane keeps the lane's rule
     pub enters : LaneOk lane first ticket serving home (col ++ told a ∷ []) log owner
     enters = record {
       ordered = ok.ordered;
@@ -294,7 +294,7 @@ module _ {lane first ticket serving : ℕ} {home : Home} {col : List LaneView} {
         (id, m, here, longer_kept b.known begins (ap (λ (z : LaneView). z.known) (sym is) ∙ x.3)))
         (λ ne. (x.0, x.1, set_else col₁ other x.0 blank miss ∙ set_else col id x.0 m ne ∙ x.2, x.3)))
 
-    -- the join of another view
+    -- the join of another view keeps the lane's rule
     pub merges : (other : ℕ) (b : LaneView) → ¬ (other ≡ id) → get_elem? (set col id (merged a b)) other ≡ some b →
         b.stage ≡ Away → LaneOk lane first ticket serving home (set (set col id (merged a b)) other blank) log owner
     merges other b apart at' away = let m = merged a b in let col₁ = set col id m in

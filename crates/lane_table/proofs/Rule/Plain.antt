@@ -45,7 +45,7 @@ set_self [] i d = refl
 set_self (x ∷ xs) zero d = refl
 set_self (x ∷ xs) (suc i) d = ap (λ (l : List _). x ∷ l) (set_self xs i d)
 
--- a view with its own part of a lane
+-- setting a view's part of a lane to that part changes nothing
 pub set_at : (i : ℕ) (v : View) → set v.lanes i (at i v) ≡ v.lanes
 set_at i v = set_self v.lanes i blank
 

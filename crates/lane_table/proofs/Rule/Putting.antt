@@ -34,7 +34,7 @@ use Rattle.lane_table.proofs.Rule.Giving as giving
 some_is : (p q : ℕ) → Some p ≡ Some q → p ≡ q
 some_is p q e = cc e
 
--- stamps that are at most the pass's, and a later one above it
+-- if stamps are at most m, these stamps and a later stamp n are at most n
 stamped_push : (m n : ℕ) (stamps : List ℕ) → All (λ k. k ≤ m) stamps → m < n → All (λ k. k ≤ n) (stamps ++ n ∷ [])
 stamped_push m n stamps all above = All-append (λ k. k ≤ n) stamps (n ∷ [])
     (λ k d low. let a = all k d low in omega arith)
@@ -69,7 +69,7 @@ module _ {first : ℕ} {s : St} {id : ℕ} {v : View} (h : Here first s id v) (i
       record { words = set s.words k (t + 1); homes = hs; views = set s.views id w }) (ap (put_back s.homes) (sym has))
       done
 
-  -- without a visit
+  -- a value that goes back without a visit keeps the rule
   pub left_kept : (held : List (ℕ × Option Content)) (c : Content) → held ≡ (i, Some c) ∷ rest held →
       Replays i v.first (known_of v i) c → OwesNothing i v
       → WorldRule first (stepped s k (t + 1) id held (with_at i (staged Away (at i v)) v) gives)
@@ -253,7 +253,7 @@ module _ {first : ℕ} {s : St} {id : ℕ} {v : View} (h : Here first s id v) (i
       closed_w : Closed (length s.homes) (known_of w)
       closed_w l lo hi = rw (known_w (parent l), known_w l) (giving.own_closed h i t near hold x enters l lo hi)
 
-      -- the answer that is owed from now on
+      -- the pass owes this answer from now on
       owed_d : OwedAt d (at d w) (known_of w (parent d))
       owed_d p n = let at_p : p ≡ place = some_is p place (sym n ∙ ap (λ (a : LaneView). a.owes) at_d) in (
         (held.holding.0, ap (λ (a : LaneView). a.stage) at_d ∙ held.holding.1),
@@ -278,7 +278,7 @@ module _ {first : ℕ} {s : St} {id : ℕ} {v : View} (h : Here first s id v) (i
           (ap (λ (z : LaneView). z.owes) a) (λ _ _. ap (λ (z : LaneView). z.known) a)
           (subst (Begins (known_of own (parent l))) (sym (known_w (parent l))) (begins_refl (known_of own (parent l)))))
 
-      -- the new reference
+      -- the new reference is pending
       pending_d : Pending d (logs' (parent d)) (logs' d) (set s.views id w)
       pending_d = let logs = h.rule.logs in let views' = set s.views id w in
           let kept : (p : ℕ) → Owes d p s.views → Owes d p views' = λ p q. dite (ℕ_discrete q.0 id)

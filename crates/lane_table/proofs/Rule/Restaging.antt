@@ -22,7 +22,7 @@ set_twice [] i a b = refl
 set_twice (x ∷ xs) zero a b = refl
 set_twice (x ∷ xs) (suc i) a b = ap (λ (l : List _). x ∷ l) (set_twice xs i a b)
 
--- the same known lists
+-- a view with the same known lists is consistent too
 pub consistent_same : (v w : View) → length w.lanes ≡ length v.lanes → ((j : ℕ) → known_of w j ≡ known_of v j) →
     Consistent v → Consistent w
 consistent_same v w long same ok = let lists : known_of w ≡ known_of v = λ k j. same j k in
@@ -86,7 +86,7 @@ module _ {i : ℕ} {m m' : Seated} (r : Restages i m m') (near : i < length m.0.
         caller = caller;
       }
 
-  -- it did not get the lane
+  -- if the stage and the tickets stay, the pass did not get the lane
   pub to_tried : (at i m'.0).stage ≡ (at i m.0).stage → m'.0.drawn ≡ m.0.drawn → Tried i m m'
   to_tried stage drawn = record {
     consistent = consistent_same m.0 m'.0 to_long to_known;
@@ -191,7 +191,7 @@ restages_queued_found i t m = record {
   looks = refl;
 }
 
--- two such steps
+-- two successive steps that restage one lane restage it together
 pub restages_both : {i : ℕ} {m m' m'' : Seated} → i < length m.0.lanes → Restages i m m' → Restages i m' m'' →
     Restages i m m''
 restages_both {i} {m} {m'} {m''} near r q = let here = to_here r near in record {
@@ -213,6 +213,6 @@ restages_both {i} {m} {m'} {m''} near r q = let here = to_here r near in record 
   looks = q.looks ∙ r.looks;
 }
 
--- the same, up to an equation
+-- a step to an equal result restages too
 pub restages_to : {i : ℕ} {m m' m'' : Seated} → Restages i m m' → m'' ≡ m' → Restages i m m''
 restages_to {i} {m} r e = subst (Restages i m) (sym e) r

@@ -22,7 +22,7 @@ use Rattle.lane_table.proofs.Rule.OneLane as lane
 use Rattle.lane_table.proofs.Rule.Tickets.{each_found}
 use Rattle.lane_table.proofs.Book.BookAnswers.{half_finished}
 
--- the range of a ticket, and its owner
+-- a pass's ticket is from the serving number up to the ticket number, and the pass is its owner
 has_stands : (ticket serving : ℕ) (owner : ℕ → ℕ) (home : Home) (log : List Visit) (j : ℕ) (known : List Visit)
     (g : Stage) (t : ℕ) → Stands ticket serving owner home log j known g → HasTicket g t
     → (serving ≤ t) × (t < ticket) × (owner t ≡ j)
@@ -46,7 +46,7 @@ module _ {first : ℕ} {s : St} (r : WorldRule first s) where
         × (get_elem? s.homes i ≡ some none)
     holds j t v is stage = lane.holds_turn (r.lane i near) j (at_map (at i) s.views j v is) t stage
 
-    -- each ticket of the column, and its owner
+    -- each ticket in the column is in this range, and its owner is the pass that has it
     column_stands : (j t : ℕ) (a : LaneView) → get_elem? (column i s.views) j ≡ some a → HasTicket a.stage t →
         (serving_of s i ≤ t) × (t < ticket_of s i) × (r.owners i t ≡ j)
     column_stands j t a e h = has_stands (ticket_of s i) (serving_of s i) (r.owners i) (get_elem? s.homes i) (r.logs i)
@@ -154,12 +154,12 @@ module _ {first : ℕ} {s : St} (r : WorldRule first s) where
   base_near : 1 < count
   base_near = let two = r.two in omega arith
 
-  -- the sum over the column is that over the views
+  -- the generation word is the number of raises in the list, plus the raises of all views
   word_is : generation_word s ≡ raises (r.logs 1) + sum_by (λ (v : View). (at 1 v).raised) s.views
   word_is = r.generation ∙ ap (λ (n : ℕ). raises (r.logs 1) + n)
       (sum_by-map (λ (a : LaneView). a.raised) (at 1) s.views)
 
-  -- the pass that raised is the served one, so no other pass did
+  -- while a pass holds the base, no other pass has raised the generation
   others_raised : (j k t : ℕ) (v w : View) → IsView s j v → IsView s k w → (at 1 v).stage ≡ Holding t → k ≢ j →
       (at 1 w).raised ≡ 0
   others_raised j k t v w is is' stage ne = ⊎_elim (λ (z : (at 1 w).raised ≡ 0). z)

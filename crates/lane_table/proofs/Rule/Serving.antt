@@ -159,7 +159,7 @@ module _ {first : ℕ} {s : St} {id : ℕ} {v : View} (h : Here first s id v) (i
       let g = h.rule.generation in let o = (h.rule.seen id v h.is).0 in let e =
       ap (λ (k : ℕ). raises (h.rule.logs k)) one in omega arith
 
-  -- the rule after the slot went out
+  -- the rule holds after the slot went out
   got_rule : t ≡ get_or s.words (serving_word i) 0 →
       (c : Content) × (get_elem? s.homes i ≡ some (some (Some c))) × Replays i first log c
       × WorldRule first record {

@@ -24,7 +24,7 @@ weights_up top (x ∷ xs) h = let a = weight_up top x (h 0 x refl) in let b =
     weights_up top xs (λ j u e. h (suc j) u e) in omega
     (arith, sum_by-cons (weight (top + 1)) x xs, sum_by-cons (weight top) x xs)
 
--- a share with more halvings has the same weight
+-- a share that is written with more halvings has the same weight
 weight_more : (a h m top : ℕ) → h ≤ m → m ≤ top → a * 2 ^ (m - h) * 2 ^ (top - m) ≡ a * 2 ^ (top - h)
 weight_more a h m top le le' = let e : m - h + (top - m) ≡ top - h = omega arith in
     let p : 2 ^ (top - h) ≡ 2 ^ (m - h) * 2 ^ (top - m) = ap (λ (k : ℕ). 2 ^ k) (sym e) ∙ pow-add 2 (m - h) (top - m) in

@@ -5,7 +5,7 @@ use Rattle.std.specs.List.{fold}
 use Rattle.std.proofs.lemmas.List.{take-append-le, take_all}
 use mathlib.Core.Logic.{dite}
 use native.Mathlib.Decide.{ℕ_discrete, dec_le}
-use Rattle.key_names.specs.LawfulList.{LawfulFrom}
+use Rattle.key_names.specs.Lanes.LawfulList.{LawfulFrom}
 use Rattle.key_names.specs.declared.names.Mark.{Mark}
 use Rattle.base_gen.specs.BaseValue.{BaseValue}
 use Rattle.lane_table.specs.declared.view.Handed.{Handed}
@@ -137,7 +137,7 @@ stand_known v caller event n (visited mark e ∷ made_steps) k = (
   stand_known v caller event (suc n) made_steps k.1,
 )
 
--- it holds as well when more is known
+-- `Sees` still holds when more of the lists is known
 pub sees_grown : (v w : View) (low high : ℕ) (made_steps : List MadeStep) → Grows v w → AllKnown v made_steps →
     Sees v low made_steps high → Sees w low made_steps high
 sees_grown v w low high [] grows known s = s

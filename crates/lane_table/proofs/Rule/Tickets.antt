@@ -1,4 +1,5 @@
--- Tickets in a range, as many as its numbers and each with one pass, are all of that range.
+-- If all tickets are in a range, are as many as its numbers, and belong to one pass each, they are all numbers of the
+-- range.
 use Rattle.std.proofs.Common.{◌≡◌, ◌≢◌, ◌⊎◌, ℕ, zero, suc, ◌+◌, ◌<◌, ◌≤◌, List, [], ◌∷◌, ◌++◌, length, set, sym, refl, ◌∙◌, subst, inl, inr, ⊎_elim, arith}
 use Rattle.std.specs.List.{sum_by}
 use Rattle.std.proofs.lemmas.List.Sums.{sum_by_push}

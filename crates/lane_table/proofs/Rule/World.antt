@@ -50,7 +50,7 @@ pub record Recasts (log : List Visit) (a b : LaneView) : Type 0 where
   pub begins : Begins b.known log
   pub whole : a.known ≡ log → b.known ≡ log
 
--- an unchanged part
+-- an unchanged part meets Recasts too
 pub same_at : (log : List Visit) (a b : LaneView) → b ≡ a → Begins a.known log → Recasts log a b
 same_at log a b e h = record {
   stage = ap (λ (x : LaneView). x.stage) e;
@@ -64,7 +64,7 @@ same_at log a b e h = record {
   whole = λ w. ap (λ (x : LaneView). x.known) e ∙ w;
 }
 
--- seat number id has the view v, under the rule
+-- the rule holds, and seat number id has the view v
 pub record Here (first : ℕ) (s : St) (id : ℕ) (v : View) : Type 0 where
   pub rule : WorldRule first s
   pub is : get_elem? s.views id ≡ some v
@@ -96,7 +96,7 @@ module _ {first : ℕ} {s : St} {id : ℕ} {v : View} (h : Here first s id v) wh
   pub begun : (j : ℕ) → j < count → Begins (known_of v j) (logs j)
   begun j below = ((h.rule.lane j below).passes id (at j v) (here j)).begins
 
-  -- a step that changes neither words nor homes nor the view
+  -- the rule holds after a step that leaves words, homes and the view as they are
   pub stays : (k : ℕ) → WorldRule first record {
     words = set s.words k (get_or s.words k 0);
     homes = s.homes;
@@ -119,7 +119,7 @@ module _ {first : ℕ} {s : St} {id : ℕ} {v : View} (h : Here first s id v) wh
         (begins (parent l) (parent_within l count two)) (begins l low);
   }
 
-  -- the same known lists
+  -- a view with the same known lists is consistent too
   pub consistent_as : (w : View) → ((j : ℕ) → known_of w j ≡ known_of v j) → length w.lanes ≡ length v.lanes →
       Consistent w
   consistent_as w same long = consistent logs s.views w h.rule.lawful h.rule.pending (long ∙ sized.0)
@@ -200,7 +200,7 @@ module _ {first : ℕ} {s : St} {id : ℕ} {v : View} (h : Here first s id v) wh
         closed = c.closed;
       }
 
-  -- a step that does not change the lists
+  -- if a step does not change the lists, each value carries its lists as before
   pub carries_same : (i : ℕ) → i < count → Carries count (pick i (logs i) logs) i (h.rule.carried i)
   carries_same i near = let c = h.rule.carries i near in record {
     begins = λ m low. subst (Begins (h.rule.carried i m)) (sym (pick_same i m logs)) (c.begins m low);
@@ -222,7 +222,7 @@ module _ {first : ℕ} {s : St} {id : ℕ} {v : View} (h : Here first s id v) wh
     abbrev views' : List View
     views' = set s.views id w
 
-    -- a word of another lane, or the generation
+    -- each word except word k is unchanged
     other_word : (n : ℕ) → ¬ (n ≡ k) → get_or words' n 0 ≡ get_or s.words n 0
     other_word n ne = get_or-set_other s.words k n y 0 ne
 

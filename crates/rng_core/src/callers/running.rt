@@ -1,7 +1,7 @@
 //! The number of running callers: entries of the base that raise and lower it.
 ghost use Rattle.std.specs.Prelude.{◌≤◌, ◌≡◌, ◌+◌, length};
 ghost use Rattle.key_names.specs.declared.entries.BaseEntry.TheVariants.{Stall, Unstall, End};
-ghost use Rattle.key_names.specs.Forms.{BaseOnly};
+ghost use Rattle.key_names.specs.Callers.Forms.{BaseOnly};
 ghost use Rattle.rng_core.specs.Sites.{IsIdle, Does, IsOneStep, lane_of, base_lane, seen_by};
 
 use crate::lane_values;

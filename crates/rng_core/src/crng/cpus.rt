@@ -2,7 +2,7 @@
 ghost use Rattle.std.specs.Prelude.{◌<◌};
 ghost use Rattle.key_names.specs.declared.events.Event.TheVariants.{Prepare as PrepareEvent, Online as OnlineEvent};
 ghost use Rattle.key_names.specs.declared.events.Answer.TheVariants.{Ok as Done};
-ghost use Rattle.key_names.specs.SeenLine.{no_data};
+ghost use Rattle.key_names.specs.Transcripts.SeenLine.{no_data};
 ghost use Rattle.rng_core.specs.Sites.{IsIdle, Completes};
 
 use crate::cpu_values;

@@ -2,8 +2,8 @@
 ghost use Rattle.std.specs.Prelude.{◌≡◌, ◌≤◌, Bool, true, None, Some, length};
 ghost use Rattle.key_names.specs.declared.entries.CpuEntry.TheVariants.{Int};
 ghost use Rattle.key_names.specs.declared.events.Answer.TheVariants.{Ok as Done};
-ghost use Rattle.key_names.specs.SeenLine.{bytes_or_none};
-ghost use Rattle.key_names.specs.Batches.{must_fill};
+ghost use Rattle.key_names.specs.Transcripts.SeenLine.{bytes_or_none};
+ghost use Rattle.key_names.specs.Kernel.Batches.{must_fill};
 ghost use Rattle.lane_table.specs.declared.view.LaneEntry.TheVariants.{Cpu as OfCpu};
 ghost use Rattle.rng_core.specs.Makes.{Serving, setting_of};
 ghost use Rattle.rng_core.specs.Integers.{IsWidth, BatchedForm, int_event};
@@ -17,7 +17,7 @@ use key_names::{CpuEntry, Taken};
 use lane_table::Held;
 use std::sync::Wait;
 
-// Serves an integer out of a batch that needs no fill, or that the CPU's own key, of the found generation, fills.
+// Serves an integer out of a batch. If the batch needs a fill, the CPU's own key, of the found generation, fills it.
 fn serve(site: &mut Site, mut cpu: Held, look: u64, filled: bool, out: &mut [u8])
     requires holds { Holds (own_lane site.old) cpu site.old }
     requires fill { IsFill look (length out.old) filled site.old }

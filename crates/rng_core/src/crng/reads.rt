@@ -2,11 +2,11 @@
 //! after the first 32 without a lane.
 ghost use Rattle.std.specs.Prelude.{◌≡◌, ◌≢◌, ◌≤◌, None, Some, length};
 ghost use Rattle.key_names.specs.declared.entries.CpuEntry.TheVariants.{Read};
-ghost use Rattle.key_names.specs.BaseList.{empty, early, ready};
+ghost use Rattle.key_names.specs.Lanes.BaseList.{empty, early, ready};
 ghost use Rattle.key_names.specs.declared.events.Event.TheVariants.{Kread, Uread};
 ghost use Rattle.key_names.specs.declared.events.Answer.TheVariants.{Ok as Done};
-ghost use Rattle.key_names.specs.SeenLine.{bytes_or_none};
-ghost use Rattle.key_names.specs.Forms.{DrawForm, CpuReadForm, ReadForm};
+ghost use Rattle.key_names.specs.Transcripts.SeenLine.{bytes_or_none};
+ghost use Rattle.key_names.specs.Callers.Forms.{DrawForm, CpuReadForm, ReadForm};
 ghost use Rattle.lane_table.specs.declared.view.LaneEntry.TheVariants.{Cpu as OfCpu};
 ghost use Rattle.rng_core.specs.Makes.{Serving, setting_of};
 ghost use Rattle.rng_core.specs.Rests.{Asks, finished, IsBegun};

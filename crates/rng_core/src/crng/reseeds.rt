@@ -2,10 +2,10 @@
 ghost use Rattle.std.specs.Prelude.{◌≡◌, ◌<◌, ◌≤◌, ℕ, Some, IsOk};
 ghost use Rattle.key_names.specs.declared.entries.BaseEntry.TheVariants.{Reseed, Early as EarlyEntry, Tick as TickEntry};
 ghost use Rattle.key_names.specs.declared.events.Event.TheVariants.{Reseed as ReseedEvent, Tick as TickEvent};
-ghost use Rattle.key_names.specs.Forms.{Rooted, Cross};
-ghost use Rattle.key_names.specs.SeenLine.{no_data};
-ghost use Rattle.key_names.specs.BaseList.{IsDue, empty};
-ghost use Rattle.key_names.specs.PoolList.{early};
+ghost use Rattle.key_names.specs.Callers.Forms.{Rooted, Cross};
+ghost use Rattle.key_names.specs.Transcripts.SeenLine.{no_data};
+ghost use Rattle.key_names.specs.Lanes.BaseList.{IsDue, empty};
+ghost use Rattle.key_names.specs.Lanes.PoolList.{early};
 ghost use Rattle.lane_table.specs.Calls.{view};
 ghost use Rattle.input_pool.specs.PoolStands.{crossing_of};
 ghost use Rattle.rng_core.specs.Causes.{ReseedCause};

@@ -2,7 +2,7 @@
 ghost use Rattle.std.specs.Prelude.{◌≡◌, ◌≤◌, ℕ, Some, None};
 ghost use Rattle.key_names.specs.declared.entries.BaseEntry.TheVariants.{Draw};
 ghost use Rattle.key_names.specs.declared.entries.CpuEntry.TheVariants.{Read};
-ghost use Rattle.key_names.specs.KeyInUse.{taken_bytes};
+ghost use Rattle.key_names.specs.Keys.KeyInUse.{taken_bytes};
 ghost use Rattle.base_gen.specs.BaseValue.{erased as base_erased};
 ghost use Rattle.cpu_gen.specs.CpuValue.{erased};
 ghost use Rattle.lane_table.specs.declared.view.LaneEntry.TheVariants.{Base as OfBase, Cpu as OfCpu};

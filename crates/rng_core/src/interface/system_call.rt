@@ -2,9 +2,9 @@
 ghost use Rattle.std.specs.Prelude.{◌≡◌, ◌≤◌, ◌+◌, ◌==◌, ◌&&◌, ◌⊎◌, not, true, false, if◌then◌else◌, IsOk, length, []};
 ghost use Rattle.key_names.specs.declared.entries.BaseEntry.TheVariants.{Wait as WaitEntry, Resume, Interrupt};
 ghost use Rattle.key_names.specs.declared.events.Event.TheVariants.{Read, Dread};
-ghost use Rattle.key_names.specs.Flags.{is_bad, is_insecure};
-ghost use Rattle.key_names.specs.Forms.{BaseOnly};
-ghost use Rattle.key_names.specs.SeenLine.{bytes_or_none};
+ghost use Rattle.key_names.specs.Kernel.Flags.{is_bad, is_insecure};
+ghost use Rattle.key_names.specs.Callers.Forms.{BaseOnly};
+ghost use Rattle.key_names.specs.Transcripts.SeenLine.{bytes_or_none};
 ghost use Rattle.rng_core.specs.Causes.{ReadCause};
 ghost use Rattle.rng_core.specs.Makes.{Serving, result_answer, given};
 ghost use Rattle.rng_core.specs.Sites.{IsIdle, IsOnCpu, HasRoom, Holds, Does, Completes, IsOneStep, lane_of, base_lane, seen_by, most_bytes};

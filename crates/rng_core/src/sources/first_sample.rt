@@ -4,7 +4,7 @@ ghost use Rattle.std.specs.List.{range_with_len};
 ghost use Rattle.key_names.specs.declared.events.Event.TheVariants.{Add};
 ghost use Rattle.key_names.specs.declared.events.Answer.TheVariants.{Ok as Done};
 ghost use Rattle.key_names.specs.declared.names.Step.{Step};
-ghost use Rattle.key_names.specs.SeenLine.{no_data};
+ghost use Rattle.key_names.specs.Transcripts.SeenLine.{no_data};
 ghost use Rattle.lane_table.specs.Hands.{HoldsLanes};
 ghost use Rattle.rng_core.specs.Traces.{moment};
 ghost use Rattle.rng_core.specs.Makes.{Makes, IsOutcomeOf, setting_of};

@@ -1,7 +1,7 @@
 //! Interrupts: samples of a CPU's fast pool, and its dumps into the input pool.
 ghost use Rattle.key_names.specs.declared.events.Event.TheVariants.{Irq as IrqEvent};
 ghost use Rattle.key_names.specs.declared.events.Answer.TheVariants.{Ok as Done};
-ghost use Rattle.key_names.specs.SeenLine.{no_data};
+ghost use Rattle.key_names.specs.Transcripts.SeenLine.{no_data};
 ghost use Rattle.rng_core.specs.Makes.{IsOutcomeOf, setting_of};
 ghost use Rattle.rng_core.specs.SampleDeeds.{DumpStands, Sampled};
 ghost use Rattle.rng_core.specs.Sites.{IsIdle, IsOnCpu, IsTimely, DoesIn, Entered, own_lane, own_places};

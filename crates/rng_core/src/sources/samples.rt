@@ -2,7 +2,7 @@
 ghost use Rattle.std.specs.Prelude.{◌≡◌, ◌+◌, length};
 ghost use Rattle.key_names.specs.declared.events.Event.TheVariants.{Write as WriteEvent, Device as DeviceEvent, Add as AddEvent, Bits as BitsEvent, Input as InputEvent, Vmfork as VmforkEvent};
 ghost use Rattle.key_names.specs.declared.events.Answer.TheVariants.{Ok as Done};
-ghost use Rattle.key_names.specs.SeenLine.{count, no_data};
+ghost use Rattle.key_names.specs.Transcripts.SeenLine.{count, no_data};
 ghost use Rattle.rng_core.specs.Sites.{IsIdle, IsTimely, Completes};
 
 use crate::crng::reseeds::{cross, reseed};

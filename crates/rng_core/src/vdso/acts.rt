@@ -1,8 +1,8 @@
 //! Acts inside a vgetrandom call.
 ghost use Rattle.std.specs.Prelude.{◌≡◌, ◌&&◌, ◌<◌, ◌≤◌, [], true, false, Ok, length};
-ghost use Rattle.key_names.specs.Meaning.{ActMeans};
-ghost use Rattle.key_names.specs.Points.{is_same_point};
-ghost use Rattle.key_names.specs.VreadSteps.{is_wipe};
+ghost use Rattle.key_names.specs.Callers.Meaning.{ActMeans};
+ghost use Rattle.key_names.specs.Kernel.Points.{is_same_point};
+ghost use Rattle.key_names.specs.Callers.VreadSteps.{is_wipe};
 ghost use Rattle.lane_table.specs.Calls.{view};
 ghost use Rattle.rng_core.specs.Acts.{wants, ask_of, asks_of, outcome_of, outcomes_of, wipes_at, is_ready};
 ghost use Rattle.rng_core.specs.Acts.{AreReady, done_line, ActRan, ActAt, ActsAt};
@@ -137,8 +137,8 @@ fn is_wiped_by(bound: &Bound, point: Point) -> bool
     bound.point.is(point) && is_wipe(bound.act)
 }
 
-/// Runs the acts of a list that are bound to a point and not yet done, in order. Returns whether one of that point
-/// wipes the state, even if it was done before.
+/// Runs the acts of a list that are bound to a point and not yet done, in order. Returns whether an act of the point
+/// wipes the state, even one that was done before.
 pub(crate) fn run_acts<R: Wait>(
     rt: &R,
     site: &mut Site,

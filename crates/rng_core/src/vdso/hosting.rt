@@ -1,7 +1,7 @@
 //! A host over a site, and its steps in a call.
 ghost use Rattle.std.specs.Prelude.{◌≡◌, ◌<◌, ◌^◌};
-ghost use Rattle.key_names.specs.VgetrandomState.{state_left};
-ghost use Rattle.key_names.specs.VreadSteps.{published_by};
+ghost use Rattle.key_names.specs.Kernel.VgetrandomState.{state_left};
+ghost use Rattle.key_names.specs.Callers.VreadSteps.{published_by};
 ghost use Rattle.rng_core.specs.Hosting.{hosting, CanHost, IsNewHost};
 ghost use Rattle.rng_core.specs.Sites.{seen_by};
 
@@ -17,8 +17,8 @@ use vdso_state::{VHost, VState};
 impl<'a, R> LaneHost<'a, R> {
     /// The host of one call, or of the rest of one, with 5 looks and 3 system calls.
     ///
-    /// The site's trace must be empty, and each act not yet done and with an empty trace. `out` must be as long as
-    /// all reads of the list together, each at most 2^20 bytes.
+    /// The site's trace and each act's trace must be empty, and no act may be done. `out` must be as long as all reads
+    /// of the list together; each is of at most 2^20 bytes.
     pub fn over(
         rt: &'a R,
         site: Site<'a>,

@@ -1,6 +1,6 @@
 //! Reads out of a caller's vgetrandom state.
 ghost use Rattle.std.specs.Prelude.{◌≡◌, ◌<◌, ◌≤◌, length};
-ghost use Rattle.key_names.specs.SeenLine.{bytes_or_none};
+ghost use Rattle.key_names.specs.Transcripts.SeenLine.{bytes_or_none};
 ghost use Rattle.vdso_state.specs.declared.outcome.Local.TheVariants.{NeedsSystem};
 ghost use Rattle.rng_core.specs.Hosting.{IsNewHost, HostCalled, ReadsState, ReadsInside};
 ghost use Rattle.rng_core.specs.Makes.{result_answer, given};
@@ -15,10 +15,9 @@ use key_names::{Errno, Step};
 use std::sync::Wait;
 use vdso_state::{Local, VEnd, VState, local, vgetrandom};
 
-/// Copies bytes of the batch over all of `buf` if the state's key is of the published generation, no call is inside,
-/// and the batch has enough bytes left. Else the state and `buf` stay as they were. With no bytes to read or with
-/// bad flags it does not even look. It never waits. A look without a copy is no step, and leaves the trace as it
-/// was.
+/// Copies bytes of the batch over all of `buf` if the state's key is of the published generation, no call is using it,
+/// and the batch has enough bytes left. Else the state and `buf` stay as they were. With no bytes to read or with bad
+/// flags it does not even look. It never waits. A look without a copy is no step, and leaves the trace as it was.
 pub fn vread_local(site: &mut Site, st: &mut VState, buf: &mut [u8], flags: u32) -> Local
     requires { IsIdle 1 site.old }
     ensures reads { ReadsLocally result (length buf.old) flags st.old st.new buf.new site.old site.new }

@@ -1,5 +1,5 @@
 use Rattle.std.proofs.Common.{refl}
-use Rattle.key_names.specs.Blake2s.{compressed, folded}
+use Rattle.key_names.specs.Kernel.Blake2s.{compressed, folded}
 use Rattle.blake2s_core.proofs.compress.compress.Goals as goal
 
 pub returns : goal.returns

@@ -1,5 +1,5 @@
 use Rattle.std.proofs.Common.{◌≡◌, List, ℕ, length, ap, sym, rules}
-use Rattle.key_names.specs.Blake2s.{round, mixed_at}
+use Rattle.key_names.specs.Kernel.Blake2s.{round, mixed_at}
 use Rattle.blake2s_core.proofs.Words.{by_places}
 use Rattle.blake2s_core.proofs.compress.round.Goals as goal
 

@@ -1,5 +1,5 @@
 use Rattle.std.proofs.Common.{◌≡◌, ◌/◌, ◌%◌, ◌^◌, List, ℕ, length, ap, sym, arith, rules}
-use Rattle.key_names.specs.Blake2s.{start_vector}
+use Rattle.key_names.specs.Kernel.Blake2s.{start_vector}
 use Rattle.blake2s_core.proofs.Words.{by_places}
 use Rattle.blake2s_core.proofs.compress.start_vector.Goals as goal
 use Rattle.blake2s_core.proofs.compress.start_vector.Goals.{then-is_last, else-is_last}

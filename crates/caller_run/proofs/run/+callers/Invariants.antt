@@ -1,5 +1,5 @@
 use Rattle.std.proofs.Common.{◌+◌, length}
-use Rattle.key_names.specs.Book.{list_at}
+use Rattle.key_names.specs.Lanes.Book.{list_at}
 use Rattle.caller_run.specs.Plots.{plot}
 use Rattle.caller_run.specs.Ways.{load, kids_of}
 use Rattle.caller_run.proofs.run.+callers.Given as goal

@@ -1,5 +1,5 @@
 use Rattle.std.proofs.Common.{◌≡◌, ◌*◌, ◌+◌, ◌++◌, ◌∙◌, ap, ap₂, sym, arith}
-use Rattle.key_names.specs.Keystream.{keystream}
+use Rattle.key_names.specs.Kernel.Keystream.{keystream}
 use Rattle.key_names.proofs.Standards.Keystreams.{keystream-add}
 use Rattle.chacha_blocks.proofs.Rounds.{no_rounds, more_rounds}
 use Rattle.chacha_blocks.proofs.Words.{block_bytes}

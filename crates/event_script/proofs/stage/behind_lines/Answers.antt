@@ -4,7 +4,7 @@ use Rattle.event_script.specs.declared.stage.Stage.TheVariants.{Lines}
 use Rattle.event_script.proofs.Stages.{end_read, fails_on, leads_on, line_fails, line_read, stays}
 use Rattle.event_script.proofs.stage.behind_lines.Goals as goal
 
--- text is left
+-- a text has a byte if its length is not 0
 some_left : (text : List ℕ) → false ≡ (length text == 0) → 0 < length text
 some_left text is = omega (arith, eqb-false (length text) 0 (sym is))
 

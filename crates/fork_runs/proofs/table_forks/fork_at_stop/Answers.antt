@@ -1,5 +1,5 @@
 use Rattle.std.proofs.Common.{◌≡◌, ◌≤◌, [], rules, ap, arith, subst, sym}
-use Rattle.key_names.specs.VreadSteps.{published_by}
+use Rattle.key_names.specs.Callers.VreadSteps.{published_by}
 use Rattle.lane_table.specs.declared.lanes.Lanes.{Lanes}
 use Rattle.lane_table.specs.declared.lanes.Pass.{Pass}
 use Rattle.lane_table.specs.Advances.{floor}

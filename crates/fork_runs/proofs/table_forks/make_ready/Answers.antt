@@ -3,7 +3,7 @@ use Rattle.std.specs.List.{range_with_len}
 use Rattle.key_names.specs.declared.events.Answer.TheVariants.{Ok as Done}
 use Rattle.key_names.specs.declared.events.Event.TheVariants.{Add}
 use Rattle.key_names.specs.declared.names.Step.{Step}
-use Rattle.key_names.specs.SeenLine.{no_data}
+use Rattle.key_names.specs.Transcripts.SeenLine.{no_data}
 use Rattle.lane_table.specs.declared.view.View.{View}
 use Rattle.lane_table.specs.Advances.{floor}
 use Rattle.lane_table.specs.Calls.{view}

@@ -1,5 +1,5 @@
 use Rattle.std.proofs.Common.{◌++◌, ap, ◌∙◌, Some}
-use Rattle.key_names.specs.Blake2s.{blake2s}
+use Rattle.key_names.specs.Kernel.Blake2s.{blake2s}
 use Rattle.input_pool.proofs.pool.counted.Goals as goal
 
 pub returns : goal.returns

@@ -1,5 +1,5 @@
 use Rattle.std.proofs.Common.{sym, ◌∙◌}
-use Rattle.key_names.specs.IsTranscript.{script_calls}
+use Rattle.key_names.specs.Transcripts.IsTranscript.{script_calls}
 use Rattle.key_audit.proofs.answer.answer_text.Goals as goal
 
 pub returns-then-not-is_there : goal.returns-then-not-is_there

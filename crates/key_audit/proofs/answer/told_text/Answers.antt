@@ -1,4 +1,4 @@
-use Rattle.key_names.specs.IsTranscript.{script_calls}
+use Rattle.key_names.specs.Transcripts.IsTranscript.{script_calls}
 use Rattle.key_audit.specs.Asked.{line_end}
 use Rattle.key_audit.specs.Live.{calls_cut, cut_at, lists_behind}
 use Rattle.key_audit.specs.declared.until.Until.TheVariants.{Stamp, Call}

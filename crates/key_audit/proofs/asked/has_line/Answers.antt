@@ -1,8 +1,8 @@
 use Rattle.std.proofs.Common.{ap, ◌∙◌, List}
 use Rattle.std.specs.Option.{is_some}
-use Rattle.key_names.specs.Book.{list_at}
-use Rattle.state_entries.specs.declared.line_ends.LineEnd.{LineEnd}
-use Rattle.state_entries.specs.LineEnds.{lines_in}
+use Rattle.key_names.specs.Lanes.Book.{list_at}
+use Rattle.audit_keys.specs.declared.line_ends.LineEnd.{LineEnd}
+use Rattle.audit_keys.specs.LineEnds.{lines_in}
 use Rattle.key_audit.specs.Asked.{line_in}
 use Rattle.key_audit.proofs.asked.has_line.Goals as goal
 

@@ -1,5 +1,5 @@
 use Rattle.std.proofs.Common.{sym, ap, ◌∙◌, List}
-use Rattle.state_entries.specs.declared.line_ends.LineEnd.{LineEnd}
+use Rattle.audit_keys.specs.declared.line_ends.LineEnd.{LineEnd}
 use Rattle.key_audit.specs.Asked.{line_in}
 use Rattle.key_audit.proofs.KeptLines.{lines_kept, lines_past}
 use Rattle.key_audit.proofs.asked.line_end.Goals as goal

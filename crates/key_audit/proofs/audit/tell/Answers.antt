@@ -1,6 +1,6 @@
 use Rattle.std.proofs.Common.{ap, subst, sym, ◌∙◌, inl, inr}
-use Rattle.key_names.specs.IsTranscript.{script_calls}
-use Rattle.line_orders.specs.Clauses.{clause_of}
+use Rattle.key_names.specs.Transcripts.IsTranscript.{script_calls}
+use Rattle.judge_lines.specs.Clauses.{clause_of}
 use Rattle.tool_ends.specs.Pairs.{no_line}
 use Rattle.tool_ends.specs.declared.status.Status.TheVariants.{Done, No}
 use Rattle.tool_ends.proofs.Inputs.{the_answer, wider}

@@ -1,5 +1,5 @@
 use Rattle.std.proofs.Common.{map}
-use Rattle.key_names.specs.SameSteps.{bare}
+use Rattle.key_names.specs.Transcripts.SameSteps.{bare}
 use Rattle.key_audit.proofs.Books.{kept_of_bare}
 use Rattle.key_audit.proofs.book.audited_book.Goals as goal
 

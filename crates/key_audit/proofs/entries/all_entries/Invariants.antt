@@ -1,6 +1,6 @@
 use Rattle.std.proofs.Common.{◌≡◌, ◌++◌, drop}
-use Rattle.key_rows.specs.Told.{caller_lists}
-use Rattle.state_entries.specs.Entries.{all_lists_in}
+use Rattle.audit_keys.specs.Told.{caller_lists}
+use Rattle.audit_keys.specs.Entries.{all_lists_in}
 use Rattle.key_audit.proofs.entries.all_entries.Given as goal
 
 abbrev pub invariant-loop-lists : goal.invariant-loop-lists

@@ -1,5 +1,5 @@
 use Rattle.std.proofs.Common.{◌≡◌, ◌++◌, drop, map}
-use Rattle.state_entries.specs.Entries.{lists_in}
+use Rattle.audit_keys.specs.Entries.{lists_in}
 use Rattle.key_audit.proofs.entries.caller_entries.Given as goal
 
 abbrev pub invariant-loop-list : goal.invariant-loop-list

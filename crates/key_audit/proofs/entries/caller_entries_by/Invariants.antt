@@ -1,5 +1,5 @@
 use Rattle.std.proofs.Common.{◌≡◌, ◌++◌, drop, map}
-use Rattle.state_entries.specs.Cut.{lists_by}
+use Rattle.audit_keys.specs.StateCut.{lists_by}
 use Rattle.key_audit.proofs.entries.caller_entries_by.Given as goal
 
 abbrev pub invariant-loop-list : goal.invariant-loop-list

@@ -1,6 +1,6 @@
 use Rattle.std.proofs.Common.{◌≡◌, ◌++◌, drop}
-use Rattle.key_rows.specs.Told.{caller_lists}
-use Rattle.state_entries.specs.Cut.{all_lists_by}
+use Rattle.audit_keys.specs.Told.{caller_lists}
+use Rattle.audit_keys.specs.StateCut.{all_lists_by}
 use Rattle.key_audit.specs.Live.{cut_at}
 use Rattle.key_audit.proofs.entries.entries_until.Given as goal
 

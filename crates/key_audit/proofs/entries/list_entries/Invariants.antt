@@ -1,5 +1,5 @@
 use Rattle.std.proofs.Common.{◌≡◌, ◌++◌, drop}
-use Rattle.state_entries.specs.Entries.{entries_in}
+use Rattle.audit_keys.specs.Entries.{entries_in}
 use Rattle.key_audit.proofs.entries.list_entries.Given as goal
 
 abbrev pub invariant-loop-one : goal.invariant-loop-one

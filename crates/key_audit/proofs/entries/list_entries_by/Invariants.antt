@@ -1,5 +1,5 @@
 use Rattle.std.proofs.Common.{◌≡◌, ◌++◌, drop}
-use Rattle.state_entries.specs.Cut.{entries_by}
+use Rattle.audit_keys.specs.StateCut.{entries_by}
 use Rattle.key_audit.proofs.entries.list_entries_by.Given as goal
 
 abbrev pub invariant-loop-one : goal.invariant-loop-one

@@ -1,6 +1,6 @@
 use Rattle.std.proofs.Common.{◌∙◌, ap}
-use Rattle.key_rows.specs.Told.{HasEntries}
-use Rattle.state_entries.specs.Cut.{all_lists_by}
+use Rattle.audit_keys.specs.Told.{HasEntries}
+use Rattle.audit_keys.specs.StateCut.{all_lists_by}
 use Rattle.key_audit.specs.Live.{cut_at, lists_until}
 use Rattle.key_audit.proofs.KeptVisits.{keeps_visits}
 use Rattle.key_audit.proofs.held.held_at.Goals as goal

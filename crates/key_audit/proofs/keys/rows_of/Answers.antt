@@ -1,8 +1,8 @@
 use Rattle.std.proofs.Common.{◌∙◌, ap}
 use Rattle.std.proofs.lemmas.List.Sorted.{All-permutation, IsPermutation-map}
-use Rattle.key_names.specs.Book.{lists_of}
-use Rattle.key_rows.specs.Rows.{IsRow, all_pieces, birth_of}
-use Rattle.state_entries.specs.Entries.{all_lists_in}
+use Rattle.key_names.specs.Lanes.Book.{lists_of}
+use Rattle.audit_keys.specs.Rows.{IsRow, all_pieces, birth_of}
+use Rattle.audit_keys.specs.Entries.{all_lists_in}
 use Rattle.key_audit.proofs.KeptEntries.{has_entries}
 use Rattle.key_audit.proofs.keys.rows_of.Goals as goal
 

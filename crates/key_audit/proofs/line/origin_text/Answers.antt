@@ -4,7 +4,7 @@ use Rattle.std.specs.Prelude.{filter, reverse, slice_get}
 use Rattle.std.specs.BTreeSet.{contains}
 use Rattle.std.specs.List.{flat_map}
 use Rattle.key_names.specs.contracts.names.KeyNameOrd.TheImpl.{ghosts as names}
-use Rattle.key_rows.specs.declared.rows.Row.{Row}
+use Rattle.audit_keys.specs.declared.rows.Row.{Row}
 use Rattle.key_audit.specs.KeptPool.{kept_bits, kept_samples}
 use Rattle.key_audit.specs.Sources.{extraction_text}
 use Rattle.key_audit.specs.Texts.{rows_text}

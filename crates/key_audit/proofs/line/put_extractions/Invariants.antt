@@ -1,7 +1,7 @@
 use Rattle.std.proofs.Common.{ℕ, ◌≡◌, ◌++◌, drop, map, take, List}
 use Rattle.std.specs.Prelude.{slice_get}
 use Rattle.std.specs.List.{flat_map}
-use Rattle.key_rows.specs.declared.rows.Row.{Row}
+use Rattle.audit_keys.specs.declared.rows.Row.{Row}
 use Rattle.key_audit.specs.KeptPool.{kept_bits, kept_samples}
 use Rattle.key_audit.specs.Sources.{extraction_text}
 use Rattle.key_audit.proofs.line.put_extractions.Given as goal

@@ -2,8 +2,8 @@ use Rattle.std.proofs.Common.{◌≡◌, ◌<◌, ◌+◌, ℕ, suc, List, lengt
 use Rattle.std.specs.Prelude.{slice_get}
 use Rattle.std.proofs.Math.Seq.{drop-cons}
 use Rattle.key_names.specs.Texts.ScriptGrammar.{Script}
-use Rattle.list_replay.specs.declared.kept.KeptPool.{KeptPool}
-use Rattle.key_rows.specs.declared.moments.Moment.{Moment}
+use Rattle.judge_log.specs.declared.kept.KeptPool.{KeptPool}
+use Rattle.audit_keys.specs.declared.moments.Moment.{Moment}
 use Rattle.key_audit.specs.KeptPool.{kept_samples, sample_count}
 use Rattle.key_audit.proofs.line.samples_in.Goals as goal
 

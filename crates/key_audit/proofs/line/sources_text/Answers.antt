@@ -1,7 +1,7 @@
 use Rattle.std.proofs.Common.{ℕ, List, subst, take}
 use Rattle.std.specs.Prelude.{slice_get}
-use Rattle.list_replay.specs.declared.kept.KeptPool.{KeptPool}
-use Rattle.key_rows.specs.declared.rows.Row.{Row}
+use Rattle.judge_log.specs.declared.kept.KeptPool.{KeptPool}
+use Rattle.audit_keys.specs.declared.rows.Row.{Row}
 use Rattle.key_audit.specs.KeptPool.{kept_bits, kept_samples}
 use Rattle.key_audit.specs.Sources.{TellsSources, bits_before}
 use Rattle.key_audit.proofs.KeptSamples.{same_bits, same_samples}

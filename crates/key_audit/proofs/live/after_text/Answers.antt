@@ -1,9 +1,9 @@
 use Rattle.std.proofs.Common.{◌≡◌, Some, None, List, subst, ap, ◌∙◌}
 use Rattle.std.specs.Prelude.{IfOk}
 use Rattle.std.proofs.lemmas.Option.{same_Some}
-use Rattle.key_names.specs.Book.{list_at}
-use Rattle.state_entries.specs.declared.line_ends.LineEnd.{LineEnd}
-use Rattle.state_entries.specs.LineEnds.{lines_in}
+use Rattle.key_names.specs.Lanes.Book.{list_at}
+use Rattle.audit_keys.specs.declared.line_ends.LineEnd.{LineEnd}
+use Rattle.audit_keys.specs.LineEnds.{lines_in}
 use Rattle.key_audit.specs.Asked.{line_in}
 use Rattle.key_audit.specs.Live.{lists_after}
 use Rattle.key_audit.specs.Outcome.{TellsHeld}

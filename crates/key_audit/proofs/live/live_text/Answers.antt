@@ -1,8 +1,8 @@
 use Rattle.std.proofs.Common.{ℕ, ◌≡◌, Some, List, [], ◌++◌, map, sym, subst, ap, ◌∙◌}
 use Rattle.std.specs.List.{flat_map}
-use Rattle.key_rows.specs.declared.held.HeldKey.{HeldKey}
-use Rattle.key_rows.specs.declared.held.HeldRest.{HeldRest}
-use Rattle.key_rows.specs.declared.rows.Row.{Row}
+use Rattle.audit_keys.specs.declared.held.HeldKey.{HeldKey}
+use Rattle.audit_keys.specs.declared.held.HeldRest.{HeldRest}
+use Rattle.audit_keys.specs.declared.rows.Row.{Row}
 use Rattle.key_audit.specs.Live.{held_lines, live_keys, live_rests, lists_until, name_at, rest_line}
 use Rattle.key_audit.specs.Reach.{TellsReached}
 use Rattle.key_audit.proofs.KeptVisits.{kept_moments}

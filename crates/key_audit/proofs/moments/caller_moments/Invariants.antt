@@ -1,5 +1,5 @@
 use Rattle.std.proofs.Common.{◌≡◌, ◌++◌, drop}
-use Rattle.key_rows.specs.Cut.{moment_lists}
+use Rattle.audit_keys.specs.Cut.{moment_lists}
 use Rattle.key_audit.specs.EntryMoments.{caller_moments}
 use Rattle.key_audit.proofs.moments.caller_moments.Given as goal
 

@@ -1,5 +1,5 @@
 use Rattle.std.proofs.Common.{map, take}
-use Rattle.line_orders.specs.Marks.{seen_mark}
+use Rattle.judge_lines.specs.Marks.{seen_mark}
 use Rattle.key_audit.specs.Moments.{HasMarks}
 use Rattle.key_audit.proofs.moments.moments_of_marks.Given as goal
 

@@ -1,6 +1,6 @@
 use Rattle.std.proofs.Common.{rules}
 use Rattle.std.proofs.lemmas.Fn.{always_returns_same}
-use Rattle.key_rows.specs.declared.moments.Line.{Line}
+use Rattle.audit_keys.specs.declared.moments.Line.{Line}
 use Rattle.key_audit.specs.declared.reach.Copied.{Copied}
 use Rattle.key_audit.proofs.reach.sort_by_line.Goals as goal
 

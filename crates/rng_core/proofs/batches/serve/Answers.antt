@@ -1,6 +1,6 @@
 use Rattle.std.proofs.Common.{◌≡◌, ℕ, None, length, ap, sym, ◌∙◌, arith}
 use Rattle.key_names.specs.declared.entries.CpuEntry.TheVariants.{Int}
-use Rattle.key_names.specs.Batches.{must_fill}
+use Rattle.key_names.specs.Kernel.Batches.{must_fill}
 use Rattle.lane_table.specs.Meaning.{batch_at, cpu_entered}
 use Rattle.rng_core.proofs.IntFulfilling.{other_width}
 use Rattle.rng_core.proofs.batches.serve.Goals as goal

@@ -1,5 +1,5 @@
 use Rattle.std.proofs.Common.{◌≡◌, ℕ, List, true, ap, sym, ◌∙◌, arith, rules}
-use Rattle.key_names.specs.Keystream.{keystream}
+use Rattle.key_names.specs.Kernel.Keystream.{keystream}
 use Rattle.cpu_gen.specs.CpuValue.{CpuValue}
 use Rattle.int_batch.specs.BatchValue.{wants, next_bytes, filled}
 use Rattle.rng_core.proofs.IntFulfilling.{some_of, filled_bytes, wants_of}

@@ -1,5 +1,5 @@
 use Rattle.std.proofs.Common.{ℕ, List, ◌++◌, refl, ap, ◌∙◌, subst}
-use Rattle.key_names.specs.PoolList.{PoolState}
+use Rattle.key_names.specs.Lanes.PoolList.{PoolState}
 use Rattle.lane_table.specs.declared.values.LaneState.{LaneState}
 use Rattle.lane_table.specs.Meaning.{ValueRepresents}
 use Rattle.input_pool.specs.PoolStands.{PoolStands}

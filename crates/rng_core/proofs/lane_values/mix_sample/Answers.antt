@@ -1,5 +1,5 @@
 use Rattle.std.proofs.Common.{◌≢◌, ◌≤◌, ◌<◌, ◌∙◌, arith, rules}
-use Rattle.key_names.specs.PoolList.{PoolState}
+use Rattle.key_names.specs.Lanes.PoolList.{PoolState}
 use Rattle.lane_table.specs.Meaning.{PoolLaneStands}
 use Rattle.rng_core.proofs.Inputs.{untimed, timed, crosses}
 use Rattle.rng_core.proofs.lane_values.mix_sample.Goals as goal

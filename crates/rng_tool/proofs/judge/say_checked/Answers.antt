@@ -1,5 +1,5 @@
 use Rattle.std.proofs.Common.{ap, ◌∙◌}
-use Rattle.line_orders.specs.Clauses.{clause_of}
+use Rattle.judge_lines.specs.Clauses.{clause_of}
 use Rattle.rng_tool.specs.JudgeOutcome.{SaidOf}
 use Rattle.tool_ends.specs.Pairs.{no_line}
 use Rattle.rng_tool.specs.declared.judge.Judge.TheVariants.{Check}

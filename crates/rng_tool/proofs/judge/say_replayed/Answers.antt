@@ -1,7 +1,7 @@
 use Rattle.std.proofs.Common.{ap, subst, ◌∙◌}
 use Rattle.key_names.specs.Texts.TranscriptGrammar.{TranscriptFits}
 use Rattle.tool_ends.specs.declared.status.Status.TheVariants.{Done, No}
-use Rattle.line_orders.specs.Clauses.{clause_of}
+use Rattle.judge_lines.specs.Clauses.{clause_of}
 use Rattle.tool_ends.specs.Pairs.{no_line}
 use Rattle.tool_ends.proofs.Inputs.{the_answer, wider}
 use Rattle.rng_tool.specs.JudgeOutcome.{SaidOf}

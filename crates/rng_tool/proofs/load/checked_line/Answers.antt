@@ -1,4 +1,4 @@
-use Rattle.std.proofs.Common.{ap, ◌∙◌}
+use Rattle.std.proofs.Common.{◌∙◌}
 use Rattle.rng_tool.specs.LoadOutcome.{load_line}
 use Rattle.rng_tool.proofs.Loads.{same_verdict}
 use Rattle.rng_tool.proofs.load.checked_line.Goals as goal

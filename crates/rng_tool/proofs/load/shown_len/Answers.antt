@@ -1,7 +1,7 @@
 use Rattle.std.proofs.Common.{◌≤◌, List, length, ap, arith, ◌∙◌}
 use Rattle.std.specs.List.{sum_by}
 use Rattle.std.proofs.lemmas.List.{take_all}
-use Rattle.key_names.specs.SeenLine.{SeenLine, bytes_shown}
+use Rattle.key_names.specs.Transcripts.SeenLine.{SeenLine, bytes_shown}
 use Rattle.rng_tool.proofs.ShownBytes.{sum_of_callers}
 use Rattle.rng_tool.proofs.load.shown_len.Goals as goal
 

@@ -1,6 +1,6 @@
 use Rattle.std.proofs.Common.{◌≡◌, ◌*◌, ◌^◌, ◌≤◌, length, take}
 use Rattle.std.specs.List.{sum_by}
-use Rattle.key_names.specs.SeenLine.{bytes_shown}
+use Rattle.key_names.specs.Transcripts.SeenLine.{bytes_shown}
 use Rattle.rng_tool.proofs.load.shown_len.Given as goal
 
 abbrev pub invariant-loop-caller : goal.invariant-loop-caller

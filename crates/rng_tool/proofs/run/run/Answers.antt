@@ -8,6 +8,7 @@ use Rattle.rng_tool.specs.Outcome.{CallsFor}
 use Rattle.rng_tool.specs.VforkOutcome.{VforkEnds, VforkOf}
 use Rattle.rng_tool.specs.declared.command.Command.TheVariants.{Vfork as VforkCommand}
 use Rattle.rng_tool.proofs.Completes.{ends_completes, judge_completes, read_before, run_completes}
+use Rattle.rng_tool.proofs.LiveAnswers.{live_completes, live_ends_after}
 use Rattle.tool_ends.specs.Pairs.{most_input, most_script}
 use Rattle.tool_ends.proofs.Endings.{counted_at_end, ends_after, reads_end_after}
 use Rattle.rng_tool.proofs.run.run.Goals as goal
@@ -32,6 +33,27 @@ returns-in-Some-Run-clause-run_completes g c is unread unwritten =
     (reads_end_after most_script CallsFor _ _ _ _ _ c.end_output.ensures.kept _ _ _ _ ended c.run_input.ensures.ends)
     (λ fault. unread (c.run_input.ensures.read_counted.read_fault (read_before _ _ _ _ ended fault)))
     (λ fault. unwritten ((counted_at_end _ _ _ _ _ ended c.run_input.ensures.counted).cut fault))
+
+pub returns-in-Some-Live-clause-write_fault : goal.returns-in-Some-Live-clause-write_fault
+returns-in-Some-Live-clause-write_fault g c =
+    (counted_at_end _ _ _ _ _ c.end_output-in-Some-Live.ensures.ended c.run_live.ensures.counted).cut
+
+pub returns-in-Some-Live-clause-no_write_fault : goal.returns-in-Some-Live-clause-no_write_fault
+returns-in-Some-Live-clause-no_write_fault g c =
+    (counted_at_end _ _ _ _ _ c.end_output-in-Some-Live.ensures.ended c.run_live.ensures.counted).not_counted
+
+pub returns-in-Some-Live-clause-lived : goal.returns-in-Some-Live-clause-lived
+returns-in-Some-Live-clause-lived g c is =
+    live_ends_after _ _ _ _ _ c.end_output-in-Some-Live.ensures.kept _ _ _ _ c.end_output-in-Some-Live.ensures.ended
+    c.run_live.ensures.ends
+
+pub returns-in-Some-Live-clause-live_completes : goal.returns-in-Some-Live-clause-live_completes
+returns-in-Some-Live-clause-live_completes g c is unread unwritten =
+    let ended = c.end_output-in-Some-Live.ensures.ended in
+    live_completes _ _ _ c.end_output-in-Some-Live.result _
+    (live_ends_after _ _ _ _ _ c.end_output-in-Some-Live.ensures.kept _ _ _ _ ended c.run_live.ensures.ends)
+    (λ fault. unread (c.run_live.ensures.read_counted.read_fault (read_before _ _ _ _ ended fault)))
+    (λ fault. unwritten ((counted_at_end _ _ _ _ _ ended c.run_live.ensures.counted).cut fault))
 
 pub returns-in-Some-Judge-clause-write_fault : goal.returns-in-Some-Judge-clause-write_fault
 returns-in-Some-Judge-clause-write_fault g c =

@@ -4,5 +4,5 @@ use Rattle.rng_tool.proofs.run_script.run_script.Goals as goal
 
 pub returns-in-Err-write_alone-clause-ends : goal.returns-in-Err-write_alone-clause-ends
 returns-in-Err-write_alone-clause-ends g c =
-    let cut = c.in-Err-write_alone.ensures.prefix c.args.script.now c.requires (search rules) in
+    let cut = c.in-Err-write_alone.ensures.prefix c.args.script.now (search rules) in
     (cut.0, (Done, tt, cut.1), cut.2)

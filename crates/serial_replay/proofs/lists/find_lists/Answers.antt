@@ -1,7 +1,7 @@
 use Rattle.std.proofs.Common.{List}
-use Rattle.key_names.specs.SeenLine.{SeenLine}
-use Rattle.line_orders.specs.Seen.{seen_callers}
-use Rattle.list_replay.specs.Tables.{tables_of}
+use Rattle.key_names.specs.Transcripts.SeenLine.{SeenLine}
+use Rattle.judge_lines.specs.Seen.{seen_callers}
+use Rattle.judge_log.specs.Tables.{tables_of}
 use Rattle.serial_replay.proofs.RemadeLines.{early_fails, forks_rise, none_replayed}
 use Rattle.serial_replay.proofs.lists.find_lists.Goals as goal
 

@@ -1,13 +1,13 @@
 use Rattle.std.proofs.Common.{◌≡◌, ℕ, ◌+◌, List, length, map, sym, subst, ap, ◌∙◌}
 use Rattle.std.specs.List.{AllByRecursion}
 use Rattle.std.proofs.lemmas.List.{length_push}
-use Rattle.key_names.specs.Book.{list_at}
-use Rattle.key_names.specs.Calls.{Setting, Call}
-use Rattle.key_names.specs.IsTranscript.{start_setting, CallerMeans}
-use Rattle.line_orders.specs.declared.called.Called.{Called}
-use Rattle.line_orders.specs.Called.{seen_call, seen_calls}
-use Rattle.told_entries.specs.Filled.{CallsFill}
-use Rattle.caller_answers.specs.Said.{NotedAt, CallInRange, IsSaid}
+use Rattle.key_names.specs.Lanes.Book.{list_at}
+use Rattle.key_names.specs.Callers.Calls.{Setting, Call}
+use Rattle.key_names.specs.Transcripts.IsTranscript.{start_setting, CallerMeans}
+use Rattle.judge_lines.specs.declared.called.Called.{Called}
+use Rattle.judge_lines.specs.Called.{seen_call, seen_calls}
+use Rattle.judge_log.specs.Filled.{CallsFill}
+use Rattle.judge_log.specs.Said.{NotedAt, CallInRange, IsSaid}
 use Rattle.serial_replay.proofs.OneCaller.{here, among, range_of, calls_of, settings_are, said_more}
 use Rattle.serial_replay.proofs.remake.all_said.Goals as goal
 

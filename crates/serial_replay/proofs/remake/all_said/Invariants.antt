@@ -1,12 +1,12 @@
 use Rattle.std.proofs.Common.{◌≡◌, ℕ, ◌<◌, List, length}
-use Rattle.key_names.specs.Book.{Lists, LawfulLanes, list_at}
-use Rattle.key_names.specs.IsTranscript.{start_setting}
+use Rattle.key_names.specs.Lanes.Book.{Lists, LawfulLanes, list_at}
+use Rattle.key_names.specs.Transcripts.IsTranscript.{start_setting}
 use Rattle.key_names.specs.Texts.ScriptGrammar.{Script}
-use Rattle.key_names.specs.SeenLine.{SeenLine}
-use Rattle.line_orders.specs.Called.{seen_calls}
-use Rattle.list_replay.specs.Kept.{Keeps}
-use Rattle.told_entries.specs.Filled.{AllCallsFill}
-use Rattle.caller_answers.specs.Said.{IsSaid}
+use Rattle.key_names.specs.Transcripts.SeenLine.{SeenLine}
+use Rattle.judge_lines.specs.Called.{seen_calls}
+use Rattle.judge_log.specs.Kept.{Keeps}
+use Rattle.judge_log.specs.Filled.{AllCallsFill}
+use Rattle.judge_log.specs.Said.{IsSaid}
 use Rattle.serial_replay.specs.Remade.{CallersStand, said_lists, said_of_caller}
 use Rattle.serial_replay.proofs.remake.all_said.Given as goal
 

@@ -1,6 +1,6 @@
 use Rattle.std.proofs.Common.{◌≡◌, true, false, List}
-use Rattle.key_names.specs.SeenLine.{SeenLine}
-use Rattle.line_orders.specs.Seen.{seen_callers}
+use Rattle.key_names.specs.Transcripts.SeenLine.{SeenLine}
+use Rattle.judge_lines.specs.Seen.{seen_callers}
 use Rattle.serial_replay.proofs.RemadeLines.{few_calls, forks_are, forks_rise, in_range, callers_stand, none_said, all_fill, all_made}
 use Rattle.serial_replay.proofs.remake.of_lines.Goals as goal
 

@@ -1,5 +1,5 @@
 use Rattle.std.proofs.Common.{map}
-use Rattle.key_names.specs.SameSteps.{bare}
+use Rattle.key_names.specs.Transcripts.SameSteps.{bare}
 use Rattle.serial_replay.specs.Remade.{IsRemade}
 use Rattle.serial_replay.proofs.BareMade.{remade_of_bare, steps_fit, if_ok}
 use Rattle.serial_replay.proofs.remake.remake.Goals as goal

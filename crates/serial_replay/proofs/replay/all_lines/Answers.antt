@@ -1,11 +1,11 @@
 use Rattle.std.proofs.Common.{◌≡◌, ℕ, ◌<◌, ◌≤◌, List, length, sym, subst, ap, ◌∙◌, arith}
 use Rattle.std.specs.List.{AllByRecursion}
 use Rattle.std.proofs.lemmas.List.{length-map}
-use Rattle.key_names.specs.Book.{list_at}
-use Rattle.key_names.specs.SeenLine.{SeenLine}
+use Rattle.key_names.specs.Lanes.Book.{list_at}
+use Rattle.key_names.specs.Transcripts.SeenLine.{SeenLine}
 use Rattle.key_names.specs.Texts.TranscriptGrammar.{LastHasLines}
 use Rattle.transcript_text.specs.declared.caller_lines.CallerLines.{CallerLines}
-use Rattle.caller_answers.specs.declared.said.Said.{Said}
+use Rattle.judge_log.specs.declared.said.Said.{Said}
 use Rattle.serial_replay.specs.Agreement.{Agrees}
 use Rattle.serial_replay.specs.Remade.{said_lists}
 use Rattle.serial_replay.specs.Written.{MayShow}

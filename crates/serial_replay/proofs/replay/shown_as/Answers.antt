@@ -1,7 +1,7 @@
 use Rattle.std.proofs.Common.{ℕ, ◌<◌, List, [], ◌∷◌, arith}
 use Rattle.std.specs.Prelude.{slice_index}
 use Rattle.key_names.specs.declared.events.Word.{Word}
-use Rattle.key_names.specs.SeenLine.{bytes_or_none}
+use Rattle.key_names.specs.Transcripts.SeenLine.{bytes_or_none}
 use Rattle.key_names.specs.Texts.TranscriptGrammar.{ShownFits}
 use Rattle.serial_replay.specs.Written.{IsFor}
 use Rattle.serial_replay.proofs.replay.shown_as.Goals as goal

@@ -1,7 +1,7 @@
 use Rattle.std.proofs.Common.{length, take, ap, sym, subst, ◌∙◌}
 use Rattle.std.specs.Prelude.{All}
 use Rattle.std.proofs.lemmas.List.Elements.{All-map, All-take}
-use Rattle.list_replay.specs.Tables.{BaseIsNear, PoolIsNear}
+use Rattle.judge_log.specs.Tables.{BaseIsNear, PoolIsNear}
 use Rattle.transcript_check.proofs.Rows.{Wide, few_of, items, wide_of}
 use Rattle.transcript_check.proofs.other_entries.begins.Goals as goal
 

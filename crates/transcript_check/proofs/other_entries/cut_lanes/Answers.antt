@@ -3,8 +3,8 @@ use Rattle.std.specs.Prelude.{All}
 use Rattle.std.specs.Global.{Vec}
 use Rattle.std.proofs.lemmas.List.{length_push}
 use Rattle.std.proofs.lemmas.List.Elements.{All-push, All-take, All-get_or}
-use Rattle.list_replay.specs.Tables.{CpuIsWide}
-use Rattle.list_replay.specs.declared.told.ToldCpu.{ToldCpu}
+use Rattle.judge_log.specs.Tables.{CpuIsWide}
+use Rattle.judge_log.specs.declared.told.ToldCpu.{ToldCpu}
 use Rattle.transcript_check.specs.Rows.{AreWide}
 use Rattle.transcript_check.proofs.other_entries.cut_lanes.Goals as goal
 

@@ -1,4 +1,4 @@
-use Rattle.line_orders.specs.Seen.{seen_callers}
+use Rattle.judge_lines.specs.Seen.{seen_callers}
 use Rattle.serial_replay.proofs.RemadeLines.{forks_rise, in_range}
 use Rattle.transcript_check.proofs.other_forms.first_other_form.Goals as goal
 

@@ -1,7 +1,7 @@
 use Rattle.std.proofs.Common.{◌≡◌, ℕ, ◌<◌, length, subst, ◌∙◌, arith}
-use Rattle.key_names.specs.Book.{list_at}
-use Rattle.key_names.specs.SeenLine.{SeenLine}
-use Rattle.caller_answers.specs.declared.said.Said.{Said}
+use Rattle.key_names.specs.Lanes.Book.{list_at}
+use Rattle.key_names.specs.Transcripts.SeenLine.{SeenLine}
+use Rattle.judge_log.specs.declared.said.Said.{Said}
 use Rattle.serial_replay.specs.Remade.{said_lists}
 use Rattle.serial_replay.proofs.WrittenLines.{lines_at, said_at}
 use Rattle.transcript_check.specs.Others.{IsOtherAt}

@@ -1,6 +1,6 @@
 use Rattle.transcript_check.proofs.Places.{places_too}
 use Rattle.transcript_check.specs.Others.{HasOther, IsOtherAt}
-use Rattle.key_names.specs.Book.{list_at}
+use Rattle.key_names.specs.Lanes.Book.{list_at}
 use Rattle.serial_replay.specs.Remade.{made_by}
 use Rattle.transcript_check.proofs.other_lines.first_other.Goals as goal
 

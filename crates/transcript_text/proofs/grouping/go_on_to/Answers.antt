@@ -1,5 +1,5 @@
 use Rattle.std.proofs.Common.{List, ap, sym, subst, ◌∙◌, arith}
-use Rattle.key_names.specs.SeenLine.{SeenLine}
+use Rattle.key_names.specs.Transcripts.SeenLine.{SeenLine}
 use Rattle.transcript_text.specs.Grouping.{Groups, seen_callers}
 use Rattle.transcript_text.specs.declared.caller_lines.CallerLines.{CallerLines}
 use Rattle.transcript_text.proofs.GroupedLines.{groups_next, seen_callers-push}

@@ -1,5 +1,5 @@
 use Rattle.std.proofs.Common.{◌-◌, ◌≤◌, List, vec_len}
-use Rattle.key_names.specs.SeenLine.{SeenLine}
+use Rattle.key_names.specs.Transcripts.SeenLine.{SeenLine}
 use Rattle.transcript_text.specs.Grouping.{Groups, seen_callers}
 use Rattle.transcript_text.proofs.grouping.go_on_to.Given as goal
 

@@ -1,6 +1,6 @@
 use Rattle.std.proofs.Common.{length, subst}
-use Rattle.key_names.specs.VgetrandomState.{VgetrandomState}
-use Rattle.key_names.specs.Vgetrandom.{BySystem}
+use Rattle.key_names.specs.Kernel.VgetrandomState.{VgetrandomState}
+use Rattle.key_names.specs.Kernel.Vgetrandom.{BySystem}
 use Rattle.vdso_state.specs.Host.{doings}
 use Rattle.vdso_state.specs.Places.{Ends}
 use Rattle.vdso_state.proofs.attempt.give_up.Goals as goal

@@ -1,7 +1,7 @@
 use Rattle.std.proofs.Common.{◌≡◌, ℕ, ◌++◌, ◌+◌, ◌-◌, ◌*◌, ◌/◌, ◌<◌, length, take, ap, ◌∙◌, arith, refl}
 use Rattle.std.proofs.lemmas.List.{length-take-le, take_at, take_rest}
 use Rattle.std.proofs.lemmas.Slice.{take-put_mid}
-use Rattle.key_names.specs.Blake2s.{inner_count, key_len, message, start_words}
+use Rattle.key_names.specs.Kernel.Blake2s.{inner_count, key_len, message, start_words}
 use Rattle.blake2s_core.proofs.Growing.{Stands_short, Stands-IsAfter, Stands_tail, filled_block, tail_of_message, chunk_block}
 use borrow.Rule.Slice.PartMut.{put_mid}
 use Rattle.blake2s_core.proofs.Words.{put_mid_to_end}

@@ -1,5 +1,5 @@
 use Rattle.std.proofs.Common.{◌≡◌, ℕ, ◌+◌, ◌<◌, List, [], length, get_or}
-use Rattle.key_names.specs.Blake2s.{block_bytes}
+use Rattle.key_names.specs.Kernel.Blake2s.{block_bytes}
 use Rattle.blake2s_core.specs.Hash.{IsAfter}
 use Rattle.blake2s_core.proofs.hasher.Chain.hash_blocks.Given as goal
 

@@ -6,8 +6,8 @@ use Rattle.caller_run.proofs.alone.LoneRun.end.Goals as goal
 
 pub returns-clause-lawful : goal.returns-clause-lawful
 returns-clause-lawful g c script lines is =
-    ends_lawfully c.args.self.now c.leave.new.self c.only.result c.leave.new.trace is c.requires.none c.only.ensures
-    c.leave.ensures c.settle.ensures.ended
+    ends_lawfully c.args.self.now c.leave.new.self c.only.result c.leave.new.trace is c.only.ensures c.leave.ensures
+    c.settle.ensures.ended
 
 pub returns-clause-line : goal.returns-clause-line
 returns-clause-line g c = record {

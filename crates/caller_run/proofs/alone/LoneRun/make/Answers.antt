@@ -1,8 +1,7 @@
-use Rattle.std.proofs.Common.{◌≡◌, ◌≤◌, ℕ, List, refl, sym, subst, ap, arith, length, take, drop, ◌++◌, ◌∙◌}
-use Rattle.std.specs.List.{AllByRecursion}
+use Rattle.std.proofs.Common.{◌≡◌, ℕ, List, refl, sym, subst, ap, arith, length, take, drop, ◌++◌, ◌∙◌}
 use Rattle.rng_core.specs.declared.setting.Setting.{Setting}
 use Rattle.caller_run.specs.Says.{most_shown, ShowsFit}
-use Rattle.caller_run.proofs.Forks.Alone.{goes_on, once_called}
+use Rattle.caller_run.proofs.Forks.Alone.{goes_on, made_one, once_called}
 use Rattle.caller_run.proofs.Planning.LogFills.{put_back}
 use Rattle.caller_run.proofs.alone.LoneRun.make.Goals as goal
 
@@ -13,27 +12,30 @@ front_back n most len all items long is =
     ap (take n) (put_back all items len long) ∙ ap (λ (k : ℕ). take k all) is
 
 pub returns-clause-going : goal.returns-clause-going
-returns-clause-going g c script lines is =
-    let d = c.call_once-shown.new.self in let all = c.call_once-shown.new.served in let steps = c.call_once-shown.new.trace in
-    let event = c.args.event.now in let front = take (most_shown event) all in let called = c.call_once-shown.ensures.called in
-    goes_on c.args.self.now _ event d c.call_once-shown.result.0 front steps is c.requires.next called
+returns-clause-going g c script rest lines is =
+    let d = c.call_once-self.new.self in let all = c.call_once-self.new.served in let steps = c.call_once-self.new.trace in
+    let told = c.call_once-self.ensures in let event = c.args.event.now in let front = take (most_shown event) all in
+    goes_on c.args.self.now _ event rest d c.call_once-self.result.said front steps is told.called
     (record {
       on = c.go_on.ensures;
-      number = ap (λ (s : Setting). s.event) (sym (once_called c.args.self.now.lanes front event called).set);
-      word_is = c.word.ensures;
+      number = told.event ∙ ap (λ (s : Setting). s.event) (sym (once_called c.args.self.now.lanes front event told.called).set);
+      word_is = told.word;
       reply = refl;
       trace = refl;
-      shown = front_back _ _ _ all _ (c.call_once-shown.auto.served ∙ c.deref_mut.ensures.len) c.call_once-shown.ensures.shown;
+      shown = front_back _ _ _ all _ (c.call_once-self.auto.served ∙ c.deref_mut.ensures.len) told.shown;
     })
     refl refl
 
+pub returns-clause-made : goal.returns-clause-made
+returns-clause-made g c cpus done lines made =
+    made_one done c.args.event.now (λ script rest is. returns-clause-going g c script rest lines is) made
+
 pub returns-clause-line : goal.returns-clause-line
 returns-clause-line g c =
-    let event = c.args.event.now in let all = c.call_once-shown.new.served in
-    let k = once_called c.args.self.now.lanes (take (most_shown event) all) event c.call_once-shown.ensures.called in
-    let m = c.args.self.now.served.len in record {
+    let event = c.args.event.now in let all = c.call_once-self.new.served in let told = c.call_once-self.ensures in
+    let k = once_called c.args.self.now.lanes (take (most_shown event) all) event told.called in
+    let low = c.requires.3.goes.can.longest.0 in record {
       steps_fit = k.steps_fit;
-      shows = subst (λ w. ShowsFit w c.call_once-shown.result.0.shows) (sym c.word.ensures) k.shows;
-      within = (let low = (subst (AllByRecursion (λ e. most_shown e ≤ m)) c.requires.next
-          c.requires.going.2.goes.can.longest).0 in omega (arith, c.call_once-shown.ensures.shown));
+      shows = subst (λ w. ShowsFit w c.call_once-self.result.said.shows) (sym told.word) k.shows;
+      within = omega (arith, told.shown);
     }

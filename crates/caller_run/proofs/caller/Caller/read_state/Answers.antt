@@ -5,7 +5,7 @@ use Rattle.rng_core.specs.Acts.{all_wanted, ask_of, asks_of, outcomes_of}
 use Rattle.caller_run.specs.Calling.{StateRead}
 use Rattle.key_names.specs.declared.events.Event.TheVariants.{Vread}
 use Rattle.key_names.specs.declared.events.Word.TheVariants.{Vread as VreadWord}
-use Rattle.key_names.specs.SeenLine.{SeenLine}
+use Rattle.key_names.specs.Transcripts.SeenLine.{SeenLine}
 use Rattle.caller_run.specs.Waiting.{told_anew, act_lines}
 use Rattle.caller_run.specs.Says.{most_shown, line_of}
 use Rattle.caller_run.proofs.Planning.LogFills.{put_back, wanted_few}

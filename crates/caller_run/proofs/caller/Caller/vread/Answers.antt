@@ -1,6 +1,6 @@
 use Rattle.std.proofs.Common.{◌≡◌, [], rules, refl, length, ◌<◌, ◌∙◌, sym, subst, ap, arith}
 use Rattle.std.proofs.lemmas.Bool.{eqb-true}
-use Rattle.key_names.specs.Meaning.{CallerState, current_state, with_state}
+use Rattle.key_names.specs.Callers.Meaning.{CallerState, current_state, with_state}
 use Rattle.lane_table.specs.Calls.{view}
 use Rattle.rng_core.specs.Makes.{setting_of}
 use Rattle.rng_core.specs.Acts.{all_wanted, asks_of, outcomes_of}

@@ -1,5 +1,5 @@
 use Rattle.std.proofs.Common.{◌≡◌, [], rules, refl, ap, ◌∙◌, length, arith}
-use Rattle.key_names.specs.Meaning.{CallerState, current_state, with_state}
+use Rattle.key_names.specs.Callers.Meaning.{CallerState, current_state, with_state}
 use Rattle.rng_core.specs.Makes.{setting_of}
 use Rattle.caller_run.specs.Calling.{caller_at}
 use Rattle.caller_run.specs.declared.states.States.{States}

@@ -4,7 +4,7 @@ use Rattle.chacha_blocks.specs.Place.{Place, generator_at}
 use Rattle.chacha_blocks.proofs.Words.{bytes_of_fill, rest_of_fill}
 use Rattle.chacha_blocks.proofs.reader.Reader.read.Goals as goal
 
--- a reader whose key stays sees the generator at the place after the read
+-- if a reader keeps its key, its generator after a read is that of the key, at the place then reached
 stands : (key k : List ℕ) (w : ℕ) (g : ChaCha) → k ≡ key → g ≡ generator_at key w → g ≡ generator_at k g.word_pos
 stands key k w g same after = let place : g.word_pos ≡ w = ap (λ (x : ChaCha). x.word_pos) after in
     after ∙ rw (same, place) refl

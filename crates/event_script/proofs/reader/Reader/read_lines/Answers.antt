@@ -1,6 +1,7 @@
-use Rattle.std.proofs.Common.{ap, subst, ◌∙◌, ◌++◌, ◌∷◌, []}
+use Rattle.std.proofs.Common.{ap, arith, length, subst, ◌∙◌, ◌++◌, ◌∷◌, []}
 use Rattle.event_script.specs.Feeding.{LeadsTo}
 use Rattle.event_script.proofs.Feeding.{behind_is_whole, lines_read, none_read}
+use Rattle.event_script.proofs.WholeLines.{no_lines}
 use Rattle.event_script.proofs.reader.Reader.read_lines.Goals as goal
 
 pub returns-in_default-clause-read : goal.returns-in_default-clause-read
@@ -19,3 +20,11 @@ returns-clause-read c = λ text behind at.
     c.clear.ensures.items
     (subst (λ s. LeadsTo s c.deref.result.now c.in_ok-stage.stage []) c.replace-stage.ensures.value c.in_ok-stage.ensures)
     c.in_ok-self.ensures at
+
+pub returns-in_default-clause-rest : goal.returns-in_default-clause-rest
+returns-in_default-clause-rest c = λ some.
+    absurd (omega (
+      arith,
+      some,
+      ap length (no_lines c.args.lines.now c.requires.whole c.in_default.ensures.parts),
+    ))

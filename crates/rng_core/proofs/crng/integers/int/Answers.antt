@@ -1,5 +1,5 @@
 use Rattle.std.proofs.Common.{length, inr, arith}
-use Rattle.key_names.specs.Forms.{IntForm}
+use Rattle.key_names.specs.Callers.Forms.{IntForm}
 use Rattle.rng_core.specs.Makes.{setting_of}
 use Rattle.rng_core.proofs.IntFulfilling.{int_unready, int_fulfils}
 use Rattle.rng_core.proofs.SiteLemmas.{does_map, does_looked}

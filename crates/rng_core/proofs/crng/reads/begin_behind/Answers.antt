@@ -1,5 +1,5 @@
 use Rattle.std.proofs.Common.{inl, inr, [], ◌∙◌, arith}
-use Rattle.key_names.specs.Forms.{CpuReadForm, DrawForm}
+use Rattle.key_names.specs.Callers.Forms.{CpuReadForm, DrawForm}
 use Rattle.rng_core.specs.Makes.{Serving, setting_of}
 use Rattle.rng_core.specs.Rests.{finished}
 use Rattle.rng_core.proofs.SiteLemmas.{does_map, does_within, does_behind, walked_then}

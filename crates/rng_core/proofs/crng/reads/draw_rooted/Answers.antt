@@ -1,6 +1,6 @@
 use Rattle.std.proofs.Common.{◌∙◌, ℕ, List, Some, ap, inl, sym}
 use Rattle.key_names.specs.declared.entries.BaseEntry.TheVariants.{Draw}
-use Rattle.key_names.specs.KeyInUse.{taken_bytes}
+use Rattle.key_names.specs.Keys.KeyInUse.{taken_bytes}
 use Rattle.lane_table.specs.Meaning.{got_of}
 use Rattle.lane_table.specs.WorldRule.{known_of}
 use Rattle.lane_table.specs.Calls.{view}

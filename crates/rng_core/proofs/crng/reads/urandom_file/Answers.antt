@@ -1,6 +1,6 @@
 use Rattle.std.proofs.Common.{◌<◌, length, refl, rules}
 use Rattle.key_names.specs.declared.entries.Taken.TheVariants.{User}
-use Rattle.key_names.specs.Forms.{ReadForm}
+use Rattle.key_names.specs.Callers.Forms.{ReadForm}
 use Rattle.rng_core.specs.Makes.{setting_of}
 use Rattle.rng_core.proofs.Fulfilling.{user_some, user_none}
 use Rattle.rng_core.proofs.SiteLemmas.{does_map, does_looked, does_nothing}

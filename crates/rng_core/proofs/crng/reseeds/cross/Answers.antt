@@ -1,5 +1,5 @@
 use Rattle.std.proofs.Common.{refl, sym, subst}
-use Rattle.key_names.specs.Forms.{Cross}
+use Rattle.key_names.specs.Callers.Forms.{Cross}
 use Rattle.input_pool.specs.declared.pool.Crossing.{Crossing}
 use Rattle.input_pool.specs.PoolStands.{crossing_of}
 use Rattle.rng_core.specs.Makes.{setting_of}

@@ -1,6 +1,6 @@
 use Rattle.std.proofs.Common.{inl, inr, arith}
-use Rattle.key_names.specs.Forms.{Cross}
-use Rattle.key_names.specs.PoolList.{early}
+use Rattle.key_names.specs.Callers.Forms.{Cross}
+use Rattle.key_names.specs.Lanes.PoolList.{early}
 use Rattle.rng_core.specs.Makes.{setting_of}
 use Rattle.rng_core.proofs.SiteLemmas.{does_map, does_within, does_behind, does_base}
 use Rattle.rng_core.proofs.crng.reseeds.cross_early.Goals as goal

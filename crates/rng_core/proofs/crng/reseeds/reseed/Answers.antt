@@ -1,6 +1,6 @@
 use Rattle.std.proofs.Common.{ℕ, arith}
 use Rattle.key_names.specs.declared.entries.BaseEntry.TheVariants.{Reseed}
-use Rattle.key_names.specs.Forms.{Rooted}
+use Rattle.key_names.specs.Callers.Forms.{Rooted}
 use Rattle.rng_core.specs.Makes.{setting_of}
 use Rattle.rng_core.proofs.Fulfilling.{reseed_unready, reseed_ready}
 use Rattle.rng_core.proofs.SiteLemmas.{does_map, does_within, does_look, does_found}

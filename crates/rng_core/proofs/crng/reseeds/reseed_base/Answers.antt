@@ -1,6 +1,6 @@
 use Rattle.std.proofs.Common.{ℕ, refl}
 use Rattle.key_names.specs.declared.entries.BaseEntry.TheVariants.{Reseed}
-use Rattle.key_names.specs.Forms.{Rooted}
+use Rattle.key_names.specs.Callers.Forms.{Rooted}
 use Rattle.rng_core.specs.Makes.{setting_of}
 use Rattle.rng_core.proofs.SiteLemmas.{does_behind, does_formed}
 use Rattle.rng_core.proofs.Rising.{reseed_rises}

@@ -1,7 +1,7 @@
 use Rattle.std.proofs.Common.{arith}
 use Rattle.key_names.specs.declared.events.Event.TheVariants.{Tick}
 use Rattle.key_names.specs.declared.events.Answer.TheVariants.{Fired}
-use Rattle.key_names.specs.SeenLine.{no_data}
+use Rattle.key_names.specs.Transcripts.SeenLine.{no_data}
 use Rattle.rng_core.specs.Makes.{IsOutcomeOf, setting_of}
 use Rattle.rng_core.proofs.Fulfilling.{tick_idle, tick_fired}
 use Rattle.rng_core.proofs.SiteLemmas.{does_map, does_within, does_behind, does_base}

@@ -8,9 +8,9 @@ use Rattle.key_names.specs.declared.events.Event.TheVariants.{Read}
 use Rattle.key_names.specs.declared.events.Answer.TheVariants.{Ok as Done}
 use Rattle.key_names.specs.declared.names.Step.{Step}
 use Rattle.key_names.specs.declared.names.Step.TheVariants.{Look}
-use Rattle.key_names.specs.SeenLine.{bytes_or_none}
-use Rattle.key_names.specs.Deeds.{Deed, looked}
-use Rattle.key_names.specs.Forms.{BaseOnly, CpuReadForm, ReadForm}
+use Rattle.key_names.specs.Transcripts.SeenLine.{bytes_or_none}
+use Rattle.key_names.specs.Callers.Deeds.{Deed, looked}
+use Rattle.key_names.specs.Callers.Forms.{BaseOnly, CpuReadForm, ReadForm}
 use Rattle.rng_core.specs.Makes.{Serving, setting_of}
 use Rattle.rng_core.specs.Sites.{Completes}
 use Rattle.rng_core.specs.SiteWaits.{waiting_at}

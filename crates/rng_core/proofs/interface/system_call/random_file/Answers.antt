@@ -1,6 +1,6 @@
 use Rattle.std.proofs.Common.{ℕ, ◌+◌, length, subst}
 use Rattle.key_names.specs.declared.events.Event.TheVariants.{Dread}
-use Rattle.key_names.specs.SeenLine.{bytes_or_none}
+use Rattle.key_names.specs.Transcripts.SeenLine.{bytes_or_none}
 use Rattle.rng_core.specs.Makes.{result_answer, given}
 use Rattle.rng_core.specs.Sites.{Completes}
 use Rattle.rng_core.specs.SiteWaits.{waiting_at}

@@ -1,6 +1,6 @@
 use Rattle.std.proofs.Common.{arith}
 use Rattle.key_names.specs.declared.entries.PoolEntry.TheVariants.{Mix}
-use Rattle.key_names.specs.Forms.{CreditForm}
+use Rattle.key_names.specs.Callers.Forms.{CreditForm}
 use Rattle.lane_table.specs.Meaning.{nothing}
 use Rattle.lane_table.proofs.Calls.Lent.{lent}
 use Rattle.rng_core.specs.Makes.{setting_of}

@@ -1,7 +1,7 @@
 use Rattle.std.proofs.Common.{sym, ◌∙◌, arith}
 use Rattle.key_names.specs.declared.events.Event.TheVariants.{Irq}
 use Rattle.key_names.specs.declared.events.Answer.TheVariants.{Ok as Done}
-use Rattle.key_names.specs.SeenLine.{no_data}
+use Rattle.key_names.specs.Transcripts.SeenLine.{no_data}
 use Rattle.lane_table.specs.Meaning.{nothing}
 use Rattle.lane_table.proofs.Calls.Lent.{lent}
 use Rattle.rng_core.specs.Makes.{IsOutcomeOf, setting_of}

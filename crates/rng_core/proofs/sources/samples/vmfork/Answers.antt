@@ -1,7 +1,7 @@
 use Rattle.std.proofs.Common.{◌++◌, List, refl, ap, ◌∙◌}
 use Rattle.key_names.specs.declared.events.Event.TheVariants.{Reseed}
-use Rattle.key_names.specs.Deeds.{Deed}
-use Rattle.key_names.specs.SeenLine.{no_data}
+use Rattle.key_names.specs.Callers.Deeds.{Deed}
+use Rattle.key_names.specs.Transcripts.SeenLine.{no_data}
 use Rattle.rng_core.specs.Makes.{IsOutcomeOf, setting_of, result_answer}
 use Rattle.rng_core.proofs.SiteLemmas.{does_map, does_then}
 use Rattle.rng_core.proofs.sources.samples.vmfork.Goals as goal

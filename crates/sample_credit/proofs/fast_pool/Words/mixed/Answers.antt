@@ -1,6 +1,6 @@
 use Rattle.std.proofs.Common.{ap, ◌∙◌}
 use Rattle.std.specs.Prelude.{bit_xor}
-use Rattle.key_names.specs.FastPool.{FastWords, sip_round, word_mixed}
+use Rattle.key_names.specs.Kernel.FastPool.{FastWords, sip_round, word_mixed}
 use Rattle.sample_credit.proofs.fast_pool.Words.mixed.Goals as goal
 
 pub returns : goal.returns

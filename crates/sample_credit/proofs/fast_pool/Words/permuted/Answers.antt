@@ -1,5 +1,5 @@
 use Rattle.std.proofs.Common.{refl}
-use Rattle.key_names.specs.FastPool.{sip_round}
+use Rattle.key_names.specs.Kernel.FastPool.{sip_round}
 use Rattle.sample_credit.proofs.fast_pool.Words.permuted.Goals as goal
 
 pub returns : goal.returns

@@ -1,6 +1,6 @@
 use Rattle.std.proofs.Common.{◌≡◌, sym, ap, ◌∙◌, arith}
 use Rattle.std.specs.Prelude.{slice_get}
-use Rattle.key_names.specs.Book.{list_at}
+use Rattle.key_names.specs.Lanes.Book.{list_at}
 use Rattle.serial_replay.proofs.WrittenLines.{lines_at}
 use Rattle.transcript_check.proofs.Compared.{none_behind, none_of_another}
 use Rattle.transcript_check.proofs.compare.Compare.line.Goals as goal

@@ -1,6 +1,6 @@
 use Rattle.std.proofs.Common.{length, ap, rules, subst, arith}
 use Rattle.std.proofs.lemmas.List.{length-map}
-use Rattle.key_names.specs.SeenLine.{seen_line}
+use Rattle.key_names.specs.Transcripts.SeenLine.{seen_line}
 use Rattle.key_names.specs.Texts.TranscriptGrammar.{LineFits}
 use Rattle.transcript_text.specs.Gathered.{Gathered}
 use Rattle.transcript_text.proofs.Keeping.{line_fits}

@@ -1,5 +1,5 @@
 use Rattle.std.proofs.Common.{ap}
-use Rattle.key_names.specs.SeenLine.{shown_in}
+use Rattle.key_names.specs.Transcripts.SeenLine.{shown_in}
 use Rattle.transcript_text.specs.Gathered.{Gathered}
 use Rattle.transcript_text.proofs.Keeping.{kept_bytes, kept_read_pushed, seen_read_pushed}
 use Rattle.transcript_text.proofs.caller_lines.CallerLines.push_read.Goals as goal

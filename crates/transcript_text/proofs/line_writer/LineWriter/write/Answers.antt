@@ -10,11 +10,11 @@ use Rattle.transcript_text.proofs.Places.{head_put}
 use Rattle.transcript_text.proofs.PuttingOn.{breaks_off, piece_put}
 use Rattle.transcript_text.proofs.line_writer.LineWriter.write.Goals as goal
 
--- a piece of the data is made, and the rest is still to come
+-- after a piece of the data is made, the rest is left
 more_shown : (left piece rest : List ℕ) → piece ++ rest ≡ left → left ++ codes "\n" ≡ piece ++ (rest ++ codes "\n")
 more_shown left piece rest part = ap (λ text. text ++ codes "\n") (sym part) ∙ append_assoc piece rest (codes "\n")
 
--- the last piece is made
+-- the last piece of a line has all that was left, and the line feed
 all_shown : (left piece last : List ℕ) → piece ≡ left → last ≡ piece ++ codes "\n" → left ++ codes "\n" ≡ last ++ []
 all_shown left piece last all end = ap (λ text. text ++ codes "\n") (sym all) ∙ sym end ∙ sym (append-nil last)
 

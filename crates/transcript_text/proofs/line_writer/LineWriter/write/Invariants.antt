@@ -1,5 +1,5 @@
 use Rattle.std.proofs.Common.{◌≡◌, ◌≤◌, ◌++◌, codes, length}
-use Rattle.key_names.specs.SeenLine.{bytes_in}
+use Rattle.key_names.specs.Transcripts.SeenLine.{bytes_in}
 use Rattle.transcript_text.specs.Lines.{whole_line}
 use Rattle.transcript_text.specs.Places.{data_left}
 use Rattle.transcript_text.specs.Putting.{PutSoFar}

@@ -1,6 +1,6 @@
 use Rattle.std.proofs.Common.{◌≡◌, ◌-◌, min, length, ap, refl, arith}
-use Rattle.key_names.specs.VgetrandomState.{VgetrandomState}
-use Rattle.key_names.specs.BatchCopy.{bytes_left}
+use Rattle.key_names.specs.Kernel.VgetrandomState.{VgetrandomState}
+use Rattle.key_names.specs.Kernel.BatchCopy.{bytes_left}
 use Rattle.vdso_state.proofs.state.VState.copy.Goals as goal
 
 pub returns-else-out-left-clause-bytes : goal.returns-else-out-left-clause-bytes

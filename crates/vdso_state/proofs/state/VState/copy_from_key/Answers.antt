@@ -1,6 +1,6 @@
 use Rattle.std.proofs.Common.{◌≡◌, ◌+◌, ◌*◌, ◌/◌, ◌%◌, length, refl, ap, ◌∙◌, arith}
-use Rattle.key_names.specs.Keystream.{keystream}
-use Rattle.key_names.specs.VgetrandomState.{VgetrandomState}
+use Rattle.key_names.specs.Kernel.Keystream.{keystream}
+use Rattle.key_names.specs.Kernel.VgetrandomState.{VgetrandomState}
 use Rattle.vdso_state.proofs.Copies.{state_at, bytes_at}
 use Rattle.vdso_state.proofs.state.VState.copy_from_key.Goals as goal
 

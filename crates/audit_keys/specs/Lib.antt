@@ -1,0 +1,30 @@
+-- The files of specs/.
+pub mod ToldFrom
+pub mod UsedAt
+pub mod UsesSeen
+pub mod KeptEntries
+pub mod Fills
+pub mod StateKeys
+pub mod HeldUnused
+pub mod Moments
+-- The files of specs/.
+pub mod Lives
+pub mod Rests
+pub mod Held
+pub mod Told
+pub mod HeldIsLive
+pub mod Cut
+pub mod Rows
+pub mod Ranks
+pub mod MadeOrder
+pub mod Outline
+pub mod Entries
+pub mod Left
+pub mod Callers
+pub mod Laws
+pub mod Stamps
+pub mod Ends
+pub mod Stamped
+pub mod StateCut
+pub mod ToldEnds
+pub mod LineEnds

@@ -1,0 +1,11 @@
+-- Lists in the order of their keys' names.
+use Rattle.std.specs.Prelude.{List, IsSortedByKey}
+use Rattle.key_names.specs.contracts.names.KeyNameOrd.TheImpl.{ghosts as names}
+use Rattle.audit_keys.specs.declared.lives.Ending.{Ending}
+use Rattle.audit_keys.specs.declared.rows.Piece.{Piece}
+
+abbrev pub PiecesByKey : List Piece → Type 0
+PiecesByKey pieces = IsSortedByKey (λ piece. piece.span.key) names.cmp pieces
+
+abbrev pub EndingsByKey : List Ending → Type 0
+EndingsByKey endings = IsSortedByKey (λ ending. ending.key) names.cmp endings

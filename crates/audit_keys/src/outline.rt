@@ -1,0 +1,25 @@
+//! The part of a vgetrandom state that determines which entries a call leaves.
+ghost use Rattle.std.specs.Prelude.{◌≡◌};
+ghost use Rattle.audit_keys.specs.Outline.{wiped_outline};
+
+/// The part of a vgetrandom state that determines which entries a call leaves. The state's key and its batch do not
+/// matter for that.
+#[derive(Clone, Copy, Debug, PartialEq, Eq)]
+pub struct Outline {
+    /// The generation that a look found when the state's key was read, or 0 if the state has been wiped since.
+    pub found: u64,
+    /// How many bytes of the batch were served.
+    pub served: u8,
+}
+
+impl Outline {
+    /// A state whose memory is all zeros.
+    pub fn wiped() -> Outline
+        ensures { result ≡ wiped_outline }
+    {
+        Outline {
+            found: 0,
+            served: 0,
+        }
+    }
+}

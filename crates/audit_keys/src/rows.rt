@@ -1,0 +1,267 @@
+//! A row for each key: its holder, the entries that made it and erased it, and the fates of its bytes.
+ghost use Rattle.std.specs.Prelude.{◌≡◌, ◌++◌, IfOk, OnOk, All, map, option_map, slice_get, IsPermutation};
+ghost use Rattle.std.specs.List.Sorted.{IsNonDecreasingBy};
+ghost use Rattle.key_names.specs.declared.names.KeyName.{KeyName as BookName};
+ghost use Rattle.audit_keys.specs.Rows.{used_piece, given_up_piece, held_piece, all_pieces};
+ghost use Rattle.audit_keys.specs.Rows.{pieces_of, endings_of, birth_of, IsRow};
+ghost use Rattle.audit_keys.specs.Ranks.{PiecesByKey, EndingsByKey};
+ghost use Rattle.audit_keys.specs.MadeOrder.{made_rank, RowsByMaking};
+
+use crate::held::{Held, HeldRest};
+use crate::lives::{Birth, Ending, GivenUp, Holder, Lives};
+use crate::moments::Moments;
+use crate::told::Told;
+use crate::used::{Origin, Purpose, Used};
+use key_names::{KeyName, Span};
+use std::alloc::{AllocError, Global};
+
+/// The fate of bytes of a key.
+#[derive(Clone, Copy, Debug, PartialEq, Eq)]
+pub enum Fate {
+    /// The bytes became this key.
+    Became(KeyName),
+    /// This entry served the bytes.
+    Served(Origin),
+    /// This entry gave up the rest of a batch that had the bytes.
+    GivenUp(Origin),
+    /// The bytes are in a batch, and were not served.
+    Held,
+}
+
+/// Bytes of a key, and their fate.
+#[derive(Clone, Copy, Debug, PartialEq, Eq)]
+pub struct Piece {
+    pub span: Span,
+    pub fate: Fate,
+}
+
+/// A key.
+#[derive(Debug, Drop)]
+pub struct Row {
+    pub key: KeyName,
+    pub holder: Holder,
+    /// The entry that made the key.
+    pub made: Origin,
+    /// The entry that erased or replaced the key, if it is not held at the end.
+    pub ended: Option<Origin>,
+    /// The fates of the key's bytes, in the order of their first bytes.
+    pub pieces: Vec<Piece>,
+}
+
+fn used_piece(used: Used) -> Piece
+    ensures { result ≡ used_piece used }
+{
+    let fate = match used.purpose {
+        Purpose::Kept(name) => Fate::Became(name),
+        Purpose::Served => Fate::Served(used.by),
+    };
+    Piece {
+        span: used.span,
+        fate,
+    }
+}
+
+fn push_used(pieces: &mut Vec<Piece>, uses: &[Used]) -> Result<(), AllocError>
+    ensures { OnOk result (pieces.new.items ≡ pieces.old.items ++ map used_piece uses.now) }
+{
+    for used in uses {
+        pieces.push(used_piece(*used))?;
+    }
+    Ok(())
+}
+
+fn push_given_up(pieces: &mut Vec<Piece>, rests: &[GivenUp]) -> Result<(), AllocError>
+    ensures { OnOk result (pieces.new.items ≡ pieces.old.items ++ map given_up_piece rests.now) }
+{
+    for rest in rests {
+        pieces.push(Piece {
+            span: rest.span,
+            fate: Fate::GivenUp(rest.by),
+        })?;
+    }
+    Ok(())
+}
+
+fn push_held(pieces: &mut Vec<Piece>, rests: &[HeldRest]) -> Result<(), AllocError>
+    ensures { OnOk result (pieces.new.items ≡ pieces.old.items ++ map held_piece rests.now) }
+{
+    for rest in rests {
+        pieces.push(Piece {
+            span: rest.span,
+            fate: Fate::Held,
+        })?;
+    }
+    Ok(())
+}
+
+// The uses and the rests of all keys. The uses are freed, since they take as much memory as the pieces.
+fn all_pieces(
+    alloc: Global,
+    uses: Vec<Used>,
+    lives: &Lives,
+    held: &Held,
+) -> Result<Vec<Piece>, AllocError>
+    ensures { IfOk result (λ pieces. pieces.items
+        ≡ all_pieces (record { lives = lives.now; held = held.now; uses = uses })) }
+{
+    let mut pieces = Vec::new(alloc);
+    push_used(&mut pieces, &uses)?;
+    push_given_up(&mut pieces, &lives.given_up)?;
+    push_held(&mut pieces, &held.rests)?;
+    Ok(pieces)
+}
+
+// The pieces of a key, from those of all keys, which are sorted by the keys' names.
+fn pieces_of(all: &[Piece], key: KeyName) -> &[Piece]
+    requires { PiecesByKey all.now }
+    ensures { result.now ≡ pieces_of key all.now }
+{
+    let first = all.partition_point(|piece| piece.span.key < key);
+    let behind = &all[first..];
+    let count = behind.partition_point(|piece| piece.span.key <= key);
+    &behind[..count]
+}
+
+// The endings of a key, from those of all keys, which are sorted by the keys' names.
+fn endings_of(all: &[Ending], key: KeyName) -> &[Ending]
+    requires { EndingsByKey all.now }
+    ensures { result.now ≡ endings_of key all.now }
+{
+    let first = all.partition_point(|ending| ending.key < key);
+    let behind = &all[first..];
+    let count = behind.partition_point(|ending| ending.key <= key);
+    &behind[..count]
+}
+
+// The pieces of a key, in the order of their first bytes.
+fn row_pieces(alloc: Global, all: &[Piece], key: KeyName) -> Result<Vec<Piece>, AllocError>
+    requires { PiecesByKey all.now }
+    ensures all { IfOk result (λ pieces. IsPermutation (pieces_of key all.now) pieces.items) }
+    ensures ordered { IfOk result (λ pieces. IsNonDecreasingBy (λ piece. piece.span.from) pieces.items) }
+{
+    let mut pieces = Vec::from_slice(alloc, pieces_of(all, key))?;
+    pieces.sort_by_key(|piece| piece.span.from)?;
+    Ok(pieces)
+}
+
+// The entry that ended a key, if one did.
+fn ended_by(all: &[Ending], key: KeyName) -> Option<Origin>
+    requires { EndingsByKey all.now }
+    ensures { result ≡ option_map (λ ending. ending.by) (slice_get (endings_of key all.now) 0) }
+{
+    endings_of(all, key).first().map(|ending| ending.by)
+}
+
+// The row of a key that is made.
+fn row_of(
+    alloc: Global,
+    birth: &Birth,
+    pieces: &[Piece],
+    endings: &[Ending],
+) -> Result<Row, AllocError>
+    requires pieces { PiecesByKey pieces.now }
+    requires endings { EndingsByKey endings.now }
+    ensures birth { IfOk result (λ row. birth_of row ≡ birth.now) }
+    ensures row { IfOk result (λ row. IsRow pieces.now endings.now row) }
+{
+    Ok(Row {
+        key: birth.key,
+        holder: birth.holder,
+        made: birth.by,
+        ended: ended_by(endings, birth.key),
+        pieces: row_pieces(alloc, pieces, birth.key)?,
+    })
+}
+
+// The uses and the rests of all keys, in the order of the keys' names.
+fn sorted_pieces(
+    alloc: Global,
+    uses: Vec<Used>,
+    lives: &Lives,
+    held: &Held,
+) -> Result<Vec<Piece>, AllocError>
+    ensures sorted { IfOk result (λ pieces. PiecesByKey pieces.items) }
+    ensures same { (key : BookName) → IfOk result (λ pieces. pieces_of key pieces.items
+        ≡ pieces_of key (all_pieces (record { lives = lives.now; held = held.now; uses = uses }))) }
+{
+    let mut pieces = all_pieces(alloc, uses, lives, held)?;
+    pieces.sort_by_key(|piece| piece.span.key)?;
+    Ok(pieces)
+}
+
+// Endings in the order of the keys' names.
+fn sorted_endings(alloc: Global, all: &[Ending]) -> Result<Vec<Ending>, AllocError>
+    ensures sorted { IfOk result (λ endings. EndingsByKey endings.items) }
+    ensures same { (key : BookName) → IfOk result (λ endings. endings_of key endings.items ≡ endings_of key all.now) }
+{
+    let mut endings = Vec::from_slice(alloc, all)?;
+    endings.sort_by_key(|ending| ending.key)?;
+    Ok(endings)
+}
+
+// The row of each birth.
+fn rows_of(
+    alloc: Global,
+    births: &[Birth],
+    pieces: &[Piece],
+    endings: &[Ending],
+) -> Result<Vec<Row>, AllocError>
+    requires pieces { PiecesByKey pieces.now }
+    requires endings { EndingsByKey endings.now }
+    ensures births { IfOk result (λ rows. map birth_of rows.items ≡ births.now) }
+    ensures rows { IfOk result (λ rows. All (IsRow pieces.now endings.now) rows.items) }
+{
+    let mut rows = Vec::new(alloc);
+    for birth in births {
+        rows.push(row_of(alloc, birth, pieces, endings)?)?;
+    }
+    Ok(rows)
+}
+
+/// The row of each key that is made, in the order of the births.
+///
+/// # Errors
+///
+/// `AllocError` if there is no memory for them.
+pub fn make_rows(alloc: Global, told: Told) -> Result<Vec<Row>, AllocError>
+    ensures births { IfOk result (λ rows. map birth_of rows.items ≡ told.lives.births.items) }
+    ensures rows { IfOk result (λ rows. All (IsRow (all_pieces told) told.lives.endings.items) rows.items) }
+{
+    let pieces = sorted_pieces(alloc, told.uses, &told.lives, &told.held)?;
+    let endings = sorted_endings(alloc, &told.lives.endings)?;
+    let rows = rows_of(alloc, &told.lives.births, &pieces, &endings)?;
+    Ok(rows)
+}
+
+/// The rank of a row in the order in which keys were made. Of two keys of one visit, the one that the erasure kept
+/// comes first.
+#[derive(Clone, Copy, PartialEq, Eq, PartialOrd, Ord)]
+struct MadeRank {
+    /// The stamp of the entry that made the key, or 0 if the entry has no moment.
+    stamp: u64,
+    made: Origin,
+    is_call_key: bool,
+}
+
+fn made_rank(moments: &Moments, row: &Row) -> MadeRank
+    ensures { result ≡ made_rank moments.now row.now }
+{
+    MadeRank {
+        stamp: moments.at(row.made).map_or(0, |moment| moment.stamp),
+        made: row.made,
+        is_call_key: matches!(row.key, KeyName::Call(..)),
+    }
+}
+
+/// Puts rows in the order in which their keys were made.
+///
+/// # Errors
+///
+/// `AllocError` if there is no memory to sort them.
+pub fn sort_rows(rows: &mut Vec<Row>, moments: &Moments) -> Result<(), AllocError>
+    ensures same { IsPermutation rows.old.items rows.new.items }
+    ensures ordered { OnOk result (RowsByMaking moments.now rows.new.items) }
+{
+    rows.sort_by_key(|row| made_rank(moments, row))?;
+    Ok(())
+}

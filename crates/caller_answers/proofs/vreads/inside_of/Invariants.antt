@@ -1,7 +1,0 @@
-use Rattle.std.proofs.Common.{◌≡◌, map, take}
-use Rattle.line_orders.specs.Called.{seen_act}
-use Rattle.vread_course.specs.Inside.{inside_of}
-use Rattle.caller_answers.proofs.vreads.inside_of.Given as goal
-
-abbrev pub invariant-loop-bound : goal.invariant-loop-bound
-invariant-loop-bound l = l.inside ≡ inside_of (map seen_act (take l.bound-index l.acts))

@@ -1,0 +1,79 @@
+-- The script that a text becomes with more text after it.
+use Rattle.std.specs.Prelude.{◌≡◌, ℕ, ◌+◌, ◌<◌, ◌≤◌, ⊤, None, List, [], ◌++◌, Ok, Err, codes, length}
+use Rattle.std.specs.List.{AllByRecursion}
+use Rattle.key_names.specs.declared.events.Event.{Event}
+use Rattle.key_names.specs.declared.faults.FaultKind.TheVariants.{TooLong}
+use Rattle.key_names.specs.declared.faults.ScriptFault.{ScriptFault}
+use Rattle.key_names.specs.Texts.ScriptFaults.{◌>>=◌, Draft, has_orphan, nothing_behind, parts, script_from, script_of_draft, script_of_lines}
+use Rattle.event_script.specs.Tally.{fork_in}
+use Rattle.event_script.specs.declared.progress.DraftView.{DraftView}
+use Rattle.event_script.specs.declared.progress.Progress.{Progress}
+use Rattle.event_script.specs.declared.progress.Progress.TheVariants.{Waits, Open, Ended, Faulty}
+
+-- with more text after it, the text is the script that goes on from this draft; n is the number of the next line
+abbrev pub GoesOnFrom : List ℕ → Draft → ℕ → Type 0
+GoesOnFrom text d n = (later : List ℕ) → script_of_lines (parts 10 (text ++ later)) ≡ script_from d n (parts 10 later)
+
+-- the text is the script of this draft if nothing follows, and otherwise has a fault in line n
+abbrev pub EndsWith : List ℕ → Draft → ℕ → Type 0
+EndsWith text d n = (later : List ℕ) → script_of_lines (parts 10 (text ++ later))
+    ≡ (nothing_behind n (parts 10 later) >>= λ none. Ok (script_of_draft d))
+
+-- the fault is the first of the lines, whatever follows
+abbrev pub FailsWith : List ℕ → ScriptFault → Type 0
+FailsWith text fault = (later : List ℕ) → script_of_lines (parts 10 (text ++ later)) ≡ Err fault
+
+-- the view has the draft's version, CPUs and last events, counts its finished blocks, and finds its orphans
+pub record IsViewOf (view : DraftView) (d : Draft) : Type 0 where
+  pub version : view.version ≡ d.version
+  pub cpus : view.cpus ≡ d.cpus
+  pub blocks : view.blocks ≡ length d.done
+  pub events : view.events.now ≡ d.events
+  pub orphan : view.has_orphan ≡ has_orphan d
+
+-- the script goes on from the draft of this view, and the text has room for the line `end`
+pub record IsOpen (text : List ℕ) (view : DraftView) : Type 0 where
+  pub room : length text + 4 ≤ 16777216
+  pub draft : Draft
+  pub seen : IsViewOf view draft
+  pub goes_on : GoesOnFrom text draft view.number
+
+-- the script has ended with the draft of this view
+pub record IsEnded (text : List ℕ) (view : DraftView) : Type 0 where
+  pub short : length text ≤ 16777216
+  pub draft : Draft
+  pub seen : IsViewOf view draft
+  pub ends : EndsWith text draft view.number
+
+-- the text has this first fault, whatever follows
+pub record IsFaulty (text : List ℕ) (fault : ScriptFault) : Type 0 where
+  pub short : length text ≤ 16777216 → FailsWith text fault
+  pub long : 16777216 < length text → fault ≡ record { line = 0; kind = TooLong }
+
+-- the answer is right for a text that was read so far
+abbrev pub IsProgress : List ℕ → Progress → Type 0
+IsProgress text Waits = ⊤
+IsProgress text (Open view) = IsOpen text view
+IsProgress text (Ended view) = IsEnded text view
+IsProgress text (Faulty fault) = IsFaulty text fault
+
+-- no event forks
+abbrev pub ForkNone : List Event → Type 0
+ForkNone events = AllByRecursion (λ event. fork_in event ≡ None) events
+
+-- the draft of one caller that forks no other
+pub record IsLone (d : Draft) : Type 0 where
+  pub first : d.done ≡ []
+  pub forks : ForkNone d.events
+
+-- the line of a script's end
+abbrev pub end_line : List ℕ
+end_line = codes "end\n"
+
+-- the later draft has more events in the same block
+pub record Extends (d later : Draft) : Type 0 where
+  pub version : later.version ≡ d.version
+  pub cpus : later.cpus ≡ d.cpus
+  pub done : d.done ≡ []
+  pub more : List Event
+  pub events : later.events ≡ d.events ++ more

@@ -1,0 +1,36 @@
+-- A value is carried along some steps.
+use Rattle.std.specs.Prelude.{ℕ, ◌≡◌, ◌↔◌, ◌≤◌, ⊤, IsTrue, Option, Some, None, List, [], ◌∷◌, length, take, slice_get}
+use Rattle.std.specs.List.{fold}
+use Rattle.std.specs.Global.{Vec}
+use Rattle.key_names.specs.declared.names.Step.{Step}
+use Rattle.judge_lines.specs.declared.along.Walk.{Walk}
+use Rattle.judge_lines.specs.declared.order.Fork.{Fork}
+
+module _ (after : Option ℕ → Step → Option ℕ) where
+  -- each step may follow the value carried to it
+  abbrev pub Along : (Option ℕ → Step → Type 0) → Option ℕ → List Step → Type 0
+  Along MayFollow carried [] = ⊤
+  Along MayFollow carried (step ∷ steps) = MayFollow carried step × Along MayFollow (after carried step) steps
+
+  -- the walk went along the steps
+  pub record HasGone (MayFollow : Option ℕ → Step → Type 0) (walk : Walk) (steps : List Step) (on : Walk) : Type 0 where
+    pub carried : on.carried ≡ fold after walk.carried steps
+    pub follows : IsTrue on.follows ↔ IsTrue walk.follows × Along MayFollow walk.carried steps
+
+  -- kept lists the values after each prefix of the steps
+  abbrev pub AreAlong : Option ℕ → List Step → List (Option ℕ) → Type 0
+  AreAlong start steps kept = (n : ℕ) → n ≤ length steps → slice_get kept n ≡ Some (fold after start (take n steps))
+
+-- the value carried to a place, or none if no value is kept there
+abbrev pub carried_in : Option (Option ℕ) → Option ℕ
+carried_in None = None
+carried_in (Some carried) = carried
+
+abbrev pub kept_at : Option (Vec (Option ℕ)) → ℕ → Option ℕ
+kept_at None n = None
+kept_at (Some kept) n = carried_in (slice_get kept.items n)
+
+-- the start value of a child that this fork makes
+abbrev pub begin_in : List (Vec (Option ℕ)) → Option Fork → Option ℕ
+begin_in kept None = None
+begin_in kept (Some fork) = kept_at (slice_get kept fork.parent) fork.steps

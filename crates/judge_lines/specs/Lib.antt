@@ -1,0 +1,14 @@
+pub mod LaneFacts
+pub mod Kinds
+pub mod Rows
+pub mod Told
+pub mod Laws
+pub mod Seen
+pub mod Called
+pub mod Clauses
+pub mod Orders
+pub mod Along
+pub mod Stamps
+pub mod Marks
+pub mod Begun
+pub mod Settings

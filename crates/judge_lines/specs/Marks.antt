@@ -1,0 +1,49 @@
+-- Marks sorted by lane and stamp, and runs of them.
+use Rattle.std.specs.Prelude.{ℕ, suc, ◌+◌, ◌≡◌, ◌<◌, ◌≤◌, ◌⊎◌, ⊤, Bool, true, false, MatchBool, Option, Some, None, List, [], ◌∷◌}
+use Rattle.key_names.specs.declared.names.LaneId.{LaneId}
+use Rattle.key_names.specs.declared.names.LaneId.TheVariants.{Pool as PoolLane, Base as BaseLane, Cpu as CpuLane}
+use Rattle.key_names.specs.declared.names.Mark.{Mark}
+use Rattle.key_names.specs.Transcripts.IsTranscript.{MarkBy, is_same_lane}
+use Rattle.judge_lines.specs.declared.marks.Group.{Group}
+use Rattle.judge_lines.specs.declared.marks.Group.TheVariants.{Pool, Base, Cpus}
+use Rattle.judge_lines.specs.declared.marks.MarkOf.{MarkOf}
+
+abbrev pub seen_mark : MarkOf → MarkBy
+seen_mark of = record { mark = of.mark; who = of.who }
+
+-- the lane belongs to this group
+abbrev pub is_in : Group → LaneId → Bool
+is_in Pool PoolLane = true
+is_in Base BaseLane = true
+is_in Cpus (CpuLane c) = true
+is_in _ _ = false
+
+abbrev pub is_by : Group → MarkBy → Bool
+is_by group by = is_in group by.mark.lane
+
+-- the rank of a lane: the pool, the base, and then the CPUs by their numbers
+abbrev pub lane_rank : LaneId → ℕ
+lane_rank PoolLane = 0
+lane_rank BaseLane = 1
+lane_rank (CpuLane c) = 2 + c
+
+-- the lane of mark a is before b's, or it is the same and a's stamp is not higher
+abbrev pub NotBehind : Mark → Mark → Type 0
+NotBehind a b = (lane_rank a.lane < lane_rank b.lane) ⊎ ((lane_rank a.lane ≡ lane_rank b.lane) × (a.stamp ≤ b.stamp))
+
+-- each mark and the next are in order
+abbrev pub IsSortedByLane : List MarkOf → Type 0
+IsSortedByLane [] = ⊤
+IsSortedByLane (a ∷ []) = ⊤
+IsSortedByLane (a ∷ b ∷ marks) = NotBehind a.mark b.mark × IsSortedByLane (b ∷ marks)
+
+-- in the last mark's lane, the mark has the next place and a higher stamp; in a new lane it has place 0
+abbrev pub Follows : Option Mark → Mark → Type 0
+Follows None mark = mark.place ≡ 0
+Follows (Some last) mark =
+    MatchBool (is_same_lane last.lane mark.lane) ((last.stamp < mark.stamp) × (mark.place ≡ suc last.place))
+    (mark.place ≡ 0)
+
+abbrev pub RunsCount : Option Mark → List MarkOf → Type 0
+RunsCount last [] = ⊤
+RunsCount last (of ∷ marks) = Follows last of.mark × RunsCount (Some of.mark) marks

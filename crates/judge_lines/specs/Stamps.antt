@@ -1,0 +1,13 @@
+-- The last stamp along an order, and whether the next one is higher.
+use Rattle.std.specs.Prelude.{ℕ, ◌<◌, ⊤, Option, Some, None}
+use Rattle.key_names.specs.declared.names.Step.{Step}
+use Rattle.key_names.specs.declared.names.Step.TheVariants.{Look, Visit as Marked}
+
+abbrev pub stamp_after : Option ℕ → Step → Option ℕ
+stamp_after last (Look g) = last
+stamp_after last (Marked mark) = Some mark.stamp
+
+abbrev pub IsAbove : Option ℕ → Step → Type 0
+IsAbove None step = ⊤
+IsAbove (Some last) (Look g) = ⊤
+IsAbove (Some last) (Marked mark) = last < mark.stamp

@@ -1,0 +1,44 @@
+//! Whether each caller has its lines.
+ghost use Rattle.std.specs.Prelude.{◌↔◌, IsTrue, map, length};
+ghost use Rattle.key_names.specs.Transcripts.IsTranscript.{LineIs, LinesFit, HasLines};
+ghost use Rattle.judge_lines.specs.Seen.{seen_bare, seen_callers};
+
+use crate::bare::BareLine;
+use event_script::Script;
+use key_names::{Event, Word};
+
+fn is_line(line: &BareLine<'_>, caller: u32, event: usize, word: Word) -> bool
+    ensures { IsTrue result ↔ LineIs caller event word (seen_bare line.now) }
+{
+    line.caller == caller && line.event as usize == event && line.word == word
+}
+
+// Whether these are the lines of a caller with these events.
+fn caller_fits(caller: u32, events: &[Event], lines: &[BareLine<'_>]) -> bool
+    ensures { IsTrue result ↔ LinesFit caller 0 events.now (map seen_bare lines.now) }
+{
+    if lines.len() != events.len() + 1 {
+        return false;
+    }
+    for (number, event) in events.iter().enumerate() {
+        if !is_line(&lines[number], caller, number, event.word()) {
+            return false;
+        }
+    }
+    is_line(&lines[events.len()], caller, events.len(), Word::End)
+}
+
+/// Whether each caller of the script has its lines, and no further caller has any.
+pub(crate) fn lines_fit(script: &Script, callers: &[Vec<BareLine<'_>>]) -> bool
+    ensures { IsTrue result ↔ HasLines script.now (seen_callers callers.now) }
+{
+    if callers.len() != script.callers() as usize {
+        return false;
+    }
+    for (caller, lines) in callers.iter().enumerate() {
+        if !caller_fits(caller as u32, script.events(caller as u32), lines) {
+            return false;
+        }
+    }
+    true
+}

@@ -1,0 +1,214 @@
+//! The rows of kinds that forms have.
+ghost use Rattle.std.specs.Prelude.{◌≡◌, ◌↔◌, IsTrue, ℕ};
+ghost use Rattle.judge_lines.specs.Rows.{IsDraw, IsCpuRead, IsRead, IsBehindLook, IsSystemCall, IsLookedRead};
+ghost use Rattle.judge_lines.specs.Rows.{IsPlainRead, IsInt, IsReseed, IsBehindCredit, IsCredit, IsInterrupt};
+ghost use Rattle.judge_lines.specs.Rows.{IsTick, IsFork, IsVmfork, IsEnd, IsRow, IsActRow};
+
+use crate::kind::Kind;
+use input_pool::Crossing;
+use key_names::{Event, InsideAct, flags};
+
+/// Bytes from the base of a core that is not ready.
+fn is_draw(kinds: &[Kind]) -> bool
+    ensures { IsTrue result ↔ IsDraw kinds.now }
+{
+    matches!(kinds, [Kind::Pool, Kind::Base] | [Kind::Base])
+}
+
+/// Bytes from a CPU, which first takes a new key from the base if it needs one.
+fn is_cpu_read(kinds: &[Kind]) -> bool
+    ensures { IsTrue result ↔ IsCpuRead kinds.now }
+{
+    matches!(
+        kinds,
+        [Kind::Ready, Kind::Cpu] | [Kind::Ready, Kind::Base, Kind::Cpu]
+    )
+}
+
+/// The steps of a read after its first look. `ready` is whether that look found the core ready.
+fn is_read(ready: bool, kinds: &[Kind]) -> bool
+    ensures { IsTrue result ↔ IsRead ready kinds.now }
+{
+    (!ready && is_draw(kinds)) || is_cpu_read(kinds)
+}
+
+/// The steps of a system call of `len` bytes after its first look (getrandom(2)).
+fn is_behind_look(len: u32, flags: u32, ready: bool, kinds: &[Kind]) -> bool
+    ensures { IsTrue result ↔ IsBehindLook len flags ready kinds.now }
+{
+    if ready || flags::is_insecure(flags) {
+        if len == 0 {
+            kinds.is_empty()
+        } else {
+            is_read(ready, kinds)
+        }
+    } else if flags::is_nonblock(flags) {
+        kinds.is_empty()
+    } else {
+        match kinds {
+            [Kind::Base, Kind::Base] => true,
+            [Kind::Base, Kind::Resumed, rest @ ..] => {
+                if len == 0 {
+                    rest.is_empty()
+                } else {
+                    is_cpu_read(rest)
+                }
+            }
+            _ => false,
+        }
+    }
+}
+
+/// A system call of `len` bytes with these flags (getrandom(2)).
+fn is_system_call(len: u32, flags: u32, kinds: &[Kind]) -> bool
+    ensures { IsTrue result ↔ IsSystemCall len flags kinds.now }
+{
+    if flags::are_bad(flags) {
+        return kinds.is_empty();
+    }
+    match kinds {
+        [Kind::Unready, rest @ ..] => is_behind_look(len, flags, false, rest),
+        [Kind::Ready, rest @ ..] => is_behind_look(len, flags, true, rest),
+        _ => false,
+    }
+}
+
+/// A read that begins with a look.
+fn is_looked_read(kinds: &[Kind]) -> bool
+    ensures { IsTrue result ↔ IsLookedRead kinds.now }
+{
+    match kinds {
+        [Kind::Unready, rest @ ..] => is_read(false, rest),
+        [Kind::Ready, rest @ ..] => is_read(true, rest),
+        _ => false,
+    }
+}
+
+/// A read of `len` bytes by the kernel or into user memory; a read of no bytes has no steps.
+fn is_plain_read(len: u32, kinds: &[Kind]) -> bool
+    ensures { IsTrue result ↔ IsPlainRead len kinds.now }
+{
+    if len == 0 {
+        kinds.is_empty()
+    } else {
+        is_looked_read(kinds)
+    }
+}
+
+/// A random integer (`get_random_u8` to `get_random_u64`).
+fn is_int(kinds: &[Kind]) -> bool
+    ensures { IsTrue result ↔ IsInt kinds.now }
+{
+    match kinds {
+        [Kind::Unready, rest @ ..] => is_draw(rest) || is_cpu_read(rest),
+        [Kind::Ready, rest @ ..] => is_cpu_read(rest),
+        _ => false,
+    }
+}
+
+/// A forced reseed, which a core that is not ready refuses.
+fn is_reseed(kinds: &[Kind]) -> bool
+    ensures { IsTrue result ↔ IsReseed kinds.now }
+{
+    matches!(
+        kinds,
+        [Kind::Unready] | [Kind::Ready, Kind::Pool, Kind::Base]
+    )
+}
+
+/// The steps after a credit of the pool with this crossing.
+fn is_behind_credit(crossed: Crossing, kinds: &[Kind]) -> bool
+    ensures { IsTrue result ↔ IsBehindCredit crossed kinds.now }
+{
+    match crossed {
+        Crossing::None => kinds.is_empty(),
+        Crossing::Early => matches!(kinds, [Kind::Pool, Kind::Base] | [Kind::Base]),
+        Crossing::Ready => matches!(kinds, [Kind::Pool, Kind::Base]),
+    }
+}
+
+/// A credit of the pool, and its effects.
+fn is_credit(crossed: Crossing, kinds: &[Kind]) -> bool
+    ensures { IsTrue result ↔ IsCredit crossed kinds.now }
+{
+    match kinds {
+        [Kind::Pool, rest @ ..] => is_behind_credit(crossed, rest),
+        _ => false,
+    }
+}
+
+/// An interrupt: its sample, and the effects of a dump of the fast pool into the pool, if there is one.
+fn is_interrupt(crossed: Crossing, kinds: &[Kind]) -> bool
+    ensures { IsTrue result ↔ IsInterrupt crossed kinds.now }
+{
+    match kinds {
+        [Kind::Cpu] => true,
+        [Kind::Cpu, Kind::Cpu, Kind::Pool, rest @ ..] => is_behind_credit(crossed, rest),
+        _ => false,
+    }
+}
+
+/// A tick of the reseed timer, which fires or does not.
+fn is_tick(kinds: &[Kind]) -> bool
+    ensures { IsTrue result ↔ IsTick kinds.now }
+{
+    matches!(kinds, [Kind::Base] | [Kind::Pool, Kind::Base])
+}
+
+/// A fork. The child may have run in its parent's thread.
+fn is_fork(kinds: &[Kind]) -> bool
+    ensures { IsTrue result ↔ IsFork kinds.now }
+{
+    matches!(kinds, [Kind::Base] | [Kind::Base, Kind::Base, Kind::Base])
+}
+
+/// A fork of the virtual machine (`add_vmfork_randomness`).
+fn is_vmfork(kinds: &[Kind]) -> bool
+    ensures { IsTrue result ↔ IsVmfork kinds.now }
+{
+    matches!(
+        kinds,
+        [Kind::Pool, Kind::Unready] | [Kind::Pool, Kind::Ready, Kind::Pool, Kind::Base]
+    )
+}
+
+/// A caller's last line.
+pub fn is_end(kinds: &[Kind]) -> bool
+    ensures { IsTrue result ↔ IsEnd kinds.now }
+{
+    matches!(kinds, [Kind::Base])
+}
+
+/// The rows of a single event. `crossed` is the crossing of the line's first visit of the pool. A `vread` and the acts
+/// inside it have forms of their own.
+pub fn is_row(event: &Event, crossed: Crossing, kinds: &[Kind]) -> bool
+    ensures { IsTrue result ↔ IsRow event.now crossed kinds.now }
+{
+    match event {
+        Event::Write { .. } | Event::Device { .. } | Event::Bits => matches!(kinds, [Kind::Pool]),
+        Event::Add { .. } | Event::Credit { .. } | Event::Input { .. } => is_credit(crossed, kinds),
+        Event::Kread { len } | Event::Uread { len } => is_plain_read(*len, kinds),
+        Event::Read { len, flags } => is_system_call(*len, *flags, kinds),
+        Event::Dread { len, flag } => is_system_call(*len, *flag, kinds),
+        Event::Int8 | Event::Int16 | Event::Int32 | Event::Int64 => is_int(kinds),
+        Event::Reseed => is_reseed(kinds),
+        Event::Tick => is_tick(kinds),
+        Event::Fork { .. } => is_fork(kinds),
+        Event::Prepare { .. } | Event::Online { .. } => matches!(kinds, [Kind::Cpu]),
+        Event::Vmfork { .. } => is_vmfork(kinds),
+        Event::Irq { .. } => is_interrupt(crossed, kinds),
+        Event::Vread { .. } | Event::Inside { .. } => false,
+        _ => kinds.is_empty(),
+    }
+}
+
+/// The rows of an act inside a `vread`.
+pub fn is_act_row(act: InsideAct, kinds: &[Kind]) -> bool
+    ensures { IsTrue result ↔ IsActRow act kinds.now }
+{
+    match act {
+        InsideAct::Wipe => kinds.is_empty(),
+        InsideAct::Vread(len) => is_system_call(len, 0, kinds),
+        InsideAct::Reseed => is_reseed(kinds),
+    }
+}

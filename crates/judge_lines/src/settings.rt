@@ -1,0 +1,77 @@
+//! The setting before each call.
+ghost use Rattle.std.specs.Prelude.{◌≡◌, ◌<◌, IfOk, map};
+ghost use Rattle.std.specs.List.{AllByRecursion};
+ghost use Rattle.key_names.specs.Callers.Calls.{setting_after_call};
+ghost use Rattle.judge_lines.specs.Called.{seen_call, seen_calls};
+ghost use Rattle.judge_lines.specs.Orders.{all_forks, front_in};
+ghost use Rattle.judge_lines.specs.Settings.{settings_from, first_found, AreSettings};
+
+use crate::called::Called;
+use crate::order::{Fork, front_of};
+use crate::setting::Setting;
+use std::alloc::{AllocError, Global};
+
+// Changes the setting as the call does.
+fn follow(set: &mut Setting, call: &Called<'_>)
+    ensures { set.new ≡ setting_after_call set.old (seen_call call.now) }
+{
+    match call {
+        Called::Alone { event, .. } => set.follow(event),
+        Called::Vread { .. } | Called::Unbound(_) | Called::Ending(_) => {}
+    }
+}
+
+// The settings before these calls; `start` is the first.
+fn caller_settings(
+    alloc: Global,
+    start: Setting,
+    calls: &[Called<'_>],
+) -> Result<Vec<Setting>, AllocError>
+    ensures { IfOk result (λ settings. settings.items ≡ settings_from start (map seen_call calls.now)) }
+{
+    let mut settings = Vec::with_capacity(alloc, calls.len())?;
+    let mut set = start;
+    for call in calls {
+        settings.push(set.again())?;
+        follow(&mut set, call);
+    }
+    Ok(settings)
+}
+
+// The setting that a caller starts with: its parent's at the fork.
+fn start_setting(forks: &[Fork], settings: &[Vec<Setting>], caller: usize) -> Setting
+    ensures { result ≡ first_found settings.now (front_in caller forks.now) }
+{
+    let Some(fork) = front_of(forks, caller) else {
+        return Setting::first();
+    };
+    let Some(parent) = settings.get(fork.parent as usize) else {
+        return Setting::first();
+    };
+    match parent.get(fork.calls) {
+        Some(set) => set.again(),
+        None => Setting::first(),
+    }
+}
+
+/// The setting before each call of each caller.
+///
+/// # Errors
+///
+/// `AllocError` if there is no memory for them.
+pub fn all_settings(
+    alloc: Global,
+    callers: &[Vec<Called<'_>>],
+    forks: &[Fork],
+) -> Result<Vec<Vec<Setting>>, AllocError>
+    requires forks { forks.now ≡ all_forks 0 (seen_calls callers.now) }
+    requires rise { AllByRecursion (λ fork. fork.parent < fork.child) forks.now }
+    ensures { IfOk result (λ settings. AreSettings (seen_calls callers.now) settings.items) }
+{
+    let mut settings = Vec::new(alloc);
+    for (caller, calls) in callers.iter().enumerate() {
+        let start = start_setting(forks, &settings, caller);
+        settings.push(caller_settings(alloc, start, calls)?)?;
+    }
+    Ok(settings)
+}

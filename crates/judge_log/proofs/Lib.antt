@@ -1,0 +1,12 @@
+pub mod BaseSteps
+pub mod CpuSteps
+pub mod Dumps
+pub mod Filling
+pub mod Inputs
+pub mod Lanes
+pub mod Loops
+pub mod Moved
+pub mod PoolSteps
+pub mod Whole
+pub mod Tables
+pub mod AnswersMade

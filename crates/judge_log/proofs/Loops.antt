@@ -1,0 +1,110 @@
+-- A loop goes along a list, and keeps facts and data of the places that it has passed.
+use Rattle.std.proofs.Common.{◌≡◌, ◌<◌, ◌+◌, ℕ, zero, suc, List, [], ◌∷◌, ◌++◌, length, take, Some, None, get_or, refl, sym, subst, ap, ◌∙◌, arith, inl, inr, ◌⊎◌}
+use Rattle.std.specs.Prelude.{slice_get}
+use Rattle.std.specs.List.{fold}
+use Rattle.std.proofs.lemmas.List.{take_more, length_push}
+use Rattle.std.proofs.lemmas.List.Sums.{fold-append}
+use Rattle.std.proofs.lemmas.Option.{slice_get_within, slice_get-get_or, get_or_from_slice_get}
+use Rattle.key_names.specs.Lanes.LawfulList.{LawfulFrom}
+use Rattle.judge_log.specs.Places.{AllPlaces, AllKept}
+
+-- the element that a loop reads is at this place of an equal list
+pub found : {T : Type 0} (xs ys : List T) (i : ℕ) (d : T) → xs ≡ ys → i < length xs →
+    slice_get ys i ≡ Some (get_or xs i d)
+found xs ys i d same below =
+    subst (λ zs. slice_get zs i ≡ Some (get_or xs i d)) same (slice_get-get_or xs i d below)
+
+-- the first i + 1 entries are the first i and the next one
+pub take_at : {E : Type 0} (list : List E) (i : ℕ) (e : E) → slice_get list i ≡ Some e →
+    take (i + 1) list ≡ take i list ++ e ∷ []
+take_at list i e is =
+    take_more list i e (slice_get_within list i e is)
+    ∙ ap (λ x. take i list ++ x ∷ []) (get_or_from_slice_get list i e e is)
+
+pub fold_at : {S E : Type 0} (step : S → E → S) (s : S) (list : List E) (i : ℕ) (e : E) → slice_get list i ≡ Some e →
+    fold step s (take (i + 1) list) ≡ step (fold step s (take i list)) e
+fold_at step s list i e is =
+    ap (fold step s) (take_at list i e is) ∙ fold-append step s (take i list) (e ∷ [])
+
+-- an element of a list with one more item is an earlier one or that item
+pub push_at : {K : Type 0} (made : List K) (k x : K) (j : ℕ) → slice_get (made ++ k ∷ []) j ≡ Some x →
+    (slice_get made j ≡ Some x) ⊎ ((j ≡ length made) × (x ≡ k))
+push_at [] k x zero is = let same : k ≡ x = cc in inr (refl, sym same)
+push_at [] k x (suc j) is = let never : None ≡ Some x = is in cc
+push_at (y ∷ made) k x zero is = inl is
+push_at (y ∷ made) k x (suc j) is =
+    elim (push_at made k x j is) [ inl h ↦ inl h | inr h ↦ inr (ap suc h.0, h.1) ]
+
+pub below_or_at : (j i : ℕ) → j < i + 1 → (j < i) ⊎ (j ≡ i)
+below_or_at zero zero below = inr refl
+below_or_at zero (suc i) below = inl (omega arith)
+below_or_at (suc j) zero below = absurd (omega arith)
+below_or_at (suc j) (suc i) below = elim (below_or_at j i (omega arith)) [
+  | inl h ↦ inl (omega arith)
+  | inr h ↦ inr (ap suc h)
+]
+
+-- if two lists have the same length and one has an element at a place, so has the other
+pub at_too : {E T : Type 0} (list : List E) (told : List T) (i : ℕ) (t : T) → length list ≡ length told →
+    slice_get told i ≡ Some t → (e : E) × (slice_get list i ≡ Some e)
+at_too [] [] i t same is = let never : None ≡ Some t = is in cc
+at_too [] (u ∷ told) i t same is = cc
+at_too (e ∷ list) [] i t same is = cc
+at_too (e ∷ list) (u ∷ told) zero t same is = (e, refl)
+at_too (e ∷ list) (u ∷ told) (suc i) t same is = let s : length list ≡ length told = cc in at_too list told i t s is
+
+-- P holds of each place below i, and S of each of these places with its kept item
+pub record Behind {K E : Type 0} (P : ℕ → E → Type 0) (S : ℕ → K → E → Type 0) (list : List E) (i : ℕ)
+    (made : List K) : Type 0 where
+  pub holds : (j : ℕ) (e : E) → j < i → slice_get list j ≡ Some e → P j e
+  pub count : length made ≡ i
+  pub each : (j : ℕ) (k : K) (e : E) → slice_get made j ≡ Some k → slice_get list j ≡ Some e → S j k e
+
+module _ {K E : Type 0} (P : ℕ → E → Type 0) (S : ℕ → K → E → Type 0) (list : List E) where
+  pub behind_none : Behind P S list 0 []
+  behind_none = record {
+    holds = λ j e below is. absurd (omega arith);
+    count = refl;
+    each = λ j k e made is. let never : None ≡ Some k = made in cc;
+  }
+
+  pub behind_more : (i : ℕ) (made : List K) (k : K) (e : E) → slice_get list i ≡ Some e → Behind P S list i made →
+      P i e → S i k e → Behind P S list (i + 1) (made ++ k ∷ [])
+  behind_more i made k e is h p s = record {
+    holds = λ j x below at. elim (below_or_at j i below) [
+      | inl b ↦ h.holds j x b at
+      | inr same ↦ there j x same at
+    ];
+    count = length_push made k ∙ ap (λ n. n + 1) h.count;
+    each = λ j y x pushed at. elim (push_at made k y j pushed) [
+      | inl b ↦ h.each j y x b at
+      | inr last ↦ made_there j y x (last.0 ∙ h.count) last.1 at
+    ];
+  }
+    where
+      same_entry : (j : ℕ) (x : E) → j ≡ i → slice_get list j ≡ Some x → e ≡ x
+      same_entry j x same at =
+          let f : slice_get list i ≡ Some x = subst (λ n. slice_get list n ≡ Some x) same at in
+          let g : Some e ≡ Some x = sym is ∙ f in
+          cc
+
+      there : (j : ℕ) (x : E) → j ≡ i → slice_get list j ≡ Some x → P j x
+      there j x same at = subst (λ n. P n x) (sym same) (subst (P i) (same_entry j x same at) p)
+
+      made_there : (j : ℕ) (y : K) (x : E) → j ≡ i → y ≡ k → slice_get list j ≡ Some x → S j y x
+      made_there j y x same is_k at =
+          subst (λ n. S n y x) (sym same) (subst (λ z. S i z x) (sym is_k) (subst (S i k) (same_entry j x same at) s))
+
+  pub behind_all : (i : ℕ) (made : List K) → length list ≡ i → Behind P S list i made →
+      AllPlaces P list × AllKept S made list
+  behind_all i made all h = (
+    λ j e is. h.holds j e (subst (λ n. j < n) all (slice_get_within list j e is)) is,
+    record { count = h.count ∙ sym all; each = h.each },
+  )
+
+-- a list is lawful exactly if each of its entries is allowed at its place
+pub lawful_by_place : {S E : Type 0} (May : S → E → Type 0) (step : S → E → S) (s : S) (list : List E) →
+    AllPlaces (λ i e. May (fold step s (take i list)) e) list → LawfulFrom May step s list
+lawful_by_place May step s [] all = tt
+lawful_by_place May step s (e ∷ list) all =
+    (all 0 e refl, lawful_by_place May step (step s e) list (λ i x is. all (suc i) x is))

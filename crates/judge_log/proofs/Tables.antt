@@ -1,0 +1,24 @@
+-- The tables of inferred entries.
+pub mod BareRows
+pub mod CallForms
+pub mod CallLines
+pub mod DumpRows
+pub mod FilledLanes
+pub mod GatheredTables
+pub mod Gathers
+pub mod IrqShapes
+pub mod LanePlaces
+pub mod LineVisits
+pub mod MadeIsTold
+pub mod MarkedSteps
+pub mod Matches
+pub mod OneRow
+pub mod RisingSteps
+pub mod RowRanges
+pub mod RowsBehind
+pub mod SampledLines
+pub mod SampledVisits
+pub mod SpotRows
+pub mod TableChanges
+pub mod TableRanges
+pub mod TellSteps

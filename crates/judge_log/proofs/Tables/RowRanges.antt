@@ -1,0 +1,351 @@
+-- Inferred entries are in the ranges of the tables: moments are those of the script, and integers have its widths.
+use Rattle.std.proofs.Common.{◌≡◌, ℕ, zero, suc, ◌<◌, ◌^◌, Bool, true, false, List, [], ◌∷◌, length, Option, Some, None, inl, inr, refl, sym, subst, arith}
+use Rattle.std.specs.Bool.{⊤}
+use Rattle.std.specs.Prelude.{slice_get, if◌then◌else◌, ◌==◌}
+use Rattle.std.specs.List.{AllByRecursion, fold}
+use Rattle.key_names.specs.declared.entries.PoolEntry.{PoolEntry}
+use Rattle.key_names.specs.declared.entries.PoolEntry.TheVariants.{Mix, Extract, Input, Bits as BitsEntry}
+use Rattle.key_names.specs.declared.events.Event.{Event}
+use Rattle.key_names.specs.declared.events.Event.TheVariants.{At, On, Hw, Input as InputEvent, Int8, Int16, Int32, Int64, Fork}
+use Rattle.key_names.specs.declared.events.InsideAct.{InsideAct}
+use Rattle.key_names.specs.declared.events.InsideAct.TheVariants.{Wipe as WipeAct, Vread as VreadAct, Reseed as ReseedAct}
+use Rattle.key_names.specs.declared.names.LaneId.{LaneId}
+use Rattle.key_names.specs.declared.names.LaneId.TheVariants.{Pool as PoolLane, Base as BaseLane, Cpu as CpuLane}
+use Rattle.key_names.specs.declared.names.Step.{Step}
+use Rattle.key_names.specs.declared.names.Step.TheVariants.{Look, Visit as Marked}
+use Rattle.key_names.specs.declared.notes.PoolNote.{PoolNote}
+use Rattle.key_names.specs.declared.notes.PoolNote.TheVariants.{Mix as MixNote, Device as DeviceNote, Input as InputNote}
+use Rattle.key_names.specs.declared.notes.PoolNote.TheVariants.{Bits as BitsNote, Extract as ExtractNote}
+use Rattle.key_names.specs.Lanes.Book.{list_at}
+use Rattle.key_names.specs.Callers.Calls.{Setting, Call, alone, vread_call, unbound, ending, BoundAct, setting_after, setting_after_call}
+use Rattle.key_names.specs.Callers.Calls.{setting_of, ForkPoint, with_call_before, fork_point, Parent, parent_here, parent_from, inherited_setting, first_settings, calls_from, all_calls}
+use Rattle.key_names.specs.Transcripts.IsTranscript.{start_setting}
+use Rattle.key_names.specs.Lanes.PoolNotes.{entry_of}
+use Rattle.key_names.specs.Texts.ScriptGrammar.{InRange as EventInRange}
+use Rattle.key_names.specs.Transcripts.SeenLine.{SeenLine}
+use Rattle.key_names.proofs.Transcripts.CallLists.{OfCalls, of_calls}
+use Rattle.key_names.proofs.Lists.Each.{each_append, each_weaker}
+use Rattle.key_names.proofs.Lists.ListFacts.{at_list, each_list}
+use Rattle.key_names.proofs.Unique.UniqueMarks.{one_entry}
+use Rattle.key_names.proofs.Unique.UniqueMeanings.{OfCall}
+use Rattle.judge_lines.specs.declared.told.Around.{Around}
+use Rattle.judge_lines.specs.declared.told.BaseTold.{BaseTold}
+use Rattle.judge_lines.specs.declared.told.PoolTold.{PoolTold}
+use Rattle.judge_lines.specs.declared.told.PoolTold.TheVariants.{Own as own, Extracted as extracted, Dumped as dumped_told}
+use Rattle.judge_lines.specs.declared.told.Sign.{Sign}
+use Rattle.judge_lines.specs.declared.told.Sign.TheVariants.{Saw as saw, InPool as in_pool, InBase as in_base}
+use Rattle.judge_lines.specs.declared.told.Sign.TheVariants.{InCpu as in_cpu, Nowhere as nowhere}
+use Rattle.judge_lines.specs.Told.{Telling, reads, ints, credits, samples, reseeds, ticks, forks, prepares, vmforks, ends, silent}
+use Rattle.judge_lines.specs.Told.{telling, act_telling, own_entry, pool_told, base_told, cpu_told, read_told, drawn_or_woken, crossed_told, forked_told}
+use Rattle.judge_lines.specs.Told.{cpu_read_told, cpu_int_told, int_told, sample_told, look_in}
+use Rattle.key_names.specs.declared.entries.Taken.{Taken}
+use Rattle.judge_log.specs.declared.told.ToldPool.{ToldPool}
+use Rattle.judge_log.specs.declared.told.ToldPool.TheVariants.{Is as pool_is, Dumped as dumped}
+use Rattle.judge_log.specs.declared.told.ToldCpu.{ToldCpu}
+use Rattle.judge_log.specs.Tables.{Tables, NoteIsNear, PoolIsNear, BaseIsNear, IsWidth, EntryIsWide, CpuIsWide}
+use Rattle.judge_log.specs.Rows.{IsPoolRow, RowAt, cpu_row, AllRows, RowStands, LineRows, ActRows, CallRows, CallsRows, AllCallsRows, part_telling, first_shown, step_sign}
+use Rattle.judge_log.proofs.Tables.MarkedSteps.{StepHas, LineHas}
+
+abbrev pub IsNear : Setting → Type 0
+IsNear set = set.now < 2 ^ 40
+
+-- ---- rows
+
+abbrev EntryIsNear : PoolEntry → Type 0
+EntryIsNear (Input word kind code value now) = now < 2 ^ 40
+EntryIsNear (Mix text bits) = ⊤
+EntryIsNear BitsEntry = ⊤
+EntryIsNear (Extract hw base_place) = ⊤
+
+abbrev WidthStands : Telling → Type 0
+WidthStands (ints width) = IsWidth width
+WidthStands (prepares e) = EntryIsWide e
+WidthStands _ = ⊤
+
+-- the entries that are inferred for this kind of line are in range
+record TellsNear (t : Telling) : Type 0 where
+  own_near : EntryIsNear (own_entry t)
+  width : WidthStands t
+
+note_near : (note : PoolNote) (e : PoolEntry) → entry_of note ≡ e → EntryIsNear e → NoteIsNear note
+note_near (InputNote word kind code value now) e is near = subst EntryIsNear (sym is) near
+note_near (MixNote text bits) e is near = tt
+note_near (DeviceNote word text) e is near = tt
+note_near BitsNote e is near = tt
+note_near (ExtractNote hw base_place) e is near = tt
+
+pool_near : (set : Setting) (t : Telling) (p : PoolTold) (row : ToldPool) → EntryIsNear (own_entry t) →
+    IsPoolRow set t p row → PoolIsNear row
+pool_near set t own (pool_is note) near is = note_near note (own_entry t) is near
+pool_near set t (extracted i) (pool_is note) near is = note_near note (Extract set.hw i) is tt
+pool_near set t (dumped_told c k) (pool_is note) near is = absurd is
+pool_near set t p (dumped cpu place) near is = tt
+
+woken_near : (taken : Taken) (before : Sign) → BaseIsNear (drawn_or_woken taken before)
+woken_near taken (in_base i) = tt
+woken_near taken _ = tt
+
+read_near : (set : Setting) (taken : Taken) (a b behind : Sign) →
+    BaseIsNear (read_told set taken (record { second_before = a; before = b; behind = behind }))
+read_near set taken a b (in_cpu c k) = tt
+read_near set taken a b (in_base i) = tt
+read_near set taken a b (saw g) = woken_near taken b
+read_near set taken a b (in_pool p) = woken_near taken b
+read_near set taken a b nowhere = woken_near taken b
+
+crossed_near : (set : Setting) (a b : Sign) → IsNear set → BaseIsNear (crossed_told set a b)
+crossed_near set (in_pool p) b near = near
+crossed_near set _ b near = tt
+
+forked_near : (child : ℕ) (a b : Sign) → BaseIsNear (forked_told child a b)
+forked_near child a nowhere = tt
+forked_near child nowhere (saw g) = tt
+forked_near child nowhere (in_pool p) = tt
+forked_near child nowhere (in_base i) = tt
+forked_near child nowhere (in_cpu c k) = tt
+forked_near child a (saw g) = tt
+forked_near child a (in_pool p) = tt
+forked_near child a (in_base i) = tt
+forked_near child a (in_cpu c k) = tt
+
+base_near : (set : Setting) (t : Telling) (a b behind : Sign) → IsNear set →
+    BaseIsNear (base_told set t (record { second_before = a; before = b; behind = behind }))
+base_near set (reads taken) a b behind near = read_near set taken a b behind
+base_near set (ints width) a b behind near = read_near set _ a b behind
+base_near set (credits e) a b behind near = crossed_near set a b near
+base_near set (samples v1 v2) a b behind near = crossed_near set a b near
+base_near set reseeds a b behind near = near
+base_near set (vmforks e) a b behind near = near
+base_near set ticks a b behind near = near
+base_near set (forks child) a b behind near = forked_near child a b
+base_near set _ a b behind near = tt
+
+cpu_read_wide : (taken : Taken) (a b : Sign) → CpuIsWide (cpu_read_told taken a b)
+cpu_read_wide taken a (in_base i) = tt
+cpu_read_wide taken a _ = tt
+
+cpu_int_wide : (width : ℕ) (a b : Sign) → IsWidth width → CpuIsWide (cpu_int_told width a b)
+cpu_int_wide width a (in_base i) wide = wide
+cpu_int_wide width a _ wide = wide
+
+int_wide : (width found : ℕ) (a b : Sign) → IsWidth width → CpuIsWide (int_told width found a b)
+int_wide width zero a b wide = cpu_read_wide _ a b
+int_wide width (suc g) a b wide = cpu_int_wide width a b wide
+
+sample_wide : (set : Setting) (v1 v2 : ℕ) (b : Sign) → CpuIsWide (sample_told set v1 v2 b)
+sample_wide set v1 v2 nowhere = tt
+sample_wide set v1 v2 _ = tt
+
+cpu_wide : (set : Setting) (t : Telling) (first a b behind : Sign) → WidthStands t →
+    CpuIsWide (cpu_told set t first (record { second_before = a; before = b; behind = behind }))
+cpu_wide set (reads taken) first a b behind wide = cpu_read_wide taken a b
+cpu_wide set (ints width) first a b behind wide = int_wide width (look_in first) a b wide
+cpu_wide set (samples v1 v2) first a b behind wide = sample_wide set v1 v2 b
+cpu_wide set (prepares e) first a b behind wide = wide
+cpu_wide set _ first a b behind wide = tt
+
+module _ (told : Tables) where
+  -- if there is a row at this place, it is in range
+  abbrev pub NearAt : LaneId → ℕ → Type 0
+  NearAt PoolLane place = (u : ToldPool) → slice_get told.pool place ≡ Some u → PoolIsNear u
+  NearAt BaseLane place = (u : BaseTold) → slice_get told.base place ≡ Some u → BaseIsNear u
+  NearAt (CpuLane c) place = (u : ToldCpu) → slice_get (list_at told.cpus c) place ≡ Some u → CpuIsWide u.entry
+
+  row_near : (set : Setting) (t : Telling) (first : Sign) (around : Around) (lane : LaneId) (place : ℕ) → IsNear set →
+      TellsNear t → RowAt told set t first around lane place → NearAt lane place
+  row_near set t first around PoolLane place near tells row = λ u at.
+      subst PoolIsNear (one_entry told.pool told.pool place row.row u row.is at refl)
+      (pool_near set t (pool_told t around) row.row tells.own_near row.tells)
+  row_near set t first around BaseLane place near tells row = λ u at.
+      subst BaseIsNear (one_entry told.base told.base place (base_told set t around) u row at refl)
+      (base_near set t around.second_before around.before around.behind near)
+  row_near set t first around (CpuLane c) place near tells row = λ u at.
+      subst (λ (v : ToldCpu). CpuIsWide v.entry)
+      (one_entry (list_at told.cpus c) (list_at told.cpus c) place (cpu_row set t first around) u row at refl)
+      (cpu_wide set t first around.second_before around.before around.behind tells.width)
+
+  module _ (set : Setting) (near : IsNear set) where
+    steps_near : (tell : Around → Telling) (first a b : Sign) (steps : List Step) →
+        ((around : Around) → TellsNear (tell around)) → AllRows (RowStands told set tell first) a b steps →
+        AllByRecursion (StepHas NearAt) steps
+    steps_near tell first a b [] tells rows = tt
+    steps_near tell first a b (step ∷ steps) tells rows =
+        let around : Around = record { second_before = a; before = b; behind = first_shown steps } in
+        (one around step rows.0, steps_near tell first b (step_sign step) steps tells rows.1)
+      where
+        one : (around : Around) (step : Step) → RowStands told set tell first around step → StepHas NearAt step
+        one around (Look g) row = tt
+        one around (Marked mark) row = row_near set (tell around) first around mark.lane mark.place near (tells around) row
+
+    line_near : (tell : Around → Telling) (steps : List Step) → ((around : Around) → TellsNear (tell around)) →
+        LineRows told set tell steps → AllByRecursion (StepHas NearAt) steps
+    line_near tell steps tells rows = steps_near tell (first_shown steps) nowhere nowhere steps tells rows
+
+    plain : (taken : Taken) → TellsNear (reads taken)
+    plain taken = record { own_near = tt; width = tt }
+
+    none : TellsNear silent
+    none = record { own_near = tt; width = tt }
+
+    event_tells : (event : Event) → TellsNear (telling set event)
+    event_tells (InputEvent word kind code value) = record { own_near = near; width = tt }
+    event_tells Int8 = record { own_near = tt; width = inl refl }
+    event_tells Int16 = record { own_near = tt; width = inr (inl refl) }
+    event_tells Int32 = record { own_near = tt; width = inr (inr (inl refl)) }
+    event_tells Int64 = record { own_near = tt; width = inr (inr (inr refl)) }
+    event_tells _ = record { own_near = tt; width = tt }
+
+    act_tells : (act : InsideAct) → TellsNear (act_telling act)
+    act_tells WipeAct = none
+    act_tells (VreadAct n) = plain _
+    act_tells ReseedAct = record { own_near = tt; width = tt }
+
+    acts_near : (acts : List BoundAct) → AllByRecursion (ActRows told set) acts →
+        AllByRecursion (λ bound. LineHas NearAt bound.line) acts
+    acts_near [] rows = tt
+    acts_near (bound ∷ acts) rows = (
+      line_near (λ around. act_telling bound.act) bound.line.steps (λ around. act_tells bound.act) rows.0,
+      acts_near acts rows.1,
+    )
+
+    call_near : (call : Call) → CallRows told set call → OfCall (LineHas NearAt) call
+    call_near (alone event line) rows =
+        line_near (λ around. telling set event) line.steps (λ around. event_tells event) rows
+    call_near (vread_call n flags line acts) rows =
+        (line_near (part_telling n) line.steps (λ around. plain _) rows.0, acts_near acts rows.1)
+    call_near (unbound bound) rows = line_near (λ around. silent) bound.line.steps (λ around. none) rows
+    call_near (ending line) rows =
+        line_near (λ around. ends) line.steps (λ around. record { own_near = tt; width = tt }) rows
+
+-- ---- settings
+
+-- the moment of an event is in range
+abbrev EventIsNear : Event → Type 0
+EventIsNear (At moment) = moment < 2 ^ 40
+EventIsNear _ = ⊤
+
+abbrev pub CallIsNear : Call → Type 0
+CallIsNear (alone event line) = EventIsNear event
+CallIsNear _ = ⊤
+
+after_near : (set : Setting) (event : Event) → IsNear set → EventIsNear event → IsNear (setting_after set event)
+after_near set (At moment) near moves = moves
+after_near set (On cpu) near moves = near
+after_near set (Hw bytes) near moves = near
+after_near set _ near moves = near
+
+call_after : (set : Setting) (call : Call) → IsNear set → CallIsNear call → IsNear (setting_after_call set call)
+call_after set (alone event line) near moves = after_near set event near moves
+call_after set (vread_call n flags line acts) near moves = near
+call_after set (unbound bound) near moves = near
+call_after set (ending line) near moves = near
+
+calls_near : (told : Tables) (set : Setting) (calls : List Call) → IsNear set → AllByRecursion CallIsNear calls →
+    CallsRows told set calls → AllByRecursion (OfCall (LineHas (NearAt told))) calls
+calls_near told set [] near all rows = tt
+calls_near told set (call ∷ calls) near all rows = (
+  call_near told set near call rows.0,
+  calls_near told (setting_after_call set call) calls (call_after set call near all.0) all.1 rows.1,
+)
+
+after_calls : (set : Setting) (calls : List Call) → IsNear set → AllByRecursion CallIsNear calls →
+    IsNear (fold setting_after_call set calls)
+after_calls set [] near all = near
+after_calls set (call ∷ calls) near all =
+    after_calls (setting_after_call set call) calls (call_after set call near all.0) all.1
+
+abbrev ForkIsNear : Option ForkPoint → Type 0
+ForkIsNear None = ⊤
+ForkIsNear (Some fork) = AllByRecursion CallIsNear fork.before
+
+with_call : (call : Call) (o : Option ForkPoint) → CallIsNear call → ForkIsNear o → ForkIsNear (with_call_before call o)
+with_call call None near all = tt
+with_call call (Some fork) near all = (near, all)
+
+fork_near : (c : ℕ) (calls : List Call) → AllByRecursion CallIsNear calls → ForkIsNear (fork_point c calls)
+fork_near c [] all = tt
+fork_near c (alone (Fork child) line ∷ calls) all = go (child == c) (fork_near c calls all.1)
+  where
+    go : (b : Bool) → ForkIsNear (fork_point c calls) → ForkIsNear (if b then Some (record { before = []; line = line })
+        else with_call_before (alone (Fork child) line) (fork_point c calls))
+    go true near = tt
+    go false near = with_call (alone (Fork child) line) (fork_point c calls) tt near
+fork_near c (call ∷ calls) all = with_call call (fork_point c calls) all.0 (fork_near c calls all.1)
+
+abbrev ParentIsNear : Option Parent → Type 0
+ParentIsNear None = ⊤
+ParentIsNear (Some parent) = AllByRecursion CallIsNear parent.fork.before
+
+here_near : (p : ℕ) (o : Option ForkPoint) (later : Option Parent) → ForkIsNear o → ParentIsNear later →
+    ParentIsNear (parent_here p o later)
+here_near p None later near rest = rest
+here_near p (Some fork) later near rest = near
+
+parent_near : (c p : ℕ) (callers : List (List Call)) → AllByRecursion (λ calls. AllByRecursion CallIsNear calls) callers →
+    ParentIsNear (parent_from c p callers)
+parent_near c p [] all = tt
+parent_near c p (calls ∷ callers) all =
+    here_near p (fork_point c calls) (parent_from c (suc p) callers) (fork_near c calls all.0)
+    (parent_near c (suc p) callers all.1)
+
+setting_at : (sets : List Setting) (c : ℕ) → AllByRecursion IsNear sets → IsNear (setting_of sets c)
+setting_at [] c all = omega arith
+setting_at (set ∷ sets) zero all = all.0
+setting_at (set ∷ sets) (suc c) all = setting_at sets c all.1
+
+inherited_near : (sets : List Setting) (o : Option Parent) → AllByRecursion IsNear sets → ParentIsNear o →
+    IsNear (inherited_setting sets o)
+inherited_near sets None all near = omega arith
+inherited_near sets (Some parent) all near =
+    after_calls (setting_of sets parent.caller) parent.fork.before (setting_at sets parent.caller all) near
+
+firsts_near : (callers : List (List Call)) (n : ℕ) → AllByRecursion (λ calls. AllByRecursion CallIsNear calls) callers →
+    AllByRecursion IsNear (first_settings callers n)
+firsts_near callers zero all = tt
+firsts_near callers (suc c) all =
+    let sets = first_settings callers c in
+    each_append IsNear sets (inherited_setting sets (parent_from c 0 callers) ∷ []) (firsts_near callers c all)
+    (inherited_near sets (parent_from c 0 callers) (firsts_near callers c all) (parent_near c 0 callers all), tt)
+
+-- ---- all calls
+
+abbrev Near : OfCalls
+Near waiting es lines calls = AllByRecursion EventIsNear es → AllByRecursion CallIsNear calls
+
+near_calls : (waiting : List BoundAct) (es : List Event) (lines : List SeenLine) →
+    Near waiting es lines (calls_from waiting es lines)
+near_calls waiting es lines = of_calls Near (record {
+  over = λ waiting all. tt;
+  ends = λ waiting line lines all. (tt, tt);
+  cut = λ waiting event es all. tt;
+  reads = λ waiting n flags es line lines calls rest all. (tt, rest all.1);
+  binds = λ waiting point act es line lines calls rest all. rest all.1;
+  leaves = λ waiting point act es line lines calls rest all. (tt, rest all.1);
+  goes = λ waiting event es line lines calls rest all. (all.0, rest all.1);
+}) waiting es lines
+
+event_near : (version cpus : ℕ) (event : Event) → EventInRange version cpus event → EventIsNear event
+event_near version cpus (At moment) is = is
+event_near version cpus _ is = tt
+
+pub all_calls_near : (version cpus : ℕ) (ess : List (List Event)) (t : List (List SeenLine)) →
+    AllByRecursion (λ es. AllByRecursion (EventInRange version cpus) es) ess →
+    AllByRecursion (λ calls. AllByRecursion CallIsNear calls) (all_calls ess t)
+all_calls_near version cpus [] t all = tt
+all_calls_near version cpus (es ∷ ess) [] all = (
+  near_calls [] es [] (each_weaker (EventInRange version cpus) EventIsNear es (event_near version cpus) all.0),
+  all_calls_near version cpus ess [] all.1,
+)
+all_calls_near version cpus (es ∷ ess) (lines ∷ t) all = (
+  near_calls [] es lines (each_weaker (EventInRange version cpus) EventIsNear es (event_near version cpus) all.0),
+  all_calls_near version cpus ess t all.1,
+)
+
+pub all_rows_near : (told : Tables) (callers : List (List Call)) →
+    AllByRecursion (λ calls. AllByRecursion CallIsNear calls) callers → AllCallsRows told callers →
+    AllByRecursion (λ calls. AllByRecursion (OfCall (LineHas (NearAt told))) calls) callers
+all_rows_near told callers all rows =
+    each_list (λ calls. AllByRecursion (OfCall (LineHas (NearAt told))) calls) callers
+    (λ c low. calls_near told (start_setting callers c) (list_at callers c)
+    (setting_at (first_settings callers (length callers)) c (firsts_near callers (length callers) all))
+    (at_list (λ calls. AllByRecursion CallIsNear calls) callers c low all) (rows c low))

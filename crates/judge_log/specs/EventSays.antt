@@ -1,0 +1,166 @@
+-- The answer and data of a single event, or of an act inside a vread, from steps with their kept data.
+use Rattle.std.specs.Prelude.{ℕ, ◌≡◌, ◌-◌, ◌*◌, ◌==◌, ◌&&◌, not, Bool, true, false, Option, Some, None, List, [], ◌∷◌}
+use Rattle.std.specs.Prelude.{length, slice_get, nat_lt, if◌then◌else◌}
+use Rattle.key_names.specs.declared.entries.Taken.{Taken}
+use Rattle.key_names.specs.declared.entries.Taken.TheVariants.{User, Kernel}
+use Rattle.key_names.specs.declared.entries.BaseEntry.{BaseEntry}
+use Rattle.key_names.specs.declared.entries.BaseEntry.TheVariants.{Draw}
+use Rattle.key_names.specs.declared.entries.CpuEntry.{CpuEntry}
+use Rattle.key_names.specs.declared.entries.CpuEntry.TheVariants.{Read as CpuRead, Int}
+use Rattle.key_names.specs.declared.events.Event.{Event}
+use Rattle.key_names.specs.declared.events.Event.TheVariants.{Bits, Read, Kread, Dread, Uread, Int8, Int16, Int32, Int64}
+use Rattle.key_names.specs.declared.events.Event.TheVariants.{Reseed, Tick}
+use Rattle.key_names.specs.declared.events.InsideAct.{InsideAct}
+use Rattle.key_names.specs.declared.events.InsideAct.TheVariants.{Wipe as WipeAct, Vread as VreadAct}
+use Rattle.key_names.specs.declared.events.InsideAct.TheVariants.{Reseed as ReseedAct}
+use Rattle.key_names.specs.declared.events.Answer.{Answer}
+use Rattle.key_names.specs.declared.events.Answer.TheVariants.{Ok as Done, Again, Invalid, NoData, Interrupted, Fired}
+use Rattle.key_names.specs.declared.events.Answer.TheVariants.{Idle, Unused}
+use Rattle.key_names.specs.declared.names.Step.{Step}
+use Rattle.key_names.specs.Callers.Answers.{is_interrupt}
+use Rattle.key_names.specs.Callers.Calls.{Setting}
+use Rattle.key_names.specs.Kernel.Flags.{is_bad, is_nonblock, is_insecure}
+use Rattle.input_pool.specs.declared.pool.Crossing.{Crossing}
+use Rattle.input_pool.specs.declared.pool.Crossing.TheVariants.{None as CrossedNothing}
+use Rattle.judge_lines.specs.Rows.{IsRow, IsActRow, IsEnd, cpu_for}
+use Rattle.judge_log.specs.declared.kept.Lists.{Lists as KeptLists}
+use Rattle.judge_vread.specs.Recipe.{Recipe, no_recipe, user_recipe, kernel_recipe, int_recipe}
+use Rattle.judge_log.specs.declared.met.Met.{Met}
+use Rattle.judge_log.specs.declared.met.Met.TheVariants.{Looked, InPool, InBase, InCpu, Nothing}
+use Rattle.judge_log.specs.declared.said.Said.{Said}
+use Rattle.judge_log.specs.declared.said.Shows.{Shows}
+use Rattle.judge_log.specs.declared.said.Shows.TheVariants.{Nothing as ShowsNothing, Count, Served}
+use Rattle.judge_log.specs.Met.{met_in, kinds_met}
+
+-- the crossing of the first visit of the pool
+abbrev pub first_crossing : List Met → Crossing
+first_crossing [] = CrossedNothing
+first_crossing (InPool kept ∷ met) = kept.crossing
+first_crossing (Looked g ∷ met) = first_crossing met
+first_crossing (InBase kept ∷ met) = first_crossing met
+first_crossing (InCpu on kept ∷ met) = first_crossing met
+first_crossing (Nothing ∷ met) = first_crossing met
+
+-- ---- the bytes
+
+abbrev pub taken_recipe : List ℕ → Taken → Recipe
+taken_recipe key (User n) = user_recipe key n
+taken_recipe key (Kernel n) = kernel_recipe key n
+
+-- the bytes of an integer, if its batch of 96 bytes has them
+abbrev pub batch_recipe : List ℕ → ℕ → ℕ → Recipe
+batch_recipe key width count = if nat_lt (width * count) 96 then int_recipe key width count else no_recipe
+
+abbrev pub base_recipe : BaseEntry → Option (List ℕ) → Recipe
+base_recipe (Draw root taken) (Some key) = taken_recipe key taken
+base_recipe _ _ = no_recipe
+
+abbrev pub cpu_recipe : CpuEntry → Option (List ℕ) → ℕ → Recipe
+cpu_recipe (CpuRead look refill taken) (Some key) count = taken_recipe key taken
+cpu_recipe (Int look refill width filled) (Some key) count = batch_recipe key width count
+cpu_recipe _ _ _ = no_recipe
+
+-- the bytes that a visit serves
+abbrev pub recipe_met : Met → Recipe
+recipe_met (Looked g) = no_recipe
+recipe_met (InPool kept) = no_recipe
+recipe_met (InBase kept) = base_recipe kept.entry kept.key
+recipe_met (InCpu on kept) = cpu_recipe kept.entry kept.source.key kept.source.served
+recipe_met Nothing = no_recipe
+
+abbrev pub recipe_or_none : Option Met → Recipe
+recipe_or_none None = no_recipe
+recipe_or_none (Some met) = recipe_met met
+
+-- the bytes of a read are those of its last visit
+abbrev pub last_recipe : List Met → Recipe
+last_recipe met = recipe_or_none (slice_get met (length met - 1))
+
+-- ---- the answers
+
+abbrev pub found_unready : List Met → Bool
+found_unready (Looked g ∷ met) = g == 0
+found_unready _ = false
+
+abbrev pub was_interrupted : List Met → Bool
+was_interrupted (Looked g ∷ InBase wait ∷ InBase ended ∷ []) = is_interrupt ended.entry
+was_interrupted _ = false
+
+abbrev pub system_says : ℕ → List Met → Answer
+system_says flags met =
+    if is_bad flags then Invalid
+    else (if found_unready met && (is_nonblock flags && not (is_insecure flags)) then Again
+    else (if was_interrupted met then Interrupted else Done))
+
+abbrev pub reseed_says : List Met → Answer
+reseed_says met = if found_unready met then NoData else Done
+
+abbrev pub tick_says : List Met → Answer
+tick_says (InBase kept ∷ []) = Idle
+tick_says _ = Fired
+
+abbrev pub event_says : Event → List Met → Answer
+event_says (Read len flags) met = system_says flags met
+event_says (Dread len flag) met = system_says flag met
+event_says Reseed met = reseed_says met
+event_says Tick met = tick_says met
+event_says _ met = Done
+
+-- the pool's bits before the visit that reads them
+abbrev pub bits_shown : List Met → Shows
+bits_shown (InPool kept ∷ []) = Count kept.before
+bits_shown _ = ShowsNothing
+
+abbrev pub event_shows : Event → List Met → Shows
+event_shows Bits met = bits_shown met
+event_shows (Read len flags) met = Served (last_recipe met)
+event_shows (Dread len flag) met = Served (last_recipe met)
+event_shows (Kread len) met = Served (last_recipe met)
+event_shows (Uread len) met = Served (last_recipe met)
+event_shows Int8 met = Served (last_recipe met)
+event_shows Int16 met = Served (last_recipe met)
+event_shows Int32 met = Served (last_recipe met)
+event_shows Int64 met = Served (last_recipe met)
+event_shows _ met = ShowsNothing
+
+abbrev pub act_says : InsideAct → List Met → Said
+act_says WipeAct met = record { answer = Done; shows = ShowsNothing }
+act_says (VreadAct n) met = record { answer = system_says 0 met; shows = Served (last_recipe met) }
+act_says ReseedAct met = record { answer = reseed_says met; shows = ShowsNothing }
+
+abbrev pub unused : Said
+unused = record { answer = Unused; shows = ShowsNothing }
+
+-- ---- lines
+
+module _ (kept : KeptLists) (set : Setting) where
+  -- the steps have the kinds of a form of the event
+  abbrev pub AloneStands : Event → List Step → Type 0
+  AloneStands event steps =
+      IsRow event (first_crossing (met_in kept steps)) (kinds_met (cpu_for set event) (met_in kept steps))
+
+  abbrev pub alone_says : Event → List Step → Said
+  alone_says event steps =
+      record { answer = event_says event (met_in kept steps); shows = event_shows event (met_in kept steps) }
+
+  -- if the steps have the kinds of a form, their answer and data; otherwise none
+  abbrev pub IsAloneSaid : Event → List Step → Option Said → Type 0
+  IsAloneSaid event steps None = AloneStands event steps → ⊥
+  IsAloneSaid event steps (Some said) = AloneStands event steps × (said ≡ alone_says event steps)
+
+  -- if an act's point was reached, its steps have the kinds of the act; if not, it has no steps
+  abbrev pub ActStands : Bool → InsideAct → List Step → Type 0
+  ActStands true act steps = IsActRow act (kinds_met set.cpu (met_in kept steps))
+  ActStands false act steps = steps ≡ []
+
+  abbrev pub act_says_at : Bool → InsideAct → List Step → Said
+  act_says_at true act steps = act_says act (met_in kept steps)
+  act_says_at false act steps = unused
+
+  abbrev pub IsActSaid : Bool → InsideAct → List Step → Option Said → Type 0
+  IsActSaid reached act steps None = ActStands reached act steps → ⊥
+  IsActSaid reached act steps (Some said) =
+      ActStands reached act steps × (said ≡ act_says_at reached act steps)
+
+  abbrev pub EndStands : List Step → Type 0
+  EndStands steps = IsEnd (kinds_met set.cpu (met_in kept steps))

@@ -1,0 +1,48 @@
+-- The inferred entries of all marks, and their relation to the lines.
+use Rattle.std.specs.Prelude.{ℕ, ◌≡◌, ◌↔◌, List, length}
+use Rattle.std.specs.List.{AllByRecursion}
+use Rattle.key_names.specs.declared.names.LaneId.TheVariants.{Pool as PoolLane, Base as BaseLane, Cpu as CpuLane}
+use Rattle.key_names.specs.Lanes.Book.{Book, lists_of, list_at, LawfulLanes}
+use Rattle.key_names.specs.Lanes.Samples.{LawfulSamples}
+use Rattle.key_names.specs.Callers.LineSamples.{SamplesStand}
+use Rattle.key_names.specs.Texts.ScriptGrammar.{Script}
+use Rattle.key_names.specs.Transcripts.SeenLine.{SeenLine}
+use Rattle.key_names.specs.Callers.Deeds.{deeds_of}
+use Rattle.key_names.specs.Callers.Meaning.{CallMeaning}
+use Rattle.key_names.specs.Transcripts.IsTranscript.{EachCaller, CallerMeans, VisitsAre, all_marks, lane_marks, script_calls}
+use Rattle.key_names.specs.Transcripts.IsTranscript.{start_setting}
+use Rattle.judge_lines.specs.LaneFacts.{facts_of}
+use Rattle.judge_log.specs.Tables.{Tables, InRange}
+use Rattle.judge_log.specs.Fills.{Fills}
+use Rattle.judge_log.specs.Lawful.{Lawful}
+use Rattle.judge_log.specs.Filled.{AllCallsFill}
+
+-- the book's visits are the marks of the transcript, on the CPUs of the script
+pub record IsBookOf (script : Script) (t : List (List SeenLine)) (book : Book) : Type 0 where
+  pub cpus : length book.cpus ≡ script.cpus
+  pub visits : VisitsAre book (all_marks t)
+
+-- in these lists, each call of each caller has a lawful meaning
+abbrev pub AllMean : Script → List (List SeenLine) → Book → List (List CallMeaning) → Type 0
+AllMean script t book ms =
+    EachCaller (λ c calls ms. CallerMeans (lists_of book) (start_setting (script_calls script t) c) calls ms) 0
+    (script_calls script t) ms
+
+pub record IsGathered (script : Script) (t : List (List SeenLine)) (told : Tables) : Type 0 where
+  pub in_range : InRange told
+  -- a row for each mark
+  pub pool_count : length told.pool ≡ length (lane_marks PoolLane (all_marks t))
+  pub base_count : length told.base ≡ length (lane_marks BaseLane (all_marks t))
+  pub cpus_count : length told.cpus ≡ script.cpus
+  pub cpu_count : (c : ℕ) → length (list_at told.cpus c) ≡ length (lane_marks (CpuLane c) (all_marks t))
+  -- the visits of all lines have the entries inferred from their steps exactly if the lists match the tables
+  pub fills : (book : Book) → IsBookOf script t book →
+      AllCallsFill (lists_of book) (script_calls script t) ↔ Fills told (lists_of book)
+  -- the samples of the book are lawful exactly if the dumps of the tables are
+  pub samples : (book : Book) (ms : List (List CallMeaning)) → IsBookOf script t book → AllMean script t book ms →
+      Fills told (lists_of book) → LawfulLanes (lists_of book) → LawfulSamples book ↔ Lawful told (lists_of book)
+  -- if the samples of the book are lawful, the samples of each line are
+  pub sampled : (book : Book) (ms : List (List CallMeaning)) → IsBookOf script t book → AllMean script t book ms →
+      LawfulLanes (lists_of book) → LawfulSamples book →
+      AllByRecursion (AllByRecursion (λ line. SamplesStand (facts_of (lists_of book)).fast
+      (deeds_of (lists_of book) line.steps))) t

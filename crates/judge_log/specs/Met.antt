@@ -1,0 +1,77 @@
+-- The data kept of a line's steps, and its seen steps.
+use Rattle.std.specs.Prelude.{ℕ, ◌==◌, Bool, true, false, Option, Some, None, List, map, slice_get, unwrap_or}
+use Rattle.std.specs.Prelude.{if◌then◌else◌}
+use Rattle.std.specs.Global.{Vec}
+use Rattle.key_names.specs.declared.names.LaneId.{LaneId}
+use Rattle.key_names.specs.declared.names.LaneId.TheVariants.{Pool as PoolLane, Base as BaseLane, Cpu as CpuLane}
+use Rattle.key_names.specs.declared.names.Step.{Step}
+use Rattle.key_names.specs.declared.names.Step.TheVariants.{Look, Visit as Marked}
+use Rattle.key_names.specs.Keys.KeyInUse.{zero_key}
+use Rattle.judge_lines.specs.declared.kind.Kind.{Kind}
+use Rattle.judge_lines.specs.Kinds.{is_resume}
+use Rattle.judge_log.specs.declared.kept.KeptPool.{KeptPool}
+use Rattle.judge_log.specs.declared.kept.KeptBase.{KeptBase}
+use Rattle.judge_log.specs.declared.kept.KeptCpu.{KeptCpu}
+use Rattle.judge_log.specs.declared.kept.Lists.{Lists as KeptLists}
+use Rattle.judge_vread.specs.declared.seen.Seen.{Seen}
+use Rattle.judge_vread.specs.declared.seen.Seen.TheVariants.{Unready, Ready, Pool, Base, Resumed, Cpu, Elsewhere}
+use Rattle.judge_vread.specs.Seen.{seen_kind}
+use Rattle.judge_log.specs.declared.met.Met.{Met}
+use Rattle.judge_log.specs.declared.met.Met.TheVariants.{Looked, InPool, InBase, InCpu, Nothing}
+
+abbrev pub pool_met : Option KeptPool → Met
+pool_met None = Nothing
+pool_met (Some kept) = InPool kept
+
+abbrev pub base_met : Option KeptBase → Met
+base_met None = Nothing
+base_met (Some kept) = InBase kept
+
+abbrev pub cpu_met : ℕ → Option KeptCpu → Met
+cpu_met cpu None = Nothing
+cpu_met cpu (Some kept) = InCpu cpu kept
+
+abbrev pub lane_met : ℕ → ℕ → Option (Vec KeptCpu) → Met
+lane_met cpu place None = Nothing
+lane_met cpu place (Some lane) = cpu_met cpu (slice_get lane.items place)
+
+abbrev pub mark_met : KeptLists → LaneId → ℕ → Met
+mark_met kept PoolLane place = pool_met (slice_get kept.pool.items place)
+mark_met kept BaseLane place = base_met (slice_get kept.base.items place)
+mark_met kept (CpuLane cpu) place = lane_met cpu place (slice_get kept.cpus.items cpu)
+
+-- a step with the data kept of its visit
+abbrev pub met_at : KeptLists → Step → Met
+met_at kept (Look found) = Looked found
+met_at kept (Marked mark) = mark_met kept mark.lane mark.place
+
+abbrev pub met_in : KeptLists → List Step → List Met
+met_in kept steps = map (met_at kept) steps
+
+abbrev pub look_seen : ℕ → Seen
+look_seen g = if g == 0 then Unready else Ready g
+
+abbrev pub base_seen : Bool → List ℕ → Seen
+base_seen true key = Resumed
+base_seen false key = Base key
+
+abbrev pub cpu_seen : Bool → List ℕ → Seen
+cpu_seen true key = Cpu key
+cpu_seen false key = Elsewhere
+
+-- the seen step, with cpu as the line's CPU
+abbrev pub seen_of : ℕ → Met → Seen
+seen_of cpu (Looked g) = look_seen g
+seen_of cpu (InPool kept) = Pool
+seen_of cpu (InBase kept) = base_seen (is_resume kept.entry) (unwrap_or kept.key zero_key)
+seen_of cpu (InCpu on kept) = cpu_seen (on == cpu) (unwrap_or kept.source.key zero_key)
+seen_of cpu Nothing = Elsewhere
+
+abbrev pub seen_in : ℕ → List Met → List Seen
+seen_in cpu met = map (seen_of cpu) met
+
+abbrev pub kind_met : ℕ → Met → Kind
+kind_met cpu one = seen_kind (seen_of cpu one)
+
+abbrev pub kinds_met : ℕ → List Met → List Kind
+kinds_met cpu met = map (kind_met cpu) met

@@ -1,0 +1,87 @@
+-- The tables of inferred entries, as lists. Their numbers are in the ranges of all transcripts.
+use Rattle.std.specs.Prelude.{ℕ, ◌≡◌, ◌<◌, ◌^◌, ◌⊎◌, ⊤, List, map, length, All}
+use Rattle.key_names.specs.declared.notes.PoolNote.{PoolNote}
+use Rattle.key_names.specs.declared.notes.PoolNote.TheVariants.{Mix as MixNote, Device, Input as InputNote}
+use Rattle.key_names.specs.declared.notes.PoolNote.TheVariants.{Bits as BitsNote, Extract as ExtractNote}
+use Rattle.key_names.specs.declared.entries.BaseEntry.{BaseEntry}
+use Rattle.key_names.specs.declared.entries.BaseEntry.TheVariants.{Early, Reseed, Tick, Draw, Refill, Fork, End, Wait}
+use Rattle.key_names.specs.declared.entries.BaseEntry.TheVariants.{Resume, Interrupt, Stall, Unstall}
+use Rattle.key_names.specs.declared.entries.CpuEntry.{CpuEntry}
+use Rattle.key_names.specs.declared.entries.CpuEntry.TheVariants.{Read, Int, Irq, Dump, Prepare, Online}
+use Rattle.judge_lines.specs.declared.told.BaseTold.{BaseTold}
+use Rattle.judge_lines.specs.declared.told.BaseTold.TheVariants.{Is as base_is, Crossed as crossed, Woken as woken}
+use Rattle.judge_lines.specs.declared.told.CpuTold.{CpuTold}
+use Rattle.judge_lines.specs.declared.told.CpuTold.TheVariants.{Is as cpu_is, Batch as batch}
+use Rattle.judge_log.specs.declared.told.ToldPool.{ToldPool}
+use Rattle.judge_log.specs.declared.told.ToldPool.TheVariants.{Is as pool_is, Dumped as dumped}
+use Rattle.judge_log.specs.declared.told.ToldCpu.{ToldCpu}
+use Rattle.judge_log.specs.declared.told.Told.{Told}
+
+pub record Tables : Type 0 where
+  pub pool : List ToldPool
+  pub base : List BaseTold
+  pub cpus : List (List ToldCpu)
+
+abbrev pub tables_of : Told → Tables
+tables_of told = record {
+  pool = told.pool.items;
+  base = told.base.items;
+  cpus = map (λ lane. lane.items) told.cpus.items;
+}
+
+-- ---- ranges
+
+-- the moment of an input event is below 2^40
+abbrev pub NoteIsNear : PoolNote → Type 0
+NoteIsNear (InputNote word kind code value now) = now < 2 ^ 40
+NoteIsNear (MixNote text bits) = ⊤
+NoteIsNear (Device word text) = ⊤
+NoteIsNear BitsNote = ⊤
+NoteIsNear (ExtractNote hw base_place) = ⊤
+
+abbrev pub PoolIsNear : ToldPool → Type 0
+PoolIsNear (pool_is note) = NoteIsNear note
+PoolIsNear (dumped cpu place) = ⊤
+
+-- the moment of a reseed or a tick is below 2^40
+abbrev pub EntryIsNear : BaseEntry → Type 0
+EntryIsNear (Reseed root now) = now < 2 ^ 40
+EntryIsNear (Tick now root) = now < 2 ^ 40
+EntryIsNear (Early root) = ⊤
+EntryIsNear (Draw root taken) = ⊤
+EntryIsNear (Refill cpu cpu_place) = ⊤
+EntryIsNear (Fork child) = ⊤
+EntryIsNear End = ⊤
+EntryIsNear Wait = ⊤
+EntryIsNear Resume = ⊤
+EntryIsNear Interrupt = ⊤
+EntryIsNear Stall = ⊤
+EntryIsNear Unstall = ⊤
+
+abbrev pub BaseIsNear : BaseTold → Type 0
+BaseIsNear (base_is e) = EntryIsNear e
+BaseIsNear (crossed root now credit) = now < 2 ^ 40
+BaseIsNear woken = ⊤
+
+-- integers have 1, 2, 4 or 8 bytes
+abbrev pub IsWidth : ℕ → Type 0
+IsWidth width = (width ≡ 1) ⊎ ((width ≡ 2) ⊎ ((width ≡ 4) ⊎ (width ≡ 8)))
+
+abbrev pub EntryIsWide : CpuEntry → Type 0
+EntryIsWide (Int look refill width filled) = IsWidth width
+EntryIsWide (Read look refill taken) = ⊤
+EntryIsWide (Irq v1 v2 now) = ⊤
+EntryIsWide (Dump now) = ⊤
+EntryIsWide Prepare = ⊤
+EntryIsWide Online = ⊤
+
+abbrev pub CpuIsWide : CpuTold → Type 0
+CpuIsWide (cpu_is e) = EntryIsWide e
+CpuIsWide (batch look width) = IsWidth width
+
+-- the ranges of a transcript's tables: fewer than 2^32 CPUs, moments below 2^40, and the widths of integers
+pub record InRange (told : Tables) : Type 0 where
+  pub cpus_count : length told.cpus < 2 ^ 32
+  pub notes : All PoolIsNear told.pool
+  pub moments : All BaseIsNear told.base
+  pub widths : All (λ lane. All (λ (t : ToldCpu). CpuIsWide t.entry) lane) told.cpus

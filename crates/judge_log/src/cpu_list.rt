@@ -1,0 +1,272 @@
+//! The list of a CPU.
+ghost use Rattle.key_names.specs.Kernel.Keystream.{keystream};
+ghost use Rattle.std.specs.Prelude.{ℕ, List, slice_get, ◌≡◌, ◌↔◌, ◌<◌, ◌^◌, All, IsTrue, IfOk, IfSome, IsSome};
+ghost use Rattle.std.specs.Prelude.{MatchOption, length, map};
+ghost use Rattle.key_names.specs.Lanes.Book.{cpu_list, list_at};
+ghost use Rattle.judge_log.specs.Closed.{closed};
+ghost use Rattle.judge_log.specs.CpuLane.{KeysKept, NamesIn, slot, put, one_more_kept, source_kept, RoomFor};
+ghost use Rattle.judge_log.specs.CpuLane.{key_used, RefillStandsIn, HandedStands, FitsKept, HasRoom, cpu_closed};
+ghost use Rattle.judge_log.specs.CpuLane.{cpu_entered, fills_entered, source_entered, AllCpuMay, AllCpusMay};
+ghost use Rattle.judge_log.specs.CpuLane.{refill_named};
+ghost use Rattle.judge_log.specs.Kept.{KeepsBaseLane, KeepsCpuLane};
+ghost use Rattle.judge_log.specs.Places.{AllKept};
+ghost use Rattle.judge_log.specs.Tables.{tables_of, EntryIsWide, CpuIsWide};
+ghost use Rattle.judge_log.specs.declared.told.ToldCpu.{ToldCpu};
+
+use crate::kept::{KeptBase, KeptCpu, Source};
+use crate::last_fills::{LastFill, LastFills};
+use crate::told::Told;
+use chacha_blocks::derive_key;
+use cpu_gen::Cpu;
+use judge_lines::told::CpuTold;
+use key_names::{BaseEntry, CpuEntry};
+use std::alloc::{AllocError, Global};
+
+/// The look and the refill that an entry names, if it names one.
+fn refill_named(entry: CpuEntry) -> Option<(u64, u64)>
+    ensures { result ≡ refill_named entry }
+{
+    match entry {
+        CpuEntry::Read {
+            look,
+            refill: Some(refill),
+            ..
+        }
+        | CpuEntry::Int {
+            look,
+            refill: Some(refill),
+            ..
+        } => Some((look, refill)),
+        _ => None,
+    }
+}
+
+/// Whether a visit of the base is a refill for this place of this CPU, with a generation of at least the look.
+fn refills(kept: &KeptBase, cpu: u32, place: u64, look: u64) -> bool
+    ensures { IsTrue result ↔ NamesIn cpu place look (Some kept.now) }
+{
+    match kept.entry {
+        BaseEntry::Refill {
+            cpu: named,
+            cpu_place,
+        } => named == cpu && cpu_place == place && look <= kept.generation,
+        _ => false,
+    }
+}
+
+/// The data kept of the base's visit at a place.
+fn kept_at(base: &[KeptBase], place: u64) -> Option<KeptBase>
+    ensures { result ≡ slice_get base.now place }
+{
+    base.get(place as usize).copied()
+}
+
+/// The key and generation that the base hands over. `None` if its visit has no kept key.
+fn hand_over(kept: &KeptBase) -> Option<Cpu>
+    ensures { MatchOption result (kept.now.key ≡ None) (λ handed. (key : List ℕ) → kept.now.key ≡ Some key
+        → handed ≡ record { key = keystream key 32 32; generation = kept.now.generation }) }
+{
+    let mut key = kept.key?;
+    Some(Cpu::with(derive_key(&mut key), kept.generation))
+}
+
+/// The key and generation from the refill that the entry names, if it names one. The entry is at this place of the CPU.
+/// `None` if that refill does not name the place, or has a generation below the look.
+fn handed(base: &[KeptBase], cpu: u32, place: u64, entry: CpuEntry) -> Option<Option<Cpu>>
+    requires { KeysKept base.now }
+    ensures { MatchOption result (RefillStandsIn base.now cpu place (refill_named entry) → ⊥) (λ handed.
+        RefillStandsIn base.now cpu place (refill_named entry) × HandedStands base.now (refill_named entry) handed) }
+{
+    let Some((look, refill)) = refill_named(entry) else {
+        return Some(None);
+    };
+    let kept = kept_at(base, refill)?;
+    if !refills(&kept, cpu, place, look) {
+        return None;
+    }
+    Some(Some(hand_over(&kept)?))
+}
+
+/// A CPU's generator, and the last fills of its batches.
+#[derive(Drop)]
+pub(crate) struct Lane {
+    pub(crate) cpu: Cpu,
+    pub(crate) fills: LastFills,
+}
+
+impl Lane {
+    /// The inferred entry, completed.
+    fn close(&self, told: CpuTold) -> CpuEntry
+        requires { CpuIsWide told }
+        ensures { result ≡ cpu_closed self.now.fills told }
+    {
+        match told {
+            CpuTold::Is(entry) => entry,
+            CpuTold::Batch { look, width } => CpuEntry::Int {
+                look,
+                refill: None,
+                width,
+                filled: self.fills.wants(look, width),
+            },
+        }
+    }
+
+    /// Whether the generation and the batches allow an entry.
+    fn fits(&self, entry: CpuEntry) -> bool
+        requires { EntryIsWide entry }
+        ensures { IsTrue result ↔ FitsKept self.now.cpu.generation self.now.fills entry }
+    {
+        let generation = self.cpu.generation();
+        match entry {
+            CpuEntry::Read { look, refill, .. } => {
+                1 <= look && generation <= look && refill.is_none() == (look == generation)
+            }
+            CpuEntry::Int {
+                look,
+                refill,
+                width,
+                filled,
+            } => {
+                1 <= look
+                    && generation <= look
+                    && filled == self.fills.wants(look, width)
+                    && refill.is_none() == (!filled || look == generation)
+            }
+            CpuEntry::Irq { .. } | CpuEntry::Dump { .. } | CpuEntry::Prepare | CpuEntry::Online =>
+                true,
+        }
+    }
+
+    /// Serves an integer from a batch that has bytes left.
+    fn serve(&mut self, width: u8) -> Source
+        requires { HasRoom (slot self.old.fills width) }
+        ensures fills { self.new.fills ≡ put width (one_more_kept (slot self.old.fills width)) self.old.fills }
+        ensures cpu { self.new.cpu ≡ self.old.cpu }
+        ensures source { result ≡ source_kept (slot self.old.fills width) }
+    {
+        match self.fills.last(width) {
+            None => Source::none(),
+            Some(fill) => {
+                self.fills.put(
+                    width,
+                    Some(LastFill {
+                        count: fill.count + 1,
+                        ..fill
+                    }),
+                );
+                Source {
+                    key: Some(fill.key),
+                    served: fill.count,
+                }
+            }
+        }
+    }
+
+    /// Changes the lane by an entry that fits it. `handed` is the key and generation from the refill that the entry
+    /// names. Returns the source of the entry's bytes.
+    fn enter(&mut self, entry: CpuEntry, handed: Option<Cpu>) -> Source
+        requires wide { EntryIsWide entry }
+        requires room { RoomFor self.old.fills entry }
+        ensures cpu { self.new.cpu ≡ cpu_entered entry handed self.old.cpu }
+        ensures fills { self.new.fills ≡ fills_entered entry (key_used handed self.old.cpu) self.old.fills }
+        ensures source { result ≡ source_entered entry (key_used handed self.old.cpu) self.old.fills }
+    {
+        if let Some(handed) = handed {
+            self.cpu = handed;
+        }
+        match entry {
+            CpuEntry::Read { .. } => Source {
+                key: Some(self.cpu.front(&mut []).key),
+                served: 0,
+            },
+            CpuEntry::Int {
+                look,
+                width,
+                filled: true,
+                ..
+            } => {
+                let key = self.cpu.front(&mut []).key;
+                let count = 1;
+                self.fills.put(width, Some(LastFill { look, key, count }));
+                Source {
+                    key: Some(key),
+                    served: 0,
+                }
+            }
+            CpuEntry::Int {
+                width,
+                filled: false,
+                ..
+            } => self.serve(width),
+            CpuEntry::Prepare => {
+                self.cpu.prepare();
+                self.fills = LastFills::none();
+                Source::none()
+            }
+            CpuEntry::Irq { .. } | CpuEntry::Dump { .. } | CpuEntry::Online => Source::none(),
+        }
+    }
+}
+
+/// The data kept of a CPU's list, if it is lawful.
+fn replay_cpu(
+    alloc: Global,
+    told: &Told,
+    cpu: usize,
+    base: &[KeptBase],
+) -> Result<Option<Vec<KeptCpu>>, AllocError>
+    requires cpu { cpu < length told.now.cpus.items }
+    requires cpus { length told.now.cpus.items < 2 ^ 32 }
+    requires widths { All (λ (t : ToldCpu). CpuIsWide t.entry) (list_at (tables_of told.now).cpus cpu) }
+    requires base { KeepsBaseLane base.now (closed (tables_of told.now)) }
+    ensures some { IfOk result (λ o. IfSome o (λ kept. AllCpuMay (closed (tables_of told.now)) cpu
+        × KeepsCpuLane (closed (tables_of told.now)) cpu kept.items (cpu_list (closed (tables_of told.now)) cpu))) }
+    ensures none { IfOk result (λ o. AllCpuMay (closed (tables_of told.now)) cpu → IsSome o) }
+{
+    let mut lane = Lane {
+        cpu: Cpu::start(),
+        fills: LastFills::none(),
+    };
+    let rows = &told.cpus[cpu];
+    let mut kept = Vec::with_capacity(alloc, rows.len())?;
+    for (place, one) in rows.iter().enumerate() {
+        let entry = lane.close(one.entry);
+        let Some(handed) = handed(base, cpu as u32, place as u64, entry) else {
+            return Ok(None);
+        };
+        if !lane.fits(entry) {
+            return Ok(None);
+        }
+        let source = lane.enter(entry, handed);
+        kept.push(KeptCpu {
+            entry,
+            generation: lane.cpu.generation(),
+            source,
+        })?;
+    }
+    Ok(Some(kept))
+}
+
+/// The data kept of the lists of all CPUs, if they are lawful.
+pub(crate) fn replay_cpus(
+    alloc: Global,
+    told: &Told,
+    base: &[KeptBase],
+) -> Result<Option<Vec<Vec<KeptCpu>>>, AllocError>
+    requires cpus { length (tables_of told.now).cpus < 2 ^ 32 }
+    requires widths { All (λ lane. All (λ (t : ToldCpu). CpuIsWide t.entry) lane) (tables_of told.now).cpus }
+    requires base { KeepsBaseLane base.now (closed (tables_of told.now)) }
+    ensures some { IfOk result (λ o. IfSome o (λ kept. AllCpusMay (closed (tables_of told.now))
+        × AllKept (KeepsCpuLane (closed (tables_of told.now))) (map (λ lane. lane.items) kept.items)
+        (closed (tables_of told.now)).cpus)) }
+    ensures none { IfOk result (λ o. AllCpusMay (closed (tables_of told.now)) → IsSome o) }
+{
+    let mut all = Vec::new(alloc);
+    for cpu in 0..told.cpus.len() {
+        match replay_cpu(alloc, told, cpu, base)? {
+            Some(kept) => all.push(kept)?,
+            None => return Ok(None),
+        }
+    }
+    Ok(Some(all))
+}

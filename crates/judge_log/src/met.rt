@@ -1,0 +1,183 @@
+//! The data kept of a line's steps, and its seen steps.
+ghost use Rattle.std.specs.Prelude.{◌≡◌, ℕ, List, [], OnOk, slice_get, unwrap_or};
+ghost use Rattle.key_names.specs.Keys.KeyInUse.{zero_key};
+ghost use Rattle.judge_lines.specs.Kinds.{is_resume};
+ghost use Rattle.judge_vread.specs.Seen.{seen_kind};
+ghost use Rattle.judge_log.specs.Met.{pool_met, base_met, lane_met, met_at, met_in, base_seen, cpu_seen, seen_of};
+ghost use Rattle.judge_log.specs.Met.{seen_in, kind_met, kinds_met};
+
+use crate::{KeptBase, KeptCpu, KeptPool, Lists};
+use judge_lines::kind::Kind;
+use judge_vread::seen::Seen;
+use key_names::{BaseEntry, LaneId, Step};
+use std::alloc::{AllocError, Global};
+
+/// A step with the data kept of its visit.
+#[derive(Clone, Copy)]
+pub enum Met {
+    Looked(u64),
+    InPool(KeptPool),
+    InBase(KeptBase),
+    /// A visit of the CPU with this number.
+    InCpu(u32, KeptCpu),
+    /// A visit without kept data.
+    Nothing,
+}
+
+fn pool_met(lane: &[KeptPool], place: u64) -> Met
+    ensures { result ≡ pool_met (slice_get lane.now place) }
+{
+    match lane.get(place as usize) {
+        Some(kept) => Met::InPool(*kept),
+        None => Met::Nothing,
+    }
+}
+
+fn base_met(lane: &[KeptBase], place: u64) -> Met
+    ensures { result ≡ base_met (slice_get lane.now place) }
+{
+    match lane.get(place as usize) {
+        Some(kept) => Met::InBase(*kept),
+        None => Met::Nothing,
+    }
+}
+
+fn cpu_met(lanes: &[Vec<KeptCpu>], cpu: u32, place: u64) -> Met
+    ensures { result ≡ lane_met cpu place (slice_get lanes.now cpu) }
+{
+    let Some(lane) = lanes.get(cpu as usize) else {
+        return Met::Nothing;
+    };
+    match lane.get(place as usize) {
+        Some(kept) => Met::InCpu(cpu, *kept),
+        None => Met::Nothing,
+    }
+}
+
+fn met_at(lists: &Lists, step: Step) -> Met
+    ensures { result ≡ met_at lists.now step }
+{
+    let mark = match step {
+        Step::Look(found) => return Met::Looked(found),
+        Step::Visit(mark) => mark,
+    };
+    match mark.lane {
+        LaneId::Pool => pool_met(&lists.pool, mark.place),
+        LaneId::Base => base_met(&lists.base, mark.place),
+        LaneId::Cpu(cpu) => cpu_met(&lists.cpus, cpu, mark.place),
+    }
+}
+
+/// Room for the steps of one line at a time: their kept data, the seen steps, and their kinds.
+#[derive(Drop)]
+pub struct Room {
+    pub met: Vec<Met>,
+    pub seen: Vec<Seen>,
+    pub kinds: Vec<Kind>,
+}
+
+impl Room {
+    /// Empty room.
+    pub fn new(alloc: Global) -> Room
+        ensures met { result.met.items ≡ [] }
+        ensures seen { result.seen.items ≡ [] }
+        ensures kinds { result.kinds.items ≡ [] }
+    {
+        Room {
+            met: Vec::new(alloc),
+            seen: Vec::new(alloc),
+            kinds: Vec::new(alloc),
+        }
+    }
+}
+
+/// Replaces the content by the steps of a line, with their kept data.
+///
+/// # Errors
+///
+/// `AllocError` if there is no memory for them.
+pub fn put_met(met: &mut Vec<Met>, lists: &Lists, steps: &[Step]) -> Result<(), AllocError>
+    ensures { OnOk result (met.new.items ≡ met_in lists.now steps.now) }
+{
+    met.clear();
+    for step in steps {
+        met.push(met_at(lists, *step))?;
+    }
+    Ok(())
+}
+
+fn base_seen(kept: &KeptBase) -> Seen
+    ensures { result ≡ base_seen (is_resume kept.now.entry) (unwrap_or kept.now.key zero_key) }
+{
+    match kept.entry {
+        BaseEntry::Resume => Seen::Resumed,
+        _ => Seen::Base(kept.key.unwrap_or([0; 32])),
+    }
+}
+
+// The seen step, with `cpu` as the line's CPU.
+fn seen_of(cpu: u32, met: &Met) -> Seen
+    ensures { result ≡ seen_of cpu met.now }
+{
+    match met {
+        Met::Looked(0) => Seen::Unready,
+        Met::Looked(found) => Seen::Ready(*found),
+        Met::InPool(_) => Seen::Pool,
+        Met::InBase(kept) => base_seen(kept),
+        Met::InCpu(on, kept) if *on == cpu => Seen::Cpu(kept.source.key.unwrap_or([0; 32])),
+        Met::InCpu(..) | Met::Nothing => Seen::Elsewhere,
+    }
+}
+
+/// Replaces the content by the seen steps of a line on this CPU.
+///
+/// # Errors
+///
+/// `AllocError` if there is no memory for them.
+pub fn put_seen(seen: &mut Vec<Seen>, cpu: u32, met: &[Met]) -> Result<(), AllocError>
+    ensures { OnOk result (seen.new.items ≡ seen_in cpu met.now) }
+{
+    seen.clear();
+    for one in met {
+        seen.push(seen_of(cpu, one))?;
+    }
+    Ok(())
+}
+
+fn base_kind(entry: BaseEntry) -> Kind
+    ensures { (key : List ℕ) → result ≡ seen_kind (base_seen (is_resume entry) key) }
+{
+    match entry {
+        BaseEntry::Resume => Kind::Resumed,
+        _ => Kind::Base,
+    }
+}
+
+// The kind of a step. No key is copied for it.
+fn kind_met(cpu: u32, met: &Met) -> Kind
+    ensures { result ≡ kind_met cpu met.now }
+{
+    match met {
+        Met::Looked(0) => Kind::Unready,
+        Met::Looked(_) => Kind::Ready,
+        Met::InPool(_) => Kind::Pool,
+        Met::InBase(kept) => base_kind(kept.entry),
+        Met::InCpu(on, _) if *on == cpu => Kind::Cpu,
+        Met::InCpu(..) | Met::Nothing => Kind::OtherCpu,
+    }
+}
+
+/// Replaces the content by the kinds of the steps of a line on this CPU.
+///
+/// # Errors
+///
+/// `AllocError` if there is no memory for them.
+pub fn put_kinds(kinds: &mut Vec<Kind>, cpu: u32, met: &[Met]) -> Result<(), AllocError>
+    ensures { OnOk result (kinds.new.items ≡ kinds_met cpu met.now) }
+{
+    kinds.clear();
+    for one in met {
+        kinds.push(kind_met(cpu, one))?;
+    }
+    Ok(())
+}

@@ -1,0 +1,82 @@
+//! Names in both directions. An extraction names the base's entry that takes its root, and a refill names the CPU's
+//! entry that takes its key. Each named entry must name it back.
+ghost use Rattle.std.specs.Prelude.{◌≡◌, ◌↔◌, ◌<◌, ◌^◌, IsTrue, map, option_and_then};
+ghost use Rattle.key_names.specs.Lanes.BaseList.{root_of, refill_of};
+ghost use Rattle.key_names.specs.Lanes.CpuList.{base_refill_of};
+ghost use Rattle.judge_log.specs.Names.{AnsweredBy, root_named_in, refill_named_in, AllExtractionsAnswered};
+ghost use Rattle.judge_log.specs.Names.{AllRefillsAnswered};
+
+use crate::kept::{KeptBase, KeptCpu, KeptPool};
+use key_names::{BaseEntry, CpuEntry};
+
+/// The root that an entry names.
+pub fn root_of(entry: BaseEntry) -> Option<u64>
+    ensures { result ≡ root_of entry }
+{
+    match entry {
+        BaseEntry::Early { root } | BaseEntry::Tick { root, .. } | BaseEntry::Draw { root, .. } =>
+            root,
+        BaseEntry::Reseed { root, .. } => Some(root),
+        _ => None,
+    }
+}
+
+/// The refill that an entry names.
+pub fn base_refill_of(entry: CpuEntry) -> Option<u64>
+    ensures { result ≡ base_refill_of entry }
+{
+    match entry {
+        CpuEntry::Read { refill, .. } | CpuEntry::Int { refill, .. } => refill,
+        _ => None,
+    }
+}
+
+/// The root that the base's entry at a place names.
+fn root_at(base: &[KeptBase], place: u64) -> Option<u64>
+    ensures { result ≡ root_named_in base.now place }
+{
+    root_of(base.get(place as usize)?.entry)
+}
+
+/// Whether each extraction is named by the base's entry that it names.
+pub(crate) fn extractions_answered(pool: &[KeptPool], base: &[KeptBase]) -> bool
+    ensures { IsTrue result ↔ AllExtractionsAnswered pool.now base.now }
+{
+    for (place, kept) in pool.iter().enumerate() {
+        if let Some(root) = kept.root {
+            if root_at(base, root.base_place) != Some(place as u64) {
+                return false;
+            }
+        }
+    }
+    true
+}
+
+/// The refill that the entry at a place of a CPU names.
+fn refill_at(cpus: &[Vec<KeptCpu>], cpu: u32, place: u64) -> Option<u64>
+    ensures { result ≡ refill_named_in (map (λ lane. lane.items) cpus.now) cpu place }
+{
+    base_refill_of(cpus.get(cpu as usize)?.get(place as usize)?.entry)
+}
+
+/// Whether the visit of the base is no refill, or is named by the CPU's entry that it names.
+fn refill_answered(kept: &KeptBase, place: u64, cpus: &[Vec<KeptCpu>]) -> bool
+    ensures { IsTrue result ↔ AnsweredBy (map (λ lane. lane.items) cpus.now) place (refill_of kept.now.entry) }
+{
+    match kept.entry {
+        BaseEntry::Refill { cpu, cpu_place } => refill_at(cpus, cpu, cpu_place) == Some(place),
+        _ => true,
+    }
+}
+
+/// Whether each refill is named by the CPU's entry that it names.
+pub(crate) fn refills_answered(base: &[KeptBase], cpus: &[Vec<KeptCpu>]) -> bool
+    ensures { IsTrue result ↔ AllRefillsAnswered base.now (map (λ lane. lane.items) cpus.now) }
+{
+    for (place, kept) in base.iter().enumerate() {
+        if !refill_answered(kept, place as u64, cpus) {
+            return false;
+        }
+    }
+    true
+}

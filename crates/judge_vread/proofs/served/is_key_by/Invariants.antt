@@ -1,0 +1,10 @@
+use Rattle.std.proofs.Common.{◌≡◌, ◌<◌, ◌≤◌, ◌-◌, length, take}
+use Rattle.key_names.specs.Kernel.Keystream.{keystream}
+use Rattle.judge_vread.proofs.served.is_key_by.Given as goal
+
+abbrev pub invariant-loop-done : goal.invariant-loop-done
+invariant-loop-done l =
+    (l.done ≤ length l.bytes) × (take l.done l.bytes ≡ keystream l.key l.from l.done) × (0 < length l.piece)
+
+abbrev pub decreases-loop-done : goal.decreases-loop-done
+decreases-loop-done l = length l.bytes - l.done

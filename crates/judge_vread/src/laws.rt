@@ -1,0 +1,45 @@
+//! The laws of courses, each as the contract of a function without code.
+//!
+//! If the visits of steps have the inferred entries and the steps can be followed, they are a `vread`. If the entries
+//! of a `vread` fit, it can be followed, with the same answer, bytes and state.
+ghost use Rattle.judge_vread.specs.Laws.{FollowedIsVread, VreadIsFollowed, CalledIsRow, RowIsCalled, CalledSays};
+ghost use Rattle.judge_vread.specs.Laws.{ActJoins, VreadIsTold};
+
+/// If the visits of steps have the inferred entries and the steps can be followed, they are a `vread`.
+#[tactic(auto, using(crate::proofs::Vreads::vread_of_followed))]
+pub fn followed_is_vread()
+    ensures { FollowedIsVread }
+{}
+
+/// If the entries of a `vread` fit, it can be followed, and the course has the answer, bytes and state of its meaning.
+pub fn vread_is_followed()
+    ensures { VreadIsFollowed }
+{}
+
+/// The kinds of a recognized system call are one of its rows.
+#[tactic(auto, using(crate::proofs::CalledRows::called_row))]
+pub fn called_is_row()
+    ensures { CalledIsRow }
+{}
+
+/// If the kinds of steps are a row of a system call, the call is recognized.
+#[tactic(auto, using(crate::proofs::CalledRows::row_called))]
+pub fn row_is_called()
+    ensures { RowIsCalled }
+{}
+
+/// If the visits of a recognized system call have the inferred entries, it has the answer and the bytes of its steps.
+pub fn called_says()
+    ensures { CalledSays }
+{}
+
+/// One more act changes the effect of a call's acts as `Inside::add` does.
+#[tactic(auto, using(crate::proofs::Vreads::act_joins))]
+pub fn act_joins()
+    ensures { ActJoins }
+{}
+
+/// If all entries of a `vread` fit, each visit has the entry that is inferred from the steps around it.
+pub fn vread_is_told()
+    ensures { VreadIsTold }
+{}

@@ -1,0 +1,169 @@
+-- How a vgetrandom call shows in the steps of a vread's line and of the lines of the acts inside it. The host of the
+-- call is the caller itself, over the lanes.
+use Rattle.std.specs.Prelude.{ℕ, zero, suc, ◌≡◌, ◌≤◌, Bool, true, false, ◌&&◌, ⊤, Option, Some, None, List, []}
+use Rattle.std.specs.Prelude.{◌∷◌, ◌++◌, if◌then◌else◌}
+use Rattle.std.specs.List.{list_any, AllByRecursion}
+use Rattle.key_names.specs.declared.events.InsideAct.{InsideAct}
+use Rattle.key_names.specs.declared.events.InsideAct.TheVariants.{Wipe as WipeAct, Vread as VreadAct}
+use Rattle.key_names.specs.declared.events.InsideAct.TheVariants.{Reseed as ReseedAct}
+use Rattle.key_names.specs.declared.events.Answer.{Answer}
+use Rattle.key_names.specs.declared.events.Answer.TheVariants.{Ok as Done, Again, Invalid, NoData, Interrupted, Fired}
+use Rattle.key_names.specs.declared.events.Answer.TheVariants.{Idle, Unused}
+use Rattle.key_names.specs.declared.errno.Errno.{Errno}
+use Rattle.key_names.specs.declared.errno.Errno.TheVariants.{Again as EAGAIN, Invalid as EINVAL, NoData as ENODATA}
+use Rattle.key_names.specs.declared.errno.Errno.TheVariants.{Interrupted as EINTR}
+use Rattle.key_names.specs.declared.point.Point.{Point}
+use Rattle.key_names.specs.declared.point.Point.TheVariants.{Start}
+use Rattle.key_names.specs.Kernel.Points.{is_same_point}
+use Rattle.key_names.specs.Callers.Calls.{Setting, BoundAct}
+use Rattle.key_names.specs.Callers.Deeds.{Deed, looked, at_pool, at_base, at_cpu, nothing_there}
+use Rattle.key_names.specs.Callers.Forms.{SysForm, Looked}
+use Rattle.key_names.specs.Transcripts.SeenLine.{Shown, no_data, bytes_or_none}
+use Rattle.key_names.specs.Callers.Answers.{system_answer, served_bytes}
+use Rattle.key_names.specs.Kernel.Vgetrandom.{CpuPlace, SystemAnswer, read, failed, HostStep, publishes, system_call, at_point}
+use Rattle.key_names.specs.Kernel.Vgetrandom.{Ending, no_bytes, by_batch, by_system}
+
+-- the generation that is published when a look finds one: the next number, so that 0 means that the core is not ready
+abbrev pub published_by : ℕ → ℕ
+published_by zero = 0
+published_by (suc g) = suc (suc g)
+
+abbrev pub place_of : Deed → Option CpuPlace
+place_of (looked g) = None
+place_of (at_pool v) = None
+place_of (at_base v) = None
+place_of (at_cpu v) = Some (record { cpu = v.cpu; place = v.place })
+place_of nothing_there = None
+
+-- the CPU visit that a system call ends with, if it ends with one
+abbrev pub last_place : List Deed → Option CpuPlace
+last_place [] = None
+last_place (deed ∷ []) = place_of deed
+last_place (deed ∷ next ∷ deeds) = last_place (next ∷ deeds)
+
+-- the error of an answer
+abbrev pub errno_of : Answer → Option Errno
+errno_of Done = None
+errno_of Again = Some EAGAIN
+errno_of Invalid = Some EINVAL
+errno_of NoData = Some ENODATA
+errno_of Interrupted = Some EINTR
+errno_of Fired = None
+errno_of Idle = None
+errno_of Unused = None
+
+abbrev pub answer_with : Option Errno → List Deed → SystemAnswer
+answer_with None deeds = read (served_bytes deeds) (last_place deeds)
+answer_with (Some errno) deeds = failed errno
+
+-- the answer of a system call with these flags, from the deeds of its steps
+abbrev pub answer_behind : ℕ → List Deed → SystemAnswer
+answer_behind flags deeds = answer_with (errno_of (system_answer flags deeds)) deeds
+
+-- a system call of n bytes, and the deeds after its own
+pub record SystemCallShows (set : Setting) (n flags : ℕ) (answer : SystemAnswer) (Rest : List Deed → Type 0)
+    (deeds : List Deed) : Type 0 where
+  pub call : List Deed
+  pub rest : List Deed
+  pub deeds_are : deeds ≡ call ++ rest
+  pub form : SysForm set n flags call
+  pub answers : answer ≡ answer_behind flags call
+  pub goes_on : Rest rest
+
+-- the deeds of the line are the steps of the host. A point has no step in the transcript
+abbrev pub Shows : Setting → List HostStep → List Deed → Type 0
+Shows set [] deeds = deeds ≡ []
+Shows set (publishes g ∷ steps) deeds = Looked (λ look rest. (g ≡ published_by look) × Shows set steps rest) deeds
+Shows set (at_point point wiped ∷ steps) deeds = Shows set steps deeds
+Shows set (system_call n flags answer ∷ steps) deeds = SystemCallShows set n flags answer (Shows set steps) deeds
+
+-- a point that a call has reached, and whether the state was wiped there
+pub record PointReached : Type 0 where
+  pub point : Point
+  pub wiped : Bool
+
+-- the points of both attempts
+abbrev pub points_of : List HostStep → List PointReached
+points_of [] = []
+points_of (publishes g ∷ steps) = points_of steps
+points_of (system_call n flags answer ∷ steps) = points_of steps
+points_of (at_point point wiped ∷ steps) = record { point = point; wiped = wiped } ∷ points_of steps
+
+abbrev pub is_start : PointReached → Bool
+is_start reached = is_same_point reached.point Start
+
+-- the points before the next start of an attempt, and those from it on
+abbrev pub before_start : List PointReached → List PointReached
+before_start [] = []
+before_start (reached ∷ points) = if is_start reached then [] else reached ∷ before_start points
+
+abbrev pub from_start : List PointReached → List PointReached
+from_start [] = []
+from_start (reached ∷ points) = if is_start reached then reached ∷ points else from_start points
+
+-- the points of the first attempt, and those of the second. The first point of all is the start of the first attempt
+abbrev pub first_points : List PointReached → List PointReached
+first_points [] = []
+first_points (start ∷ points) = start ∷ before_start points
+
+abbrev pub second_points : List PointReached → List PointReached
+second_points [] = []
+second_points (start ∷ points) = from_start points
+
+abbrev pub is_wipe : InsideAct → Bool
+is_wipe WipeAct = true
+is_wipe (VreadAct n) = false
+is_wipe ReseedAct = false
+
+-- whether an act at this point wipes the state
+abbrev pub is_wiped : List BoundAct → Point → Bool
+is_wiped acts point = list_any (λ bound. is_same_point bound.point point && is_wipe bound.act) acts
+
+-- the acts wipe the state in the first attempt, and in the second no point is wiped
+pub record WipesStand (acts : List BoundAct) (points : List PointReached) : Type 0 where
+  pub first : AllByRecursion (λ reached. reached.wiped ≡ is_wiped acts reached.point) (first_points points)
+  pub second : AllByRecursion (λ reached. reached.wiped ≡ false) (second_points points)
+
+-- whether the first attempt reached the point of an act
+abbrev pub is_reached : List PointReached → BoundAct → Bool
+is_reached points bound = list_any (λ reached. is_same_point reached.point bound.point) (first_points points)
+
+-- the answer and the data of a line, from how its call ended
+abbrev pub answer_of_errno : Errno → Answer
+answer_of_errno EAGAIN = Again
+answer_of_errno EINVAL = Invalid
+answer_of_errno ENODATA = NoData
+answer_of_errno EINTR = Interrupted
+
+abbrev pub system_line_answer : SystemAnswer → Answer
+system_line_answer (read bytes visit) = Done
+system_line_answer (failed errno) = answer_of_errno errno
+
+abbrev pub system_line_shown : SystemAnswer → Shown
+system_line_shown (read bytes visit) = bytes_or_none bytes
+system_line_shown (failed errno) = no_data
+
+abbrev pub ending_answer : Ending → Answer
+ending_answer no_bytes = Done
+ending_answer (by_batch bytes) = Done
+ending_answer (by_system answer) = system_line_answer answer
+
+abbrev pub ending_shown : Ending → Shown
+ending_shown no_bytes = no_data
+ending_shown (by_batch bytes) = bytes_or_none bytes
+ending_shown (by_system answer) = system_line_shown answer
+
+-- the looks among some deeds
+abbrev pub looks_of : List Deed → List ℕ
+looks_of [] = []
+looks_of (looked g ∷ deeds) = g ∷ looks_of deeds
+looks_of (at_pool v ∷ deeds) = looks_of deeds
+looks_of (at_base v ∷ deeds) = looks_of deeds
+looks_of (at_cpu v ∷ deeds) = looks_of deeds
+looks_of (nothing_there ∷ deeds) = looks_of deeds
+
+-- no number is below the one before it
+abbrev pub NeverFall : List ℕ → Type 0
+NeverFall [] = ⊤
+NeverFall (a ∷ []) = ⊤
+NeverFall (a ∷ b ∷ rest) = (a ≤ b) × NeverFall (b ∷ rest)

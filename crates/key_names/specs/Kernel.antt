@@ -1,0 +1,11 @@
+-- The rules of the kernel and its primitives, each by itself.
+pub mod Blake2s
+pub mod Keystream
+pub mod InputTimer
+pub mod FastPool
+pub mod Batches
+pub mod Flags
+pub mod Points
+pub mod VgetrandomState
+pub mod BatchCopy
+pub mod Vgetrandom

@@ -1,0 +1,215 @@
+-- A vgetrandom call, for any host: which steps of the host lead to which state, ending and entries. The relation is
+-- defined from each point of a call to its end, so that it can also begin at a point.
+use Rattle.std.specs.Prelude.{ℕ, ◌≡◌, Bool, true, false, ◌==◌, MatchBool, Option, Some, None, List, [], ◌∷◌, ◌++◌}
+use Rattle.std.specs.Prelude.{if◌then◌else◌}
+use Rattle.key_names.specs.declared.entries.VEntry.{VEntry}
+use Rattle.key_names.specs.declared.entries.VEntry.TheVariants.{Rekey, Wipe}
+use Rattle.key_names.specs.declared.errno.Errno.{Errno}
+use Rattle.key_names.specs.declared.point.Point.{Point}
+use Rattle.key_names.specs.declared.point.Point.TheVariants.{Start, Written, Serve, End}
+use Rattle.key_names.specs.Kernel.Flags.{is_bad}
+use Rattle.key_names.specs.Kernel.VgetrandomState.{VgetrandomState, state_left}
+use Rattle.key_names.specs.Kernel.BatchCopy.{copy_bytes, state_after_copy, block_after_copy, copy_entries}
+
+-- a place in the list of a CPU
+pub record CpuPlace : Type 0 where
+  pub cpu : ℕ
+  pub place : ℕ
+
+-- the answer of a system call: the bytes that it read, with the CPU visit that gave them if the host has
+-- such visits; or an error
+pub data SystemAnswer : Type 0 where
+  read : List ℕ → Option CpuPlace → SystemAnswer
+  failed : Errno → SystemAnswer
+
+-- the steps of a host in a call: it publishes a generation, which is 0 if the core is not ready; it answers a system
+-- call of some bytes with some flags; or at a point it wipes the state or leaves it
+pub data HostStep : Type 0 where
+  publishes : ℕ → HostStep
+  system_call : ℕ → ℕ → SystemAnswer → HostStep
+  at_point : Point → Bool → HostStep
+
+-- how an attempt ended: the generation published at the end was the state's, or another one, or the system
+-- call for a new key failed
+pub data AttemptEnd : Type 0 where
+  holds outdated not_keyed : AttemptEnd
+
+-- the result of an attempt: the bytes that it copied, the state, the next block, the entries of the
+-- state's list, and how it ended
+pub record Attempt : Type 0 where
+  pub out : List ℕ
+  pub state : VgetrandomState
+  pub next_block : ℕ
+  pub entries : List VEntry
+  pub end : AttemptEnd
+
+abbrev pub attempt_behind : List VEntry → Attempt → Attempt
+attempt_behind entries attempt = record attempt { entries = entries ++ attempt.entries }
+
+abbrev pub wipe_entry : Bool → List VEntry
+wipe_entry wiped = if wiped then Wipe ∷ [] else []
+
+-- the entry of a new key names the CPU visit that gave its bytes
+abbrev pub rekey_entry : Option CpuPlace → List VEntry
+rekey_entry None = []
+rekey_entry (Some at) = Rekey at.cpu at.place ∷ []
+
+-- the host is at a point, and GoesOn holds for the rest, on the state after the point
+pub record AtPoint (point : Point) (GoesOn : VgetrandomState → List HostStep → Attempt → Type 0) (s : VgetrandomState)
+    (steps : List HostStep) (attempt : Attempt) : Type 0 where
+  pub wiped : Bool
+  pub rest : List HostStep
+  pub attempt_after : Attempt
+  pub steps_are : steps ≡ at_point point wiped ∷ rest
+  pub goes_on : GoesOn (state_left wiped s) rest attempt_after
+  pub attempt_is : attempt ≡ attempt_behind (wipe_entry wiped) attempt_after
+
+-- from End on: out has been copied
+pub record FromEnd (out : List ℕ) (next_block : ℕ) (s : VgetrandomState) (steps : List HostStep)
+    (attempt : Attempt) : Type 0 where
+  pub published : ℕ
+  pub steps_are : steps ≡ publishes published ∷ []
+  pub attempt_is : attempt ≡ record {
+    out = out;
+    state = s;
+    next_block = next_block;
+    entries = [];
+    end = if s.generation == published then holds else outdated;
+  }
+
+-- from Serve on: n bytes are copied; c is the next block
+pub record FromServe (n c : ℕ) (s : VgetrandomState) (steps : List HostStep) (attempt : Attempt) : Type 0 where
+  pub attempt_after : Attempt
+  pub goes_on : AtPoint End (FromEnd (copy_bytes s c n) (block_after_copy s c n))
+      (state_after_copy s c n) steps attempt_after
+  pub attempt_is : attempt ≡ attempt_behind (copy_entries s c n) attempt_after
+
+-- the system call for a new key succeeded
+pub record Keyed (n c : ℕ) (key : List ℕ) (visit : Option CpuPlace) (s : VgetrandomState) (steps : List HostStep)
+    (attempt : Attempt) : Type 0 where
+  pub attempt_after : Attempt
+  pub goes_on : AtPoint Serve (FromServe n c) (record s { key = key; pos = 96 }) steps attempt_after
+  pub attempt_is : attempt ≡ attempt_behind (rekey_entry visit) attempt_after
+
+-- the system call for a new key failed. The key may then be any list of bytes
+pub record NotKeyed (c : ℕ) (s : VgetrandomState) (steps : List HostStep) (attempt : Attempt) : Type 0 where
+  pub key : List ℕ
+  pub steps_are : steps ≡ []
+  pub attempt_is : attempt ≡ record {
+    out = [];
+    state = record s { key = key; generation = 0 };
+    next_block = c;
+    entries = [];
+    end = not_keyed;
+  }
+
+abbrev pub AfterKeyRead : ℕ → ℕ → SystemAnswer → VgetrandomState → List HostStep → Attempt → Type 0
+AfterKeyRead n c (read key visit) s steps attempt = Keyed n c key visit s steps attempt
+AfterKeyRead n c (failed errno) s steps attempt = NotKeyed c s steps attempt
+
+-- from Written on: a system call without flags reads 32 bytes for the key
+pub record FromWritten (n c : ℕ) (s : VgetrandomState) (steps : List HostStep) (attempt : Attempt) : Type 0 where
+  pub answer : SystemAnswer
+  pub rest : List HostStep
+  pub steps_are : steps ≡ system_call 32 0 answer ∷ rest
+  pub goes_on : AfterKeyRead n c answer s rest attempt
+
+-- from Start on: if the state's generation is not the published one, the state takes that generation and then a new key
+abbrev pub FromStart : ℕ → ℕ → ℕ → VgetrandomState → List HostStep → Attempt → Type 0
+FromStart n c published s steps attempt =
+    MatchBool (s.generation == published) (AtPoint Serve (FromServe n c) s steps attempt)
+    (AtPoint Written (FromWritten n c) (record s { generation = published }) steps attempt)
+
+-- an attempt to copy n bytes out of a state; c is the next block
+pub record IsAttempt (n c : ℕ) (s : VgetrandomState) (steps : List HostStep) (attempt : Attempt) : Type 0 where
+  pub published : ℕ
+  pub rest : List HostStep
+  pub steps_are : steps ≡ publishes published ∷ rest
+  pub goes_on : AtPoint Start (FromStart n c published) s rest attempt
+
+-- how a call ended, and with which bytes: it asked for no bytes; an attempt held; or the system call gave the answer
+pub data Ending : Type 0 where
+  no_bytes : Ending
+  by_batch : List ℕ → Ending
+  by_system : SystemAnswer → Ending
+
+-- the result of a call: how it ended, the state, and the entries of the state's list
+pub record Outcome : Type 0 where
+  pub ending : Ending
+  pub state : VgetrandomState
+  pub entries : List VEntry
+
+abbrev pub outcome_behind : List VEntry → Outcome → Outcome
+outcome_behind entries outcome = record outcome { entries = entries ++ outcome.entries }
+
+-- the system call has the call's own number of bytes and flags
+pub record BySystem (n flags : ℕ) (s : VgetrandomState) (steps : List HostStep) (outcome : Outcome) : Type 0 where
+  pub answer : SystemAnswer
+  pub steps_are : steps ≡ system_call n flags answer ∷ []
+  pub outcome_is : outcome ≡ record { ending = by_system answer; state = s; entries = [] }
+
+-- the state when no call uses it any more
+abbrev pub state_after_call : VgetrandomState → VgetrandomState
+state_after_call s = record s { in_use = false }
+
+-- an attempt held, and its bytes are given out
+pub record ByBatch (out : List ℕ) (s : VgetrandomState) (steps : List HostStep) (outcome : Outcome) : Type 0 where
+  pub steps_are : steps ≡ []
+  pub outcome_is : outcome ≡ record { ending = by_batch out; state = state_after_call s; entries = [] }
+
+-- the steps after an attempt; if the attempt was outdated at its end, Outdated holds for them
+abbrev pub AfterAttempt : ℕ → ℕ → (ℕ → VgetrandomState → List HostStep → Outcome → Type 0) → AttemptEnd → Attempt →
+    List HostStep → Outcome → Type 0
+AfterAttempt n flags Outdated holds attempt steps outcome = ByBatch attempt.out attempt.state steps outcome
+AfterAttempt n flags Outdated outdated attempt steps outcome = Outdated attempt.next_block attempt.state steps outcome
+AfterAttempt n flags Outdated not_keyed attempt steps outcome =
+    BySystem n flags (state_after_call attempt.state) steps outcome
+
+-- an attempt for which Tried holds, and the steps after it
+pub record AttemptAndRest (n flags : ℕ) (Outdated : ℕ → VgetrandomState → List HostStep → Outcome → Type 0)
+    (Tried : List HostStep → Attempt → Type 0) (steps : List HostStep) (outcome : Outcome) : Type 0 where
+  pub tried : List HostStep
+  pub rest : List HostStep
+  pub attempt : Attempt
+  pub outcome_after : Outcome
+  pub steps_are : steps ≡ tried ++ rest
+  pub tries : Tried tried attempt
+  pub goes_on : AfterAttempt n flags Outdated attempt.end attempt rest outcome_after
+  pub outcome_is : outcome ≡ outcome_behind attempt.entries outcome_after
+
+-- the steps after two attempts that did not hold
+abbrev pub AfterBoth : ℕ → ℕ → ℕ → VgetrandomState → List HostStep → Outcome → Type 0
+AfterBoth n flags c s steps outcome = BySystem n flags (state_after_call s) steps outcome
+
+-- the second attempt continues with the next block of the first
+abbrev pub SecondAttempt : ℕ → ℕ → ℕ → VgetrandomState → List HostStep → Outcome → Type 0
+SecondAttempt n flags c s steps outcome = AttemptAndRest n flags (AfterBoth n flags) (IsAttempt n c s) steps outcome
+
+abbrev pub FirstAttempt : ℕ → ℕ → VgetrandomState → List HostStep → Outcome → Type 0
+FirstAttempt n flags s steps outcome = AttemptAndRest n flags (SecondAttempt n flags) (IsAttempt n 0 s) steps outcome
+
+-- the call asks for no bytes
+pub record ByNothing (s : VgetrandomState) (steps : List HostStep) (outcome : Outcome) : Type 0 where
+  pub steps_are : steps ≡ []
+  pub outcome_is : outcome ≡ record { ending = no_bytes; state = s; entries = [] }
+
+-- the rest of a call after the first published generation. If the core is not ready, the system call serves. Else a
+-- call for no bytes ends at once; if the state is in use, the system call serves any other call. If not, the call marks
+-- the state as in use, and makes the first attempt
+abbrev pub FromPublished : ℕ → ℕ → VgetrandomState → ℕ → List HostStep → Outcome → Type 0
+FromPublished n flags s published steps outcome =
+    MatchBool (published == 0) (BySystem n flags s steps outcome)
+    (MatchBool (n == 0) (ByNothing s steps outcome)
+    (MatchBool s.in_use (BySystem n flags s steps outcome)
+    (FirstAttempt n flags (record s { in_use = true }) steps outcome)))
+
+pub record FromLook (n flags : ℕ) (s : VgetrandomState) (steps : List HostStep) (outcome : Outcome) : Type 0 where
+  pub published : ℕ
+  pub rest : List HostStep
+  pub steps_are : steps ≡ publishes published ∷ rest
+  pub goes_on : FromPublished n flags s published rest outcome
+
+-- a call for n bytes with these flags on a state
+abbrev pub IsCall : ℕ → ℕ → VgetrandomState → List HostStep → Outcome → Type 0
+IsCall n flags s steps outcome = MatchBool (is_bad flags) (BySystem n flags s steps outcome)
+    (FromLook n flags s steps outcome)

@@ -1,7 +1,0 @@
-use Rattle.std.proofs.Common.{drop, None}
-use Rattle.std.specs.Prelude.{◌↔◌}
-use Rattle.line_orders.specs.Marks.{RunsCount}
-use Rattle.line_orders.proofs.marks.places_count.Given as goal
-
-abbrev pub invariant-loop-of : goal.invariant-loop-of
-invariant-loop-of l = RunsCount None l.marks ↔ RunsCount l.last (drop l.of-index l.marks)

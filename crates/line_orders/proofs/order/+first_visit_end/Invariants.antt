@@ -1,5 +1,0 @@
-use Rattle.std.proofs.Common.{length}
-use Rattle.line_orders.proofs.order.+first_visit_end.Given as goal
-
-abbrev pub decreases-first_visit_end : goal.decreases-first_visit_end
-decreases-first_visit_end l = length l.steps.now

@@ -1,6 +1,0 @@
-use Rattle.list_replay.specs.Tables.{tables_of}
-use Rattle.list_replay.proofs.PoolSteps.{PoolBehind}
-use Rattle.list_replay.proofs.pool_list.replay_pool.Given as goal
-
-abbrev pub invariant-loop-one : goal.invariant-loop-one
-invariant-loop-one l = PoolBehind (tables_of l.told) l.one-index l.lane l.kept.items

@@ -1,0 +1,193 @@
+//! The command `live`: a session. Each event of a script's only caller is made as soon as its line was read, and its
+//! line is written at once.
+ghost use Rattle.std.specs.Prelude.{◌≡◌, ◌⊎◌, ◌+◌, ◌<◌, ◌++◌, ◌∷◌, [], ℕ, List, None, Option, false, true, length, IfSome};
+ghost use Rattle.std.specs.Io.KnownBytes.{Appends};
+ghost use Rattle.event_script.specs.Feeding.{HasFed};
+ghost use Rattle.rng_tool.specs.LiveOutcome.{LiveEnds};
+ghost use Rattle.rng_tool.specs.LiveSteps.{CountsReadStop, CountsStop, Finishes, IsPart, SessionAt, SessionEnds, SessionGoes, SessionReads};
+ghost use Rattle.tool_ends.specs.Ends.{CountsReadFault, CountsWriteFault};
+
+use crate::stop::Stop;
+use crate::teller::Teller;
+use event_script::{Reader, ScriptError};
+use io_edges::{Gate, Sink, Source};
+use memchr::memchr;
+use std::alloc::Global;
+use std::mem;
+use std::sync::Wait;
+use tool_ends::Status;
+
+/// The most bytes of a script.
+const MOST_SCRIPT_BYTES: usize = 16_777_216;
+
+/// The bytes of one piece.
+const PIECE: usize = 64 * 1024;
+
+/// A script that is being read, and the run of its events so far.
+#[derive(Drop)]
+struct Session {
+    reader: Reader,
+    teller: Teller,
+}
+
+// The first line of a text with its line feed, and the text after it. After the line `end` no line is looked for.
+fn next_line(is_over: bool, text: &[u8]) -> Option<(&[u8], &[u8])>
+    ensures line { IfSome result (λ both. (is_over ≡ false)
+        × ((line : List ℕ) × (both.0.now ≡ line ++ 10 ∷ []) × IsPart line)) }
+    ensures parts { IfSome result (λ both. text.entry.now ≡ both.0.now ++ both.1.now) }
+    ensures shorter { IfSome result (λ both. length both.1.now < length text.entry.now) }
+    ensures none { result ≡ None → (is_over ≡ true) ⊎ IsPart text.entry.now }
+{
+    if is_over {
+        return None;
+    }
+    let place = memchr(b'\n', text)?;
+    Some(text.split_at(place + 1))
+}
+
+impl Session {
+    fn new(alloc: Global) -> Session
+        ensures { SessionAt [] [] result }
+    {
+        Session {
+            reader: Reader::new(alloc),
+            teller: Teller::new(),
+        }
+    }
+
+    // Reads a line, and goes on after it.
+    fn read_line<R: Wait, K: Sink, G: Gate>(
+        &mut self,
+        rt: &R,
+        alloc: Global,
+        sink: &mut K,
+        gate: &G,
+        line: &[u8],
+    ) -> Result<(), Stop>
+        requires at { (text told : List ℕ) × SessionAt text told self.old }
+        requires goes_on { self.old.teller.is_over ≡ false }
+        requires line { (front : List ℕ) × (line.now ≡ front ++ 10 ∷ []) × IsPart front }
+        ensures goes { (start : Option (List ℕ)) (text told : List ℕ) → SessionAt text told self.old
+            → Appends start (K.held sink.old) told
+            → SessionGoes result start (K.held sink.new) (text ++ line.now) self.new }
+        ensures counted { CountsStop result (K.faults sink.old) (K.faults sink.new) }
+    {
+        self.reader.feed(alloc, line)?;
+        let progress = self.reader.progress();
+        self.teller.go_on(rt, alloc, progress, sink, gate)
+    }
+
+    // Reads a piece of the script, line by line. After the line `end` the text is only read.
+    fn read<R: Wait, K: Sink, G: Gate>(
+        &mut self,
+        rt: &R,
+        alloc: Global,
+        sink: &mut K,
+        gate: &G,
+        piece: &[u8],
+    ) -> Result<(), Stop>
+        requires { (text told : List ℕ) × SessionAt text told self.old }
+        ensures goes { (start : Option (List ℕ)) (text told : List ℕ) → SessionAt text told self.old
+            → Appends start (K.held sink.old) told
+            → SessionGoes result start (K.held sink.new) (text ++ piece.now) self.new }
+        ensures counted { CountsStop result (K.faults sink.old) (K.faults sink.new) }
+    {
+        let mut left = piece;
+        while let Some((line, rest)) = next_line(self.teller.is_over(), left) {
+            self.read_line(rt, alloc, sink, gate, line)?;
+            left = rest;
+        }
+        self.reader.feed(alloc, left)?;
+        Ok(())
+    }
+
+    // Reads the script to the end of the input, or to one byte more than a script has. The sink is flushed before the
+    // source is asked for more.
+    fn read_all<R: Wait, S: Source, K: Sink, G: Gate>(
+        &mut self,
+        rt: &R,
+        alloc: Global,
+        source: &mut S,
+        sink: &mut K,
+        gate: &G,
+    ) -> Result<(), Stop>
+        requires { SessionAt [] [] self.old }
+        ensures reads { SessionReads result (S.left source.old) (S.left source.new) (K.held sink.old) (K.held sink.new)
+            self.new }
+        ensures read_counted { CountsReadStop result (S.faults source.old) (S.faults source.new) }
+        ensures counted { CountsStop result (K.faults sink.old) (K.faults sink.new) }
+    {
+        let mut piece = [0; PIECE];
+        let mut taken = 0;
+        while taken <= MOST_SCRIPT_BYTES {
+            let most = PIECE.min(MOST_SCRIPT_BYTES + 1 - taken);
+            let Ok(count) = source.take(&mut piece[..most]) else {
+                return Err(Stop::ReadFault);
+            };
+            if count == 0 {
+                return Ok(());
+            }
+            self.read(rt, alloc, sink, gate, &piece[..count])?;
+            sink.flush()?;
+            taken += count;
+        }
+        Ok(())
+    }
+}
+
+// Checks that the text which was read is a script.
+fn finish(reader: Reader) -> Result<(), Stop>
+    requires { (text : List ℕ) × HasFed text reader }
+    ensures { (text : List ℕ) → HasFed text reader → Finishes text result }
+{
+    match reader.finish() {
+        Ok(script) => {
+            // The program ends after this.
+            mem::forget(script);
+            Ok(())
+        }
+        Err(unread) => match unread.error {
+            ScriptError::Fault(fault) => Err(Stop::Refused(fault)),
+            ScriptError::NoMemory => Err(Stop::NoMemory),
+        },
+    }
+}
+
+// Reads the script that the source gives, and closes the run at its end.
+fn run_session<R: Wait, S: Source, K: Sink, G: Gate>(
+    rt: &R,
+    alloc: Global,
+    source: &mut S,
+    sink: &mut K,
+    gate: &G,
+) -> Result<(), Stop>
+    ensures ends { SessionEnds result (S.left source.old) (S.left source.new) (K.held sink.old) (K.held sink.new) }
+    ensures read_counted { CountsReadStop result (S.faults source.old) (S.faults source.new) }
+    ensures counted { CountsStop result (K.faults sink.old) (K.faults sink.new) }
+{
+    let mut session = Session::new(alloc);
+    let read = session.read_all(rt, alloc, source, sink, gate);
+    session.teller.close(rt);
+    match read {
+        Ok(()) => finish(session.reader),
+        Err(stop) => Err(stop),
+    }
+}
+
+/// Makes the events of a script's only caller as their lines come, and writes each line at once.
+pub(crate) fn run_live<R: Wait, S: Source, K: Sink, G: Gate>(
+    rt: &R,
+    alloc: Global,
+    source: &mut S,
+    sink: &mut K,
+    gate: &G,
+) -> Status
+    ensures ends { LiveEnds result (S.left source.old) (S.left source.new) (K.held sink.old) (K.held sink.new) }
+    ensures read_counted { CountsReadFault result (S.faults source.old) (S.faults source.new) }
+    ensures counted { CountsWriteFault result (K.faults sink.old) (K.faults sink.new) }
+{
+    match run_session(rt, alloc, source, sink, gate) {
+        Ok(()) => Status::Done,
+        Err(stop) => stop.answer(sink),
+    }
+}

@@ -1,9 +1,0 @@
-use Rattle.std.proofs.Common.{◌≡◌, ◌++◌, drop, map}
-use Rattle.line_orders.specs.Called.{seen_call}
-use Rattle.state_entries.specs.LineEnds.{line_ends}
-use Rattle.state_entries.proofs.line_ends.caller_lines.Given as goal
-
-abbrev pub invariant-loop-number : goal.invariant-loop-number
-invariant-loop-number l =
-    l.lines.items ++ line_ends l.number l.over (map seen_call (drop l.number l.calls))
-    ≡ line_ends 0 l.stamp (map seen_call l.calls)

@@ -1,6 +1,0 @@
-use Rattle.std.proofs.Common.{◌≡◌, drop}
-use Rattle.state_entries.specs.Stamps.{latest_of}
-use Rattle.state_entries.proofs.stamps.latest.Given as goal
-
-abbrev pub invariant-loop-step : goal.invariant-loop-step
-invariant-loop-step l = latest_of l.latest (drop l.step-index l.steps) ≡ latest_of l.fn.stamp l.steps

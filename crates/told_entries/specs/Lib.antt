@@ -1,4 +1,0 @@
-pub mod Filled
-pub mod Gathered
-pub mod Rows
-pub mod Spots
