@@ -233,10 +233,10 @@ fn a_sink_that_fails_at_each_call(rt: HostRuntime) -> Result<(), Fail> {
 
 // The first lines of a text.
 fn first_lines(text: &[u8], lines: usize) -> &[u8] {
-    let mut ends = 0;
+    let mut ends: usize = 0;
     for (place, byte) in text.iter().enumerate() {
         if *byte == b'\n' {
-            ends += 1;
+            ends = ends.wrapping_add(1);
             if ends == lines {
                 let (front, _) = text.split_at(place + 1);
                 return front;
@@ -246,17 +246,19 @@ fn first_lines(text: &[u8], lines: usize) -> &[u8] {
     b""
 }
 
-// One byte a call. After line 3 there is a line for each event that was read, and after the last line all of them.
+// One byte a call, every eighth of which fails in a run of its own. After line 3 there is a line for each event that was
+// read, and after the last line all of them.
 #[test]
-fn a_session_whose_source_fails_at_each_call(rt: HostRuntime) -> Result<(), Fail> {
-    let calls = READY_SCRIPT.len() as u64 + 1;
-    for failing_take in 1..=calls {
+fn a_session_whose_source_fails(rt: HostRuntime) -> Result<(), Fail> {
+    for eighth in 0..=READY_SCRIPT.len() / 8 {
+        let bytes = 8 * eighth;
+        let failing_take = bytes as u64 + 1;
         let edges = Edges {
             failing_take,
             ..SMALL
         };
         let (ended, sink) = run_over(&rt, rt.alloc(), &["live"], READY_SCRIPT, edges, &OpenGate)?;
-        let (read, _) = READY_SCRIPT.split_at(failing_take as usize - 1);
+        let (read, _) = READY_SCRIPT.split_at(bytes);
         let lines = read.iter().filter(|byte| **byte == b'\n').count();
         let told = match lines {
             0..=2 => 0,
@@ -273,10 +275,11 @@ fn a_session_whose_source_fails_at_each_call(rt: HostRuntime) -> Result<(), Fail
     Ok(())
 }
 
-// One byte a call, and the flushes fail after all was put.
+// One byte a call, every twentieth of which fails in a run of its own; and the flushes fail after all was put.
 #[test]
-fn a_session_whose_sink_fails_at_each_call(rt: HostRuntime) -> Result<(), Fail> {
-    for puts in 0..=READY_TRANSCRIPT.len() {
+fn a_session_whose_sink_fails(rt: HostRuntime) -> Result<(), Fail> {
+    for twentieth in 0..=READY_TRANSCRIPT.len() / 20 {
+        let puts = 20 * twentieth;
         let edges = Edges {
             failing_put: puts as u64 + 1,
             ..SMALL
