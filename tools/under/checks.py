@@ -441,7 +441,7 @@ def check_writes(name, words, caller):
     is_well = ran[0] == 0 and lines[1:-1] == wanted and events == WRITTEN
     tell(f"{name}: writes to the devices", problem_of_record(path) if is_well else f"{ran} {events}")
     code = ("printf abc | dd of=/dev/urandom bs=3 2>/dev/null; printf def >/dev/random; env printf ghi >/dev/urandom\n"
-            "head -c 8 /dev/urandom | od -An -tx1")
+            "od -An -tx1 -N8 /dev/urandom")
     ran = under(*words, "--record", path, "sh", "-c", code)
     events = [event for event, _ in events_of(path) if event.startswith("write ")]
     other = under(*words, "sh", "-c", code.replace("abc", "abd"))
