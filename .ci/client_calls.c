@@ -2,8 +2,8 @@
  * client_calls PROGRAM|- SCRIPT TRANSCRIPT [SCRIPT TRANSCRIPT]: makes the calls of examples/clients/fenloth.h that standard
  * input asks for, and prints what each returned.
  *
- * A line is CORE CALL ARGUMENTS: the core is 0, or 1 if there are two pairs of files, and bytes are in hexadecimal. The
- * answer is a number, and the bytes if the call gives some; or the errno by its name, and for EIO the core's problem.
+ * An input line is CORE CALL ARGUMENTS. CORE is 0, or 1 for the second pair of files; bytes are in hexadecimal. The
+ * answer is a number, with the bytes if the call gives some; or the name of the errno, and for EIO also core->problem.
  */
 #include "../examples/clients/fenloth.h"
 #include <sys/time.h>
@@ -54,7 +54,7 @@ static void ignore(int number)
     (void)number;
 }
 
-/* A write of 1 MiB and so many reads of 5,000 bytes, while a signal interrupts system calls again and again. */
+/* A write of 1 MiB, and reads of 5,000 bytes, while a signal interrupts system calls again and again. */
 static ssize_t read_interrupted(struct fenloth *core, size_t times)
 {
     struct itimerval often = {{0, 200}, {0, 200}}, never = {{0, 0}, {0, 0}};

@@ -1,7 +1,8 @@
 # shellcheck shell=sh
-# Read by the scripts of this folder, in the repository's root.
+# The scripts of this folder read this, in the repository's root.
+. tools/head.sh
 
-# built CRATE: the program of a crate, proved and built where that has to be done.
+# built CRATE: the program of a crate, which is proved and built first if needed.
 built() {
     if [ "$1" = rng_tool ]; then
         ./rng run <examples/first.script >/dev/null

@@ -1,11 +1,12 @@
 #!/bin/sh
-# What a check and a replay of a transcript take beside the run that wrote it: run by hand. Instructions are counted
-# (valgrind --tool=callgrind), and seconds are medians of runs in turn, for a machine that does nothing else: the run
-# writes to /dev/null, to a pipe and to a file, and the check reads the pair from a file; its one line goes where the run's
-# output goes. BENCH_RUNS says how many runs, and BENCH_RNG names another build of the program.
+# The cost of checking and of replaying a transcript, beside that of the run that wrote it. Run by hand. Instructions
+# are counted (valgrind --tool=callgrind). Seconds are medians of runs in turn, on a machine that does nothing else: the
+# run writes to /dev/null, to a pipe and to a file, the check reads the pair from a file, and its one line goes where
+# the run's output goes. BENCH_RUNS is the number of runs, and BENCH_RNG names another build of the program.
 set -eu
 cd "$(dirname "$0")/.."
 . bench/built.sh
+take_words bench/checks.sh '' "$@"
 program=$(realpath "${BENCH_RNG:-$(built rng_tool)}")
 runs=${BENCH_RUNS:-41}
 room=$(mktemp -d)
@@ -35,7 +36,7 @@ short='
         else print "int64"
     }'
 
-# alone PROGRAM: a script of one caller, whose events the awk function events() in PROGRAM prints.
+# alone PROGRAM: a script of one caller, with the events that the awk function events() in PROGRAM prints.
 alone() {
     awk "$1"'
     BEGIN {
@@ -45,7 +46,8 @@ alone() {
     }'
 }
 
-# of_second PROGRAM: one of two callers, of whom the second makes the events of events(): a check of it goes by the clauses.
+# of_second PROGRAM: a script of two callers, of which the second makes the events of events(). Its check goes by the
+# clauses.
 of_second() {
     awk "$1"'
     BEGIN {
@@ -55,7 +57,7 @@ of_second() {
     }'
 }
 
-# of_eight PROGRAM: one of 8 callers, each on a CPU of its own, of whom each makes the events of events().
+# of_eight PROGRAM: a script of 8 callers, each on its own CPU, of which each makes the events of events().
 of_eight() {
     awk "$1"'
     BEGIN {
@@ -70,7 +72,7 @@ of_eight() {
     }'
 }
 
-# reads COUNT EVENT: so many events of one caller, all alike.
+# reads COUNT EVENT: a script of one caller with COUNT times the same event.
 reads() {
     alone 'function events(  j) { for (j = 0; j < '"$1"'; j++) print "'"$2"'" }'
 }
@@ -86,7 +88,7 @@ of_second 'function events(  j) { for (j = 0; j < 16; j++) print "read 1048576 0
 of_eight "$small"'function events(  j) { for (j = 0; j < 8189; j++) small(j) }' >"$room/mix_of_8"
 of_eight "$short"'function events(  j) { for (j = 0; j < 8125; j++) short(j) }' >"$room/short_of_8"
 
-# instructions WORD FILE: how many the program takes from start to end.
+# instructions WORD FILE: the number of instructions that the program takes from start to end.
 instructions() {
     valgrind --tool=callgrind --callgrind-out-file=/dev/null "$program" "$1" <"$2" 2>&1 >/dev/null |
         awk '/Collected/ { print $NF }'
@@ -125,7 +127,7 @@ each_pair() {
     "$1" 'short events by 8 callers' "$room/short_of_8"
 }
 
-# pair NAME FILE: a script's transcript behind it, of which the check has to say yes.
+# pair NAME FILE: a script with its transcript, for which the check has to say yes.
 pair() {
     "$program" run <"$2" >"$room/transcript"
     cat "$2" "$room/transcript" >"$2.pair"

@@ -1,11 +1,12 @@
 #!/bin/sh
-# Counts the instructions of the primitives and of whole runs, and prints them and their ratios: run by hand.
-# Instruction counts (valgrind --tool=callgrind) are what is compared, since other work on the machine does not change
-# them; `time` then shows the same ratios as seconds, for a machine that does nothing else. Whole runs are also held
-# against plain_core.c, by time and by instructions.
+# Counts the instructions of the primitives and of whole runs, and prints them and their ratios. Run by hand.
+# Instruction counts (valgrind --tool=callgrind) are compared, since other work on the machine does not change them.
+# `time` then shows the same ratios in seconds, on a machine that does nothing else. Whole runs are also compared with
+# plain_core.c, by time and by instructions.
 set -eu
 cd "$(dirname "$0")/.."
 . bench/built.sh
+take_words bench/compare.sh '' "$@"
 bytes=16777216
 reads=4000
 events=65536
@@ -23,7 +24,7 @@ awk -v n="$reads" 'BEGIN {
     print "end"
 }' >"$room/script"
 
-# As many events and bytes as a script may have: interrupts and writes in turn.
+# As many events, and as many bytes, as a script may have: interrupts and writes in turn.
 awk 'BEGIN {
     for (i = 0; i < 28; i++) digits = digits "0123456789abcdef"
     print "rngscript 1\ncpus 1\ncaller 0"
@@ -31,7 +32,7 @@ awk 'BEGIN {
     print "end"
 }' >"$room/long_script"
 
-# As many bytes of reads as a script may have, and writes for the rest of its events: 33 MiB of transcript.
+# As many bytes of reads as a script may have, and writes for its other events: 33 MiB of transcript.
 awk 'BEGIN {
     print "rngscript 1\ncpus 1\ncaller 0"
     for (i = 0; i < 4096; i++) print "read 4096 4"
@@ -46,7 +47,7 @@ awk 'BEGIN {
     print "end"
 }' >"$room/large_reads"
 
-# As many events as a script may have, each small: the mix of a load.
+# As many events as a script may have, each of them small: the mix of a load.
 awk -v n="$events" 'BEGIN {
     print "rngscript 1\ncpus 1\ncaller 0\ncredit 256"
     for (j = 0; j < n - 1; j++) {
@@ -64,13 +65,13 @@ awk -v n="$events" 'BEGIN {
     print "end"
 }' >"$room/small_events"
 
-# instructions COMMAND..: how many a command takes, from start to end, on standard input.
+# instructions COMMAND..: the number of instructions that a command takes from start to end, on standard input.
 instructions() {
     valgrind --tool=callgrind --callgrind-out-file=/dev/null "$@" 2>&1 >"$room/out" |
         awk '/Collected/ { print $NF }'
 }
 
-# of_each TURN: a script of as many events as a script may have, each of which the awk function turn(j) in TURN prints.
+# of_each TURN: a script of as many events as a script may have. The awk function turn(j) in TURN prints event j.
 of_each() {
     awk -v n="$events" "$1"'
     BEGIN {
@@ -100,7 +101,7 @@ nanoseconds() {
     seconds "$loops" "$1" "$2" | awk -v number="$2" '{ printf "%.1f", $1 * 1e9 / number }'
 }
 
-# beyond_start WORD NUMBER: the instructions of a loop, without those that the program takes to start and end.
+# beyond_start WORD NUMBER: the instructions of a loop, without those that the program takes to start and to end.
 beyond_start() {
     echo $(($(instructions "$loops" "$1" "$2") - $(instructions "$loops" "$1" 0)))
 }
@@ -110,7 +111,7 @@ one_read() {
     echo $(($(beyond_start "$1-$2" "$3") / $3))
 }
 
-# reads_beside_bare BYTES TIMES LIMIT: reads of so many bytes, and their ratios to a bare generator and fill.
+# reads_beside_bare BYTES TIMES LIMIT: reads of BYTES bytes, and their ratios to a bare generator and to a bare fill.
 reads_beside_bare() {
     bare=$(one_read bare "$1" "$2")
     printf '%-52s %12d\n' "bare generator and fill of $1 bytes" "$bare"
@@ -121,18 +122,18 @@ reads_beside_bare() {
     done
 }
 
-# of_text WORD FILE: the instructions of a loop that goes once over a text, without those that the program takes to
+# of_text WORD FILE: the instructions of a loop that goes over a text once, without those that the program takes to
 # start, to read the text and to end.
 of_text() {
     echo $(($(instructions "$loops" "$1" 1 <"$2") - $(instructions "$loops" "$1" 0 <"$2")))
 }
 
-# ratio NAME A B LIMIT: A to B, with two digits.
+# ratio NAME A B LIMIT: the ratio of A to B, with two digits.
 ratio() {
     awk -v name="$1" -v a="$2" -v b="$3" -v limit="$4" 'BEGIN { printf "%-52s %6.2f  (%s)\n", name, a / b, limit }'
 }
 
-# The whole runs that are held against other programs, each with its script.
+# The whole runs that are compared with other programs, each with its script.
 whole_runs() {
     cat <<END
 a load's mix:$room/small_events
@@ -148,8 +149,8 @@ a script of 16 MiB:$room/long_script
 END
 }
 
-# beside NAME SCRIPT OTHER: `rng run` beside another program: the ratio of instructions, and for each way out that of the
-# median wall seconds and of the median processor seconds of 15 runs in turn.
+# beside NAME SCRIPT OTHER: `rng run` beside another program. Prints the ratio of instructions, and for each way out the
+# ratios of the median wall seconds and of the median processor seconds, of 15 runs in turn.
 beside() {
     printf '%-34s %6s' "$1" "$(echo "$(instructions "$program" run <"$2")" \
         "$(instructions "$3" <"$2")" | awk '{ printf "%.2f", $1 / $2 }')"
@@ -174,7 +175,7 @@ beside_duties() {
     beside "$1" "$2" "$room/duties"
 }
 
-# cost_of_duties SCRIPT: what each duty, and what both cost plain_core itself, to /dev/null.
+# cost_of_duties SCRIPT: what each duty costs plain_core itself, and what both cost, to /dev/null.
 cost_of_duties() {
     for duty in reads_first locks duties; do
         "$room/interleaved" 15 "$1" null "$room/$duty" -- "$room/plain_core" |
@@ -196,7 +197,8 @@ done
 "${CC:-cc}" -O2 -DREADS_FIRST -o "$room/reads_first" bench/plain_core.c
 "${CC:-cc}" -O2 -DLOCKS -o "$room/locks" bench/plain_core.c
 
-# What the measured scripts leave out: the worked cases, as far as plain_core knows their events, and reads of whole blocks.
+# Cases that the measured scripts leave out: the worked cases, if plain_core knows their events, and reads of whole
+# blocks.
 printf 'rngscript 1\ncpus 1\ncaller 0\nadd 00 256\ndevice 5 10\nvread 64 0\nvread 64 0\nvread 8 0\nend\n' >"$room/blocks.script"
 "$program" run <"$room/blocks.script" >"$room/blocks.transcript"
 for script in "$room/blocks.script" examples/worked/*.script; do
@@ -266,7 +268,7 @@ printf '%-52s %12s\n' "keystream of $bytes bytes, chacha_blocks" "$(seconds "$lo
     "$reads writes and reads of 4,096 bytes, direct" "$(seconds "$loops" reads "$reads")" \
     "$reads writes and reads of 4,096 bytes, rng run" "$(seconds "$program" run)"
 
-# of_run FORMAT FILE: what `time` says of a run of a script.
+# of_run FORMAT FILE: the output of `time` for a run of a script.
 of_run() {
     { command time -f "$1" "$program" run <"$2" >"$room/out"; } 2>&1
 }
@@ -305,7 +307,7 @@ printf '%-52s %12s\n' "BLAKE2s of a sample, many at once" "$(nanoseconds bulk $(
     "lane: taken, an interrupt mixed, and put" "$(nanoseconds visits "$visits")" \
     "Mutex: locked, and unlocked" "$(nanoseconds locks "$visits")"
 
-# What was counted was also right: the last bytes of the last read are those that the direct calls gave.
+# The counted runs were also right: the last bytes of the last read are those that the direct calls gave.
 from_run=$(awk '/ read / { last = $NF } END { print substr(last, length(last) - 15) }' "$room/transcript")
 from_loop=$("$loops" reads "$reads" | awk '{ print $NF }')
 [ "$from_run" = "$from_loop" ] || {

@@ -1,14 +1,14 @@
 #!/bin/sh
-# Interrupt samples of feeders in threads: run by hand. The words say what is done, both without words:
-#   same    `rng feed 0 16 10000` 200 times, beside BENCH_LOOPS busy loops, or twice as many as there are processors: it ends
-#           non-zero where a run writes another line, fails, or has 20 MB resident
+# Interrupt samples of feeders in threads. Run by hand. The words name what is run; without words both are:
+#   same    `rng feed 0 16 10000` 200 times, beside BENCH_LOOPS busy loops, by default twice as many as processors; it
+#           ends non-zero if a run writes another line, fails, or has 20 MB resident
 #   speed   160,000 samples of 16 feeders through the queue, and the same by one caller without it, in turn
-# Other builds of the programs are run if BENCH_RNG and BENCH_PROGRAM name them, and BENCH_TIMES says how often. What
-# BENCH_UNDER says stands before each program that `speed` measures: `chrt --rr 1`, as root, keeps the machine's other work
-# away.
+# BENCH_RNG and BENCH_PROGRAM can name other builds of the programs, and BENCH_TIMES how often they run. BENCH_UNDER is
+# put before each program that `speed` measures: `chrt --rr 1`, as root, keeps the machine's other work away.
 set -eu
 cd "$(dirname "$0")/.."
 . bench/built.sh
+take_words bench/feeds.sh 'same speed' "$@"
 room=$(mktemp -d)
 loops=
 one=
@@ -42,7 +42,7 @@ same() {
         }' "$room/all"
 }
 
-# once WORD NUMBER: a run of a loop, in nanoseconds, with the processors' seconds in $room/said.
+# once WORD NUMBER: one run of a loop, in nanoseconds, with the seconds of the processors in $room/said.
 once() {
     begun=$(date +%s%N)
     # shellcheck disable=SC2086
@@ -50,7 +50,7 @@ once() {
     echo $(($(date +%s%N) - begun))
 }
 
-# What it takes to start and to end a program is taken off.
+# The time that a program takes to start and to end is subtracted.
 speed() {
     program=${BENCH_PROGRAM:-$(built bench)}
     times=${BENCH_TIMES:-15}
@@ -75,12 +75,4 @@ speed() {
 }
 
 [ $# -gt 0 ] || set -- same speed
-for word; do
-    case $word in
-    same | speed) "$word" ;;
-    *)
-        echo "usage: bench/feeds.sh [same | speed]..." >&2
-        exit 2
-        ;;
-    esac
-done
+for word; do "$word"; done

@@ -20,6 +20,10 @@ import subprocess
 import sys
 import time
 
+sys.path.insert(0, os.path.join(os.path.dirname(os.path.dirname(os.path.abspath(__file__))), 'tools'))
+sys.dont_write_bytecode = True
+import command  # noqa: E402
+
 TICKS = os.sysconf('SC_CLK_TCK')
 KINDS = ('proof', 'tests', 'edits', 'rest')
 OTHER = ('(other)', 'rest')
@@ -146,12 +150,15 @@ def into_page(path, rows, ending):
             print('over its budget: %s, %.1f of %d minutes' % (name, whole(row), granted[name]))
 
 
-def main(words):
-    page = None
-    while words and words[0].startswith('--'):
+def main():
+    page, words = None, sys.argv[1:]
+    while words and words[0].startswith('-'):
         word, *words = words
+        if word in ('-h', '--help'):
+            print(__doc__.strip())
+            return 0
         if word != '--page' or not words:
-            sys.exit(__doc__)
+            raise command.Fault('%s; --help shows the words' % ('--page takes a file' if word == '--page' else 'there is no option %r' % word))
         page, *words = words
     began = time.monotonic()
     gate = subprocess.Popen(words or ['rt', 'ci'])
@@ -170,4 +177,4 @@ def main(words):
 
 
 if __name__ == '__main__':
-    sys.exit(main(sys.argv[1:]))
+    command.end('gate_times.py', main)

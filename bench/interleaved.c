@@ -1,11 +1,11 @@
 /*
  * interleaved RUNS SCRIPT OUT FIRST.. -- SECOND.. [-- INPUT]: how long two commands take on a script, each run RUNS times,
- * in turn. Where there is an INPUT, the second command reads that file in place of the script.
+ * in turn. If there is an INPUT, the second command reads that file in place of the script.
  *
- * Their output goes to /dev/null, to a pipe that is read at once, or to a file, as OUT says: null, pipe or a file's name.
- * It prints the medians of the first command's wall seconds and of the second's, those of their processor seconds (user
- * and system), and the most KiB that each had resident. Of a pair of commands the processor seconds tell more where the
- * machine has other work to do.
+ * Their output goes to /dev/null, to a pipe that is read at once, or to a file, as OUT says: null, pipe or a file's
+ * name. It prints the medians of each command's wall seconds, then those of their processor seconds (user and system),
+ * and the most KiB that each had resident. If the machine has other work to do, processor seconds tell more about a
+ * pair of commands.
  */
 #define _GNU_SOURCE
 #include <fcntl.h>
@@ -106,7 +106,7 @@ static double median(double *times, int runs)
     return runs % 2 ? times[runs / 2] : (times[runs / 2 - 1] + times[runs / 2]) / 2;
 }
 
-/* The first word from `at` on that is `--`, or how many words there are. */
+/* The place of the first word `--` from `at` on, or the number of words if there is none. */
 static int behind(int at, int count, char **words)
 {
     while (at < count && strcmp(words[at], "--"))

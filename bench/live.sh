@@ -1,11 +1,12 @@
 #!/bin/sh
-# What a request of a live core costs, by the client in C and two pipes: run by hand. Seven sessions each, in turn, of 20,000
-# reads of 16 bytes, and of 14 reads of 1 MiB, one at a time. It prints the median and the least of each session, and then
-# the median of the medians and the least of all. BENCH_RNG names another build of the program, BENCH_TIMES says how many
-# sessions, and BENCH_UNDER stands before each, as in bench/threads.sh.
+# The cost of a request to a live core, by the client in C and two pipes. Run by hand. Seven sessions each, in turn, of
+# 20,000 reads of 16 bytes, and of 14 reads of 1 MiB, one at a time. Prints the median and the least of each session,
+# and then the median of the medians and the least of all. BENCH_RNG names another build of the program, BENCH_TIMES is
+# the number of sessions, and BENCH_UNDER is put before each, as in bench/threads.sh.
 set -eu
 cd "$(dirname "$0")/.."
 . bench/built.sh
+take_words bench/live.sh '' "$@"
 program=$(realpath "${BENCH_RNG:-$(built rng_tool)}")
 times=${BENCH_TIMES:-7}
 room=$(mktemp -d)
@@ -17,7 +18,7 @@ session() {
     ${BENCH_UNDER:-} "$room/live_loop" "$program" "$1" "$2" >>"$room/$1"
 }
 
-# row NAME SIZE: the sessions of a size, and what they come to.
+# row NAME SIZE: the sessions of a size, and their medians and least times.
 row() {
     printf '%-36s' "$1"
     awk '{ printf " %s/%s", $1, $2 }' "$room/$2"

@@ -1,8 +1,8 @@
 /*
  * live_loop PROGRAM SIZE COUNT: how long reads of a live core take, one at a time, by examples/clients/fenloth.h.
  *
- * Sessions of a program have 16 MiB of reads at most, so SIZE times COUNT is below that. It prints the median and the least
- * microseconds of a read.
+ * A session of a program has at most 16 MiB of reads, so SIZE times COUNT has to be below that. It prints the median
+ * and the least microseconds of a read.
  */
 #include "../examples/clients/fenloth.h"
 

@@ -1,14 +1,15 @@
 #!/bin/sh
-# What reads cost whose callers share one CPU's generator: run by hand. The words say what is measured, all of it
-# without words:
+# The cost of reads by callers that share one CPU's generator. Run by hand. The words name what is measured; without
+# words all of it is:
 #   reads    instructions of one read, of few bytes and of 1 MiB, for the kernel and for a user
 #   load     instructions of an event in the mix of a load
-#   eight    seconds of 8 callers that each read 1 MiB again and again on CPU 0, beside one caller that makes all of them
-# No text is written in any of it. Another build of the program is measured if BENCH_PROGRAM names it, and what
-# BENCH_UNDER says stands before each run that is timed, as in bench/threads.sh.
+#   eight    seconds of 8 callers that each read 1 MiB again and again on CPU 0, beside one caller that reads as much
+# No text is written in any of it. BENCH_PROGRAM can name another build of the program, and BENCH_UNDER is put before
+# each run that is timed, as in bench/threads.sh.
 set -eu
 cd "$(dirname "$0")/.."
 . bench/built.sh
+take_words bench/one_cpu.sh 'reads load eight' "$@"
 room=$(mktemp -d)
 trap 'rm -rf "$room"' EXIT
 times=15
@@ -16,7 +17,7 @@ turns=10
 
 loops=${BENCH_PROGRAM:-$(built bench)}
 
-# script NUMBER TURN: one caller on a ready core makes so many events, as the awk function turn(j) in TURN prints them.
+# script NUMBER TURN: one caller on a ready core makes NUMBER events, as the awk function turn(j) in TURN prints them.
 script() {
     awk -v number="$1" "$2"'
     BEGIN {
@@ -26,13 +27,13 @@ script() {
     }'
 }
 
-# instructions TIMES FILE: how many it takes to read a script, and to run it so many times.
+# instructions TIMES FILE: the number of instructions to read a script once, and to run it TIMES times.
 instructions() {
     valgrind --tool=callgrind --callgrind-out-file=/dev/null "$loops" runs "$1" <"$2" 2>&1 >"$room/out" |
         awk '/Collected/ { print $NF }'
 }
 
-# each NUMBER TURN: the instructions of one of so many events, without those of a run that has none of them.
+# each NUMBER TURN: the instructions of one of NUMBER events, without those of a run that has none of these events.
 each() {
     script 0 "$2" >"$room/none"
     script "$1" "$2" >"$room/script"
@@ -65,7 +66,7 @@ load() {
     printf '%-44s %12d\n' "instructions of an event of a load's mix" "$(each 64000 "$mix")"
 }
 
-# large CALLERS: 16 reads of 1 MiB on CPU 0 of a ready core, as many by each of so many callers.
+# large CALLERS: 16 reads of 1 MiB on CPU 0 of a ready core, the same number by each of CALLERS callers.
 large() {
     awk -v callers="$1" 'BEGIN {
         print "rngscript 1\ncpus 1\ncaller 0\ncredit 256"
@@ -78,7 +79,7 @@ large() {
     }'
 }
 
-# least NUMBER FILE: the least nanoseconds of some times in which a script is read and run so often.
+# least NUMBER FILE: of several runs, the least nanoseconds to read a script and run it NUMBER times.
 least() {
     for _ in $(seq "$times"); do
         begun=$(date +%s%N)
@@ -88,7 +89,7 @@ least() {
     done | sort -n | head -n 1
 }
 
-# eight_with: what a run takes by one caller and by eight.
+# eight_with: the cost of a run by one caller and by eight.
 eight_with() {
     for callers in 1 8; do
         large "$callers" >"$room/large"
@@ -101,19 +102,11 @@ eight() {
     echo "16 reads of 1 MiB on CPU 0, the least of $times, on $(nproc) processors"
     echo "with memory that the system gives anew for each run"
     eight_with
-    # So the memory of one run stays with the program, and the next takes it.
+    # So the program keeps the memory of one run, and the next run takes it.
     at_hand=glibc.malloc.mmap_threshold=4294967296:glibc.malloc.trim_threshold=8589934592:glibc.malloc.top_pad=67108864
     echo "with memory that is at hand"
     eight_with
 }
 
 [ $# -gt 0 ] || set -- reads load eight
-for word; do
-    case $word in
-    reads | load | eight) "$word" ;;
-    *)
-        echo "usage: bench/one_cpu.sh [reads | load | eight]..." >&2
-        exit 2
-        ;;
-    esac
-done
+for word; do "$word"; done

@@ -1,14 +1,14 @@
 /*
  * plain_core <SCRIPT >TRANSCRIPT: the transcript of a script of one caller, in plain C.
  *
- * What bench/compare.sh holds `rng run` against. The text in and out is that of docs/SCRIPT.md and docs/TRANSCRIPT.md; the
- * algorithms are those that the kernel's generic code uses: BLAKE2s by blocks of 64 bytes (RFC 7693), ChaCha20 one block
- * at a time (RFC 8439), a key erased before its bytes are given away. No locks, no threads, no checks: it takes for
- * granted that its input is a script of one caller without `inside` lines.
+ * bench/compare.sh compares `rng run` with it. The text in and out is that of docs/SCRIPT.md and docs/TRANSCRIPT.md.
+ * The algorithms are those of the kernel's generic code: BLAKE2s by blocks of 64 bytes (RFC 7693), ChaCha20 one block
+ * at a time (RFC 8439), and a key erased before its bytes are given away. No locks, no threads, no checks: it assumes
+ * that its input is a script of one caller without `inside` lines.
  *
- * With -DREADS_FIRST it reads all events before it makes the first, as a run does, since a script with a fault is answered
- * by its refusal alone. With -DLOCKS each visit takes its lane's lock and its stamp by atomic operations, as in a run.
- * It still checks nothing, and keeps no line.
+ * With -DREADS_FIRST it reads all events before it makes the first, as a run does, since a script with a fault gets
+ * only a refusal as its answer. With -DLOCKS each visit takes its lane's lock and its stamp by atomic operations, as in
+ * a run. It still checks nothing, and keeps no line.
  */
 #include <stdint.h>
 #include <stdio.h>
@@ -150,7 +150,7 @@ static void chacha_block(const uint8_t *key, uint64_t number, uint8_t *out)
     memcpy(out, x, BLOCK);
 }
 
-/* Blocks from a number on, the last of them cut off. */
+/* The blocks from a number on. The last one is cut off. */
 static void chacha_blocks(const uint8_t *key, uint64_t number, uint8_t *out, size_t bytes)
 {
     uint8_t block[BLOCK];
@@ -173,7 +173,7 @@ static void erase(uint8_t *key, uint8_t *out, size_t bytes)
     memcpy(out, block + KEY, bytes);
 }
 
-/* _get_random_bytes, or get_random_bytes_user, of a key that is erased. */
+/* _get_random_bytes, or get_random_bytes_user, from a key that is erased. */
 static void bytes_of_key(uint8_t *key, uint8_t *out, size_t bytes, int for_user)
 {
     uint8_t used[KEY], first[KEY];
@@ -312,7 +312,7 @@ static void reseed_ready(int has_fired)
     install(root, has_fired);
 }
 
-/* mix_pool_bytes, and _credit_init_bits for what credits. */
+/* mix_pool_bytes, and _credit_init_bits for events that credit. */
 static void mix(const uint8_t *text, size_t bytes, uint32_t bits)
 {
     uint32_t before = pool_bits;
@@ -408,7 +408,7 @@ static void refill(struct cpu *cpu)
     visit(BASE);
 }
 
-/* crng_make_state and what it is asked for */
+/* crng_make_state, and the reads that call it */
 static void read_behind(uint64_t seen, uint8_t *out, size_t bytes, int for_user)
 {
     struct cpu *cpu = &cpus[cpu_at];
@@ -649,7 +649,7 @@ static void put_line(uint64_t event, const char *word, const char *answer, int64
     out[out_len++] = '\n';
 }
 
-/* The script, and how far it was read. */
+/* The script, and the place up to which it was read. */
 static uint8_t *text;
 static const uint8_t *at;
 
@@ -663,7 +663,7 @@ static uint64_t read_number(void)
 }
 
 #ifdef READS_FIRST
-/* The numbers of the event that is made, where they were kept. */
+/* The numbers of the event that is being made, if they were kept. */
 static const uint64_t *numbers;
 
 static uint64_t field_number(void) { return numbers ? *numbers++ : read_number(); }
@@ -676,7 +676,7 @@ static uint8_t digit(uint8_t byte)
     return (uint8_t)(byte <= '9' ? byte - '0' : byte - 'a' + 10);
 }
 
-/* The bytes of a field, behind `front`. */
+/* The bytes of a field, after `front`. */
 static size_t field_bytes(uint8_t *bytes, size_t front)
 {
     if (at[1] == '-') {
@@ -746,7 +746,7 @@ static const char *reseed(void)
     return "ok";
 }
 
-/* Makes the event that stands at the script's place, and gives its answer; `number` is what `bits` shows. */
+/* Makes the event at the script's place, and returns its answer; `number` is the number that `bits` shows. */
 static const char *event(enum word word, int64_t *number)
 {
     size_t bytes;
@@ -868,8 +868,8 @@ static void read_script(void)
 }
 
 #ifdef READS_FIRST
-/* An event in 24 bytes: where its fields begin in the text, and its numbers where they are at most two and all of its
-   fields; of others the fields are read again. Bytes beside a number may be spelt as one. */
+/* An event in 24 bytes: where its fields begin in the text, and its numbers if they are at most two and all of its
+   fields. The fields of other events are read again. Bytes beside a number may be spelt as one. */
 struct event {
     uint64_t numbers[2];
     uint32_t at;

@@ -1,8 +1,8 @@
 /*
- * plain_machine: how many nanoseconds a page takes that is new to a process, and how many a locked instruction, each the
- * least of 15 rounds.
+ * plain_machine: how many nanoseconds a page that is new to a process takes, and how many a locked instruction, each
+ * the least of 15 rounds.
  *
- * A run of small events does both often, and machines differ in them: bench/compare.sh prints this beside its ratios.
+ * A run of small events does both often, and machines differ in them: bench/compare.sh prints them beside its ratios.
  */
 #define _GNU_SOURCE
 #include <stdint.h>

@@ -1,8 +1,8 @@
 /*
- * plain_threads THREADS TURNS: how many milliseconds so many threads take for so many turns of a loop, the least of 15.
+ * plain_threads THREADS TURNS: how many milliseconds THREADS threads take for TURNS turns of a loop, the least of 15.
  *
- * The threads share nothing, and take no memory but their stacks, so this is what the machine gives: bench/threads.sh
- * prints it beside what callers in threads take.
+ * The threads share nothing, and take no memory but their stacks, so this is what the machine can do. bench/threads.sh
+ * prints it beside the times of callers in threads.
  */
 #include <pthread.h>
 #include <stdint.h>

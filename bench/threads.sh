@@ -1,23 +1,24 @@
 #!/bin/sh
-# Memory and speed of runs with callers in threads: run by hand, on a machine that does nothing else. The words say what
-# is measured, all of it without words:
+# Memory and speed of runs with callers in threads. Run by hand, on a machine that does nothing else. The words name
+# what is measured; without words all of it is:
 #   memory   the most memory that runs at the limits of a script have resident
 #   speed    8 callers on 8 CPUs beside one caller that makes the same reads, without any text, and 8 threads in C that only
 #            count beside one (plain_threads.c)
 #   thread   a scope in which one thread is started and joined
 #   visit    an uncontended visit of a CPU, and a lock of a `Mutex`
-# Other builds of the programs are measured if BENCH_RNG and BENCH_PROGRAM name them. What BENCH_UNDER
-# says stands before each measured program: `chrt --rr 1`, as root, keeps the machine's other work out of the way.
+# BENCH_RNG and BENCH_PROGRAM can name other builds of the programs. BENCH_UNDER is put before each measured program:
+# `chrt --rr 1`, as root, keeps the machine's other work away.
 set -eu
 cd "$(dirname "$0")/.."
 . bench/built.sh
+take_words bench/threads.sh 'memory speed thread visit' "$@"
 room=$(mktemp -d)
 trap 'rm -rf "$room"' EXIT
 times=15
 
-# callers N CPUS VERSION EVENTS: a script in which caller 0 makes the core ready and forks the N - 1 others in order, and
-# each goes on to a CPU of its own and makes the events that the awk function events(caller, most) in EVENTS prints. With
-# as many as it may print each caller makes 1,024 events, forks and `on` among them: 65,536 by 64 callers.
+# callers N CPUS VERSION EVENTS: a script in which caller 0 makes the core ready and forks the N - 1 others in order.
+# Each caller moves to its own CPU and makes the events that the awk function events(caller, most) in EVENTS prints. If
+# it prints as many as it may, each caller makes 1,024 events, with its forks and `on` among them: 65,536 by 64 callers.
 callers() {
     awk -v callers="$1" -v cpus="$2" -v version="$3" "$4"'
     function zeros(n,  text) { for (text = "0"; length(text) < n;) text = text text; return substr(text, 1, n) }
@@ -47,8 +48,8 @@ small='
         else print "reseed"
     }'
 
-# resident NAME FILE: runs a script, and says how much memory was resident at most, how long it took, and how many lines
-# and bytes the transcript has.
+# resident NAME FILE: runs a script, and prints how much memory was resident at most, how long the run took, and how
+# many lines and bytes the transcript has.
 resident() {
     # shellcheck disable=SC2086
     { ${BENCH_UNDER:-} time -f '%M %e' "$program" run <"$2" >"$room/out"; } 2>"$room/said"
@@ -83,8 +84,8 @@ memory() {
     resident "all of it at once, in a script of $(wc -c <"$room/all") bytes" "$room/all"
 }
 
-# kreads FORKS APART: 64,000 reads of 32 bytes for the kernel, 8,000 on each of 8 CPUs whose numbers are so far apart, by
-# a caller for each CPU or by one.
+# kreads FORKS APART: 64,000 reads of 32 bytes for the kernel, 8,000 on each of 8 CPUs whose numbers are APART apart, by
+# a caller for each CPU or by one caller.
 kreads() {
     awk -v forks="$1" -v apart="$2" 'BEGIN {
         print "rngscript 1\ncpus " 8 * apart "\ncaller 0\ncredit 256"
@@ -98,7 +99,7 @@ kreads() {
     }'
 }
 
-# least LOOPS WORD NUMBER [FILE]: the least of some runs of a loop, in nanoseconds.
+# least LOOPS WORD NUMBER [FILE]: the least nanoseconds of several runs of a loop.
 least() {
     for _ in $(seq "$times"); do
         begun=$(date +%s%N)
@@ -113,7 +114,7 @@ beyond() {
     echo $(($(least "$@") - $(least "$1" "$2" 0 "${4:-/dev/null}")))
 }
 
-# told NAME NANOSECONDS: what a run took.
+# told NAME NANOSECONDS: prints what a run took.
 told() {
     awk -v name="$1" -v all="$2" \
         'BEGIN { printf "%-60s %9.1f ms %11.0f events a second\n", name, all / 1e6, 64000e9 / all }'
@@ -137,7 +138,7 @@ speed() {
     plain_threads
 }
 
-# What the machine gives to 8 threads that share nothing: with as much work as the reads are for one caller.
+# What the machine can do with 8 threads that share nothing, with as much work as the reads are for one caller.
 plain_threads() {
     "${CC:-cc}" -O2 -pthread -o "$room/plain_threads" bench/plain_threads.c
     # shellcheck disable=SC2086
@@ -160,12 +161,4 @@ visit() {
 }
 
 [ $# -gt 0 ] || set -- memory speed thread visit
-for word; do
-    case $word in
-    memory | speed | thread | visit) "$word" ;;
-    *)
-        echo "usage: bench/threads.sh [memory | speed | thread | visit]..." >&2
-        exit 2
-        ;;
-    esac
-done
+for word; do "$word"; done

@@ -2,8 +2,8 @@
 """audit_rows.py [keys | live T | live C.E | line C.E] < SCRIPT_AND_TRANSCRIPT: a key audit, as `key_audit` writes it.
 
 It shares nothing with the crates: it was written from docs/TRANSCRIPT.md, docs/DEFINITIONS.md and docs/AUDIT.md. The
-crates go along each lane's list; here all visits happen in the order of their stamps, and each key is a thing that
-passes from hand to hand. It makes no byte, is slow, and takes for granted that the transcript is lawful for the script.
+crates go along each lane's list. Here all visits happen in the order of their stamps, and each key is an object that
+one holder hands to the next. It makes no bytes, is slow, and assumes that the transcript is lawful for the script.
 """
 import sys
 
@@ -23,7 +23,7 @@ class Visit:
 
 
 class Moment:
-    """An entry of a vgetrandom state. Its stamp is that at which the call was over that left it."""
+    """An entry of a vgetrandom state. Its stamp is the one at which the call that left it was over."""
 
     def __init__(self, caller, state, place, line, what):
         self.caller, self.state, self.place, self.line, self.what = caller, state, place, line, what
@@ -79,7 +79,7 @@ def lane_of(step):
 # ---- What each visit is ------------------------------------------------------------------------------------------
 
 def tell_line(word, fields, steps):
-    """Gives each visit of a line its role. A read's length is that of the whole line."""
+    """Gives each visit of a line its role. A read has the length of its whole line."""
     lanes = [lane_of(step) for step in steps]
     for at, step in enumerate(steps):
         if isinstance(step, int):
@@ -116,7 +116,7 @@ def cpu_role(word, fields, steps, at, behind):
 
 
 def taken_of(word, fields):
-    """For whom a read is, and its bytes."""
+    """Which caller a read is for, and the read's bytes."""
     if word == 'inside':
         return ('user', int(fields[3]))
     if word in WIDTHS:
@@ -144,7 +144,7 @@ class Course:
         state.count += 1
 
     def over(self, numbers):
-        """A call is over, which had the lines of these numbers."""
+        """A call, with the lines of these numbers, is over."""
         for moment in self.moments:
             if moment.call is None:
                 moment.call, moment.stamp = self.calls, self.stamp
@@ -206,7 +206,7 @@ class Course:
                 return
 
     def copy(self, line, block, length):
-        """Entries of a copy of so many bytes; answers the key's next block."""
+        """Adds the entries for a copy of `length` bytes; returns the key's next block."""
         state = self.states[self.current]
         front = min(length, BATCH - state.at)
         if front:
@@ -225,14 +225,14 @@ class Course:
 
 
 def parents_of(events):
-    """Of each forked caller its parent, and the number of the line that forks it."""
+    """For each forked caller, its parent and the number of the line that forks it."""
     return {int(fields[1]): (caller, number)
             for caller, lines in enumerate(events) for number, fields in enumerate(lines) if fields[0] == 'fork'}
 
 
 def tell_callers(events, steps):
-    """Tells each visit's role; answers the entries of all states, each caller's in order, and of each line the number of
-    its call and the stamp at which that was over."""
+    """Gives each visit its role; returns the entries of all states, each caller's in order, and for each line the
+    number of its call and the stamp at which that call was over."""
     parents, stamps, moments, ends = parents_of(events), {}, [], {}
     for caller, lines in enumerate(events):
         start = stamps.get(parents.get(caller), 0)
@@ -310,7 +310,7 @@ class Keys:
             key.uses.append((KEY, length, '>' + moment.line))
 
     def give_up(self, batch, moment):
-        """The rest of a batch that is used up, replaced or wiped is served no more."""
+        """The rest of a batch that is used up, replaced or wiped will not be served."""
         rest = self.batches.pop(batch, None)
         if rest and rest[0] and rest[2]:
             rest[0].uses.append((rest[1], rest[2], '!%s' % moment if moment else '?'))
@@ -398,7 +398,7 @@ class Keys:
 
 
 def rank(one):
-    """Where something stands among what has its stamp: lanes first, then states."""
+    """The order among entries with one stamp: lanes first, then states."""
     if isinstance(one, Moment):
         return (one.stamp, 1, one.caller, one.state, one.place)
     number = {'p': 0, 'b': 1}.get(one.lane) if one.lane in 'pb' else 2 + int(one.lane[1:])
@@ -406,7 +406,7 @@ def rank(one):
 
 
 def happened(things):
-    """The keys behind some visits and entries."""
+    """The keys after some visits and entries."""
     keys = Keys()
     for one in things:
         keys.happen(one)
@@ -434,7 +434,7 @@ def rows(run):
     return in_order(keys)
 
 
-# ---- What is asked -----------------------------------------------------------------------------------------------
+# ---- The commands -----------------------------------------------------------------------------------------------
 
 def keys(text):
     return [key.row() for key in rows(run_of(text)[1])]
@@ -447,7 +447,7 @@ def holder_rank(holder):
 
 
 def live(text, at):
-    """What is held after a stamp or a line, and what can be computed from it."""
+    """The keys and rests that are held after a stamp or a line, and what can be computed from them."""
     _, run, ends = run_of(text)
     call, stamp = (None, int(at)) if '.' not in at else ends.get(at, (None, None))
     if stamp is None or stamp > max((one.stamp for one in run), default=-1):
@@ -476,7 +476,7 @@ def live(text, at):
 
 
 def is_by(one, caller, call, stamp):
-    """Of the caller whose line is named, the calls up to that of the line count; all else by its stamp."""
+    """The calls of the named line's caller count up to the line's call; everything else counts by the call's stamp."""
     if call is not None and isinstance(one, Moment) and str(one.caller) == caller:
         return one.call <= call
     return one.stamp <= stamp
@@ -516,7 +516,7 @@ def event_of(events, visit):
 
 
 def moments_of(events):
-    """The time that each line is at. A child begins at that of its parent's fork."""
+    """The moment of each line. A child begins at the moment of its parent's fork."""
     forks, times = parents_of(events), []
     for caller, lines in enumerate(events):
         parent = forks.get(caller)
@@ -530,7 +530,7 @@ def moments_of(events):
 
 
 class Timer:
-    """What a sample of input credits, by the time that passed since those before it."""
+    """The bits that an input sample credits, by the time since the samples before it."""
 
     def __init__(self):
         self.last = self.first = self.second = self.value = 0
@@ -544,7 +544,7 @@ class Timer:
 
 
 def bits_before(events, run):
-    """Of each visit of the pool how many bits it had before."""
+    """For each visit of the pool, the bits before it."""
     times, timer, counts, dumped, bits, before = moments_of(events), Timer(), {}, {}, 0, {}
     for one in run:
         if isinstance(one, Moment) or one.role is None:
@@ -567,7 +567,7 @@ def bits_before(events, run):
 
 
 def credit_of(fields, now, timer, bits):
-    """What a sample credits. Input that repeats the last value is no sample."""
+    """The bits that a sample credits. Input that repeats the last value is no sample."""
     if fields[0] in ('credit', 'add'):
         return int(fields[-1])
     if fields[0] != 'input' or int(fields[4]) == timer.value:

@@ -1,17 +1,17 @@
 #!/usr/bin/env python3
 """Runs random scripts of 1 to 64 callers, and has their transcripts checked and replayed.
 
-    check_random.py SCRIPTS [FIRST]
+check_random.py SCRIPTS [FIRST]
 
-So many scripts are made, from the numbers FIRST, FIRST + 1 and so on, 0 if it is left out: a number always makes the same
-script and the same changes. The program is `rng` at the top of the repository, or the one that RNG names. Of each script:
+Makes SCRIPTS scripts, numbered from FIRST on, which is 0 if left out. A number always gives the same script and the
+same changes. The program is `rng` at the top of the repository, or the one that RNG names. For each script:
 
-- what `rng run` wrote is lawful (`rng check` says yes), and so it is with later stamps, which of a single caller no run
-  writes;
-- with its answers and data blanked it is replayed as it was (`rng replay`);
-- with one field changed it is not lawful, and the check names one of the clauses that the change can break.
+- The output of `rng run` is lawful (`rng check` says yes). So is the same transcript with later stamps, which no run of
+  a single caller writes.
+- With its answers and data blanked, the transcript is replayed as it was (`rng replay`).
+- With one field changed it is not lawful, and the check names one of the clauses that the change can break.
 
-The status is 1 where one of them does not hold, and each is printed with the script's number.
+If one of these does not hold, it is printed with the script's number, and the status is 1.
 """
 import os
 import random
@@ -21,6 +21,7 @@ import sys
 
 TOP = os.path.dirname(os.path.dirname(os.path.abspath(__file__)))
 sys.path.insert(0, os.path.join(TOP, 'tools', 'kernel'))
+import command  # noqa: E402
 from random_scripts import Maker  # noqa: E402
 
 PROGRAM = os.environ.get('RNG', os.path.join(TOP, 'rng'))
@@ -58,7 +59,7 @@ def rng(word, given):
     return ran.returncode, ran.stdout.decode()
 
 
-# ---- Changes: each takes the fields of a line, and gives them changed with the clauses that may then be the first ------
+# ---- Changes of a line's fields, each with the clauses that may then be the first to fail --------------------------
 
 def change_answer(draw, fields):
     return [*fields[:2], draw.choice([it for it in ANSWERS if it != fields[2]]), *fields[3:]], {5}
@@ -112,7 +113,7 @@ def leave_out(draw, fields):
 
 
 def change(draw, line):
-    """A change of the line, and the clauses of which one has to be named."""
+    """A change of the line, and the clauses of which the check has to name one."""
     fields = line.split(' ')
     able = [change_answer, change_data, change_event, change_word, leave_out]
     if visits_of(fields):
@@ -133,7 +134,7 @@ def text_of(lines):
 
 
 def judge(number):
-    """What does not hold of one script, and how many lines its transcript has."""
+    """What does not hold for one script, and how many lines its transcript has."""
     script = Callers(number).script()
     status, transcript = rng('run', script)
     if status:
@@ -155,7 +156,8 @@ def judge(number):
     return found, len(lines)
 
 
-def main(arguments):
+def main():
+    arguments = command.take(__doc__, 1, 2, are_numbers=True)
     count, first = int(arguments[0]), int(arguments[1]) if len(arguments) > 1 else 0
     wrong = lines = 0
     for number in range(first, first + count):
@@ -171,4 +173,4 @@ def main(arguments):
 
 
 if __name__ == '__main__':
-    sys.exit(main(sys.argv[1:]))
+    command.end('check_random.py', main)

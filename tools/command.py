@@ -1,4 +1,5 @@
-"""How a command of tools/ ends: in place of a traceback one line on standard error says what is wrong, with status 2."""
+"""The words and the end of a command of tools/: instead of a traceback, one line on standard error says what is wrong,
+with status 2."""
 
 import os
 import sys
@@ -24,8 +25,37 @@ def words_of(fault):
     return str(fault)
 
 
+def fault_of(words, fewest, most, options, are_numbers):
+    """What is wrong with the words, or an empty text."""
+    for word in words:
+        if word.startswith("-") and word != "-":
+            if word not in options:
+                return f"there is no option {word!r}"
+        elif most == 0:
+            return f"no word {word!r} is taken"
+        elif are_numbers and not (word.isascii() and word.isdigit() and len(word) <= 18):
+            return f"{word!r} is no number"
+    count = len([word for word in words if word not in options])
+    if count < fewest:
+        return "a word is missing"
+    return "there are too many words" if most is not None and count > most else ""
+
+
+def take(text, fewest=0, most=0, options=(), are_numbers=False):
+    """The command's words, at least and at most so many besides options; None is no limit. `-h` and `--help` print the text
+    and end the command. Wrong words end it with a line."""
+    name, words = os.path.basename(sys.argv[0]), sys.argv[1:]
+    if {"-h", "--help"} & set(words):
+        end(name, lambda: print(text.strip()))
+    fault = fault_of(words, fewest, most, options, are_numbers)
+    if fault:
+        say(name, f"{fault}; --help shows the words")
+        sys.exit(FAULT)
+    return words
+
+
 def let_go_of_output():
-    """What could not be written is not tried again when Python ends."""
+    """Keeps Python from writing again, at its end, what could not be written."""
     try:
         os.dup2(os.open(os.devnull, os.O_WRONLY), 1)
     except OSError:
@@ -37,7 +67,10 @@ def end(name, main):
     try:
         if sys.stdout is None:
             raise Fault("standard output is closed")
-        status = main()
+        try:
+            status = main()
+        except SystemExit as ended:
+            status = ended.code
         sys.stdout.flush()
     except KeyboardInterrupt:
         status = 130

@@ -1,11 +1,11 @@
-# Programs out of a release, and whether they are those that are proved here. Read by ./rng for its words fetch and prove; it
-# sets top, say and build.
+# Takes programs from a release, and compares them with those that are proved here. ./rng reads this file for its words
+# fetch and prove, and sets top, say and build.
 # shellcheck shell=sh
 
 fetched=out/fetched
 
-# read_archive FILE: copies what says what the release is, and its programs, into $room. No name of the archive becomes a
-# path here.
+# read_archive FILE: copies the release's description and its programs into $room. No name in the archive becomes a path
+# here.
 read_archive() {
     for tool in tar xz; do
         command -v $tool >/dev/null || {
@@ -21,12 +21,12 @@ read_archive() {
     done
 }
 
-# released WORDS: what the release says after these words, on one line.
+# released WORDS: the release's text after these words, on one line.
 released() {
     sed -n "s/^$1 //p" "$room/RELEASE" | LC_ALL=C tr -c ' -~\n' '?' | head -n 1
 }
 
-# fetch FILE: takes the programs of the release, if they are whole and were built from the sources that are here.
+# fetch FILE: takes the programs of the release, if they are whole and were built from the sources of this tree.
 fetch() {
     if [ ! -f "$1" ] || [ ! -r "$1" ]; then
         refuse "there is no file '$1' to be read: fetch takes the archive of a release"
@@ -67,7 +67,8 @@ keep_fetched() {
     say "they are in $top/$fetched, and are used if none was proved here; ./rng prove proves them here and compares"
 }
 
-# prove_and_compare: proves and builds both programs unless they were, and says whether those that were fetched are the same.
+# prove_and_compare: proves and builds both programs if that is not done yet, and reports whether the fetched ones are
+# equal.
 prove_and_compare() {
     status=0
     for name in rng_tool key_audit; do

@@ -3,15 +3,16 @@
 
     forked_vreads.py [LENGTH..]
 
-The program is `rng` at the top of the repository, or the one that RNG names. Where no lengths are given, they are those
-around the sizes of keys, blocks and batches, up to the greatest. Parent and child must share no 16 bytes in place. Each
-difference is told, and the status is then 1.
+The program is `rng` at the top of the repository, or the one that RNG names. If no lengths are given, they are those
+around the sizes of keys, blocks and batches, up to the greatest. Parent and child must share no 16 bytes at the same
+place. Each difference is printed, and the status is then 1.
 """
 import copy
 import os
 import subprocess
 import sys
 
+import command
 import replay
 
 TOP = os.path.dirname(os.path.dirname(os.path.abspath(__file__)))
@@ -20,7 +21,7 @@ LENGTHS = (1, 2, 15, 16, 31, 32, 33, 40, 63, 64, 65, 95, 96, 97, 100, 127, 128, 
 
 
 class Call:
-    """A call of vgetrandom that stands at a point, with what happens there still ahead."""
+    """A vgetrandom call that has reached a point, before what happens at that point."""
 
     def __init__(self, length, published):
         self.length, self.published = length, published
@@ -28,7 +29,7 @@ class Call:
 
 
 def behind(core, state, call):
-    """Goes on to the next point, or answers the bytes of the call that ends."""
+    """Goes on to the next point, or returns the bytes if the call ends."""
     if call.point == 1 and state.generation != call.published:
         state.generation, call.point = call.published, 2
     elif call.point == 1:
@@ -56,7 +57,7 @@ def finish(core, state, call):
 
 
 def forked(point, attempt, length):
-    """What parent and child give out."""
+    """The bytes that parent and child give out."""
     core, state = replay.Caller(1), replay.State()
     core.mix(bytes(range(32)), 256)
     core.look()
@@ -91,7 +92,7 @@ def compare(point, attempt, length):
 
 
 def main():
-    lengths = [int(word) for word in sys.argv[1:]] or LENGTHS
+    lengths = [int(word) for word in command.take(__doc__, 0, None, are_numbers=True)] or LENGTHS
     failed = compared = 0
     for length in lengths:
         for attempt in (1, 2):
@@ -106,4 +107,4 @@ def main():
 
 
 if __name__ == '__main__':
-    main()
+    command.end('forked_vreads.py', main)

@@ -3,16 +3,18 @@
 
     random_vreads.py [SEED [VREADS]]
 
-SEED is 1 and VREADS is 10000 where they are left out: a seed always makes the same scripts. The program is `rng` at the
-top of the repository, or the one that RNG names. Every line is compared, steps and all. A script with a difference is
-printed up to there, and the status is 1. So it is where of 1000 vreads or more some act was done at none of the four
-points of a first attempt, which is the one that a script's acts are done in; tools/vread_cases has both attempts.
+SEED is 1 and VREADS is 10000 if they are left out. A seed always makes the same scripts. The program is `rng` at the
+top of the repository, or the one that RNG names. Every line is compared, with its steps. If a script has a difference,
+it is printed up to there, and the status is 1. The status is also 1 if, in 1000 vreads or more, some act was made at
+none of the four points of a first attempt. A script's acts happen only in first attempts; tools/vread_cases has both
+attempts.
 """
 import os
 import random
 import subprocess
 import sys
 
+import command
 import replay
 
 TOP = os.path.dirname(os.path.dirname(os.path.abspath(__file__)))
@@ -22,14 +24,14 @@ LENGTHS = (1, 8, 31, 32, 33, 63, 64, 65, 95, 96, 97, 127, 128, 160, 161, 300)
 
 
 def acts(draw):
-    """What happens inside one vread: up to three acts, at any of the points, in any order."""
+    """The acts inside one vread: up to three, at any points and in any order."""
     for _ in range(draw.choice((0, 1, 1, 2, 3))):
         act = draw.choice(('wipe', 'wipe', 'reseed', 'vread %d' % draw.choice(LENGTHS)))
         yield 'inside %d %s' % (draw.randint(1, 4), act)
 
 
 def between(draw):
-    """What happens between two vreads, so that states lose their keys and bytes now and then."""
+    """What happens between two vreads, so that now and then a state loses its key and bytes."""
     return draw.choice(([], [], [], ['reseed'], ['drop'], ['state %d' % draw.randint(0, 1)], ['on %d' % draw.randint(0, 1)],
                         ['read 40 0'], ['vmfork 1 aa'], ['at %d' % draw.randint(0, 10 ** 6)]))
 
@@ -48,7 +50,9 @@ def script(draw, vreads):
 
 
 def ran(text):
-    done = subprocess.run([PROGRAM, 'run'], input=text.encode(), stdout=subprocess.PIPE, check=True)
+    done = subprocess.run([PROGRAM, 'run'], input=text.encode(), stdout=subprocess.PIPE, check=False)
+    if done.returncode:
+        raise command.Fault('%s run ended with status %d' % (PROGRAM, done.returncode))
     return done.stdout.decode().splitlines()
 
 
@@ -60,8 +64,9 @@ def done_acts(text, lines):
 
 
 def main():
-    seed = int(sys.argv[1]) if len(sys.argv) > 1 else 1
-    left = int(sys.argv[2]) if len(sys.argv) > 2 else 10000
+    words = command.take(__doc__, 0, 2, are_numbers=True)
+    seed = int(words[0]) if words else 1
+    left = int(words[1]) if len(words) > 1 else 10000
     draw, compared, inside, met = random.Random(seed), 0, 0, set()
     is_long = left >= 1000
     while left > 0:
@@ -85,4 +90,4 @@ def main():
 
 
 if __name__ == '__main__':
-    main()
+    command.end('random_vreads.py', main)

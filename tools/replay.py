@@ -2,11 +2,12 @@
 """replay.py < SCRIPT > TRANSCRIPT: the transcript of a script of one caller, worked out a second time.
 
 It shares nothing with the crates: it was written from docs/SCRIPT.md, docs/TRANSCRIPT.md, docs/DEFINITIONS.md, RFC 7693
-(by Python's hashlib) and RFC 8439. Its bytes and steps are compared with those of the worked cases, which agree with
-the kernel's own C code (.ci/page_checks does it), and it gives the transcripts of the examples. It proves nothing, is
-slow, and takes for granted that its input is a script.
+(by Python's hashlib) and RFC 8439. .ci/page_checks compares its bytes and steps with those of the worked cases, which
+agree with the kernel's own C code. It makes the transcripts of the examples. It proves nothing, is slow, and assumes
+that its input is a script.
 """
 import hashlib
+import os
 import struct
 import sys
 
@@ -170,7 +171,7 @@ class State:
 
 
 class Refused(Exception):
-    """A call that answers an error, by its name."""
+    """A call that returns an error, by the error's name."""
 
 
 # ---- A caller's calls -------------------------------------------------------------------------------------------
@@ -193,7 +194,7 @@ class Caller:
         return self.base.generation
 
     def visit(self, lane):
-        """The place is taken with the lane; the stamp with the visit's end."""
+        """A visit gets its place when the lane is taken, and its stamp when the visit ends."""
         place = self.places.get(lane, 0)
         self.places[lane] = place + 1
         self.stamp += 1
@@ -320,7 +321,7 @@ class Caller:
     # -- vgetrandom
 
     def vread(self, length, flags, acts):
-        """`__cvdso_getrandom_data`, with acts at the points of its first attempt, which answer by `acts`."""
+        """`__cvdso_getrandom_data`, with acts at the points of its first attempt. The acts' answers go to `acts`."""
         state = self.states[self.state]
         if flags & ~7 or flags & 6 == 6:
             return self.system_call(length, flags)
@@ -366,14 +367,14 @@ class Caller:
         while length - len(answer) >= 64:
             answer += block(state.key, self.number)
             self.number += 1
-        # Also where whole blocks were all that was wanted: the key that made them is replaced.
+        # This also holds if only whole blocks were wanted: the key that made them is replaced.
         fresh = keystream(state.key, 64 * self.number, 128)
         self.number += 2
         state.batch, state.key, state.at = fresh[:BATCH], fresh[BATCH:], 0
         return answer + self.copy(state, length - len(answer))
 
     def meet(self, point, attempt, acts):
-        """Does the acts of a point. Their steps are those of their own lines."""
+        """Makes the acts of a point. Their steps go to the acts' own lines."""
         for act in acts if attempt == 1 else []:
             if act['point'] == point:
                 outer, self.steps = self.steps, []
@@ -480,5 +481,26 @@ def transcript(script):
     yield 'end'
 
 
+def fail(why):
+    print('replay.py: ' + why, file=sys.stderr)
+    return 2
+
+
+def main(words):
+    """The releases have this file without the helpers of tools/, so it has its own."""
+    if words and not {'-h', '--help'} & set(words):
+        return fail('%r is not taken: the script is on standard input; --help has more' % words[0])
+    try:
+        told = __doc__.strip() if words else '\n'.join(transcript(sys.stdin.read()))
+    except Exception:  # pylint: disable=broad-except
+        return fail('the input is no script of one caller: `rng run` names the fault')
+    try:
+        print(told, flush=True)
+    except OSError as fault:
+        os.dup2(os.open(os.devnull, os.O_WRONLY), 1)
+        return fail('standard output: %s' % fault.strerror)
+    return 0
+
+
 if __name__ == '__main__':
-    print('\n'.join(transcript(sys.stdin.read())))
+    sys.exit(main(sys.argv[1:]))

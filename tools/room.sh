@@ -1,7 +1,7 @@
-# How much room the proofs take on the disk. Read by ./rng before it builds, and to clean up; it sets top and say.
+# The disk room that the proofs take. ./rng reads this before it builds, and to clean up; it sets top and say.
 # shellcheck shell=sh
 
-# A tree in which all is proved has 6.5 GB in crates/*/out, and the two programs take 6 of them.
+# A tree with all proofs has 6.5 GB in crates/*/out, of which the two programs need 6.
 needed=6000000
 
 # What is kept, in kB.
@@ -21,7 +21,7 @@ need_room() {
     exit 70
 }
 
-# Removes what the prover kept. The programs stay, since they were built from the sources as they are.
+# Removes what the prover kept. The programs stay, since they were built from the present sources.
 clean() {
     before=$(kept_room)
     for folder in "$top"/crates/*/out; do

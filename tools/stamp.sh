@@ -1,23 +1,22 @@
-# Which sources the built program stands for. Read by ./rng and .ci/run, which set top, the repository's folder.
+# Which sources the built program was made from. ./rng and .ci/run read this, and set top, the repository's folder.
 #
-# The stamp has three parts. `sum` is what it means: the hash of each source's bytes, and that of the program which was
-# proved and built from them. `folders` sets `sources`, the folders that they are in, those of the crates that the program
-# stands on: a line of shell, since `read` would take a list byte by byte, which costs most of a millisecond.
-# `seen` is a short cut, a file that is as old as the last look which found the sum right: while no source, no folder of
-# sources and no program was changed since, nothing is read. Every edit, checkout or copy sets the time of a file's last
-# change to the clock, whatever time the file itself is given. Once something is newer the sum decides, so a file that was
-# only touched costs one look.
+# The stamp has three parts. `sum` has the hash of the sources, and that of the program that was proved and built from
+# them. `folders` is a line of shell that sets `sources`, the source folders of the crates that the program stands on;
+# `read` would take the list byte by byte, which costs most of a millisecond. `seen` is a short cut: its time is that of
+# the last look that found the sum right. As long as no source, no folder of sources and no program was changed since,
+# nothing is read. Every edit, checkout or copy sets the time of a file's last change to the clock, whatever time the
+# file itself is given. Once something is newer, the sum decides, so a file that was only touched costs one look.
 #
-# An installed copy has no sources: its programs lie beside ./rng, and the file RELEASE there says what they are.
-# A program that `./rng fetch` took out of a release has a stamp of its own in out/fetched, and is used only if none was
-# proved here.
+# An installed copy has no sources: its programs lie beside ./rng, and the file RELEASE there describes them.
+# A program that `./rng fetch` took from a release has its own stamp in out/fetched, and is used only if none was proved
+# here.
 # shellcheck shell=sh
 
 is_installed() {
     [ -f "${top:?}/RELEASE" ]
 }
 
-# choose CRATE: the program that the functions below speak of.
+# choose CRATE: sets the program that the functions below are about.
 choose() {
     built=$1
     use "crates/$built/out/$built"
@@ -32,7 +31,7 @@ use() {
 }
 choose rng_tool
 
-# The crates that the program stands on, each behind those that it needs itself, the program last.
+# The crates that the program stands on, each after those that it needs itself, and the program last.
 crates_in_order() {
     awk -F: -v built="$built" '
         function visit(name,    i, n, deps) {
@@ -46,8 +45,8 @@ crates_in_order() {
         END { visit(built) }' "$top/crates.txt"
 }
 
-# The code and the definitions, which say what the program is and what is proved of it, as folders on one line. Proofs are
-# left out: other proofs of the same contracts make no other program.
+# The folders of code and definitions, on one line. They determine the program and what is proved of it. Proofs are left
+# out: other proofs of the same contracts make no other program.
 folders_of_sources() {
     for name in $(crates_in_order); do
         for folder in "crates/$name/src" "crates/$name/specs"; do
@@ -65,7 +64,7 @@ sum_of_sources() (
         -exec sha256sum {} + | LC_ALL=C sort | sha256sum
 )
 
-# The program stands for the sources, by a look at no more than the times of the files' last changes.
+# Whether the program is of the present sources, by the times of the files' last changes alone.
 seems_current() {
     ! is_installed || { [ -x "$program" ]; return; }
     [ -x "$program" ] && [ -f "$stamp.seen" ] && [ -r "$stamp.folders" ] || return 1
@@ -75,7 +74,8 @@ seems_current() {
     [ -z "$(cd "$top" && LC_ALL=C find "$own" crates.txt ${sources:?} -newercm "$own.stands_for.seen" -print -quit 2>&1)" ]
 }
 
-# The program stands for the sources, by all their bytes. What changes after the look began is newer than `seen`.
+# Whether the program is of the present sources, by all their bytes. What changes after the look began is newer than
+# `seen`.
 is_current() {
     [ -x "$program" ] && [ -f "$stamp" ] || return 1
     { : >"$stamp.$$" && { sleep 0.02 || sleep 1; }; } 2>/dev/null || :
@@ -87,14 +87,14 @@ is_current() {
     fi
 }
 
-# stands_for SUM: the program was proved and built from sources with this sum, if they still have it.
+# stands_for SUM: records that the program was proved and built from sources with this sum, if they still have it.
 stands_for() {
     [ "$(sum_of_sources)" = "$1" ] || return 1
     printf '%s %s\n' "$1" "$(sha256sum <"$program")" >"$stamp"
     is_current
 }
 
-# There is a program for the sources as they are: one that was proved here, or else one that was fetched.
+# Whether there is a program of the present sources: one that was proved here, or else one that was fetched.
 is_ready() {
     seems_current || is_current || is_fetched || {
         choose "$built"
@@ -114,7 +114,7 @@ sum_of_crates() (
     find crates crates.txt HANDLES -name out -prune -o -type f -exec sha256sum {} + | LC_ALL=C sort | sha256sum
 )
 
-# All files of the tree, and which of them can be run. What .gitignore names is left out.
+# All files of the tree, and which of them are executable. What .gitignore names is left out.
 sum_of_tree() (
     cd "$top" || return
     {
@@ -129,10 +129,10 @@ files_of_tree() {
         -type f ! -name '*.log' "$@"
 }
 
-# What the last gate passed, as .ci/run writes it: a line `crates SUM`, `tree SUM` and `kit` with what rt says of itself.
+# What the last gate passed, as .ci/run writes it: lines `crates SUM` and `tree SUM`, and `kit` with rt's version.
 gate=out/gate
 
-# passed NAME: the sum, or what else the gate's record has of that name. Fails if it has nothing.
+# passed NAME: the sum, or the other text, that the gate's record has under this name. Fails if there is none.
 passed() {
     sed -n "s/^$1 //p" "$top/$gate" 2>/dev/null | grep .
 }

@@ -12,6 +12,7 @@ import hashlib
 import os
 import sys
 
+import command
 import replay
 
 HERE = os.path.dirname(os.path.abspath(__file__))
@@ -161,9 +162,8 @@ def is_published():
     return all(answers)
 
 
-def main(words):
-    if words not in ([], ['--write']):
-        sys.exit(__doc__)
+def main():
+    words = command.take(__doc__, options=('--write',))
     if not is_published():
         sys.exit('hashlib or replay.py gives other numbers than are published')
     rows = [row for made in (hashes, streams, reads, pools, samples, reseeds) for row in made()]
@@ -188,4 +188,4 @@ def main(words):
 
 
 if __name__ == '__main__':
-    sys.exit(main(sys.argv[1:]))
+    command.end('vectors.py', main)

@@ -110,7 +110,7 @@ def main(words):
     try:
         found = texts([it for it in words if it not in options], '--comments' in options)
     except OSError as error:
-        print('voice.py: %s' % error, file=sys.stderr)
+        print('voice.py: %s: %s' % (error.filename, error.strerror), file=sys.stderr)
         return 2
     rows = [(name, Count(text)) for name, text in found]
     for name, count in sorted(rows, key=lambda it: -it[1].rate()):
@@ -127,7 +127,9 @@ def main(words):
 
 if __name__ == '__main__':
     try:
-        sys.exit(main(sys.argv[1:]))
+        ended = main(sys.argv[1:])
+        sys.stdout.flush()
+        sys.exit(ended)
     except BrokenPipeError:
         # The reader has seen enough.
         os.dup2(os.open(os.devnull, os.O_WRONLY), sys.stdout.fileno())

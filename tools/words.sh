@@ -1,12 +1,12 @@
-# What the words of ./rng ask for, and what is wrong with them. Read by ./rng, which sets top, usage and say, for all words
-# but run, live, check and replay alone.
+# What the words of ./rng ask for, and what is wrong with them. ./rng reads this for all words but run, live, check and
+# replay alone; it sets top, usage and say.
 # shellcheck shell=sh
 
 self=./rng
 ! is_installed || self=rng
 audit_usage='usage: rng audit keys | rng audit live T | rng audit live C.E | rng audit line C.E'
 
-# refuse TEXT: says what is wrong, and then which words there are.
+# refuse TEXT: prints what is wrong, and then the usage line.
 refuse() {
     say "$(printf '%s' "$1" | LC_ALL=C tr -c ' -~' '?')"
     printf '%s\n' "${usage:?}" >&2
@@ -34,12 +34,12 @@ number() {
     fi
 }
 
-# numbers COMMAND COUNT NAMES WORDS..: so many words follow the command.
+# numbers COMMAND COUNT NAMES WORDS..: COUNT words follow the command.
 numbers() {
     [ $# -eq $(($2 + 4)) ] || refuse "$1 takes $2 numbers, $3, and no other words"
 }
 
-# take_files COMMAND FILES..: what follows a command's own words are files that can be read; - is standard input.
+# take_files COMMAND FILES..: after a command's own words come files that can be read; - is standard input.
 take_files() {
     command=$1
     shift
@@ -64,7 +64,7 @@ take_files() {
     done
 }
 
-# read_audit WORDS..: those of the audit. Sets words, and how many they are.
+# read_audit WORDS..: the words of the audit. Sets words, and how many they are.
 read_audit() {
     usage=$audit_usage
     case ${1-} in
@@ -80,8 +80,8 @@ read_audit() {
     take_files "audit ${words%% *}" "$@"
 }
 
-# read_words WORDS..: ends if no program takes these words. Sets words, those of the program, and taken, how many of all
-# words are no files.
+# read_words WORDS..: exits if no program takes these words. Sets words to the program's own words, and taken to the
+# number of words that are no files.
 read_words() {
     words=$* taken=$#
     case ${1-} in
@@ -136,7 +136,7 @@ need_sources() {
     esac
 }
 
-# read_own WORDS..: ends if these are no words of ./rng itself that build or keep programs.
+# read_own WORDS..: exits if these are not words of ./rng itself that build or keep programs.
 read_own() {
     [ "${way:?}" = prove ] || refuse "$1 does not follow try"
     case $1 in
@@ -145,7 +145,7 @@ read_own() {
     esac
 }
 
-# show FILES..: what they hold, one after the other.
+# show FILES..: prints the files, one after the other.
 show() {
     for file; do
         case $file in

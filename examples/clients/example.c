@@ -1,5 +1,5 @@
 /*
- * A key maker, on a core that is not ready and on one that is.
+ * A key maker, on a core that is not ready and then on one that is.
  *
  *     cc -o example example.c && ./example my.script my.transcript && rng check my.script my.transcript
  */
@@ -9,7 +9,7 @@ enum { GRND_NONBLOCK = 1 };
 
 static struct fenloth core;
 
-/* The code under test. Its getrandom(2) is replaced by that of the core. */
+/* The code under test. It calls the core's getrandom(2) in place of the machine's. */
 static int make_key(unsigned char key[16])
 {
     return fenloth_getrandom(&core, key, 16, GRND_NONBLOCK) == 16 ? 0 : -1;

@@ -1,10 +1,10 @@
 /*
  * fenloth.h: a live core of Linux's random number generator, for tests in C. It is the program `rng live`, by two pipes.
  *
- * The program is the one that fenloth_open gets, or else that of the environment's RNG, or else rng on the PATH. A call
- * returns what the kernel's call returns: -1 and errno if it fails. If the program dies, refuses a line or answers out of
- * order, this call and all later ones return -1 with EIO, and core->problem has the reason. One thread at a time may use a
- * core, in the process that opened it. With -std=c99 define _POSIX_C_SOURCE as 200809L first.
+ * The program is the one that is passed to fenloth_open, or else the environment's RNG, or else rng on the PATH. A call
+ * returns what the kernel's call returns: -1 and errno if it fails. If the program dies, refuses a line or answers out
+ * of order, this call and all later ones return -1 with EIO, and core->problem has the reason. Only the process that
+ * opened a core may use it, one thread at a time. With -std=c99 define _POSIX_C_SOURCE as 200809L first.
  */
 #ifndef FENLOTH_H
 #define FENLOTH_H
@@ -34,7 +34,7 @@ struct fenloth {
     char problem[256];
 };
 
-/* Ends the program, which gets a second to end by itself. Returns 0 if there is no cause to complain, and its status is 0. */
+/* Ends the program, which gets a second to end by itself. Returns 0 if there is no problem and its status is 0. */
 static inline int fenloth_stop(struct fenloth *core, const char *cause)
 {
     struct timespec moment = {0, 1000000};
@@ -60,7 +60,7 @@ static inline int fenloth_stop(struct fenloth *core, const char *cause)
     return -1;
 }
 
-/* Sends the text, without SIGPIPE: if the program is gone, the answer is missing. The answer ends with `end`. */
+/* Sends the text, without SIGPIPE: a program that is gone gives no answer. The answer ends with the text `end`. */
 static inline int fenloth_ask(struct fenloth *core, size_t length, const char *end)
 {
     struct timespec no_time = {0, 0};
@@ -120,8 +120,8 @@ static inline int fenloth_start(struct fenloth *core, const char *path)
 }
 
 /*
- * Opens a core that has got no bytes yet. The record goes to two files of the caller's, if they are not NULL. If it fails,
- * nothing is left to close.
+ * Opens a core that got no bytes yet. If the two files are not NULL, the record goes to them. If it fails, there is
+ * nothing to close.
  */
 static inline int fenloth_open(struct fenloth *core, const char *program, unsigned cpus, FILE *script, FILE *transcript)
 {
@@ -151,7 +151,7 @@ static inline int fenloth_open(struct fenloth *core, const char *program, unsign
     return -1;
 }
 
-/* Makes any event of docs/SCRIPT.md. Then core->answer and core->data are two fields of its line. */
+/* Makes any event of docs/SCRIPT.md. Then core->answer and core->data are the answer and the data of its line. */
 static inline int fenloth_event(struct fenloth *core, const char *event)
 {
     static const struct { const char *name; int fault; } answers[] = {
@@ -187,7 +187,7 @@ static inline int fenloth_event(struct fenloth *core, const char *event)
     return answers[kind].fault ? -1 : 0;
 }
 
-/* An event with bytes, of which there are 1 MiB at most. */
+/* An event with bytes, at most 1 MiB. */
 static inline int fenloth_hand_in(struct fenloth *core, const char *word, const void *bytes, size_t n, const char *rest)
 {
     const unsigned char *from = (const unsigned char *)bytes;
@@ -234,7 +234,7 @@ static inline ssize_t fenloth_read(struct fenloth *core, void *to, size_t n, con
     return (ssize_t)n;
 }
 
-/* write(2) to /dev/random, of 1 MiB at most. */
+/* write(2) to /dev/random, at most 1 MiB. */
 static inline ssize_t fenloth_write(struct fenloth *core, const void *bytes, size_t n)
 {
     return fenloth_hand_in(core, "write", bytes, n, "") ? -1 : (ssize_t)n;
@@ -257,7 +257,7 @@ static inline int fenloth_credit(struct fenloth *core, int bits)
     return bits < 0 ? (errno = EINVAL, -1) : fenloth_event(core, event);
 }
 
-/* getrandom(2). It fails with EAGAIN, EINTR (the kernel would wait, and here nobody can end the wait) or EINVAL. */
+/* getrandom(2). Fails with EAGAIN, EINVAL, or EINTR if the kernel would wait, since nobody here can end a wait. */
 static inline ssize_t fenloth_getrandom(struct fenloth *core, void *to, size_t n, unsigned flags)
 {
     char rest[16];
@@ -278,7 +278,7 @@ static inline int fenloth_bits(struct fenloth *core)
     return fenloth_event(core, "bits") ? -1 : atoi(core->data);
 }
 
-/* The moment is now this many milliseconds, below 2^40. */
+/* Sets the moment, in milliseconds below 2^40. */
 static inline int fenloth_at(struct fenloth *core, unsigned long long milliseconds)
 {
     char event[32];
@@ -287,13 +287,13 @@ static inline int fenloth_at(struct fenloth *core, unsigned long long millisecon
     return milliseconds >> 40 ? (errno = EINVAL, -1) : fenloth_event(core, event);
 }
 
-/* The reseed timer runs: 1 if it was due and the core got a new key, otherwise 0. */
+/* Runs the reseed timer: 1 if the timer was due and the core got a new key, otherwise 0. */
 static inline int fenloth_tick(struct fenloth *core)
 {
     return fenloth_event(core, "tick") ? -1 : !strcmp(core->answer, "fired");
 }
 
-/* Ends the session. 0 if the record is whole: `rng check SCRIPT TRANSCRIPT` judges it. -1 if the core failed, now or before. */
+/* Ends the session. 0: the record is whole, and `rng check SCRIPT TRANSCRIPT` judges it; -1: the core has failed. */
 static inline int fenloth_close(struct fenloth *core)
 {
     int failed = core->program <= 0;

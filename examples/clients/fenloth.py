@@ -6,8 +6,8 @@
         key = core.getrandom(16)
     assert core.check()
 
-The core is the program `rng live`, by two pipes: the program that Core gets, or else that of the environment's RNG, or else
-rng on the PATH. Its bytes follow from its events alone, so a test gets the same bytes at each run. With `patched`,
+The core is the program `rng live`, by two pipes: the program that is passed to Core, or else the environment's RNG, or
+else rng on the PATH. The bytes depend on the events alone, so a test gets the same bytes at each run. With `patched`,
 os.getrandom and os.urandom are those of a core.
 """
 from __future__ import annotations
@@ -34,7 +34,7 @@ ANSWERS = {"ok": 0, "fired": 0, "idle": 0, "EAGAIN": errno.EAGAIN, "EINTR": errn
 class FenlothError(Exception):
     """The program is missing, died, refused a line or answered out of order, and the core has ended.
 
-    It is no OSError, so code under test does not take it for a failed read.
+    It is no OSError, so that code under test does not take it for a failed read.
     """
 
 
@@ -79,11 +79,11 @@ def judge(record: bytes, program: str | None = None) -> Verdict:
 
 
 class Core:
-    """A core in a process of its own, to which several threads may call.
+    """A core in a process of its own. Several threads may call it.
 
     cpus     the number of CPUs, 1 to 256
     state    "empty": nothing in the pool; "early": 128 bits; "ready": 256; "late": ready after three requests
-    seed     bytes that are written to the pool first: other bytes, another run
+    seed     bytes that are written to the pool first; another seed gives other bytes
     program  the path of rng
     """
 
@@ -127,7 +127,8 @@ class Core:
     def getrandom(self, n: int, flags: int = 0) -> bytes:
         """getrandom(2). Raises BlockingIOError for EAGAIN, InterruptedError for EINTR, and OSError for EINVAL.
 
-        If the core is not ready and no flag forbids it, the kernel waits. Here nobody can end the wait, so it is interrupted.
+        If the core is not ready and no flag forbids it, the kernel waits. Here nobody can end the wait, so the call is
+        interrupted.
         """
         if n < 0 or not 0 <= flags < 1 << 32:
             raise OSError(errno.EINVAL, os.strerror(errno.EINVAL))
@@ -180,7 +181,7 @@ class Core:
 
     @property
     def gets_ready(self) -> bool:
-        """Whether the core is still to get ready after some requests."""
+        """Whether the core is one that becomes ready after some requests, and is not ready yet."""
         return self._left is not None
 
     # ---- The record ----------------------------------------------------------------------------------------------
@@ -195,7 +196,7 @@ class Core:
                     raise FenlothError(self._problem)
 
     def record(self) -> bytes:
-        """The script and then the transcript, as far as the session has come. After `close` both are whole."""
+        """The script and then the transcript, up to now. After `close` both are whole."""
         with self._lock:
             return _all_of(self._script) + _all_of(self._transcript)
 
@@ -207,7 +208,7 @@ class Core:
         return judge(self.record(), self._program)
 
     def gave(self, data: bytes) -> bool:
-        """Whether some read got these bytes, side by side, when the core was ready."""
+        """Whether some read of a ready core got these bytes, next to each other."""
         with self._lock:
             lines = _all_of(self._transcript).decode().split("\n")
         for line in lines:
@@ -239,7 +240,7 @@ class Core:
             self.add(ENTROPY, 256)
 
     def _ask(self, text: bytes, end: bytes) -> bytes:
-        """Sends the text, and returns the answer, which ends so. Both go to the record."""
+        """Sends the text, and returns the answer up to the text `end`. Both go to the record."""
         if not self._is_open:
             raise FenlothError(self._problem or "the core is closed")
         if os.getpid() != self._process_id:
@@ -249,7 +250,7 @@ class Core:
         except OSError as fault:
             raise self._stop(f"could not be asked: {fault.strerror}") from None
         except BaseException:
-            # A later answer would be taken for that of the next event.
+            # Otherwise a later answer would be taken for that of the next event.
             self._end("was interrupted within an event")
             raise
         if answer.startswith(b"refused "):
@@ -281,7 +282,7 @@ class Core:
         return FenlothError(self._problem)
 
     def _end(self, cause: str) -> None:
-        """Ends the program, which gets a second to end by itself. Without a cause and with status 0 there is no problem."""
+        """Ends the program, which gets a second to end by itself. Without a cause, status 0 is no problem."""
         self._is_open = False
         for pipe in self._pipes:
             with contextlib.suppress(OSError):
@@ -297,7 +298,7 @@ class Core:
             self._problem = f"rng live {cause or 'wrote its last line'}; it ended by {how}" + (f": {words}" if words else "")
 
     def _make(self, text: str) -> Line:
-        """An event, whose errno is raised."""
+        """Makes an event, and raises the errno in its line."""
         line = self.event(text)
         if ANSWERS[line.answer]:
             raise OSError(ANSWERS[line.answer], os.strerror(ANSWERS[line.answer]))
@@ -343,11 +344,12 @@ def _all_of(file: IO[bytes]) -> bytes:
 
 @contextlib.contextmanager
 def patched(core: Core) -> Iterator[Core]:
-    """os.getrandom and os.urandom are the core's, in each module that has them by name: so in random, and by it for
+    """os.getrandom and os.urandom are the core's, in each module that has them by name: so in random, and through it in
     random.SystemRandom and secrets.
 
-    As CPython's own, both ask again after EINTR. If the core never gets ready, the kernel would keep them waiting for ever;
-    here they raise InterruptedError. C code asks the machine as before: ssl, the first seed of random, hashes of strings.
+    As CPython's own do, both call again after EINTR. If the core never becomes ready, the kernel would keep them
+    waiting for ever; here they raise InterruptedError. C code calls the machine as before: ssl, the first seed of
+    random, string hashes.
     """
     def getrandom(size: int, flags: int = 0) -> bytes:
         while True:

@@ -1,4 +1,4 @@
-"""A pytest fixture: os.getrandom and os.urandom are those of a core, in each of its states.
+"""A pytest fixture: os.getrandom and os.urandom are those of a core, once in each of its states.
 
 A conftest.py has the line `from pytest_fenloth import core`. A test that takes `core` runs four times, on a core that is
 empty, early, ready, and late. For some states alone, mark it:
@@ -16,7 +16,7 @@ import fenloth
 
 @pytest.fixture(name="core", params=fenloth.STATES)
 def core(request: pytest.FixtureRequest) -> Iterator[fenloth.Core]:
-    """A core in a state, in the place of the machine's. After the test its record has to be lawful."""
+    """A core in a state, in place of the machine's. After the test the core's record has to be lawful."""
     with fenloth.Core(state=request.param) as its, fenloth.patched(its):
         yield its
     verdict = its.check()

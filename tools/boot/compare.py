@@ -1,13 +1,13 @@
 #!/usr/bin/env python3
 """Replays a recorded boot, and compares what the program hands out with what the kernel did.
 
-    compare.py SCRIPT VALUES        every value is equal, or the first that differs is told, and the status is 1
+    compare.py SCRIPT VALUES        every value has to be equal; else the first that differs is printed, with status 1
     compare.py -c SCRIPT VALUES     the same with one digit of the first sample changed: every value of four bytes or
                                     more has to differ, or the status is 1
 
 The program is `rng` at the top of the repository, or the one that RNG names. It is called with the word `run`. Files
-with names that end in .gz are unpacked. Of a longer read a value is the first 4,096 bytes, which recorder.py notes, or
-fewer and the SHA-256 of all.
+with names that end in .gz are unpacked. A value is all bytes of a read, or, as recorder.py notes a longer read, its
+first 4,096 bytes, or fewer with the SHA-256 of all.
 """
 
 import argparse
@@ -24,7 +24,7 @@ import command  # noqa: E402
 
 SAMPLES = ("write", "device")
 LONGEST = 4096  # bytes of a value that recorder.py notes
-SURELY = 8  # digits: a value of so many does not come out equal by chance
+SURELY = 8  # digits: a value with this many does not come out equal by chance
 VALUE = re.compile(r"([0-9]{1,9}) ([0-9a-f]*)(?: ([0-9]{1,9})(?: ([0-9a-f]{64}))?)?")
 
 
@@ -34,8 +34,8 @@ def text_of(path):
 
 
 def values_of(text):
-    """The numbers of events, and the digits that were handed out in each; of some, how many bytes of the event's answer
-    come before those, and of longer ones the SHA-256 of all bytes."""
+    """The numbers of events, and the digits that were handed out in each. For some also how many bytes of the event's
+    answer come before those, and for longer ones the SHA-256 of all bytes."""
     values = []
     for place, line in enumerate(text.splitlines(), 1):
         found = VALUE.fullmatch(line)
@@ -48,7 +48,7 @@ def values_of(text):
 
 
 def changed(script):
-    """The script with another last digit in its first sample of some bytes."""
+    """The script, with the last digit of its first sample of some bytes changed."""
     lines = script.split("\n")
     for place, line in enumerate(lines):
         if line.split(" ")[0] in SAMPLES and not line.endswith("-"):
@@ -111,7 +111,7 @@ def arguments():
 
 
 def verdict(name, values, transcript, is_changed=False):
-    """Whether as many values are equal as may be, and what is said of it."""
+    """Whether at most the allowed number of values is equal, and the message about it."""
     equal, other = compare(values, transcript)
     line = f"{name}: {len(equal)} of {len(values)} equal{', with one digit changed' if is_changed else ''}"
     if is_changed:

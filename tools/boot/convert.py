@@ -4,12 +4,13 @@
     convert.py RECORD CPUS SCRIPT VALUES [EVENTS] [--who WHO]
 
 RECORD is what recorder.py wrote, on a machine of so many CPUS. The script has one caller, which goes from CPU to CPU.
-VALUES gets a line for each value: the number of its event in the script, and the bytes in hexadecimal, of a longer one
-the first 4,096. Two more fields follow where they are needed: how many bytes of the event's answer come before the value,
-and the SHA-256 of all bytes of a longer one. WHO gets a line for each call, with who made it (who.py reads it). With
-EVENTS the script is cut off after so many, and else after 65,536. Files with names that end in .gz are compressed.
+VALUES gets a line for each value: the number of its event in the script, and the bytes in hexadecimal, or the first
+4,096 of a longer one. Two more fields follow where they are needed: how many bytes of the event's answer come before
+the value, and the SHA-256 of all bytes of a longer one. WHO gets a line for each call, with who made it (who reads it).
+The script ends after EVENTS events, or after 65,536 if that is left out. Files with names that end in .gz are
+compressed.
 
-kernel_calls.py says how the order of the events is found, and vdso_calls.py what becomes of calls of vgetrandom.
+kernel_calls.py explains how the order of the events is found, and vdso_calls.py how calls of vgetrandom become events.
 """
 
 import argparse
@@ -29,7 +30,7 @@ KEPT = 4096  # bytes of a value
 
 
 def events_of(stops):
-    """The events of a record in the order of the script, and how many stops they have.
+    """The events of a record in the order of the script, and how many stops these events have.
 
     If the record does not have the end of a call, it is cut off before the call's first step.
     """
@@ -38,7 +39,7 @@ def events_of(stops):
 
 
 def read(stops):
-    """As events_of, and the notes of the reader: what was met how often, and what could not be told."""
+    """As events_of, with the reader's notes: how often each thing was met, and what could not be told."""
     for is_cut in (False, True):
         reader, used = whole_reader(stops, is_cut)
         reader.tell()
@@ -56,7 +57,8 @@ def read(stops):
 
 
 def whole_reader(stops, is_cut):
-    """A reader of the stops, without the last ones that belong to a call whose end was not seen; and how many it read."""
+    """A reader of the stops, without the last ones if they belong to a call whose end was not seen; and how many it
+    read."""
     while True:
         reader = UserReader(is_cut)
         reader.read(stops)
@@ -67,7 +69,7 @@ def whole_reader(stops, is_cut):
 
 
 class Script:
-    """The lines of the events, as far as they have their place, and what was handed out in them."""
+    """The lines of the events that have their place, and the values that were handed out in them."""
 
     def __init__(self, events, longest):
         self.lines, self.values, self.who = [], [], []
@@ -96,7 +98,8 @@ class Script:
 
 
 def script_of(events, longest):
-    """The lines of the events, and the values with the numbers of their lines; the front part that has its place."""
+    """The lines of the events, and the values with the numbers of their lines, for the first part, which has its
+    place."""
     script = Script(events, longest)
     return script.lines, script.values
 
@@ -113,7 +116,7 @@ def write_rows(path, rows):
 
 
 def opened(path, mode):
-    """A file of text. A compressed one has no date in it, so that equal texts are equal files."""
+    """A text file. A compressed one contains no date, so that equal texts make equal files."""
     if not path.endswith(".gz"):
         return open(path, mode)
     if mode == "r":

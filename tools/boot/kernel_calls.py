@@ -1,15 +1,15 @@
-"""Makes events of the steps of a kernel's random core that recorder.py noted. A part of convert.py.
+"""Makes events from the steps of a kernel's random core that recorder.py noted. A part of convert.py.
 
-Each call of the kernel becomes one event, and the record says where it took which lock. Two events that took the same
-lock are put in the order in which they took it. A read that went by a generation comes after the reseed that made this
-one, and before the reseed that made the next one. An order in which all of this holds is looked for, and a record that
-has none is refused. The values play no part in it.
+Each call of the kernel becomes one event, and the record shows where it took which lock. Two events that took the same
+lock are ordered as they took it. A read that used a generation comes after the reseed that made this generation, and
+before the reseed that made the next. convert.py looks for an order in which all of this holds, and refuses a record
+that has none. The values play no part in it.
 """
 
 import heapq
 
 EARLY, FULL = 128, 256  # bits at which the core gets an early key, and becomes ready
-FRAME = 512  # a call's stack pointer lies at most so far below the one that it has at its return
+FRAME = 512  # a call's stack pointer is at most this far below its value at the call's return
 SOURCES = {"getrandom": "read {count} {flags}", "random_file": "dread {count} 0", "urandom_file": "uread {count}"}
 READS = {("draw",), ("extract", "draw"), ("serve",), ("refill", "serve")}
 INTEGERS = {("draw",), ("extract", "draw"), ("take",), ("serve", "take"), ("refill", "serve", "take")}
@@ -17,7 +17,7 @@ BATCH = 96  # bytes of a batch of integers
 
 
 class Refused(Exception):
-    """The record does not allow to place all that is in it."""
+    """The record leaves no place for something that is in it."""
 
 
 class Call:
@@ -27,7 +27,7 @@ class Call:
         self.name, self.pointer, self.stop, self.event = name, pointer, stop, event
 
     def is_source(self):
-        """Whether it only says where a user's read comes from."""
+        """Whether it only shows where a user's read comes from."""
         return self.name in SOURCES
 
     def ends_at(self, pointer):
@@ -35,7 +35,7 @@ class Call:
 
 
 class Event:
-    """What becomes one event of the script: the steps that were seen of it, and the value that it handed out."""
+    """What becomes one event of the script: its steps that were seen, and the value that it handed out."""
 
     def __init__(self, word, stop=None):
         self.word, self.stop = word, stop
@@ -44,15 +44,15 @@ class Event:
         self.steps = []
         self.cpu = None  # where a read or an integer was served
         self.hardware = None  # the words that its extraction got
-        self.generation = None  # the one that it went by
-        self.crossed = None  # of a credit, the steps that it may take
+        self.generation = None  # the generation that it used
+        self.crossed = None  # the steps that a credit may take
         self.is_over = False
-        self.is_told = True  # whether it stands in the script
-        self.part_of = None  # the event that it is told within
+        self.is_told = True  # whether the script has it
+        self.part_of = None  # the event that includes it
         self.setting = []  # lines that prepare it
         self.acts = []  # what happens within it, as triples of a point, a word and an answer
         self.answer = Answer()
-        self.thread = None  # whose call it is, if that has no other one open
+        self.thread = None  # the thread whose call it is, if that thread has no other open call
 
     def whole(self):
         return self if self.part_of is None else self.part_of.whole()
@@ -70,12 +70,12 @@ class Event:
 
 
 class Answer:
-    """What a call handed out, and to whom."""
+    """The value that a call handed out, and to whom."""
 
     def __init__(self, value=None, who=None, since=None, function=None):
         self.value = value  # the first bytes in hexadecimal, or None
         self.before = 0  # bytes of the event's answer that come before those of the call
-        self.digest = None  # of a value of which only the first bytes are kept, the SHA-256 of all
+        self.digest = None  # the SHA-256 of all bytes, if only the first are kept
         self.who = who  # moment, process, thread, what the CPU does, and the task's name
         self.since = since  # the moment at which a call began that may have waited
         self.function = function  # the kernel's function that asked
@@ -84,22 +84,22 @@ class Answer:
 class Order:
     """Which event has to come after which others.
 
-    It is noted while the record is read, and worked out when that is through: then it is known which calls are told
-    together, as one event.
+    It is noted while the record is read, and worked out after that: only then is it known which calls make up one event
+    together.
     """
 
     def __init__(self):
         self.taken = []  # pairs of a lock and the event that took it, in the order of the record
         self.makers = [None]  # of each generation, the event that made it; nothing made generation 0
-        self.looks = []  # pairs of an event and a generation that it went by
+        self.looks = []  # pairs of an event and a generation that it used
 
     def take(self, lock, event):
-        """The event holds the lock, after the one that held it before."""
+        """The event holds the lock, after the event that held it before."""
         self.taken.append((lock, event))
 
     def make(self, generation, event):
         if generation != len(self.makers):
-            raise Refused(f"a reseed made generation {generation} behind {len(self.makers) - 1}")
+            raise Refused(f"a reseed made generation {generation} after {len(self.makers) - 1}")
         self.makers.append(event)
 
     def go_by(self, generation, event):
@@ -111,7 +111,7 @@ class Order:
             raise Refused(f"{event.word} found the generations {event.generation} and {generation}")
 
     def events(self):
-        """The events that are told, in the order of their first steps; each gets its place among them."""
+        """The events of the script, in the order of their first steps; each gets its place among them."""
         found = []
         for _, event in self.taken:
             event.place = None
@@ -123,7 +123,7 @@ class Order:
         return found
 
     def after(self):
-        """Of an event's place, the places of events that have to come after it."""
+        """For an event's place, the places of events that have to come after it."""
         found, holders = {}, {}
 
         def put(before, event):
@@ -154,7 +154,8 @@ class Order:
 
 
 def sort_by(events, after):
-    """The events so that each comes before those after it, and else the one of the lowest place first."""
+    """The events, so that each comes before those after it; of several possible ones, the one of the lowest place is
+    first."""
     waits = [0] * len(events)
     for places in after.values():
         for place in places:
@@ -170,19 +171,19 @@ def sort_by(events, after):
                 heapq.heappush(free, other)
     if len(found) < len(events):
         stuck = next(place for place, count in enumerate(waits) if count)
-        raise Refused(f"no order keeps to the locks: {events[stuck].word} stands in a circle")
+        raise Refused(f"no order keeps to the locks: {events[stuck].word} is in a circle")
     return found
 
 
 class Reader:
-    """Goes through the stops of a record, and makes events of them."""
+    """Goes through the stops of a record, and makes events from them."""
 
     def __init__(self):
         self.order = Order()
         self.events = []
         self.stacks = {}  # the open calls of each kernel stack, the innermost last
         self.bits = 0
-        self.sample = None  # a device's sample of which only the cycle counter was mixed
+        self.sample = None  # a device's sample, if only the cycle counter of it was mixed
         self.now = 0
 
     def read(self, stops):
@@ -193,7 +194,7 @@ class Reader:
                     raise Refused(f"a stop of an unknown kind: {stop}")
                 note(stop)
             except (LookupError, TypeError, ValueError, AttributeError) as fault:
-                raise Refused(f"stop {self.now + 1} is none that recorder.py writes ({fault!r}): {stop}") from fault
+                raise Refused(f"stop {self.now + 1} is not one that recorder.py writes ({fault!r}): {stop}") from fault
 
     def unfinished(self):
         """The place in the record of the first step of an event whose end was not seen, or None."""
@@ -215,10 +216,10 @@ class Reader:
         return self.add_step(event, stop, lock)
 
     def add_to_call(self, stop, lock):
-        """A step of the call that is innermost on its stack."""
+        """A step of the innermost call on its stack."""
         calls = self.stacks.get(stop["stack"])
         if not calls or calls[-1].event is None:
-            raise Refused(f"a step of no call that was seen: {stop}")
+            raise Refused(f"a step that belongs to no call that was seen: {stop}")
         return self.add_step(calls[-1].event, stop, lock)
 
     # Calls
@@ -231,11 +232,11 @@ class Reader:
                 calls.pop()
             calls.append(Call(name, pointer, stop, None))
         elif not (calls and (calls[-1].name, calls[-1].pointer) == (name, pointer)):
-            # An interrupt may come at the very first instruction, which is then met twice.
+            # An interrupt may come at the very first instruction, which is then seen twice.
             calls.append(Call(name, pointer, stop, self.event_of(stop, calls)))
 
     def event_of(self, stop, calls):
-        """The event that a call belongs to: that of the call around it, or one of its own."""
+        """The event that a call belongs to: that of the call around it, or a new one."""
         name, outer = stop["call"], calls[-1] if calls else None
         if name == "uread":
             if outer is None or not outer.is_source() or not 0 <= outer.pointer - stop["pointer"] < FRAME:
@@ -265,7 +266,7 @@ class Reader:
         if not calls or calls[-1].name != stop["call"] or not calls[-1].ends_at(stop["pointer"]):
             if any(it.name == stop["call"] and it.ends_at(stop["pointer"]) for it in calls):
                 raise Refused(f"a call ended before one that it had made: {stop}")
-            return  # met twice, as a beginning may be
+            return  # seen twice, as a beginning may be
         event = calls.pop().event
         if not any(it.event is event for it in calls):
             event.is_over = True
@@ -274,10 +275,10 @@ class Reader:
             check(event)
 
     def at_answer(self, stop):
-        """A user's call that found the core not ready, and would not wait: a look, and no step."""
+        """A user's call that found the core not ready, and would not wait: it only looked, and made no step."""
         calls = self.stacks.get(stop["stack"], [])
         if not calls or not calls[-1].is_source() or calls[-1].pointer != stop["pointer"]:
-            raise Refused(f"an answer of no call that was seen: {stop}")
+            raise Refused(f"an answer that belongs to no call that was seen: {stop}")
         source = calls.pop()
         if source.name != "getrandom":
             return  # a file's flags are not in the record
@@ -323,7 +324,7 @@ class Reader:
         self.order.go_by(stop["generation"], self.add_to_call(stop, "base"))
 
     def at_take(self, stop):
-        """An integer is taken from its batch, which a call before may have filled."""
+        """An integer is taken from its batch, which an earlier call may have filled."""
         calls = self.stacks.setdefault(stop["stack"], [])
         is_filled = calls and calls[-1].name == stop["call"]
         event = calls.pop().event if is_filled else Event(stop["call"])
@@ -347,14 +348,14 @@ class Reader:
     at_online = at_prepare
 
     def at_dump(self, stop):
-        """The machine's memory was kept here, which is no step of the core."""
+        """The machine's memory was kept here. This is no step of the core."""
 
     def at_error(self, stop):
         raise Refused(f"the recorder failed: {stop['why']}")
 
 
 def crossed(before, after):
-    """What a credit has to do behind it: the steps that it may take."""
+    """The effects of a credit: the steps that it may take."""
     if before < FULL <= after:
         return {("credit", "extract", "install")}
     if before < EARLY <= after:

@@ -1,18 +1,18 @@
 """Records what the random core of a Linux kernel does while it boots. Run by gdb, attached to QEMU's stub.
 
-`record` starts QEMU halted and then this file. It waits until the kernel's text is in memory, looks up in it the
-places where a step of the core is committed, and notes each time that a CPU comes there: one line of JSON a stop.
+`record` starts QEMU halted and then this file. It waits until the kernel's text is in memory, looks up in it the places
+where a step of the core is committed, and notes each time that a CPU comes there: one line of JSON for each stop.
 
-A step is noted where it is committed, which is behind the lock that it takes and before that is given back. So the
-order of the record is the order in which the locks were taken, and nothing has to be moved afterwards. Calls are also
-noted where they begin and end, for their arguments and for what they hand out, but that order decides nothing.
+A step is noted where it is committed: after it took its lock, and before it releases that lock. So the record has the
+order in which the locks were taken, and nothing has to be moved afterwards. Calls are also noted where they begin and
+end, for their arguments and for the values that they hand out, but that order decides nothing.
 
-The places are found by what they do (behind the call of a lock, behind the load of the generation, before a return),
-in functions that are found by their names. If one is not found exactly as expected, nothing is recorded.
+The places are found by what they do (after the call of a lock, after the load of the generation, before a return), in
+functions that are found by their names. If one is not found exactly as expected, nothing is recorded.
 
-Each value has a note of who got it: the task that ran there, and of an integer the function that asked for it.
+Each value has a note of who got it: the task that ran there, and for an integer the function that asked for it.
 
-The environment says: BOOT_STUB, where QEMU's stub listens; BOOT_SYMBOLS, the lines of /proc/kallsyms of the same
+The environment has: BOOT_STUB, where QEMU's stub listens; BOOT_SYMBOLS, the lines of /proc/kallsyms of the same
 kernel; BOOT_RECORD, the file to write; BOOT_VALUES, after how many values to stop; BOOT_VGETRANDOM, 1 if the calls of
 vgetrandom in user memory are noted too (vdso_places.py).
 """
@@ -29,13 +29,13 @@ try:
 except ImportError:
     raise SystemExit("recorder.py: gdb runs this file, and tools/boot/record starts gdb: see docs/RECORDING.md") from None
 
-SEED_BLOCK = 40  # what an extraction hashes with its seed: 32 bytes of the hardware and a counter of 8
+SEED_BLOCK = 40  # bytes that an extraction hashes with its seed: 32 of the hardware, and a counter of 8
 BATCH = 96  # bytes of a batch of integers
-GENERATION = 32  # where the generation stands behind the key, in the base as in a CPU's part
+GENERATION = 32  # the generation's offset from the key, in the base as in a CPU's part
 STACK = 16384  # kernel stacks have this size and begin at a multiple of it
 ZERO_FLAG = 0x40
 EMPTY_OR_EARLY = 2  # crng_init is below it while the core is not ready
-LONGEST = 1 << 17  # so many bytes of a read are noted
+LONGEST = 1 << 17  # at most this many bytes of a read are noted
 WIDTHS = (8, 16, 32, 64)
 BELOW = "__get_random_u32_below"  # draws integers for another function
 USER_BUFFER = 0  # iov_iter of one buffer in user memory
@@ -66,7 +66,7 @@ class Symbols:
         return self.addresses[name]
 
     def function(self, name):
-        """The name as the compiler left it: it may stand with a suffix, as in `extract_entropy.constprop.0`."""
+        """The name that the compiler gave a function: it may have a suffix, as in `extract_entropy.constprop.0`."""
         found = [it for it in self.addresses if re.fullmatch(re.escape(name) + r"(\.(constprop|isra|part)\.\d+)*", it)]
         if len(found) != 1:
             raise LookupError(f"{name} is {found} in the symbols")
@@ -77,7 +77,7 @@ class Symbols:
         return self.names[bisect.bisect_right(self.starts, address) - 1]
 
     def bounds(self, name):
-        """First address of a function and the first behind it."""
+        """The first address of a function, and the first address after it."""
         start = self.addresses[name]
         return start, self.starts[bisect.bisect_right(self.starts, start)]
 
@@ -95,7 +95,7 @@ def number(address, size=8):
 
 
 def held(address, count):
-    """What a buffer holds, or None where its page is away."""
+    """The bytes of a buffer, or None if its page is away."""
     try:
         return memory(address, count).hex()
     except gdb.MemoryError:
@@ -122,7 +122,7 @@ class Code:
         return found[0]
 
     def behind(self, pattern, what):
-        """The address behind the one instruction that fits, and the match."""
+        """The address after the one instruction that fits, and the match."""
         found = []
         for (_, text), (after, _) in zip(self.lines, self.lines[1:]):
             match = re.match(pattern, text)
@@ -135,12 +135,12 @@ class Code:
         return self.behind(rf"call +{target}\b", f"behind the call of {name}")[0]
 
     def behind_load(self, address):
-        """Behind the load from a fixed address, and the register that was loaded."""
+        """The address after the load from a fixed address, and the register that was loaded."""
         place, match = self.behind(rf"mov +[^ ]*\(%rip\),%(\w+) +# 0x{address:x}$", f"behind a load of {address:x}")
         return place, match.group(1)
 
     def returns(self):
-        """Where the function returns, or jumps to another one in its place."""
+        """Where the function returns, or jumps to another function instead."""
         thunk = f"0x{self.symbols.address('__x86_return_thunk'):x}"
         found = [at for at, text in self.lines if re.match(rf"ret|jmp +{thunk}\b", text)]
         for at, text in self.lines:
@@ -154,7 +154,7 @@ class Code:
 
 
     def frame(self):
-        """How far the return address lies above the stack pointer, once the function has its frame."""
+        """How far above the stack pointer the return address is, once the function has its frame."""
         size, tracer = 0, f"0x{self.symbols.addresses.get('__fentry__', 0):x}"  # a kernel built without tracing has none
         for _, text in self.lines:
             less = re.match(r"sub +\$0x([0-9a-f]+),%rsp", text)
@@ -167,7 +167,7 @@ class Code:
 class Tasks:
     """Who runs on a CPU.
 
-    Where a task has its numbers and its name is found in the first one, while it is alone: it is its own parent, twice
+    The offsets of a task's numbers and name are found in the first task, while it is alone: it is its own parent, twice
     in a row, with the two numbers and one word of 8 bytes before; and its name is `swapper`.
     """
 
@@ -216,7 +216,7 @@ class Tasks:
 
 
 class Place(gdb.Breakpoint):
-    """A place at which something is noted each time that a CPU comes there."""
+    """A place, at which something is noted each time that a CPU comes there."""
 
     def __init__(self, recorder, address, note):
         super().__init__(f"*{address:#x}", gdb.BP_BREAKPOINT, internal=True)
@@ -236,14 +236,14 @@ class Recorder:
 
     def __init__(self, symbols, record, values):
         self.symbols, self.record, self.left = symbols, record, values
-        self.reads = {}  # what a read that has begun will fill: its buffer and length, by its stack pointer
+        self.reads = {}  # for each open read, by its stack pointer, the buffer and length that it will fill
         self.base = symbols.address("base_crng")
         self.pool = symbols.address("input_pool")
         self.tasks = None
         self.callers = {}  # names of functions, by the return address of a call
-        self.frames = {}  # of the functions of integers, how far the return address lies above the stack pointer
-        self.parts = []  # what notes more than this, at places of its own
-        self.jobs = []  # what is to be done when the machine stands, since a place may not change places
+        self.frames = {}  # for the functions of integers, how far above the stack pointer the return address is
+        self.parts = []  # parts that note more, at places of their own
+        self.jobs = []  # done when the machine is halted, since a place may not change places
         self.early_places = []  # places that matter only while the core is not ready
 
     def is_over(self):
@@ -260,7 +260,7 @@ class Recorder:
         return Place(self, address, note)
 
     def caller(self):
-        """The function that the present one was called from; to be asked at its first instruction."""
+        """The function that called the present one; to be asked at its first instruction."""
         return self.symbols.around(number(register("rsp")))
 
     # Calls, from their first instruction to their return.
@@ -289,7 +289,7 @@ class Recorder:
         self.leave(call, None if buffer is None else held(buffer, count))
 
     def kernel_read(self):
-        """The filling of a batch is such a read too; its bytes are handed out later, one by one."""
+        """The filling of a batch is such a read too; its bytes are handed out later, one integer at a time."""
         count = register("rsi")
         asked = {"asked": self.asker(register("rsp"))} if self.caller() in self.frames else {}
         self.begin_read("kread", register("rdi") if count != BATCH else None, count, **asked)
@@ -307,7 +307,7 @@ class Recorder:
         self.enter_source("getrandom", flags=flags, wanted=wanted, buffer=buffer, ip=ip, sp=pointer, mm=register("cr3") >> 12)
 
     def enter_source(self, call, **fields):
-        """A user's call, with who makes it. While the core is not ready, its answer is noted too."""
+        """A user's call, with its caller. While the core is not ready, its answer is noted too."""
         if not self.is_ready():
             fields["early"] = True
         elif self.early_places:
@@ -315,7 +315,7 @@ class Recorder:
         self.enter(call, who=self.tasks.who(), **fields)
 
     def answer(self, call):
-        """The answer of a user's call, as long as it may be that the core is not ready."""
+        """The answer of a user's call, as long as the core may not be ready."""
         pointer, result = register("rsp"), register("rax")
         if result == EAGAIN % 2**64:
             self.put(stop="answer", call=call, stack=pointer // STACK, pointer=pointer, result=EAGAIN)
@@ -350,14 +350,15 @@ class Recorder:
             self.commit("refill", generation=number(self.base + GENERATION))
 
     def taken(self, width, value, generation, frame):
-        """An integer was loaded from its batch, behind the lock of this and a look at the generation."""
+        """An integer was loaded from its batch, after this batch's lock and a look at the generation."""
         self.left -= 1
         digits = (register(value) % 2**width).to_bytes(width // 8, "little").hex()
         self.commit("take", call=f"int{width}", generation=register(generation), value=digits,
                     by=self.asker(register("rsp") + frame), who=self.tasks.who())
 
     def asker(self, pointer):
-        """The function that asked for an integer, by the place of a return address. One that asks for another is left out."""
+        """The function that asked for an integer, by a return address. A function that asks for another one is left
+        out."""
         name = self.called_from(number(pointer))
         while name in self.frames:
             pointer += 8 + self.frames[name]
@@ -365,7 +366,7 @@ class Recorder:
         return name
 
     def called_from(self, address):
-        """The function that a call was made in; a call instruction stands before the address that it returns to."""
+        """The function that a call was made in; the call instruction is just before the return address."""
         if address not in self.callers:
             is_call = address >= KERNEL_HALF and memory(address - CALL, 1) == b"\xe8"
             self.callers[address] = self.symbols.around(address) if is_call else None
@@ -419,7 +420,7 @@ class Recorder:
         self.at(address("random_online_cpu"), lambda: self.put(stop="online", of=register("rdi")))
 
     def run(self):
-        """Waits for the kernel's first C function, and then records until the machine is off or all was seen."""
+        """Waits for the kernel's first C function, and then records until the machine is off or everything was seen."""
         gdb.Breakpoint(f"*{self.symbols.address('start_kernel'):#x}", gdb.BP_BREAKPOINT, internal=True, temporary=True)
         gdb.execute("continue")
         self.tasks = Tasks(self.symbols)
@@ -469,7 +470,7 @@ def recorder_class():
 
 
 def main():
-    # gdb takes all places away and puts them back at each stop, if it is not told to leave them: 120 packets a stop.
+    # Unless told to leave them, gdb removes all places at each stop and puts them back: 120 packets a stop.
     for setting in ("architecture i386:x86-64", "pagination off", "confirm off", "breakpoint always-inserted on"):
         gdb.execute(f"set {setting}")
     attach(os.environ["BOOT_STUB"])

@@ -57,7 +57,7 @@ def converted(stops, longest=convert.LIMIT):
 
 
 class Words(unittest.TestCase):
-    """What becomes of each kind of call."""
+    """The event that each kind of call becomes."""
 
     def test_samples(self):
         stops = [mix("0100000000000000", "add_device_randomness"), mix("6162", "add_device_randomness"), mix("63")]
@@ -132,7 +132,7 @@ class Places(unittest.TestCase):
 
 
 class Rest(unittest.TestCase):
-    """What is met twice, or cut off, or cannot be placed."""
+    """What was seen twice, or cut off, or has no place."""
 
     def test_calls_that_are_met_twice(self):
         begun, served, ended = kernel_read(1, "0a")

@@ -1,4 +1,4 @@
-"""Tests of how the tools of this folder end: with a line and a status, whatever they are given."""
+"""Tests of how the tools of this folder end: with a line and a status, whatever input they get."""
 
 import gzip
 import os
@@ -30,7 +30,7 @@ class Ends(unittest.TestCase):
         return path
 
     def run_tool(self, tool, words, redirected="", **more):
-        # -S: the tools need no more than Python's own library, and each of these runs begins sooner without the rest.
+        # -S: the tools need only Python's own library, and each of these runs starts faster without the rest.
         command = ["sh", "-c", f'exec "$@" {redirected}', "sh", sys.executable, "-S", "-B", os.path.join(HERE, tool), *words]
         return subprocess.run(command, capture_output=True, text=True, timeout=60, check=False, **more)
 

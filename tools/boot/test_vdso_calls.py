@@ -74,7 +74,7 @@ def converted(stops):
 
 
 class Whole(unittest.TestCase):
-    """Calls that one event shows, with all that they did."""
+    """Calls that one event shows, with everything that they did."""
 
     def test_key_and_batch(self):
         it = Program()
@@ -130,7 +130,7 @@ class Whole(unittest.TestCase):
 
 
 class Parts(unittest.TestCase):
-    """Calls of which the script shows another form, with the same bytes."""
+    """Calls that the script shows in another form, with the same bytes."""
 
     def test_two_reseeds_inside(self):
         it = Program()

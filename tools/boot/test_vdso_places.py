@@ -1,10 +1,11 @@
-"""Tests of vdso_places.py: the places are found in a listing that has each once, and none in one that lacks it or has it twice."""
+"""Tests of vdso_places.py: the places are found in a listing that has each once, and in no listing that lacks one or
+has it twice."""
 
 import unittest
 
 import vdso_places
 
-# What a compiler may make of vgetrandom, without what lies between the places.
+# What a compiler may make of vgetrandom, without the code between the places.
 LISTING = """endbr64
 push   %rbp
 mov    %rsp,%rbp
@@ -58,7 +59,7 @@ class Places(unittest.TestCase):
         self.assertEqual(listing(lines).places()[2], (-0x54, 1, 0, False))
 
     def test_other_compilers(self):
-        """One puts an instruction between the flags and the call for a key, and fills the room up to ChaCha."""
+        """One listing has an instruction between the flags and the call for a key, and fills the room up to ChaCha."""
         moved = {"jne    26": "jne    27", "jne    29": "jne    30", "call   30": "call   33"}
         lines = [moved.get(line, line) for line in LISTING]
         lines[22:22] = ["mov    %r14,%rdi"]

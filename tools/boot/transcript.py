@@ -1,19 +1,19 @@
 #!/usr/bin/env python3
-"""Makes a script of several callers out of a record, and the transcript of the recorded run itself.
+"""Makes a script of several callers from a record, and the transcript of the recorded run itself.
 
-    transcript.py RECORD CPUS SCRIPT TRANSCRIPT
-    rng check SCRIPT TRANSCRIPT
+transcript.py RECORD CPUS SCRIPT TRANSCRIPT
+rng check SCRIPT TRANSCRIPT
 
-RECORD is what recorder.py wrote, on a machine of so many CPUS. Nothing is moved: each visit of a lane has its place and its
+RECORD is what recorder.py wrote, on a machine of so many CPUS. Nothing is moved: each visit of a lane has its place and
 stamp by the order of the record, which is that of the locks, and the bytes are those that were handed out. So `rng check`
-judges the recorded run. A caller has the kernel's calls on one CPU that lie one after another; a call inside another one, as
-out of an interrupt, is a further caller's. Each vgetrandom state is a caller too, with the calls on it. All are forked at the
-start.
+judges the recorded run. A caller has calls of the kernel on one CPU that come one after another. A call inside another
+one, as from an interrupt, belongs to a further caller. Each vgetrandom state is a caller too, with the calls on it. All
+are forked at the start.
 
-Of an answer of vgetrandom a record has the first bytes and a SHA-256. The others are worked out from its key, as the vDSO does,
-and have to have this sum. Three things are not in a record: the base's visits of the lines `fork` and `end`, which come first
-and last; the looks that only ask whether the core is ready, each of which finds what the next look of its call finds; and the
-first look of a vgetrandom call, which finds what its first attempt finds.
+A record has the first bytes of vgetrandom's answers, and a SHA-256. The other bytes are computed from the answer's key,
+as the vDSO does, and must have this sum. Three things are not in a record: the base's visits of the lines `fork` and
+`end`, which come first and last; the looks that only ask whether the core is ready, each of which finds what the next
+look of its call finds; and the first look of a vgetrandom call, which finds what the call's first attempt finds.
 """
 
 import argparse
@@ -47,7 +47,7 @@ class Visit:
 
 
 class Line:
-    """A line of the transcript, with its event of the script. Its steps are looks and visits."""
+    """A line of the transcript, with its event in the script. Its steps are looks and visits."""
 
     def __init__(self, event, steps=(), answer="ok", data="-"):
         self.event, self.steps, self.answer, self.data = event, list(steps), answer, data
@@ -77,7 +77,7 @@ class StepReader(UserReader):
         return super().add_step(event, stop, lock)
 
     def steps_of(self, event, made):
-        """The looks of a call, and then its visits, an early key's root before the base."""
+        """The looks of a call, and then its visits, with an early key's root before the base."""
         visits, word = self.visits[event], event.word.split(" ")[0]
         late = [it for it in visits if it.step == LATE]
         for it in late:
@@ -93,7 +93,7 @@ class StepReader(UserReader):
 
 
 def data_of(event):
-    """What the kernel handed out, whole."""
+    """All bytes that the kernel handed out."""
     value, words = event.answer.value, event.word.split(" ")
     if words[0] in (*SILENT, "reseed") or event.steps == ["answer"]:
         return "-"
@@ -104,7 +104,7 @@ def data_of(event):
 
 
 class State:
-    """What a vgetrandom state holds, by the keys that the kernel's reads gave it."""
+    """The content of a vgetrandom state, by the keys that the kernel's reads gave it."""
 
     def __init__(self):
         self.batch, self.key, self.position = bytes(BATCH), bytes(KEY), 0
@@ -113,7 +113,7 @@ class State:
         self.key, self.position = key, BATCH
 
     def serve(self, count, counter):
-        """So many bytes, and the block counter then."""
+        """So many bytes, and the block counter after them."""
         found = b""
         while True:
             piece = self.batch[self.position : self.position + count - len(found)]
@@ -135,7 +135,7 @@ class StateCaller:
         self.lines, self.state, self.is_used, self.on = [], None, False, 0
 
     def why_not(self, call):
-        """Why a call cannot be a line here, or None."""
+        """The reason why a call cannot be a line here, or None."""
         first = call.attempts[0]
         if call.is_child or call.is_mixed or call.is_inside or call.result is None:
             return "a call that goes on in a child, is inside another one, or does not end"
@@ -177,7 +177,7 @@ class StateCaller:
         self.lines.append(Line(f"vread {call.stop['count']} {call.stop['flags']}", steps, "ok", data))
 
     def bytes_of(self, call):
-        """What the state gives, which has to be what was handed out."""
+        """The bytes that the state gives, which have to be those that were handed out."""
         counter, found = 0, b""
         for it in call.attempts:
             if it.key:
@@ -209,7 +209,8 @@ class CpuCaller:
 
 
 def shown_calls(reader, made):
-    """The callers of the states, the events that are parts of their calls, and why which calls are no line."""
+    """The callers of the states, the events that are parts of their calls, and for each call that is no line the
+    reason."""
     callers, parts, left = {}, set(), {}
     for call in sorted((it for it in reader.calls if it.attempts), key=lambda it: it.begun):
         caller = callers.setdefault(call.where, StateCaller())

@@ -1,15 +1,15 @@
-"""Makes events of the calls of vgetrandom that vdso_places.py noted. A part of convert.py.
+"""Makes events from the calls of vgetrandom that vdso_places.py noted. A part of convert.py.
 
-A call through the vDSO becomes one `vread`. The system calls that it makes, for a key or for all its bytes, are found by
-the stack and the instruction that they were made at. What another part of the program does inside a call is an act of it,
-or an event of its own if the locks were taken in an order that an act cannot show. A state is told by the memory that it
-lies in, and is another one when it is found full of zeros. So a child of fork has states of its own.
+A call through the vDSO becomes one `vread`. Its system calls, for a key or for all its bytes, are found by their stack
+and by the instruction that made them. What another part of the program does inside a call is an act of the call, or an
+event of its own if the locks were taken in an order that an act cannot show. A state is known by its memory, and is a
+new state if it is found full of zeros. So a child of fork has states of its own.
 
-A call whose first attempt did not hold, and which acts cannot show, is told by its second attempt alone: the counter of
-blocks goes on from one attempt to the next, so the call's bytes are the last ones of a longer read on a wiped state. The
-record has the counter. The same holds for a call that goes on in a child, after a fork inside it.
+If a call's first attempt did not hold, and acts cannot show this, the call is shown by its second attempt alone: the
+block counter goes on from one attempt to the next, so the call's bytes are the last ones of a longer read on a wiped
+state. The record has the counter. The same holds for a call that goes on in a child, after a fork inside it.
 
-What cannot be told is counted, by reason, in `notes`. Values play no part.
+Calls that cannot be shown are counted, by reason, in `notes`. Values play no part.
 """
 
 from kernel_calls import Answer, Event, Reader
@@ -20,24 +20,24 @@ BATCH_BLOCKS = 2  # of a batch and the key after it
 STATES = 16  # of a script's caller
 ACTS = 8  # of one call
 LONGEST = 1 << 20  # bytes of one read of a script
-FRAME = 512  # a system call's stack pointer lies at most so far below that of its call
+FRAME = 512  # a system call's stack pointer is at most this far below that of its call
 EAGAIN, EINVAL = -11, -22
 NONBLOCK, RANDOM, INSECURE = 1, 2, 4
 READY = -1  # a look at any generation of a ready core
 COPY = "not told: a child's copy of the answer that its parent got"
-# The point of an act by how far the call is: entered, looked, asks for a key, has one, copies; and 6, its attempt holds.
-# 5 is a second attempt, or before it, and 7 after one that does not hold: there are no acts.
+# The point of an act, by how far the call is: entered, looked, asks for a key, has one, copies; and 6: its attempt
+# holds. There are no acts at 5 (a second attempt, or before it) and at 7 (after an attempt that does not hold).
 POINTS = {0: 1, 1: 1, 2: 2, 3: 3, 4: 4, 6: 4}
 
 
 class Attempt:
-    """One of the at most two attempts of a call."""
+    """One of the call's attempts, of which there are at most two."""
 
     def __init__(self, stop=None):
         self.looked = None if stop is None else stop["published"] - 1  # None: it began in the parent of its process
         self.needs_key = stop is not None and stop["generation"] != stop["published"]
         self.key = None  # the event of the read of its key
-        self.blocks = {}  # of the block counter, how many blocks were made from there
+        self.blocks = {}  # by the block counter, how many blocks were made from there
         self.found = None  # the generation that its last look found
         self.holds = False
         self.wiped = None  # the point at which the state was wiped
@@ -48,7 +48,7 @@ class Attempt:
 
 
 class UserCall(Event):
-    """A call of vgetrandom. It is told once all of it was seen."""
+    """A call of vgetrandom. It becomes an event once all of it was seen."""
 
     def __init__(self, stop, where, is_child, now):
         super().__init__("vread")
@@ -57,12 +57,12 @@ class UserCall(Event):
         self.is_told = False
         self.point = 0
         self.attempts = []
-        self.asked = None  # the stop at which a system call for all bytes began
+        self.asked = None  # the stop at which a system call for all its bytes began
         self.system = None  # and its event
-        self.inside = []  # what happened in the first attempt, as pairs of a point and a call or a reseed
-        self.later = []  # what happened in the second
-        self.is_inside = False  # whether it was made inside another call on the same state, which was marked
-        self.is_mixed = False  # whether another one inside it took the state, or it took that of another one
+        self.inside = []  # events inside the first attempt, as pairs of a point and a call or a reseed
+        self.later = []  # events inside the second attempt
+        self.is_inside = False  # whether it was made inside another call on the same state, which was marked as in use
+        self.is_mixed = False  # whether a call inside it took its state, or it took the state of a call around it
         self.result = None
         self.memory = None
 
@@ -73,28 +73,29 @@ class UserCall(Event):
             self.inside.append((POINTS[self.point], what))
 
     def blocks_of(self, is_wiped):
-        """The blocks that its first attempt makes, with the state's batch, or with that of a wiped state."""
+        """The blocks that its first attempt makes, from the state's batch, or from that of a wiped state."""
         left = BATCH if is_wiped else 0 if self.attempts[0].needs_key else BATCH - self.stop.get("pos", 0)
         rest = max(self.stop["count"] - left, 0)
         return rest // BLOCK + BATCH_BLOCKS if rest else 0
 
 
 class UserReader(Reader):
-    """Goes through the stops of a record, and makes events of the kernel's steps and of the calls in user memory."""
+    """Goes through the stops of a record, and makes events from the kernel's steps and from the calls in user
+    memory."""
 
     def __init__(self, is_cut=False):
         super().__init__()
-        self.is_cut = is_cut  # whether a state that takes a new key is told as another one
+        self.is_cut = is_cut  # whether a state that takes a new key counts as another state
         self.notes = {}
         self.calls = []  # all, in the order of their beginnings
         self.open = {}  # by memory and stack pointer
         self.ended = set()
-        self.eras = {}  # of a memory, how many programs ran in it
+        self.eras = {}  # for each memory, how many programs ran in it
         self.vdsos = set()
-        self.memories = {}  # of a state's place, the number of what it holds, or None if that is not known
+        self.memories = {}  # for each state's place, the number of its content, or None if that is not known
         self.count = 0  # of such numbers
         self.lanes = []  # the events that took the base or a CPU, in the order of the record
-        self.places = {}  # of each of them, its places in that list
+        self.places = {}  # for each of them, its places in that list
 
     def note(self, what):
         self.notes[what] = self.notes.get(what, 0) + 1
@@ -122,7 +123,7 @@ class UserReader(Reader):
         key = stop["mm"], stop["pointer"]
         old = self.open.pop(key, None)
         if old is not None and not old.attempts and old.stop["count"] == stop["count"] and old.stop["state"] == stop["state"]:
-            self.open[key] = old  # met twice
+            self.open[key] = old  # seen twice
             return
         if stop["size"] != SIZE or stop["state"] % PAGE + SIZE > PAGE:
             asks = stop["size"] == 2**64 - 1 and not stop["count"]
@@ -142,7 +143,7 @@ class UserReader(Reader):
             call.is_mixed = around[-1].is_mixed = True
 
     def call_of(self, stop):
-        """The call of a stop. If it is not known, it began in the parent of its process."""
+        """The call that a stop belongs to. If it is not known, it began in the parent of its process."""
         key = stop["mm"], stop["pointer"]
         if key in self.open:
             return self.open[key]
@@ -156,7 +157,7 @@ class UserReader(Reader):
         if call.attempts and call.attempts[-1].found is None and call.attempts[-1].looked is not None:
             if not call.attempts[-1].needs_key and not stop["generation"]:
                 call.attempts[-1].wiped, call.attempts[-1].needs_key = 1, True
-            return  # met twice
+            return  # seen twice
         if not call.attempts:
             call.begun = self.now
             self.order.take(f"state {call.where}", call)
@@ -164,7 +165,8 @@ class UserReader(Reader):
         call.point = 5 if stop["second"] or len(call.attempts) > 1 else 1
 
     def advance(self, stop, point, wiped):
-        """The call, and its attempt. A state that has generation 0 now was wiped, at this point or at an earlier one."""
+        """The call, and its attempt. If the state now has generation 0, it was wiped, at this point or at an earlier
+        one."""
         call = self.call_of(stop)
         attempt = call.attempts[-1]
         if call.point < 5:
@@ -242,7 +244,7 @@ class UserReader(Reader):
             self.own(self.events[-1], source.stop)
 
     def own(self, event, source):
-        """A user's read is a part of the call that made it, or stands in the order of its thread."""
+        """A user's read is a part of the call that made it, or has its place in the order of its thread."""
         call = self.user_call(source) if "ip" in source else None
         if call is None:
             if "who" in source and not any(it.stop.get("who", (0, 0, None))[2] == source["who"][2] for it in self.open.values()):
@@ -266,7 +268,7 @@ class UserReader(Reader):
             if 1 <= call.point <= 5:
                 call.note_inside(event)
 
-    # How the calls are told
+    # How the calls become events
 
     def tell(self):
         """Makes an event of each call that a script can show."""
@@ -357,7 +359,7 @@ class UserReader(Reader):
         self.note(f"told with {len(attempts)} attempt{'s' * (len(attempts) > 1)}" if not before else "told as the end of a longer read")
 
     def why_not_whole(self, call):
-        """Why the call is not told with all its attempts, or None; then it has its acts."""
+        """The reason why the call is not shown with all its attempts, or None; then the call has its acts."""
         attempts, first = call.attempts, call.attempts[0]
         keys = [it.key for it in attempts if it.key is not None]
         reseeds = [it for it in call.inside if not isinstance(it[1], UserCall)] if len(attempts) > 1 else []
@@ -401,12 +403,12 @@ class UserReader(Reader):
             self.note(f"told inside: {word.split(' ')[0]} at point {point}")
 
     def is_alone(self, own):
-        """Whether no other event has a step of the base or a CPU between the first and the last step of these."""
+        """Whether no other event has a step of the base or a CPU between the first and the last of these steps."""
         places = sorted(place for event in own for place in self.places.get(event, []))
         return not places or all(self.lanes[place] in own for place in range(places[0], places[-1] + 1))
 
     def forget(self, call):
-        """Tells the call no more: its reads of keys are events of their own."""
+        """Drops the call: its reads of keys become events of their own."""
         call.is_told = False
         for attempt in call.attempts:
             if attempt.key is not None and attempt.key.part_of is call:
@@ -420,7 +422,8 @@ class UserReader(Reader):
 
 
 def number_states(events):
-    """Gives each state one of the numbers of a script's caller, from its first use to its last; those that got none."""
+    """Gives each state one of the numbers of a script's caller, from its first use to its last; returns those without
+    one."""
     last = {event.memory: place for place, event in enumerate(events) if isinstance(event, UserCall)}
     numbers, used, current, without = {}, set(), 0, set()
     for place, event in enumerate(events):

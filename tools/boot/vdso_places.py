@@ -1,8 +1,8 @@
 """Notes the calls of vgetrandom in user memory. A part of recorder.py, which gdb runs.
 
-vgetrandom is a function of the vDSO, a small shared object that the kernel carries and maps into each program. The places
-to note are found in its machine code by what it does there, once for all programs: they lie as far from the vDSO's start
-in each. If one is missing or there are two, nothing is recorded.
+vgetrandom is a function of the vDSO, a small shared object that the kernel carries and maps into each program. The
+places to note are found in its machine code by what it does there, once for all programs: in each program they have the
+same distance from the vDSO's start. If one is missing or there are two, nothing is recorded.
 
 | Stop | Where the call is |
 |---|---|
@@ -15,7 +15,7 @@ in each. If one is missing or there are two, nothing is recorded.
 | vend | it compares the state's generation with the published one again |
 | vleave | it returns |
 
-A stop is a call's by the program's memory (cr3) and the stack pointer at the call's first instruction.
+A stop belongs to the call with the same program memory (cr3) and stack pointer at the call's first instruction.
 """
 
 import hashlib
@@ -46,19 +46,20 @@ class Listing:
         self.lines = [(at, text) for at, text in lines if at < self.chacha]
 
     def numbers(self, pattern, first=0, count=None):
-        """The places in the list of the instructions that fit, among so many from the first on."""
+        """The places in the list of the instructions that fit, among `count` of them from place `first` on."""
         last = len(self.lines) if count is None else first + count
         return [it for it, (_, text) in enumerate(self.lines[:last]) if it >= first and re.match(pattern, text)]
 
     def places(self):
-        """The offsets of each kind of stop, the state's register, and where the function keeps which attempt it makes."""
+        """The offsets of each kind of stop, the state's register, and where the function keeps the number of its
+        attempt."""
         text_of, at = [text for _, text in self.lines], [at for at, _ in self.lines]
         only(self.numbers(r"push +%rbp", 0, 3), "of a frame's beginning")
         only(self.numbers(r"mov +%rsp,%rbp", 0, 4), "of a frame")
         # The first look: the published generation is loaded, and compared with the state's at once.
         look = only(self.numbers(rf"cmp +{GENERATION:#x}\(%\w+\),%rax"), "of a first look")
         state = re.search(r"\(%(\w+)\)", text_of[look]).group(1)
-        # For a key the system call has no flags, and the position goes behind the batch then.
+        # For a key the system call has no flags, and the position is then set to the end of the batch.
         key = only([it for it in self.numbers(r"syscall") if any(re.match(r"xor +%edx,%edx", text) for text in text_of[it - 4 : it])],
                    "of a call for a key")
         new = only(self.numbers(rf"movb +\$0x60,{POSITION:#x}\(%{state}\)", key, 6), "behind a key")
@@ -72,8 +73,9 @@ class Listing:
         return {stop: [at[it] for it in places] for stop, places in found.items()}, state, self.second(end)
 
     def second(self, end):
-        """Where the function keeps which attempt it makes: a word's distance from the frame, its size, the value that it is
-        compared with where the last look finds another generation, and whether the second attempt has this value."""
+        """Where the function keeps the number of its attempt: the word's distance from the frame, its size, the value
+        that it is compared with when the last look finds another generation, and whether the second attempt has this
+        value."""
         text_of, at = [text for _, text in self.lines], [at for at, _ in self.lines]
         jumps = [text for text in text_of[end + 1 : end + 2] if text.startswith("jne")]
         other = int(only(jumps, "of another generation").split()[-1], 16)
@@ -82,7 +84,7 @@ class Listing:
         jump = re.fullmatch(r"(jn?e) +([0-9a-f]+)", text_of[start + 1])
         if not word or not jump or int(jump.group(2), 16) not in at:
             raise LookupError("vgetrandom has no word that counts its attempts")
-        # The jump is taken to try again, so that the word has another value then.
+        # The jump is taken to try again, so the word has another value then.
         again = at.index(int(jump.group(2), 16))
         only([text for text in text_of[again : again + 1] if f"{word.group(3)}(%rbp)" in text], "of a second attempt")
         return int(word.group(3), 16), 4 if word.group(1) == "l" else 1, int(word.group(2), 16), jump.group(1) == "jne"
@@ -107,7 +109,7 @@ class Vgetrandom:
         self.recorder.at(self.recorder.symbols.address("_install_special_mapping"), self.installed)
 
     def listing(self):
-        """vgetrandom in the image that the kernel carries, which begins at the address that vdso_image_64 begins with."""
+        """vgetrandom in the image that the kernel carries. The first word of vdso_image_64 is the image's address."""
         image = self.number(self.recorder.symbols.address("vdso_image_64"))
         headers, size, count = self.number(image + 32), self.number(image + 54, 2), self.number(image + 56, 2)
         words = {}
@@ -115,7 +117,7 @@ class Vgetrandom:
             at = image + self.number(header + 8)
             while self.number(header, 4) == DYNAMIC and self.number(at):
                 words[self.number(at)], at = self.number(at + 8), at + 16
-        names, symbol = image + words[STRINGS], image + words[SYMBOLS]  # the symbols stand before their names
+        names, symbol = image + words[STRINGS], image + words[SYMBOLS]  # the symbols lie before their names
         while self.memory(names + self.number(symbol, 4), len(NAME)) != NAME:
             symbol += 24
             if symbol >= names:
@@ -130,7 +132,7 @@ class Vgetrandom:
         return Listing(lines)
 
     def installed(self):
-        """A program gets its vDSO. The places are put there when the machine stands."""
+        """A program gets its vDSO. The places are set there once the machine is halted."""
         if self.register("r8") == self.recorder.symbols.address("vdso_mapping"):
             at = self.register("rsi")
             self.recorder.put(stop="vdso", at=at, mm=self.mm())
@@ -178,7 +180,7 @@ class Vgetrandom:
         self.point("vblocks", state=self.register("rsi") - KEY, blocks=self.register("rcx"), counter=counter)
 
     def leave_call(self):
-        """A call that a fork left in a child began in the parent, with the same stack and buffer."""
+        """A call that a fork copied into a child began in the parent, with the same stack and buffer."""
         mm, pointer, result = self.mm(), self.register("rsp"), self.register("rax")
         result = result - 2**64 if result >= 2**63 else result
         buffer, count, flags = self.open.pop((mm, pointer), None) or self.last.get(pointer, (None, 0, 0))

@@ -1,6 +1,7 @@
-/* Loaded before the C library (LD_PRELOAD), this refuses the Nth request for memory, N being FAIL_ALLOC, and counts
-   them. At the end it writes into the file FAIL_ALLOC_TOLD how many requests there were in all, how many of them behind
-   the first start of a thread, how many of those the C library made to start one, and how many threads were started. */
+/* If this is loaded before the C library (LD_PRELOAD), it refuses request number FAIL_ALLOC for memory, and counts the
+   requests. At the end it writes into the file FAIL_ALLOC_TOLD how many requests there were, how many of them came
+   after the first start of a thread, how many of those the C library made to start a thread, and how many threads
+   started. */
 #define _GNU_SOURCE
 #include <dlfcn.h>
 #include <errno.h>
@@ -100,7 +101,7 @@ static void tell(void)
 	fclose(file);
 }
 
-/* The program ends so, and runs no destructor. */
+/* The program ends here, and runs no destructor. */
 void _exit(int status)
 {
 	tell();

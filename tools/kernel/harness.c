@@ -1,7 +1,7 @@
-/* Runs a script of one caller on the kernel's own random core, in user space. The script stands on standard input and
-   has no faults; for each event a line is written: its answer, and its bytes in hexadecimal or `-`.
+/* Runs a script of one caller on the kernel's own random core, in user space. The script comes on standard input and
+   has no faults. For each event a line is written: its answer, and its bytes in hexadecimal or `-`.
 
-   The sources are included as they are, so that all state is at hand. How each event calls the kernel stands below,
+   The sources are included unchanged, so that all their state is at hand. How each event calls the kernel is below,
    in the order of docs/SCRIPT.md. */
 
 #include "stub.h"
@@ -27,7 +27,7 @@ static struct timer_list *due_timer;
 static struct vgetrandom_state *states[STATES], *state;
 static u8 *bytes, *nested_bytes;
 
-/* The lines of the answer, of which those of acts are known later. */
+/* The lines of the answer. Those of acts become known later. */
 static char **answers;
 static size_t events;
 
@@ -40,7 +40,7 @@ struct act {
 };
 static struct act acts[ACTS];
 static size_t waiting;
-static int reached; /* the last point of the first attempt, POINTS + 1 behind it, and -1 outside a vread */
+static int reached; /* the last point that the first attempt reached; POINTS + 1 after it, and -1 outside a vread */
 
 bool blake2s_selftest(void)
 {
@@ -74,7 +74,7 @@ static void make_cpus(void)
     cpu_offset = offsets[0];
 }
 
-/* With PLANTED one bit of one word is wrong, to show that a fault is found. */
+/* With PLANTED one bit of one word is wrong, to show that the comparison finds a fault. */
 size_t hardware_words(unsigned long *words, size_t count)
 {
     memcpy(words, hardware + (4 - count), count * sizeof(*words));
@@ -194,7 +194,7 @@ static void reach(int point)
     reached = point == POINTS ? POINTS + 1 : point;
 }
 
-/* The places of the vDSO's code at which it is caught, by what it reads or does there. */
+/* The places at which the vDSO's code is caught, by what it reads or does there. */
 void passed(const char *place)
 {
     if (!strcmp(place, "rng_info->generation"))

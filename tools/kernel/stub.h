@@ -1,6 +1,6 @@
-/* What the kernel's random core needs of the rest of a kernel, for a process of one thread in user space. Each header
-   that the sources include and that is not taken along has this text. Locks do nothing, since nobody else is there;
-   time, cycle counter and hardware words are what harness.c says. */
+/* The parts of the rest of a kernel that the random core needs, for a process of one thread in user space. Each header
+   that the sources include, and that is not taken along, has this text. Locks do nothing, since there is no other
+   thread; harness.c gives time, cycle counter and hardware words. */
 #ifndef STUB_H
 #define STUB_H
 
@@ -167,7 +167,7 @@ static inline size_t copy_from_iter(void *to, size_t count, struct iov_iter *fro
 #define this_cpu_ptr(part) ((typeof(part))((char *)(part) + cpu_offset))
 #define raw_cpu_ptr(part) this_cpu_ptr(part)
 
-/* Memory, whose reads and writes here are places that harness.c can act at */
+/* Memory. Its reads and writes here are places at which harness.c can act. */
 
 #define READ_ONCE(value) ({ typeof(value) read_ = *(volatile typeof(value) *)&(value); passed(#value); read_; })
 #define WRITE_ONCE(to, value) (*(volatile typeof(to) *)&(to) = (value))

@@ -1,5 +1,5 @@
-# build NAME: compiles NAME.c of this folder if it is older than its sources, and sets `built`, the program's path. Read by
-# tools/memory/precursors and audit, which set `here`, this folder.
+# build NAME: compiles NAME.c of this folder if the program is older than its sources, and sets `built`, the program's
+# path. tools/memory/precursors and audit read this, and set `here`, this folder.
 # shellcheck shell=sh
 build() {
     built=${here:?}/out/$1
@@ -11,7 +11,7 @@ build() {
         exit 2
     fi
     mkdir -p "$here/out" || exit 2
-    # Built for this very processor it is several times faster.
+    # Built for this processor alone, the program is several times faster.
     "${CC:-cc}" -std=gnu11 -O3 -march=native -pthread -Wall -Wextra -Wno-psabi -o "$built.$$" "$here/$1.c" ||
         "${CC:-cc}" -std=gnu11 -O3 -pthread -Wall -Wextra -Wno-psabi -o "$built.$$" "$here/$1.c" || exit 2
     mv "$built.$$" "$built"

@@ -1,12 +1,12 @@
 """Keeps the machine's memory at chosen moments of a recorded boot: the hooks of tools/boot/recorder.py.
 
 recorder.py takes its recorder from here if MEMORY_DUMPS is set, which tools/memory/record does. The machine's memory is a
-file, so a dump is a copy of it while all CPUs are halted. gdb writes nothing into that memory unless a fault is planted or
-the kernel mended. The record gets a line for each dump, between the lines before and after it:
+file, so a dump is a copy of that file while all CPUs are halted. gdb writes nothing into this memory, unless a fault is
+planted or the kernel is mended. The record gets a line for each dump, between the lines before and after it:
 
     {"stop": "dump", "name": "03_sync", "seconds": 14.4, "registers": {..}}
 
-A dump is made once no call of the random core is open on any CPU: inside one, keys are on their way.
+A dump is made once no call of the random core is open on any CPU, since inside a call keys are on their way.
 
 The environment says: MEMORY_DUMPS, the folder for the dumps; MEMORY_FILE, the file that is the machine's memory;
 MEMORY_AFTER, after how many values to dump, as `1,10,1000`; MEMORY_AT, the system calls at which to dump, as
@@ -21,7 +21,7 @@ import sys
 
 GENERAL = "rax rbx rcx rdx rsi rdi rbp rsp r8 r9 r10 r11 r12 r13 r14 r15 rip".split()
 WIDE = 16  # XMM registers
-CALLS = {"kread", "uread", "reseed", "credit"}  # those whose beginning and return the recorder sees
+CALLS = {"kread", "uread", "reseed", "credit"}  # the calls whose beginning and return the recorder sees
 REP_STOS = bytes.fromhex("f348ab")
 LONG_NOP = bytes.fromhex("0f1f00")
 TICKS = 250  # a second, in Debian's kernels
@@ -63,7 +63,7 @@ def with_dumps(recorder, base):
                 self.want(f"stop{self.written}")
 
         def want(self, word):
-            """Asks for a dump, which is made at the next moment without an open call."""
+            """Asks for a dump, which is made at the next moment at which no call is open."""
             self.wanted.append(word)
 
         def dump_wanted(self):
@@ -82,7 +82,7 @@ def with_dumps(recorder, base):
             print(f"dump {name}", file=sys.stderr, flush=True)
 
         def seconds(self):
-            """How long the kernel has been up, by its ticks, whose count begins 300 seconds before 2**32."""
+            """The kernel's uptime by its ticks, whose count begins 300 seconds before 2**32."""
             return (recorder.number(self.symbols.address("jiffies_64")) - 2**32) / TICKS + 300
 
         def enter(self, call, **fields):
@@ -130,7 +130,7 @@ def with_dumps(recorder, base):
             print(f"planted: no wipe at {start + at:#x}", file=sys.stderr)
 
         def mend(self):
-            """blake2s_compress_generic leaves zeros where its locals were."""
+            """blake2s_compress_generic leaves zeros in place of its locals."""
             code = recorder.Code(self.symbols, "blake2s_compress_generic")
             size, pushes = frame_of(code.lines)
 
@@ -146,7 +146,7 @@ def with_dumps(recorder, base):
 
 
 def frame_of(lines):
-    """How many bytes of locals a function has, and how many registers it pushed before."""
+    """How many bytes of locals a function has, and how many registers it pushed before them."""
     pushes = 0
     for _, text in lines[:40]:
         match = re.match(r"sub +\$0x([0-9a-f]+),%rsp", text)

@@ -1,4 +1,4 @@
-// An image of a machine's memory: mapped, cut into parts that threads take one by one, with a word on how far they are.
+// An image of a machine's memory: mapped, cut into parts that threads take one by one, with a report of their progress.
 #ifndef IMAGE_H
 #define IMAGE_H
 #include <errno.h>
@@ -59,7 +59,8 @@ static struct image open_image(const char *path) {
 
 // ---- Threads -----------------------------------------------------------------------------------------------------
 
-// Searches the bytes from `from` to before `to`. It may read the bytes after that as far as the image goes.
+// Searches the bytes from `from` up to `to`, which is left out. The search may read the bytes after `to`, up to the
+// image's end.
 typedef void part_search(const struct image *image, size_t from, size_t to);
 
 static struct {

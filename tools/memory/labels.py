@@ -1,16 +1,16 @@
 """What a place in the memory of an x86-64 Linux machine is: a symbol, a per-CPU variable, a task's stack, a slab, a page.
 
-It reads the kernel's own tables in the dump: page tables, the list of tasks, struct page. Where the fields are is in the BTF
-that the kernel carries. Where the kernel is in physical memory follows from the place of its BTF, and where KASLR moved it
-from its page tables, so symbols of a boot with `nokaslr` do for any boot of that kernel. A label is for the reader: no
-finding depends on one. If a table cannot be read, there are fewer labels.
+It reads the kernel's own tables in the dump: page tables, the list of tasks, struct page. The fields' offsets come from
+the BTF that the kernel carries. The place of this BTF shows where the kernel is in physical memory, and the kernel's
+page tables show how far KASLR moved it. So symbols of a boot with `nokaslr` are valid for any boot of that kernel. A
+label is for the reader: no finding depends on one. If a table cannot be read, there are fewer labels.
 """
 
 import bisect
 import re
 import struct
 
-IMAGE, IMAGES = 0xFFFFFFFF80000000, 1 << 30  # the kernel's image is above it, within so many bytes
+IMAGE, IMAGES = 0xFFFFFFFF80000000, 1 << 30  # the kernel's image is above the first, within the second
 ALIGNED = 1 << 21  # of an image, in physical and virtual memory
 PAGE, STACK = 4096, 16384
 FRAME = 0x000FFFFFFFFFF000
@@ -26,7 +26,7 @@ PAGES = {0xF0: "free page", 0xF1: "offline page", 0xF2: "page table", 0xF3: "gua
 
 
 class Unknown(Exception):
-    """A table of the kernel is not where it was expected."""
+    """A table of the kernel is not where it should be."""
 
 
 class Types:
@@ -99,7 +99,7 @@ class Kernel:
         self.find_stacks()
 
     def find_image(self):
-        """Where the image is in physical memory: at the only place where its BTF is in it."""
+        """Where the image is in physical memory, by the only place at which its BTF is in it."""
         start, end = self.address["__start_BTF"], self.address["__stop_BTF"]
         magic, at = struct.pack("<HBB", BTF_MAGIC, 1, 0), self.memory.bytes.find(struct.pack("<HBB", BTF_MAGIC, 1, 0))
         while at >= 0:
@@ -111,7 +111,7 @@ class Kernel:
         raise Unknown("BTF")
 
     def find_slide(self):
-        """How far the image is mapped from where the symbols have it: not at all, or as far as KASLR moved it."""
+        """How far the image is mapped from the symbols' addresses: 0, or as far as KASLR moved it."""
         text = self.address["_text"]
         for virtual in range(IMAGE + text % ALIGNED, IMAGE + IMAGES, ALIGNED):
             if self.mapped(virtual) == text - self.shift:
@@ -131,7 +131,7 @@ class Kernel:
         return int.from_bytes(data, "little")
 
     def physical(self, at):
-        """Of a virtual address of the kernel, or None if nothing is mapped there."""
+        """The physical address of a virtual address of the kernel, or None if nothing is mapped there."""
         if self.address["_text"] <= at - self.slide < self.address["_end"]:
             return at - self.slide - self.shift
         if self.direct <= at < self.direct + self.memory.size:
@@ -139,7 +139,7 @@ class Kernel:
         return self.mapped(at)
 
     def mapped(self, at):
-        """The same by the page tables alone."""
+        """The same, by the page tables alone."""
         table = self.in_image("init_top_pgt")
         for shift in self.levels:
             entry = self.number(table + 8 * (at >> shift & 511))
@@ -168,7 +168,7 @@ class Kernel:
         self.running = {self.number(area + self.address[name]) for area in self.areas} if name in self.address else set()
 
     def find_stacks(self):
-        """Of each page of a task's stack its task and how far into the stack it is."""
+        """For each page of a task's stack, its task, and how far into the stack the page is."""
         offset = self.types.offset
         tasks, stack, comm, pid = (offset("task_struct", it) for it in ("tasks", "stack", "comm", "pid"))
         node, signal, head = offset("task_struct", "thread_node"), offset("task_struct", "signal"), offset("signal_struct", "thread_head")
@@ -221,7 +221,8 @@ class Kernel:
         return "user page" if mapping & 1 else "page of a file" if mapping else USED
 
     def is_given_back(self, at):
-        """The kernel gives the pages between the parts of its image back once it is up, and those that only its start needs."""
+        """Once it is up, the kernel frees the pages between the parts of its image, and those that only its start
+        needs."""
         bounds = [(self.address.get(first), self.address.get(last)) for first, last in GIVEN_BACK]
         return any(first is not None and last is not None and first <= at < last for first, last in bounds)
 
@@ -256,7 +257,7 @@ def symbols_of(path):
 
 
 def reader(memory, symbols):
-    """A function that says what a place is. Without symbols, or tables, it is an address alone."""
+    """A function that returns the label of a place. Without symbols or tables the label is only an address."""
     kernel, why = None, ""
     if symbols:
         found = symbols_of(symbols)

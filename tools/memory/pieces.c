@@ -1,9 +1,9 @@
-// Finds words of 8 bytes in an image of a memory, at every byte. tools/memory/audit uses it.
+// Finds words of 8 bytes in an image of a memory, at every byte. tools/memory/audit uses this program.
 //
 //     pieces PIECES DUMP
 //
-// PIECES is a file of different words, sorted as little-endian numbers. A line is printed for each place: its offset in
-// DUMP, and the number of the word, counted from 0. The lines are in no order.
+// PIECES is a file of different words, sorted as little-endian numbers. For each place a line is printed: the place's
+// offset in DUMP, and the number of the word, counted from 0. The lines are in no order.
 #include "image.h"
 
 enum { PIECE = 8, BITS = 24, SHIFT = 64 - BITS };
@@ -24,7 +24,7 @@ static void look_up(uint64_t word, size_t at) {
             high = middle;
     }
     if (low < piece_count && pieces[low] == word)
-        printf("%zu %zu\n", at, low); // one call, so threads do not mix their lines
+        printf("%zu %zu\n", at, low); // one call, so that threads do not mix their lines
 }
 
 static void search_part(const struct image *image, size_t from, size_t to) {

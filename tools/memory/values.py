@@ -1,8 +1,8 @@
-"""Every value that a replayed boot made in its core, by the names of docs/AUDIT.md, and all from which each is computed.
+"""Every value that a replayed boot made in its core, by the names of docs/AUDIT.md, and what each is computed from.
 
-Roots, and what the pool holds, come from a replay of the pool (tools/replay.py). Every other key comes from the rows of the
-key audit alone: a row says which bytes of which key's keystream it is. The two ways meet in the bytes of the served lines,
-which are compared with the transcript: values that differ there are not used.
+Roots and the pool's content come from a replay of the pool (tools/replay.py). Every other key comes from the rows of
+the key audit alone: a row says which bytes of which key's keystream the key is. Both ways must give the served bytes of
+the transcript: values that differ there are not used.
 """
 
 import os
@@ -60,7 +60,7 @@ class Key:
 
 
 class Extraction:
-    """What an extraction of the pool had in hand. Its root is the key of this name."""
+    """The values inside an extraction of the pool. The key of this name is its root."""
 
     def __init__(self, place, key, text, hardware):
         self.name, self.hardware = f"Root({place})", hardware
@@ -88,7 +88,7 @@ class Pool(replay.Caller):
 
 
 def replayed(script, wanted):
-    """The extractions of a script, and of each wanted number of events the pool's key and bytes.
+    """The extractions of a script, and the pool's key and bytes after each wanted number of events.
 
     No byte of a read gets into the pool, so the replay makes none, which takes most of its time.
     """
@@ -112,7 +112,7 @@ def replayed(script, wanted):
 
 
 def is_block_zero_made(row):
-    """Whether the kernel made the block that begins with the next key. A call's own key has no next one."""
+    """Whether the kernel made the block that begins with the next key. A call's own key has no next key."""
     if row.name.startswith("Call(Cpu"):
         return False
     return not (row.name.startswith("Call(Base") and row.pieces and row.pieces[0][0] >= states.BLOCK)
@@ -139,9 +139,10 @@ def keys_of(rows, roots):
 
 
 def unequal_lines(rows, keys, transcript):
-    """How many lines the keys served, and the first of them whose bytes in the transcript are others, or None.
+    """How many lines the keys served, and the first line whose bytes in the transcript differ, or None.
 
-    An attempt of a vread that was given up served bytes too, which the line does not show; those that it shows come last.
+    A vread's attempt that was given up served bytes too, which the line does not show; the bytes that it shows come
+    last.
     """
     by_line = {}
     for row in rows:
@@ -157,7 +158,7 @@ def unequal_lines(rows, keys, transcript):
 
 
 def stamps_of(transcript):
-    """Of each event of a script of one caller the last stamp up to its end."""
+    """For each event of a script of one caller, the last stamp up to the event's end."""
     stamps, last = [], 0
     for line in transcript.splitlines()[1:-1]:
         fields = line.split(" ")
@@ -182,7 +183,8 @@ class Values:
                                 "tools/memory, or the transcript is of another script")
 
     def given_by(self, name, stamp, stamps):
-        """What the key lets its reader compute up to a stamp: the keys, the lines as numbers of events, and the bytes."""
+        """What a reader of the key can compute up to a stamp: the keys, the lines as numbers of events, and the
+        bytes."""
         known, lines, count = {name}, set(), 0
         for row in self.rows:
             if row.name not in known:

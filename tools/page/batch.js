@@ -1,17 +1,17 @@
 "use strict";
-// Bytes drawn as strips: the stream of a key that ends at a moment, and the batches of a vgetrandom state.
+// Bytes drawn as strips: the keystream of a key that ends at a moment, and the batches of a vgetrandom state.
 
 function strip(title, cells) {
   return make("div", { class: "strip" }, make("p", { class: "quiet" }, title), make("div", { class: "cells" }, cells));
 }
 
-// A cell is as wide as its bytes, within bounds. Words say what its pattern says.
+// A cell's width follows the number of its bytes, within bounds. A word says what its pattern means.
 function cell(kind, length, hue, range, fate, more) {
   return make("div", { class: `cell ${kind}`, grow: Math.max(14, Math.min(length, 96)), hue },
     make("span", {}, make("span", { class: "mono" }, range), " ", fate), make("small", { class: "mono" }, more || ""));
 }
 
-// The bytes of a line that are these bytes of a key.
+// The bytes of the line that came from these bytes of a key.
 function shownBytes(model, key, use) {
   const line = use.kind === ">" && model.byId.get(use.what);
   if (!line) return "";
@@ -31,7 +31,7 @@ function streamCell(model, key, use) {
   return cell("unused", use.length, null, range, fateOf(model, key, use), "never shown");
 }
 
-// The whole stream of a key up to its last use; the bytes between have none.
+// The whole keystream of a key up to its last use. The bytes between uses have none.
 function streamOf(model, key) {
   const cells = [];
   let end = 0;
@@ -58,7 +58,7 @@ function pieceCell(model, batch, piece, at, isOver) {
   return cell("left", piece.length, hueOf(batch.key), range, "not served yet", "in memory");
 }
 
-// What is left and comes to no call by now is one cell.
+// The bytes that are left, and that no call has got so far, are one cell.
 function cellsOf(model, batch, at, isOver) {
   const isUsed = piece => piece.kind === ">" && piece.at <= at, used = batch.pieces.filter(isUsed);
   const from = used.reduce((most, piece) => Math.max(most, piece.end), batch.start);
@@ -66,7 +66,7 @@ function cellsOf(model, batch, at, isOver) {
   return [...used, ...rest].map(piece => pieceCell(model, batch, piece, at, isOver));
 }
 
-// The batch of the state that a moment is about, after that moment.
+// The batch of the state that a moment is about, as it is after that moment.
 function batchAt(model, batches, at) {
   const moment = model.moments[at - 1];
   if (!moment || !moment.state) return null;

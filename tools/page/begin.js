@@ -1,5 +1,5 @@
 "use strict";
-// What the page listens to, and how it begins.
+// The events that the page listens to, and its start.
 
 const redraw = () => state.model && showPicture();
 

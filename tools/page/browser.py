@@ -133,7 +133,7 @@ class Chromium(Browser):
             file.write(base64.b64decode(shot["data"]))
 
     def complaints(self):
-        """What the page said on the console, what it threw, and what it asked of a network."""
+        """What the page wrote to the console, what it threw, and its network requests."""
         for event in self.events:
             method, said = event.get("method"), event.get("params", {})
             if method == "Runtime.exceptionThrown":

@@ -1,9 +1,9 @@
 #!/usr/bin/env python3
 """capture.py CRATE_FOLDER MODULE.bc LOG: catches the LLVM module of a proved program on its way to the compiler.
 
-`rattle build` proves the program, as `rt run` does, and hands one module to the clang of its toolchain folder. Here that
-folder is one of links to the kit's, in which `clang` is a script that keeps a copy of the module and then calls the kit's
-clang. Nothing of the kit is changed. What the prover says goes to LOG. The crates below have to be proved.
+`rattle build` proves the program, as `rt run` does, and passes one module to the clang of its toolchain folder. Here
+that folder has links to the kit's files, and its `clang` is a script that keeps a copy of the module and then calls the
+kit's clang. Nothing in the kit is changed. The prover's output goes to LOG. The crates below have to be proved.
 """
 
 import os
@@ -29,7 +29,7 @@ def home_of_kit():
 
 
 def linked_toolchain(home, room):
-    """A toolchain folder in `room`, and where its clang leaves the module."""
+    """Makes a toolchain folder in `room`; returns it, and where its clang leaves the module."""
     tools, module = f"{room}/toolchain", f"{room}/module.bc"
     os.makedirs(f"{tools}/bin")
     os.symlink(f"{home}/toolchain/lib", f"{tools}/lib")
@@ -43,7 +43,7 @@ def linked_toolchain(home, room):
 
 
 def words_for(home, folder, log):
-    """The words that `rt` itself gives to `rattle build` for this crate, once the crates below it are built."""
+    """The words that `rt` itself passes to `rattle build` for this crate, once the crates below it are built."""
     sys.argv = ["rt"]
     sys.path.insert(0, f"{home}/bin")
     sys.dont_write_bytecode = True

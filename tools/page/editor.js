@@ -1,6 +1,6 @@
 "use strict";
-// A text with numbered lines, one of which can be marked with what is wrong there. Of a long text some lines are shown, and
-// it cannot be edited: a browser takes seconds to lay out a field of 20,000 lines.
+// A text with numbered lines, one of which can be marked with a message about a fault. Of a long text only some lines
+// are shown, and it cannot be edited: a browser takes seconds to lay out a field of 20,000 lines.
 
 const MOST_EDITED = 3000, SHOWN_OF_LONG = 300;
 
@@ -18,7 +18,7 @@ class Editor {
     this.area.addEventListener("input", () => this.mark(0));
   }
 
-  // The whole text, with line feeds as the programs read them.
+  // The whole text, with the line feeds that the programs expect.
   get text() {
     return this.long ? this.long.join("\n") : this.area.value.replace(/\r/g, "");
   }
@@ -37,7 +37,7 @@ class Editor {
     return parseFloat(getComputedStyle(this.area).lineHeight);
   }
 
-  // Marks a line and shows it; 0 marks none.
+  // Marks a line and shows it; 0 marks no line.
   mark(row) {
     this.marked = row;
     this.area.setAttribute("aria-invalid", row ? "true" : "false");

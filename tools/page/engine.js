@@ -1,8 +1,8 @@
 "use strict";
-// Runs the two programs. A module is compiled once; each call makes an instance of its own, so that no call sees memory
-// that another left.
+// Runs the two programs. A module is compiled once; each call makes its own instance, so that no call sees memory that
+// another call left.
 
-// How a program ends: its `_exit` throws this through the module.
+// A program ends by throwing this through the module, from its `_exit`.
 class Ended {
   constructor(status) {
     this.status = status;
@@ -19,7 +19,7 @@ async function inflated(stream, format) {
   return new Uint8Array(await new Response(stream.pipeThrough(new DecompressionStream(format))).arrayBuffer());
 }
 
-// What the shim of the C library imports: standard input, standard output and error, and the end.
+// The imports of the C library's shim: standard input, standard output, standard error, and the end.
 function hostOf(input, streams, memory) {
   let at = 0;
   const view = (place, length) => new Uint8Array(memory().buffer, Number(place), Number(length));
@@ -45,7 +45,7 @@ function textOf(pieces) {
   return pieces.map(piece => decoder.decode(piece, { stream: true })).join("") + decoder.decode();
 }
 
-// Runs a program on the words of a command line and an input. Answers its status and what it wrote.
+// Runs a program on the words of a command line and an input. Returns its status and its output.
 function runProgram(module, words, text) {
   const streams = { 1: [], 2: [] };
   let memory = null;

@@ -1,7 +1,7 @@
 "use strict";
-// Where a transcript fails the clause that `check` names. The program's own word for the place is taken where it has one.
-// Otherwise the place is looked for here: by the grammar, by the script, or by asking the program about changed texts. `ask`
-// runs `rng` on words and an input.
+// Finds where a transcript fails the clause that `check` names. If the program itself says the place, that is used.
+// Otherwise the place is searched here: by the grammar, by the script, or by running the program on changed texts.
+// `ask` runs `rng` on words and an input.
 
 const CLAUSES = {
   1: ["text", "the text is not that of a transcript"],
@@ -20,7 +20,7 @@ const WORD = "(?:at|on|hw|device|write|add|credit|bits|irq|input|read|vread|krea
 const ANSWER = "(?:ok|EAGAIN|EINVAL|ENODATA|EINTR|fired|idle|unused)";
 const LINE = new RegExp(`^${NUMBER}\\.${NUMBER} ${WORD} ${ANSWER} (?:-|${STEP}(?:,${STEP}){0,19}) (?:-|(?:[0-9a-f]{2})+|${NUMBER})$`);
 
-// The first line that breaks the grammar, as far as one line shows it.
+// The first line that breaks the grammar, as far as a single line shows it.
 function textFault(script, transcript) {
   const lines = transcript.split("\n");
   if (lines[0] !== "rngtranscript 1") return { row: 1, wanted: "rngtranscript 1" };
@@ -76,7 +76,7 @@ function replayFault(script, transcript, clause, ask) {
   return at < 0 ? {} : { row: at + 1, wanted: wanted[at].split(" ")[field] };
 }
 
-// The first events of a script of one caller, and their lines with a last one as it would be.
+// The first events of a script of one caller, and their lines, with the last line as it would be after these events.
 function frontOf(script, transcript, count) {
   const [head, cpus, caller, ...events] = script.split("\n"), [first, ...lines] = transcript.split("\n").slice(0, count + 1);
   const marks = lines.flatMap(line => line.split(" ")[3].split(",")).filter(step => step.includes("@"));
@@ -85,7 +85,7 @@ function frontOf(script, transcript, count) {
   return [head, cpus, caller, ...events.slice(0, count), "end", first, ...lines, last, "end", ""].join("\n");
 }
 
-// The shortest front of a script of one caller that fails this clause: its last line is where.
+// The shortest prefix of a script of one caller that fails this clause. Its last line is the place.
 function frontFault(script, transcript, clause, ask) {
   const callers = readScript(script), lines = readTranscript(transcript);
   if (callers.length !== 1) return {};
@@ -101,7 +101,7 @@ function frontFault(script, transcript, clause, ask) {
   return says(cuts[low]) === `no ${clause}` ? { row: cuts[low] + 1 } : {};
 }
 
-// What the program itself says of the place, on standard error.
+// What the program itself says about the place, on standard error.
 function toldFault(err) {
   const told = err.match(/transcript line (\d+), clause \d+, \w+: (.*)$/);
   return told ? { row: Number(told[1]), told: told[2] } : null;

@@ -1,5 +1,5 @@
-// What LLVM calls for 128-bit numbers where a target has no instruction for them, and no library is linked that has them.
-// None of these may multiply, divide or shift 128 bits by a variable: that would be a call of the function itself.
+// The functions that LLVM calls for 128-bit numbers if a target has no instruction for them, and no library with them
+// is linked. None of these may multiply, divide or shift 128 bits by a variable: that would call the function itself.
 typedef unsigned long long u64;
 typedef unsigned __int128 u128;
 typedef __int128 i128;
@@ -16,7 +16,7 @@ static u128 of_halves(u64 upper, u64 lower) {
     return (u128)upper << 64 | lower;
 }
 
-// All 128 bits of a product of two numbers of 64 bits, by their halves.
+// All 128 bits of the product of two 64-bit numbers, by their halves.
 static u128 wide_product(u64 x, u64 y) {
     u64 x0 = x & 0xffffffff, x1 = x >> 32, y0 = y & 0xffffffff, y1 = y >> 32;
     u64 lowest = x0 * y0;
@@ -96,7 +96,7 @@ i128 __modti3(i128 x, i128 y) {
     return x < 0 ? -(i128)rest : (i128)rest;
 }
 
-// The product, and whether it is not one of 128 bits with a sign.
+// The product, and whether it does not fit into 128 bits with a sign.
 i128 __muloti4(i128 x, i128 y, int *overflows) {
     u128 most = (~(u128)0 >> 1) + ((x < 0) != (y < 0));
     *overflows = y != 0 && size_of(x) > __udivti3(most, size_of(y));

@@ -1,9 +1,9 @@
 "use strict";
-// The moments of a run, in the order in which they are shown: each visit of a lane, and what a caller does by itself, which
-// no visit shows: a vgetrandom call's copy out of its batch, a wipe, and an answer without any visit.
+// The moments of a run, in the order in which they are shown. A moment is a visit of a lane, or something that a caller
+// does by itself and no visit shows: a vgetrandom call's copy out of its batch, a wipe, or an answer without a visit.
 //
-// Of one caller they are in its own order. Between callers the stamps decide. What a caller does by itself has the stamp of
-// the last visit that it made before, and comes after the visits of that stamp.
+// The moments of one caller are in the caller's own order. Between callers the stamps decide. What a caller does by
+// itself has the stamp of the caller's last visit before, and comes after the visits with that stamp.
 
 const BATCH = 96, BLOCK = 64, KEY = 32, STATES = 16;
 const SETTINGS = ["at", "on", "hw", "state"];
@@ -25,14 +25,14 @@ class Walk {
     return this.add("visit", line, { lane: step.lane, place: step.place, by: `${step.lane}:${step.place}`, ...more });
   }
 
-  // What stands on a line: its visits, or by itself its answer.
+  // The moments of a line: its visits, or its answer alone if it has no visit.
   line(line, steps, more) {
     const visits = steps.filter(isVisit);
     visits.forEach(step => this.visit(line, step, more));
     if (!visits.length && !SETTINGS.includes(line.word)) this.add("answer", line, more);
   }
 
-  // An entry of the current state's list.
+  // An entry in the list of the current state.
   entry(moment, what, more) {
     const state = this.states[this.current];
     moment.entries.push({ what, by: `v${this.caller}.${this.current}:${state.count++}`, ...more });
@@ -99,7 +99,7 @@ class Walk {
     this.entry(moment, "rekey");
   }
 
-  // A copy of so many bytes: what is left of the batch, whole blocks, a new batch, and the front of that.
+  // A copy of so many bytes: the rest of the batch, whole blocks, a new batch, and the front of that batch.
   copy(line, block, length, attempt) {
     const state = this.states[this.current], front = Math.min(length, BATCH - state.at);
     const moment = this.add("copy", line, { attempt, holds: true, length, nextBlock: block });
@@ -115,7 +115,7 @@ class Walk {
     return moment;
   }
 
-  // All lines of the caller, and where its forks are. `lines` are its own, in order.
+  // All lines of the caller, and the places of its forks. `lines` are the caller's own lines, in order.
   walk(events, lines, forks) {
     const lastVread = events.findLastIndex(event => event.fields[0] === "vread");
     let waiting = [];
@@ -144,7 +144,7 @@ function inOrder(moments) {
   return numbered.sort((one, other) => one.stamp - other.stamp || rank(one) - rank(other) || one.seq - other.seq);
 }
 
-// All moments of a run, each with its number; and of each line its first and its last one.
+// All moments of a run, each with its number, and the first and last moment of each line.
 function momentsOf(callers, lines) {
   const forks = { 0: 0 }, of = callers.map(() => []);
   lines.forEach(line => of[line.caller].push(line));
@@ -166,7 +166,7 @@ function momentsOf(callers, lines) {
   return moments;
 }
 
-// Where each key begins and ends, as numbers of moments; a key that is held to the end has the number after the last.
+// The first and last moment of each key, by their numbers. A key that is held at the end has the number after the last.
 function placeKeys(keys, moments) {
   const at = new Map();
   for (const moment of moments) {
@@ -179,8 +179,8 @@ function placeKeys(keys, moments) {
   }
 }
 
-// The pieces of keys that a line shows, in the order of its bytes. An attempt of a vgetrandom call that did not hold copied
-// bytes too and gave them to nobody, so what is shown are the last pieces.
+// The pieces of keys that a line shows, in the order of its bytes. If an attempt of a vgetrandom call did not hold, it
+// also copied bytes, which nobody got. So the line shows the last pieces.
 function partsOf(line, pieces) {
   let left = /^([0-9a-f]{2})+$/.test(line.data) && line.word !== "bits" ? line.data.length / 2 : 0;
   const parts = [];
@@ -211,10 +211,10 @@ function modelOf(script, transcript, rows) {
 
 // ---- Memory between two stamps -------------------------------------------------------------------------------------
 
-// The last moment of its stamp, after which `key_audit live` says what is in memory.
+// Whether this is the last moment of its stamp. After that moment `key_audit live` says what is in memory.
 const endsStamp = (model, at) => at === 0 || at === model.moments.length || model.moments[at].stamp > model.moments[at - 1].stamp;
 
-// A vgetrandom call is over with the last moment of its line. What a state holds counts from then on.
+// A vgetrandom call is over with the last moment of its line. From then on the content of its state counts.
 function statesAt(model, at) {
   const byId = model.byId || (model.byId = new Map(model.lines.map(line => [line.id, line])));
   const over = new Map();
@@ -224,8 +224,8 @@ function statesAt(model, at) {
   return over;
 }
 
-// What is in memory after a moment that ends a call without ending its stamp: of the lanes what `live` says of the stamp,
-// of each vgetrandom state what its calls have left by then. What can be computed follows from the rows.
+// The content of memory after a moment that ends a call but not its stamp. For the lanes it is what `live` says for the
+// stamp, and for each vgetrandom state what its calls have left so far. What can be computed follows from the rows.
 function memoryAfter(model, at, live) {
   const isState = it => it.holder.startsWith("state");
   const memory = { held: live.held.filter(it => !isState(it)), rests: live.rests.filter(it => !isState(it)), lines: {} };
@@ -248,7 +248,7 @@ function restAfter(model, holder, at) {
   return served < batch.end ? { key: batch.key.name, from: served, length: batch.end - served, end: batch.end, kind: "?" } : null;
 }
 
-// The batches that a vgetrandom state had: 96 bytes of a key's stream, just before the 32 that became its next key.
+// The batches that a vgetrandom state had: 96 bytes of a key's keystream, just before the 32 that became its next key.
 function batchesOf(model, holder) {
   const byName = new Map(model.keys.map(key => [key.name, key]));
   const lineOf = new Map(model.lines.map(line => [line.id, line]));
@@ -264,13 +264,13 @@ function batchesOf(model, holder) {
   return batches;
 }
 
-// The moments at which a state lost its batch: it was replaced or wiped.
+// The moments at which a state lost its batch, because the batch was replaced or wiped.
 function endsOfBatches(model, holder) {
   const isEnd = entry => entry.what !== "serve" && entry.what !== "blocks";
   return model.moments.filter(it => it.entries.length && `state${it.state}` === holder && it.entries.some(isEnd)).map(it => it.at);
 }
 
-// The first of these numbers, which rise, that is above another.
+// The first of these rising numbers that is greater than another number.
 function firstAbove(numbers, other) {
   let [low, high] = [0, numbers.length];
   while (low < high) {
@@ -281,7 +281,7 @@ function firstAbove(numbers, other) {
   return numbers[low];
 }
 
-// Which bytes of which lines come from what is in memory, key by key.
+// Which bytes of which lines come from the content of memory, key by key.
 function reachOf(model, memory) {
   const known = new Set(memory.held.map(it => it.key)), lines = {};
   for (const key of model.keys) {

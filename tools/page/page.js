@@ -1,5 +1,5 @@
 "use strict";
-// The page: what is chosen, what is shown, and what is asked of the worker.
+// The page: what the user chooses, what is shown, and what the worker is asked.
 
 const data = JSON.parse($("data").textContent);
 const state = { model: null, script: "", transcript: "", at: 0, hot: "", pinned: "", zoom: 0, linesFrom: 0, keysFrom: 0, live: new Map(), visit: -1 };
@@ -10,7 +10,7 @@ const scriptEditor = new Editor($("script-box")), transcriptEditor = new Editor(
 
 const worker = new Worker(URL.createObjectURL(new Blob([$("shared").textContent, $("worker").textContent], { type: "text/javascript" })));
 const waiting = new Map();
-// The run that the worker is handing over, or has handed over last.
+// The run that the worker is handing over, or handed over last.
 const handed = {};
 let asked = 0;
 
@@ -36,7 +36,7 @@ function say(id, ...children) {
 
 const wholeLines = text => text.endsWith("\n") ? text : `${text}\n`;
 
-// A newer question makes the answer to an older one void.
+// If a newer question was asked, the answer to an older one is dropped.
 let current = 0;
 
 async function work(question, show) {
@@ -128,13 +128,13 @@ function go(at) {
   show();
 }
 
-// A step goes from column to column, so that it passes over what is folded.
+// A step goes from column to column, so that it passes over folded moments.
 function step(by) {
   const column = picture.column[state.at] + by, columns = picture.columns;
   go(column < 0 ? 0 : column >= columns.length ? state.model.moments.length : columns[column].to);
 }
 
-// What `key_audit live` is asked of a moment: its stamp; or its line, for a call that ends between two stamps.
+// What `key_audit live` is asked for a moment: its stamp; or its line, if a call ends there between two stamps.
 function questionsOf(at) {
   const { model } = state, moment = model.moments[at - 1], line = moment && model.byId.get(moment.within || moment.line);
   const isUnderWay = Boolean(line) && line.word === "vread" && line.last !== at;
@@ -144,7 +144,7 @@ function questionsOf(at) {
 
 const NOTHING = { held: [], rests: [], lines: {} };
 
-// Memory after a moment, and who says so; null as long as the program was not asked.
+// The content of memory after a moment, and whether the program said so; null if the program was not asked yet.
 function memoryAt(at) {
   const { stamp, line, isUnderWay } = questionsOf(at), { live, model } = state;
   if (stamp === "0") return { memory: NOTHING, source: "No visit so far." };
@@ -157,7 +157,7 @@ function memoryAt(at) {
   return { memory: memoryAfter(model, at, live.get(stamp)), source: "Between two calls of one stamp: worked out by this page from the rows of key_audit." };
 }
 
-// The program is asked one thing at a time, and only of the last moment that is wanted.
+// The program is asked one question at a time, and only about the last moment that is wanted.
 let isAsking = false;
 
 async function askLive() {
@@ -254,7 +254,7 @@ function foldedWords() {
   return count > 1 ? `${count} moments that change no key are folded here. The last of them: ` : "";
 }
 
-// Lights a key wherever it is named.
+// Highlights a key wherever it is named.
 function light() {
   document.querySelectorAll(".hot").forEach(element => element.classList.remove("hot"));
   if (!state.hot) return;
@@ -290,7 +290,7 @@ function find(text) {
   } else say("zoom-says", bold(` no line or key ${cut(wanted, 30)} `));
 }
 
-// A line without a moment, such as `at`, is shown by what its caller does next.
+// A line without a moment, such as `at`, is shown by the next moment of its caller.
 function nextMoment(line) {
   const later = state.model.lines.find(it => it.caller === line.caller && it.event > line.event && it.first);
   return later ? later.first : state.model.moments.length;

@@ -1,5 +1,6 @@
 "use strict";
-// The panels beside the picture: the transcript, what is in memory, who could compute what, and the table of keys.
+// The panels beside the picture: the transcript, the content of memory, what can be computed from it, and the table of
+// keys.
 
 const LINES_AT_ONCE = 100, KEYS_AT_ONCE = 50, LONGEST_HEX = 96;
 const tag = (kind, text) => make("span", { class: `tag ${kind}` }, text);
@@ -32,7 +33,7 @@ function reachTag(line, reached, at) {
   return tag("leak", bytes < line.data.length / 2 ? `${bytes} bytes in reach` : "in reach");
 }
 
-// The part of a long transcript that has the moment in it.
+// The part of a long transcript in which the moment is.
 function windowFrom(model, at) {
   if (model.lines.length <= LINES_AT_ONCE) return 0;
   const moment = model.moments[Math.max(0, at - 1)], index = model.lines.indexOf(model.byId.get(moment.line));
@@ -75,7 +76,7 @@ function fates(model, key) {
   return listed(pieces.map(use => [`${use.from} to ${use.end}: `, ...(use.kind === "batch" ? ["served piece by piece"] : fateOf(model, key, use))]));
 }
 
-// `held` are the keys in memory, if that is known: one that is not there yet is on its way to who takes it.
+// `held` are the keys in memory, if they are known. A new key that is not among them is on its way to its holder.
 function keyRow(model, key, at, hot, held) {
   const isMade = key.from <= at, isOnItsWay = held && !held.has(key.name);
   const state = !isMade ? "not made yet" : key.to <= at ? "erased" : isOnItsWay ? "on its way" : "in memory";
@@ -87,7 +88,7 @@ function keyRow(model, key, at, hot, held) {
     make("td", {}, fates(model, key)));
 }
 
-// The part of the table that has the last key which was made by then.
+// The part of the table with the last key that was made so far.
 function pageOfKeys(model, at) {
   let index = 0;
   for (const key of model.keys) if (key.from <= at) index = key.index;

@@ -1,7 +1,7 @@
 """The parts of the page and how they are put together: a text, a style, scripts, and data with both modules in it.
 
-The page names in its head, by their SHA-256, the scripts that may run. So a browser runs no other script in it, whatever
-a transcript has in it, and opens no connection.
+The page's head names, by their SHA-256, the scripts that may run. So a browser runs no other script in the page,
+whatever a transcript contains, and opens no connection.
 """
 
 import base64
@@ -15,9 +15,9 @@ import command
 
 HERE = os.path.dirname(os.path.realpath(__file__))
 TOP = os.path.dirname(os.path.dirname(HERE))
-# Each program of the page, and the crate that it is.
+# The programs of the page, each with its crate.
 PROGRAMS = {"rng": "rng_tool", "key_audit": "key_audit"}
-# What a worker runs, and then what the page itself runs on top.
+# The scripts that a worker runs, and below those that the page itself runs in addition.
 SHARED = ["engine.js", "reading.js", "moments.js", "faults.js"]
 WORKER = ["worker.js"]
 OWN = ["words.js", "picture.js", "batch.js", "panels.js", "editor.js", "visit.js", "page.js", "selftest.js", "begin.js"]
@@ -96,7 +96,7 @@ def page_of(modules, version):
     for name, text in scripts.items():
         if "</script" in text or "<!--" in text:
             raise command.Fault(f"the scripts of {name} have a text that would end their element")
-    # The worker's own script is a text for the page, and runs only in the worker.
+    # For the page the worker's own script is a text; it runs only in the worker.
     policy = " ".join(sum_for_policy(scripts[name]) for name in ("SHARED", "OWN"))
     data = {"version": version, "modules": modules, "examples": list(examples())}
     filled = {"POLICY": policy, "STYLE": "\n" + read(HERE, "style.css"), "DATA": as_json(data), **scripts}

@@ -8,7 +8,7 @@ const HEIGHTS = { p: 34, b: 58, c: 40, call: 34, v: 60, k: 54 };
 const holdsKey = lane => lane !== "p" && lane[0] !== "k";
 const inNumbers = (one, other) => one.localeCompare(other, "en", { numeric: true });
 
-// The lanes and callers from top to bottom: the way that bytes go, from the pool to the callers.
+// The lanes and callers from top to bottom, in the direction in which bytes go: from the pool to the callers.
 function lanesOf(model) {
   const lanes = new Set([...model.moments.map(it => it.lane).filter(Boolean), ...model.keys.map(key => laneOf(key.holder))]);
   model.moments.forEach(it => it.state && lanes.add(`v${it.state}`));
@@ -25,7 +25,8 @@ function rowsOf(lanes) {
   });
 }
 
-// Moments at which a key is made or erased, or a batch is copied from, stand by themselves. Long rows of others are folded.
+// A moment at which a key is made or erased, or a batch is copied from, has its own column. Long rows of others are
+// folded.
 function columnsOf(model, isFolded) {
   const isQuiet = moment => !model.madeAt.has(moment.at) && !model.goneAt.has(moment.at) && !moment.entries.length;
   const columns = [];
@@ -68,7 +69,7 @@ class Picture {
     return EDGE + (this.columns.length + 1) * gap;
   }
 
-  // Where a moment stands. A key that is held at the end goes on past the last one.
+  // The place of a moment. A key that is held at the end goes on after the last moment.
   x(at) {
     return EDGE + (this.column[at] + 0.5) * this.gap;
   }
@@ -77,7 +78,7 @@ class Picture {
     return this.x(to) >= this.left - this.gap * 2 && this.x(from) <= this.right + this.gap * 2;
   }
 
-  // The keys of a lane whose lives are in view. In a lane one key comes after the other.
+  // The keys of a lane whose lives are in view. In a lane one key follows the other.
   seenKeys(lane) {
     return (this.lives.get(lane) || []).filter(key => this.isSeen(key.from, key.to));
   }
@@ -87,7 +88,7 @@ class Picture {
     return this.columns.slice(first, Math.ceil((this.right - EDGE) / this.gap) + 1);
   }
 
-  // If there are many rows, those of callers and states with no moment in view are left out.
+  // If there are many rows, rows of callers and states without a moment in view are left out.
   place() {
     const busy = new Set();
     if (this.lanes.length > MOST_ROWS) {
@@ -171,7 +172,7 @@ class Picture {
     return `${key.name}: made at ${key.made.by}@${key.made.stamp}, ${gone}`;
   }
 
-  // Bars that are narrower than a pixel, as one path for each state.
+  // The bars that are narrower than a pixel, as one path for each state.
   denseBars(row) {
     const paths = { gone: "", held: "", ahead: "" }, y = row.middle - 7;
     for (const key of this.seenKeys(row.lane)) {
@@ -181,7 +182,7 @@ class Picture {
     return Object.entries(paths).map(([state, d]) => d && shape("path", { d, class: `dense ${state}` }));
   }
 
-  // What is left of a batch, as a level that falls with each call that is served from it.
+  // The rest of a batch, as a level that falls with each call that the batch serves.
   gauge(row, batch) {
     if (!this.isSeen(batch.from, batch.to)) return null;
     const bottom = row.top + row.height - 6, full = 16, isAhead = batch.from > this.at;
@@ -209,7 +210,7 @@ class Picture {
     });
   }
 
-  // Wipes, with a word.
+  // Wipes, each with a word.
   marks() {
     const seen = this.seenColumns(), from = seen.length ? seen[0].from : 1, to = seen.length ? seen[seen.length - 1].to : 0;
     return this.model.moments.slice(from - 1, to).filter(it => it.kind === "wipe").map(it => this.wipe(this.x(it.at), `v${it.state}`, it.at));
@@ -228,7 +229,7 @@ class Picture {
       "marker-end": kind === "served" ? null : "url(#tip)" });
   }
 
-  // From key to key, and from key to the answer that it made.
+  // Lines from key to key, and from a key to the answer that it made.
   flows() {
     const flows = [];
     this.served = new Set();

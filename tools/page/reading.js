@@ -1,6 +1,6 @@
 "use strict";
 // Reads the three texts: scripts, transcripts, and the rows of a key audit. docs/SCRIPT.md, TRANSCRIPT.md and AUDIT.md have
-// their grammars. They are taken to be whole: the programs have judged them before.
+// their grammars. The texts are taken as valid, since the programs have judged them before.
 
 // A script's events by caller. `row` is a line's number in the text, from 1.
 function readScript(text) {

@@ -1,25 +1,25 @@
-"""Makes of the LLVM text of a program for x86-64 that of the same program for WebAssembly with a 64-bit memory.
+"""Turns the LLVM text of a program for x86-64 into that of the same program for WebAssembly with a 64-bit memory.
 
 Both have pointers of 64 bits, and lay out values alike: integers of 64 and of 128 bits are aligned to 8 and to 16. So the
-code, which reaches fields by offsets in bytes, stays as it is. What changes is the data layout, the triple, and what only
-an x86 processor understands.
+code, which reaches fields by offsets in bytes, stays as it is. Only the data layout and the triple change, and whatever
+only an x86 processor understands.
 """
 
 import re
 
 LAYOUT = "e-m:e-p:64:64-p10:8:8-p20:8:8-i64:64-i128:128-n32:64-S128-ni:1:10:20"
 TRIPLE = "wasm64-unknown-unknown"
-# What an attribute says of an x86 processor or of its stack.
+# Attributes of an x86 processor or of its stack.
 X86 = re.compile(
     r' sanitize_address|"frame-pointer"="all"|"probe-stack"="[^"]*"|"stack-probe-size"="\d*"'
     r'|"target-cpu"="[^"]*"|"target-features"="[^"]*"')
 NO_ATTRIBUTES = re.compile(r"= \{ *\}")
-# Where a thread would begin. The page starts none, so no function has to be called by its place in a table.
+# A thread would begin here. The page starts no thread, so no function has to be called by its place in a table.
 ENTRY = re.compile(r'ptr (noundef )?@"[^"]*\+thread called by C \d+"')
 
 
 def retargeted(line):
-    """The line for WebAssembly, or None if it has no place there."""
+    """The line for WebAssembly, or None if it is left out there."""
     if line.startswith("target datalayout"):
         return f'target datalayout = "{LAYOUT}"\n'
     if line.startswith("target triple"):
@@ -30,7 +30,7 @@ def retargeted(line):
         line = NO_ATTRIBUTES.sub('= { "none" }', X86.sub("", line))
     if " call " in line and ("pthread_create" in line or "threads::create" in line):
         line = ENTRY.sub("ptr null", line)
-    # C's `main` is a name with a meaning of its own for the WebAssembly backend.
+    # For the WebAssembly backend C's `main` has a meaning of its own.
     return line.replace("@main(", "@program_main(")
 
 

@@ -1,16 +1,17 @@
 "use strict";
-// The page's own test, at the address #test. It runs each example, or each case that a gate has put beside the page's data,
-// and ends with one line: how many answers are right, and a sum of all of them. The same page has the same sum everywhere.
+// The page's own test, at the address #test. It runs each example, or each case that a gate has put beside the page's
+// data. It ends with one line: how many answers are right, and a checksum of all of them, which is the same wherever
+// the page runs.
 
 const program = (name, words, text) => ask({ ask: "program", program: name, words, text });
 
-// A sum of texts (FNV-1a, 32 bits). It tells answers that differ by accident, and is no hash against anybody.
+// A checksum of texts (FNV-1a, 32 bits). It detects answers that differ by accident, and is no defence against anybody.
 function addTo(sum, text) {
   for (let at = 0; at < text.length; at++) sum = Math.imul(sum ^ text.charCodeAt(at), 16777619);
   return sum >>> 0;
 }
 
-// What is asked of a case, what came, and what had to come if that is known. A fork's places may be others at each run.
+// The question of a case, the answer, and the expected answer if it is known. A fork's places may differ at each run.
 async function answersTo({ script, transcript, keys, live, verdict }) {
   if (verdict) return [["verdict", (await program("rng", ["check"], script + transcript)).out, `${verdict}\n`]];
   const ran = (await program("rng", ["run"], script)).out, isAlone = !/^fork /m.test(script), pair = script + (transcript || ran);

@@ -1,8 +1,9 @@
-// What the programs `rng` and `key_audit` call of the C library, for a WebAssembly module with a 64-bit memory.
+// The functions of the C library that the programs `rng` and `key_audit` call, for a WebAssembly module with a 64-bit
+// memory.
 //
 // The page is the host: it gives standard input, takes standard output and standard error, and sets the words of the
-// command line before it calls `page_main`. There is one thread, and starting another fails with EAGAIN. A caller whose
-// thread cannot be started runs in its parent, as docs/SCRIPT.md says.
+// command line before it calls `page_main`. There is one thread, and starting another fails with EAGAIN. If a caller's
+// thread cannot be started, the caller runs in its parent's thread, as docs/SCRIPT.md says.
 typedef unsigned char u8;
 typedef unsigned long long u64;
 typedef long long i64;
@@ -20,9 +21,9 @@ static u64 place_of(const void *pointer) {
     return (u64)pointer;
 }
 
-// The heap. A block's size is a multiple of 16 up to 64, and above that one of four steps between two powers of two, so
-// that there are few classes of sizes. A freed block goes to the list of its class. The 16 bytes before a block have its
-// class and its size.
+// The heap. A block's size is a multiple of 16 up to 64; above that it is one of four steps between two powers of two,
+// so that there are few classes of sizes. A freed block goes to the list of its class. The 16 bytes before a block have
+// its class and its size.
 enum { HEADER = 16, CLASSES = 256, PAGE_BITS = 16, PAGES_AT_ONCE = 64 };
 static const u64 LARGEST = 1ull << 40;
 
@@ -94,7 +95,8 @@ void free(void *pointer) {
     freed[class] = block;
 }
 
-// What the programs' allocator asks: whether there was memory, and where. No bytes have a place too.
+// What the programs' allocator calls: it returns whether there was memory, and where. A block of no bytes has a place
+// too.
 typedef struct {
     u64 is_there;
     u64 at;
@@ -142,7 +144,7 @@ u64 rattle_arg_count(void) {
     return word_count;
 }
 
-// The bytes of a word, without the 0 after it: -1 if there is no such word, -2 if it does not fit.
+// The bytes of a word, without the 0 after it. Returns -1 if there is no such word, and -2 if it does not fit.
 i64 rattle_arg(u64 word, u8 *to, u64 length) {
     if (word >= word_count)
         return -1;
@@ -204,7 +206,7 @@ i64 __sysv_signal(SILENT i32 signal, SILENT i64 handler) {
     return 0;
 }
 
-// Threads. None starts, so nobody waits for one that ends.
+// Threads. None starts, so nothing waits for one to end.
 enum { EAGAIN = 11 };
 
 i32 pthread_attr_init(SILENT void *attributes) {
@@ -244,8 +246,8 @@ i32 sched_yield(void) {
     __builtin_trap();
 }
 
-// futex(2), the one system call. A wait whose word has changed returns at once, as the kernel's does. Any other wait would
-// never end. A wake finds nobody.
+// futex(2), the one system call. If the word has changed, a wait returns at once, as the kernel's does. Any other wait
+// would never end. A wake finds no waiter.
 enum { FUTEX_COMMAND = 127, FUTEX_WAIT = 0 };
 
 i64 syscall(SILENT i64 number, void *word, i64 operation, i64 seen, SILENT void *time, ...) {
@@ -265,7 +267,8 @@ int memcmp(const void *one, const void *other, u64 length) {
     return 0;
 }
 
-// Which features the processor has: all of them. The code asks as it starts, and uses none: it is for no x86 any more.
+// Which features the processor has: all of them. The code asks when it starts, and uses none, since it is for no x86
+// any more.
 void *__x86_get_cpuid_feature_leaf(SILENT i32 leaf) {
     static u8 all[64];
     __builtin_memset(all, 255, sizeof all);

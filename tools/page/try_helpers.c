@@ -1,4 +1,4 @@
-// Compares helpers.c with the arithmetic of 128 bits that a native compiler has, on random numbers of all lengths.
+// Compares helpers.c with the 128-bit arithmetic of a native compiler, on random numbers of all lengths.
 #include <stdio.h>
 #include <stdlib.h>
 

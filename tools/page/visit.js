@@ -1,11 +1,11 @@
 "use strict";
-// The guided first visit: seven steps of one run, from an empty pool to a stolen memory image. Names and bytes in it are
+// The guided first visit: seven steps of one run, from an empty pool to a stolen memory image. Its names and bytes are
 // those of the run that the page has just made.
 
 const VISIT = ["rngscript 1", "cpus 1", "caller 0", "read 16 1", `add ${Array.from({ length: 32 }, (_, at) =>
   at.toString(16).padStart(2, "0")).join("")} 256`, "read 16 0", "read 16 0", "read 16 0", "reseed", "read 16 0", "end", ""].join("\n");
 
-// Each step: the moment after which it looks, a title, its words, and the sum of them. A word in {braces} is a key.
+// Each step: the moment that it shows, a title, its words, and their summary. A word in {braces} is a key.
 const STEPS = [
   { at: 1, title: "The pool is empty",
     says: ["A kernel that has just started knows nothing that an attacker could not know too. It gathers bytes that are hard to guess, such as the times of interrupts, in the input pool, which is the state of a hash function.",
@@ -38,13 +38,13 @@ const STEPS = [
     picture: "The thief has Base(1) and Cpu(0,1). Lines 0.2 and 0.3 are out of reach, line 0.4 is in reach, and line 0.6 is out of reach." },
 ];
 
-// Where the parts of the picture are; on a narrow screen in two rows.
+// The places of the parts of the picture; on a narrow screen they are in two rows.
 const BOX = 168;
 const WIDE = { width: 860, height: 250, pool: [16, 84], base: [196, 84], cpu: [432, 84], out: [668, 84] };
 const NARROW = { width: 412, height: 500, pool: [16, 84], base: [220, 84], cpu: [16, 318], out: [220, 318] };
 const sceneNow = () => innerWidth < 700 ? NARROW : WIDE;
 
-// The words of a step, with the names of keys lit.
+// The words of a step, with the names of keys highlighted.
 function stepWords(model, text) {
   return text.split(/\{([^}]+)\}/).map((part, at) => at % 2 ? keyName(model, part) : part);
 }
@@ -65,7 +65,7 @@ function poolScene([x, top], number) {
   ];
 }
 
-// A place for a key: the one that is held, and below it those that were erased.
+// A box for a key: the key that is held, and below it those that were erased.
 function keyScene(model, lane, at, [x, top], title) {
   const mine = model.keys.filter(key => laneOf(key.holder) === lane && key.from <= at), middle = x + BOX / 2;
   const held = mine.filter(key => key.to > at), gone = mine.filter(key => key.to <= at).reverse();
@@ -80,14 +80,14 @@ function keyScene(model, lane, at, [x, top], title) {
   ];
 }
 
-// From the right of one part to the left of the next; or down, if that is in the next row.
+// An arrow from the right of one part to the left of the next, or down if that one is in the next row.
 function arrowScene([x, y], [toX, toY], label) {
   const isDown = toY > y + 100, d = isDown ? `M${x - 150} ${y + 30} C${x - 170} ${y + 100} ${toX + 100} ${toY - 120} ${toX + 100} ${toY - 36}` : `M${x} ${y} H${toX - 4}`;
   return [shape("path", { d, class: "arrow", "marker-end": "url(#tip)" }),
     isDown ? sceneText(x - 160, y + 110, label, "small", "start") : sceneText((x + toX) / 2, y - 7, label, "small")];
 }
 
-// A key that replaces itself.
+// An arrow of a key that replaces itself.
 function loopScene([x, top]) {
   return [shape("path", { d: `M${x + 150} ${top} C${x + 150} ${top - 56} ${x + 18} ${top - 56} ${x + 18} ${top - 3}`, class: "arrow loop", "marker-end": "url(#tip)" }),
     sceneText(x + 84, top - 48, "bytes 0 to 32", "small")];
@@ -115,7 +115,7 @@ function answersScene(model, number, at, memory, [x, top]) {
   })];
 }
 
-// What the thief has: around both keys, or around each of them.
+// A frame around what the thief has: around both keys, or around each of them.
 function thiefScene({ base, cpu }) {
   const frame = ([x, top], width) => [shape("rect", { x: x - 12, y: top - 58, width: width + 24, height: 109, rx: 10, class: "thief" }),
     sceneText(x + width / 2, top - 40, width > BOX ? "the stolen memory image" : "in the stolen image", "thief-word")];

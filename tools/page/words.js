@@ -23,7 +23,7 @@ const code = text => make("code", {}, text);
 const plural = (count, word) => `${count.toLocaleString("en")} ${word}${count === 1 ? "" : "s"}`;
 const cut = (text, most) => text.length > most ? `${text.slice(0, most - 1)}…` : text;
 
-// Neighbours in a lane get colours that differ. A colour says nothing that a name does not say too.
+// Neighbouring keys in a lane get different colours. A colour says nothing that a name does not say too.
 const hueOf = key => Math.round(key.index * 137.5 + 210) % 360;
 
 const LANES = { p: "input pool", b: "base key", call: "one long read" };
@@ -33,7 +33,7 @@ function laneName(lane) {
   return lane[0] === "c" ? `CPU ${lane.slice(1)}` : `vDSO state ${lane.slice(1)}`;
 }
 
-// The lane as what is visited.
+// A lane, as the object of a visit.
 const placeName = lane => lane === "p" || lane === "b" ? `the ${laneName(lane)}` : laneName(lane);
 
 function laneOf(holder) {
@@ -52,7 +52,7 @@ function grouped(items, by) {
   return groups;
 }
 
-// What is looked up again and again.
+// Tables that are looked up again and again.
 function indexed(model) {
   model.byId = new Map(model.lines.map(line => [line.id, line]));
   model.byName = new Map(model.keys.map(key => [key.name, key]));
@@ -64,7 +64,7 @@ function indexed(model) {
 
 const eventOf = (model, line) => (model.callers[line.caller][line.event] || { text: "end" }).text;
 
-// A key's name, which lights the key wherever it is shown.
+// The name of a key, which highlights the key wherever it is shown.
 function keyName(model, name) {
   const key = model.byName.get(name);
   return key ? make("button", { class: "key-name mono", hue: hueOf(key), "data-key": name, title: `light ${name}` }, name) : code(name);
@@ -72,7 +72,7 @@ function keyName(model, name) {
 
 const span = use => `bytes ${use.from} to ${use.end}`;
 
-// What became of a piece of a key's stream.
+// The fate of a piece of a key's keystream.
 function fateOf(model, key, use) {
   const next = model.byName.get(use.what);
   if (use.kind === "=" && next) {
@@ -84,7 +84,7 @@ function fateOf(model, key, use) {
   return [use.kind === "!" ? "given up: never handed out" : "left in a batch"];
 }
 
-// The pieces of a stream, with the many pieces of a batch as one.
+// The pieces of a keystream, with the many pieces of a batch as one.
 function piecesOf(key) {
   const served = key.uses.filter(use => use.kind !== "=");
   if (served.length <= 3) return key.uses;

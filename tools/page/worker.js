@@ -13,7 +13,7 @@ async function load(data) {
 
 const say = text => postMessage({ progress: text });
 
-// A lawful transcript with everything that is shown of it. What the programs say to it is kept for later questions.
+// A lawful transcript with everything that is shown of it. The programs' answers about it are kept for later questions.
 function shown(script, transcript) {
   say("asking key_audit for the life of each key");
   const rows = runProgram(modules.key_audit, ["keys"], script + transcript);
@@ -23,7 +23,7 @@ function shown(script, transcript) {
   return { status: 0, transcript };
 }
 
-// A long run is handed over in pieces, so that the page has time in between.
+// A long run is handed over in pieces, so that the page can do other work in between.
 const AT_ONCE = 1000;
 
 function hand(model) {
@@ -42,7 +42,7 @@ function run(script) {
   return { ...shown(script, ran.out), verdict: checked.out.trim() };
 }
 
-// A transcript against a script: the verdict, and what it should have been where that can be said.
+// A transcript checked against a script: the verdict, and what was expected if that can be said.
 function judge(script, transcript) {
   say("checking the transcript");
   const checked = runProgram(modules.rng, ["check"], script + transcript);
@@ -52,7 +52,7 @@ function judge(script, transcript) {
   return answer;
 }
 
-// What is in memory after a stamp or an event; null if the program does not say.
+// The content of memory after a stamp or an event; null if the program does not say.
 function live(moment) {
   const told = runProgram(modules.key_audit, ["live", moment], pair);
   return { live: told.status === 0 ? readLive(told.out) : null };

@@ -1,5 +1,5 @@
 #!/bin/sh
-# Installs this release of fenloth below a folder, and takes it away again.
+# Installs this release of fenloth into a folder, and removes it.
 set -eu
 umask 022
 
@@ -35,7 +35,7 @@ esac
 own=lib/fenloth
 list=$own/installed
 
-# What the release has, as paths below it.
+# The files of the release, as paths below it.
 files() {
     (cd "$here" && find bin lib share ! -type d -print | LC_ALL=C sort)
 }
@@ -58,7 +58,7 @@ check_runs() {
     done
 }
 
-# Nobody else's file is overwritten. What an older release has there is taken away before.
+# No file of anybody else is overwritten. Files of an older release are removed first.
 check_free() {
     files | while IFS= read -r name; do
         if { [ -e "$prefix/$name" ] || [ -h "$prefix/$name" ]; } && ! grep -qsxF "f $name" "$prefix/$list"; then
@@ -68,7 +68,8 @@ check_free() {
     done || refuse 'nothing was installed'
 }
 
-# make_folder PATH: makes what is missing of it, and notes it in made: below PREFIX by its name there, the innermost last.
+# make_folder PATH: makes the missing folders of PATH, and notes them in made, by their names below PREFIX, innermost
+# last.
 make_folder() {
     [ ! -d "$1" ] || return 0
     case $1 in

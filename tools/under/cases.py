@@ -1,4 +1,4 @@
-"""The cases of rng-under --sweep: what each does to the core and to the requests, as the lines of a prologue.
+"""The cases of rng-under --sweep: what each does to the core and to the requests, as lines of a prologue.
 
 A case is a name, as `empty`, or a name with the number of a request, as `late:2`. `rng-under --prologue late:2` runs a
 program in that case alone.
@@ -13,7 +13,7 @@ VMFORK = "vmfork 1 00112233445566778899aabbccddeeff"
 PAGE = 4096
 LAWFUL, COMBINED, UNLAWFUL = GROUPS = "lawful", "combined", "unlawful"
 
-# Of each case without a number: its group, and its lines, each with the number of requests after which it is due.
+# For each case without a number: its group, and its lines, each with the number of requests after which it is due.
 WHOLE = {
     "empty": (LAWFUL, []),
     "early": (LAWFUL, [(0, EARLY)]),
@@ -27,7 +27,7 @@ WHOLE = {
     "one-byte": (UNLAWFUL, [(0, READY), (0, "short 1 always")]),
 }
 
-# Of each case at a request: its group, and its lines for request K, counted from 1.
+# For each case at a request: its group, and its lines for request K, counted from 1.
 AT_REQUEST = {
     "late": (LAWFUL, lambda k: [(0, EARLY), (k, READY)]),
     "interrupted": (LAWFUL, lambda k: [(0, EARLY), (k, READY)]),
@@ -43,7 +43,7 @@ AT_REQUEST = {
 
 
 class Case:
-    """A name, the request that it is about (none: 0), its group and its steps."""
+    """A name, the number of its request (0 if it has none), its group and its steps."""
 
     def __init__(self, name, point, group, steps):
         self.name, self.point, self.group, self.steps = name, point, group, steps
@@ -90,7 +90,8 @@ def is_first_of_process(requests, at):
 
 
 def points_of(requests, most):
-    """The numbers of the reads that are tried, from 1: all, or the first of each kind and process and some between."""
+    """The numbers of the reads that are tried, from 1: all, or the first of each kind and process and some in
+    between."""
     count = len(requests)
     if count <= most:
         return [at for at, it in enumerate(requests, 1) if it.is_read]
@@ -107,7 +108,7 @@ def points_of(requests, most):
 
 
 def names_at(requests, point):
-    """The names of the cases that request `point` can meet."""
+    """The names of the cases that can happen at request `point`."""
     it = requests[point - 1]
     yield "interrupted" if it.waits() else "late"
     yield "reseed"
@@ -127,7 +128,7 @@ def is_chosen(case, only):
 
 
 def cases_of(requests, only, most):
-    """The cases that a program with these requests gets. A name in `only` that has a number is tried as it stands."""
+    """The cases for a program with these requests. A name in `only` that has a number is tried as it is."""
     points = points_of(requests, most)
     names = list(WHOLE) + [f"{name}:{point}" for point in points for name in names_at(requests, point)]
     names += [it for it in only if it not in names and named(it)]

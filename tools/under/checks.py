@@ -1,5 +1,5 @@
-"""Checks of rng-under, with programs of this folder and with those of the system. Prints a line for each, and ends
-non-zero where one fails. What this machine does not have or does not allow is skipped, and said."""
+"""Checks of rng-under, with programs of this folder and of the system. Prints a line for each, and ends non-zero if one
+fails. Checks that this machine lacks something for, or does not allow, are skipped with a message."""
 
 import errno
 import fcntl
@@ -64,7 +64,7 @@ def check_sources():
 
 
 def ways():
-    """The ways to serve that this machine allows: a name, the words of rng-under, and the caller."""
+    """The ways of serving that this machine allows: a name, the words of rng-under, and the caller."""
     found = [("preloaded", [], CALLER)]
     status, _, err = under("--supervise", CALLER, "errnos")
     if any(it in err for it in ("takes no filter", "trace no other", "lets nobody read and write")):
@@ -107,7 +107,7 @@ def problem_of_seams(path):
 
 
 def problem_of_check(path):
-    """The records, confirmed by the program."""
+    """The records, if the program confirms each of them."""
     for script, transcript in records_of(path):
         status, out, err = run([RNG, "check"], (script + transcript).encode())
         if status or out != "yes\n":
@@ -116,7 +116,7 @@ def problem_of_check(path):
 
 
 def problem_of_record(path):
-    """The records, confirmed by the program and by the second implementation."""
+    """The records, if the program and the second implementation confirm each of them."""
     for script, transcript in records_of(path):
         status, out, err = run([RNG, "run"], script.encode())
         if status or out != transcript:
@@ -128,7 +128,7 @@ def problem_of_record(path):
 
 
 def mixed_of(path):
-    """What the caller's way `mixed` prints, where it was given the bytes of the record."""
+    """What the caller's way `mixed` prints if it was given the bytes of the record."""
     lines, total = [], 0
     for event, its in events_of(path):
         if event.startswith("read "):
@@ -140,7 +140,7 @@ def mixed_of(path):
 
 
 def drawn(path):
-    """Of each request of a record its answer and its bytes, but for the eight bytes that malloc asks for itself."""
+    """The answer and the bytes of each request in a record, without the eight bytes that malloc asks for itself."""
     return [(its[2], its[4]) for event, its in events_of(path)
             if event.split(" ")[0] in ("read", "dread", "uread") and event != "read 8 1"]
 
@@ -153,7 +153,7 @@ LATE = ["EINTR", "EAGAIN", "EINTR", "16", "EINVAL", "EINVAL", "16", "0", "16", "
 
 
 def shown(out):
-    """What the caller printed of each request: its errno or length, and its bytes."""
+    """What the caller printed for each request: its errno or length, and its bytes."""
     fields = [line.split(" ") for line in out.splitlines()]
     return [(it[-1], "-") if "-1" in it else (next(f for f in it[1:] if f.isdecimal()), it[-1] if len(it[-1]) > 2 else "-")
             for it in fields]
@@ -162,7 +162,7 @@ def shown(out):
 def check_errnos(name, words, caller):
     for state, wanted in (("ready", READY), ("empty", EMPTY), ("early", EMPTY), ("late", LATE)):
         path = os.path.join(ROOM, "record")
-        # After a static or supervised program's own requests the late core would be ready too soon.
+        # After the own requests of a static or supervised program the late core would be ready too soon.
         late = prologue("wait 3" if name == "preloaded" else "wait 4", "add 616263 256")
         status, out, err = under(*words, "--prologue", late if state == "late" else state, "--record", path, caller,
                                  "errnos")
@@ -233,7 +233,7 @@ def check_programs(name, words):
 
 
 def check_python():
-    """What Python makes of the errnos, and that it goes on when the core becomes ready."""
+    """Python turns the errnos into its exceptions, and goes on when the core becomes ready."""
     code = ("import os, errno\nagain = 0\n"
             "try: os.getrandom(8, os.GRND_RANDOM | 4)\nexcept OSError as fault: print(fault.errno == errno.EINVAL)\n"
             "while True:\n"
@@ -267,7 +267,7 @@ def check_prologue():
 
 
 def check_faulty():
-    """The worked example of docs/CALLERS.md: a caller that takes its zeros."""
+    """The worked example of docs/CALLERS.md: a caller that uses its zeros."""
     outs = [under("--prologue", it, "--seed", seed, ZEROED)[1] for it in ("empty", "ready") for seed in "ab"]
     is_caught = outs[0] == outs[1] == "0" * 32 + "\n" and len(set(outs)) == 3
     tell("a caller that ignores EAGAIN is caught", "" if is_caught else str(outs))
@@ -302,7 +302,8 @@ def processes_with(text):
 
 
 def check_left_behind(name, words):
-    """What a program left is waited for, until a signal says not to: one is enough. What was traced cannot go on then."""
+    """rng-under waits for processes that a program left, until one signal ends the wait. Then a traced process cannot
+    go on."""
     left = "sleep 1234.5 </dev/null >/dev/null 2>&1 & echo $!; exit 3"
     began = subprocess.Popen([UNDER, *words, "sh", "-c", left], stdout=subprocess.PIPE, stderr=subprocess.PIPE)
     number = int(began.stdout.readline())
@@ -327,12 +328,12 @@ def check_limits(name, words, caller):
 
 
 def count_of(stats, word):
-    """The number before a word of what --stats says."""
+    """The number before a word in the output of --stats."""
     return int(stats.split(f" {word}")[0].split(" ")[-1]) if f" {word}" in stats else 0
 
 
 def check_speed(name, words, caller):
-    """What requests take is only told, since it is the machine's; the bounds are for a machine that is as busy as can be."""
+    """The time of requests is only printed, since it is the machine's; the bounds are for the busiest of machines."""
     for count, size, most in ((1, 100, 9000), (10000, 16, 50), (1000, 4096, 100), (15, 1 << 20, 9000)):
         began = time.monotonic()
         status, _, err = under(*words, "--stats", caller, "many", str(count), str(size))
@@ -345,12 +346,12 @@ def check_speed(name, words, caller):
 # ---- Records that are cut -------------------------------------------------------------------------------------------
 
 def cut(events, size=1 << 24, text=1 << 24):
-    """An environment in which a record has less room."""
+    """An environment in which records have less room."""
     return dict(os.environ, RNG_UNDER_LIMITS=f"{events} {size} {text}")
 
 
 def check_cuts(name, words, caller):
-    """The program sees the same answers over cut records, and each record is confirmed, with the seams between them."""
+    """Cut records give the program the same answers. Each record is confirmed, and so are the seams between them."""
     path = os.path.join(ROOM, "record")
     for state in ("ready", "early", "empty", "late"):
         whole = under(*words, "--prologue", state, caller, "errnos")
@@ -367,7 +368,7 @@ def check_cuts(name, words, caller):
 
 
 def check_many_records():
-    """One program, many records. The full number takes longer: the variable below has it."""
+    """One program, many records. The full number takes longer: an environment variable, below, asks for it."""
     path, asked = os.path.join(ROOM, "record"), os.path.join(ROOM, "asked")
     count = int(os.environ.get("UNDER_REQUESTS", "20000"))
     ran = under("--stats", "--record", path, "--asked", asked, CALLER, "many", str(count), "16", env=cut(3000))
@@ -394,7 +395,7 @@ REFUSED = "RNDADDTOENTCNT EPERM\n" * 2 + "RNDADDENTROPY EPERM\n" * 3
 
 
 def may_control():
-    """Whether the kernel lets this user control the device: an argument without a number is looked at later."""
+    """Whether the kernel lets this user control the device. The kernel looks at an argument without a number later."""
     with open("/dev/random", "rb") as file:
         try:
             fcntl.ioctl(file, 0x40045201, 0)
@@ -454,7 +455,7 @@ def check_writes(name, words, caller):
 
 
 def check_prologue_between():
-    """Lengths of all kinds, while the prologue goes on: no request is lost, and none is served twice."""
+    """Many different lengths, while the prologue goes on: no request is lost, and none is served twice."""
     path = os.path.join(ROOM, "record")
     steps = [f"wait {it}" for it in (1, 2, 3, 58, 64, 1, 200, 1)]
     acts = ["credit 128", "short 7", "credit 128", "reseed", "add 00 8", "short 3000", "at 70000", "tick"]
@@ -468,18 +469,20 @@ def check_prologue_between():
 
 
 def check_unserved():
-    """A program that the library was not loaded into is no success."""
+    """If the library was not loaded into a program, this is no success."""
     if os.path.exists(STATIC):
         status, _, err = under("--preload", STATIC, "forks")
         tell("a static program is not left unserved", "" if status == 125 and "--supervise" in err else f"{status} {err}")
     spaced = os.path.join(ROOM, "a b")
     shutil.copytree(HERE, os.path.join(spaced, "tools/under"), ignore=shutil.ignore_patterns("__pycache__"))
+    shutil.copy(os.path.join(os.path.dirname(HERE), "command.py"), os.path.join(spaced, "tools"))
     ran = run([os.path.join(spaced, "tools/under/rng-under"), CALLER, "retry"], env=dict(os.environ, RNG=RNG))
     tell("from a folder with a space in its name", "" if ran[:2] == under(CALLER, "retry")[:2] else str(ran))
 
 
 def fake_core(name, script, environment=os.environ):
-    """A program that is asked instead of rng. The script does what `rng live` does; all else is done by rng itself."""
+    """A program that is called in place of rng. Its script does what `rng live` does; rng itself does everything
+    else."""
     path = os.path.join(ROOM, name)
     with open(path, "w") as file:
         file.write(f"#!/bin/sh\nrng='{RNG}'\n[ \"$1\" = live ] || exec \"$rng\" \"$@\"\n{script}\n")
@@ -488,7 +491,7 @@ def fake_core(name, script, environment=os.environ):
 
 
 def check_wrong_cores():
-    """A core that serves wrong bytes, ends, or writes no line of its event is found out."""
+    """A core that serves wrong bytes, ends, or writes no line for its event is found out."""
     line = r"s/^\(0[.][0-9]* read ok [^ ]* \)"
     swap = f"{line}[0-7]/\\18/; t; {line}[89a-f]/\\10/"
     for name, script, wanted in (
@@ -507,7 +510,7 @@ def check_wrong_cores():
 
 
 def check_page():
-    """The commands of docs/CALLERS.md write what stands below them there."""
+    """The commands of docs/CALLERS.md write the output that is below them there."""
     with open(os.path.join(TOP, "docs/CALLERS.md")) as file:
         blocks = [it.split("\n```")[0] for it in file.read().split("```text\n")[1:]]
     for block in blocks:

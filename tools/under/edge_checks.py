@@ -1,5 +1,5 @@
 """Checks of rng-under at its edges: signals, daemons, kills, wrong words, a damaged memory. Prints a line for each, and
-ends non-zero where one fails. What this machine does not allow is skipped, and said."""
+ends non-zero if one fails. Checks that this machine does not allow are skipped with a message."""
 
 import os
 import shutil
@@ -28,7 +28,7 @@ def folder(name):
     return path
 
 
-# ---- Supervised: no signal ends a call that goes on without a supervisor --------------------------------------------
+# ---- Supervised: no signal ends a call that would go on without a supervisor ---------------------------------------
 
 def check_signals():
     wanted = "".join(f"{way} 0 of 20000 failed\n" for way in ("file", "device", "getrandom")) + "signals came\n"
@@ -40,7 +40,7 @@ def check_signals():
 
 
 def check_open_modes(name, words):
-    """A descriptor that is not open to be read answers as it does without rng-under."""
+    """A descriptor that is not open for reading answers as it does without rng-under."""
     ran, alone = under(*words, EDGES, "modes"), run([EDGES, "modes"])
     tell(f"{name}: descriptors of the devices in each mode", "" if ran[:2] == alone[:2] else f"{ran}, not {alone}")
 
@@ -48,7 +48,7 @@ def check_open_modes(name, words):
 # ---- Daemons --------------------------------------------------------------------------------------------------------
 
 def check_daemons(name, words):
-    """The prologue has something due every hundred requests."""
+    """The prologue has a line that is due at every hundredth request."""
     path = os.path.join(ROOM, "record")
     steps = prologue("add 616263 256", *["wait 100", "reseed"] * 11)
     ran = under(*words, "--prologue", steps, "--record", path, EDGES, "daemon")
@@ -82,7 +82,8 @@ def check_left_root(can_trace):
 # ---- Ends -----------------------------------------------------------------------------------------------------------
 
 def check_kill(name, words):
-    """Killed, it takes with it what it started, even if its caller blocked signals; the next run takes its folder."""
+    """If rng-under is killed, what it started ends too, even if its caller blocked signals; the next run removes its
+    folder."""
     above = folder(f"killed{name}")
     where = dict(os.environ, TMPDIR=above)
     began = subprocess.Popen([UNDER, *words, "sh", "-c", LEFT], stdout=subprocess.PIPE, env=where,
@@ -106,7 +107,7 @@ def check_kill(name, words):
 
 
 def check_others_folder():
-    """The folder of a run that goes on is left alone, and so is one that only has such a name."""
+    """The folder of a run that goes on stays, and so does one that only has such a name."""
     above = folder("others")
     where = dict(os.environ, TMPDIR=above)
     began = subprocess.Popen([UNDER, "sh", "-c", "echo; read _; exec head -c 16 /dev/urandom"], stdin=subprocess.PIPE,
@@ -126,7 +127,7 @@ def check_nothing_asked(name, words):
 
 
 def check_killed_server(name, words):
-    """If the server or the core is killed, programs that ask end, and the cause is told."""
+    """If the server or the core is killed, programs that ask end, and the cause is printed."""
     for at, said in ((0, "server"), (1, "live was ended by signal 9")):
         above = folder(f"server{name}{at}")
         began = subprocess.Popen([UNDER, *words, "--prologue", "empty", CALLER, "retry"], stdout=subprocess.DEVNULL,
@@ -159,7 +160,7 @@ def command_of(number):
 
 
 def check_killed_clients(name, words):
-    """80 processes are killed while they ask. No other waits for ever, and the record is confirmed."""
+    """80 processes are killed while they ask. No other process waits for ever, and the record is confirmed."""
     path, asked = os.path.join(ROOM, "record"), os.path.join(ROOM, "asked")
     ran = under(*words, "--record", path, "--asked", asked, EDGES, "kill", "80", "30000", timeout=600)
     with open(asked) as file:
@@ -169,7 +170,7 @@ def check_killed_clients(name, words):
 
 
 def check_room_runs_out():
-    """Of the folder of a run, while the program asks: the program ends, and the cause is told."""
+    """The folder of a run becomes full while the program asks: the program ends, and the cause is printed."""
     room = folder("small")
     code = f"mount -t tmpfs -o size=3m none {room} || exit 77; TMPDIR={room} exec '{UNDER}' '{CALLER}' many 60000 64"
     ran = run(["unshare", "-m", "sh", "-c", code]) if shutil.which("unshare") and not os.geteuid() else (77, "", "")
@@ -188,10 +189,10 @@ def check_orphans(name, words):
     tell(f"{name}: orphans are waited for as they end", "" if (status, out) == (0, "0\n") else f"{status} {out} {err}")
 
 
-# ---- What cannot be done is told, before the program starts -----------------------------------------------------------
+# ---- What cannot be done is reported before the program starts -----------------------------------------------------
 
 def refused(name, words, said, **more):
-    """The command ends with status 125 and a line that has these words, and the program is not started."""
+    """The command ends with status 125 and a line that has these words, and does not start the program."""
     mark = os.path.join(ROOM, "started")
     status, out, err = under(*words, "touch", mark, **more)
     is_well = status == 125 and not out and all(it in err for it in said) and "Traceback" not in err
@@ -226,7 +227,7 @@ def limit_files():
 
 
 def check_full_folder():
-    """A temporary folder without room: nothing is started, and no signal ends the command."""
+    """If the temporary folder has no room, nothing is started, and no signal ends the command."""
     room = folder("full")
     code = f"mount -t tmpfs -o size=1m none {room} || exit 77; TMPDIR={room} exec '{UNDER}' echo started"
     ran = run(["unshare", "-m", "sh", "-c", code]) if shutil.which("unshare") and not os.geteuid() else (77, "", "")
@@ -252,9 +253,10 @@ def check_seeds_and_folders():
 
 
 def check_modes():
-    """Whatever the umask and whatever was there, nobody else can write what is loaded into programs."""
+    """Whatever the umask is and whatever was there, nobody else can write what is loaded into programs."""
     tools = os.path.join(folder("modes"), "tools/under")
     shutil.copytree(HERE, tools, ignore=shutil.ignore_patterns("out", "__pycache__"))
+    shutil.copy(os.path.join(os.path.dirname(HERE), "command.py"), os.path.dirname(tools))
     out, own = os.path.join(tools, "out"), os.path.join(tools, "rng-under")
     problem = ""
     for step in ("compiled by a user with an open umask", "found open to others"):

@@ -16,7 +16,7 @@
 #include <time.h>
 #include <unistd.h>
 
-enum { PATIENCE = 200000000 }; // nanoseconds between two looks at whether the server lives
+enum { PATIENCE = 200000000 }; // nanoseconds between two checks that the server lives
 
 struct mailbox *mailbox_map(void) {
     const char *path = getenv("RNG_UNDER");
@@ -52,13 +52,13 @@ int is_control(unsigned long request) {
     return 0;
 }
 
-// Without a number of nanoseconds a wait has no limit.
+// If no number of nanoseconds is given, a wait has no limit.
 long futex(uint32_t *at, int operation, uint32_t value, long nanoseconds) {
     struct timespec limit = {.tv_nsec = nanoseconds};
     return syscall(SYS_futex, at, operation, value, nanoseconds ? &limit : NULL, NULL, 0);
 }
 
-// Whether the server has ended: then the kernel has given up its lock.
+// Whether the server has ended: the kernel has then released the server's lock.
 static int is_gone(struct mailbox *box) { return pthread_mutex_trylock(&box->alive) != EBUSY; }
 
 // Wakes the server, and waits for the answer of the newest request.
@@ -71,7 +71,7 @@ static void wait_for_answer(struct mailbox *box) {
             mailbox_fail("the server is gone, and nobody answers requests");
 }
 
-// A client that was killed with the lock may have left a request, and may not have woken the server.
+// A client that was killed while it held the lock may have left a request, and may not have woken the server.
 void mailbox_lock(struct mailbox *box) {
     if (pthread_mutex_lock(&box->lock) != EOWNERDEAD)
         return;

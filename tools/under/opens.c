@@ -1,5 +1,5 @@
-// For LD_PRELOAD, beside shim.c: calls that open a file. One that would open a random device fails where the prologue
-// says so; all others are the C library's.
+// For LD_PRELOAD, beside shim.c: calls that open a file. If a call would open a random device, it fails if the prologue
+// says so. All other calls are the C library's.
 #define _GNU_SOURCE
 #include <dlfcn.h>
 #include <errno.h>
@@ -20,7 +20,7 @@ static int is_refused(const char *path, int folder) {
     return fault;
 }
 
-// openat serves all of them: it is what the C library's open calls too.
+// openat serves all of them: the C library's open calls it too.
 static int open_file(int folder, const char *path, int flags, mode_t mode) {
     static int (*next)(int, const char *, int, ...);
     if (!next)
@@ -65,7 +65,7 @@ int openat64(int folder, const char *path, int flags, ...) {
     return open_file(folder, path, flags, mode);
 }
 
-// What fortified programs call.
+// Calls that fortified programs make.
 int __open_2(const char *path, int flags) { return open_file(AT_FDCWD, path, flags, 0); }
 int __open64_2(const char *path, int flags) { return open_file(AT_FDCWD, path, flags, 0); }
 int __openat_2(int folder, const char *path, int flags) { return open_file(folder, path, flags, 0); }

@@ -1,11 +1,11 @@
-"""A prologue of rng-under: events of a script, each due after a number of requests, and lines of its own."""
+"""A prologue of rng-under: events of a script, each due after a number of requests, and lines of its own kind."""
 
 import errno
 import os
 
 LONGEST = 1 << 20  # bytes of one read
 
-# The errors of a prologue, each with the requests that it answers: a bit for each word of mailbox.h.
+# The errors of a prologue, each with the requests that it answers, as a bit for each word of mailbox.h.
 CALL, FILES = 1, 2 | 4
 ANSWERS = {"EINTR": CALL | FILES, "EAGAIN": CALL | FILES, "EIO": CALL | FILES, "EFAULT": CALL | FILES,
            "EPERM": CALL, "ENOSYS": CALL, "end": FILES}
@@ -15,17 +15,17 @@ NOT_LIVE = ("fork", "inside")
 
 
 class Failed(Exception):
-    """What cannot go on, and why."""
+    """A reason why rng-under cannot go on."""
 
 
 class Prologue:
-    """Steps, each with the number of requests after which it is due: events, and lines of the prologue's own."""
+    """Steps, each with the number of requests after which it is due: events, and lines of the prologue's own kind."""
 
     def __init__(self, path, seed):
         self.path, self.cpus, self.due = path, 1, 0
-        self.steps = []  # of each the number of requests, and a line for the server
-        self.events, self.places = [], []  # of each event its text, and its line in the file
-        self.kinds = set()  # of the errors that are due at this number of requests
+        self.steps = []  # for each, the number of requests and a line for the server
+        self.events, self.places = [], []  # for each event, its text and its line in the file
+        self.kinds = set()  # the kinds of errors that are due at this number of requests
         if seed:
             self.add_event(0, f"write {os.fsencode(seed).hex()}")
         with open(path, encoding="ascii", errors="replace") as file:
@@ -69,7 +69,7 @@ class Prologue:
         self.kinds = set()
 
     def take_fault(self, number, rest, is_kept):
-        """A second error right below the first answers the request after it."""
+        """A second error directly below the first one answers the request after it."""
         if not rest or rest[0] not in (*ANSWERS, *OPENS) or (rest[1:] and not is_kept):
             kinds = ", ".join((*ANSWERS, *OPENS))
             self.fail(number, f"fault wants one of {kinds}, and may have always behind it")
@@ -82,7 +82,7 @@ class Prologue:
         self.add(f"opens {code} {int(is_kept)}" if is_of_opens else f"fault {code} {ANSWERS[kind]} {int(is_kept)}")
 
     def script(self):
-        """All its events as a script, whose fourth line is the first of them."""
+        """All its events as a script. The first event is the script's fourth line."""
         return "\n".join(["rngscript 3", f"cpus {self.cpus}", "caller 0", *self.events, "end", ""])
 
     def write_plan(self, path):
@@ -90,14 +90,14 @@ class Prologue:
             file.writelines(f"{due} {step}\n" for due, step in self.steps)
 
     def problem_of(self, fault):
-        """Where in the file a line of the script is, of which `rng run` says that it is at fault."""
+        """The line in the file, for a line of the script in which `rng run` finds a fault."""
         line = fault.split("line ")[-1].split(",")[0]
         at = int(line) - 4 if line.isdecimal() else -1
         where = f"line {self.places[at]}" if 0 <= at < len(self.places) else "as a whole"
         return f"{self.path}, {where}: {fault}"
 
     def check(self, run):
-        """All of it is looked at before the program starts. `run` returns what `rng run` has to say against a script."""
+        """Checks all of it before the program starts. `run` returns what `rng run` says against a script."""
         fault = run(self.script())
         if fault:
             raise Failed(self.problem_of(fault))

@@ -1,5 +1,5 @@
-"""The server of rng-under, which owns the core, and the records that it leaves. `rng check` confirms each record as soon as
-it is whole; if another one follows, that one has to begin with the seed that the record ends with."""
+"""The server of rng-under, which owns the core, and the records that it writes. `rng check` confirms each record as
+soon as it is whole. If another record follows, it has to begin with the seed with which this one ends."""
 
 import contextlib
 import errno
@@ -25,7 +25,7 @@ def limits():
 
 
 def seed_left(path):
-    """The bytes that a transcript's last kread has, and the credit that they are worth."""
+    """The bytes of a transcript's last kread, and the credit for them."""
     with open(path, "rb") as file:
         file.seek(max(0, os.path.getsize(path) - TAIL))
         lines = [line.split(" ") for line in file.read().decode(errors="replace").split("\n")]
@@ -71,7 +71,7 @@ class Records:
 
 
 class Server:
-    """Serves the program's requests. Its own output has a line for each record that is whole, and one at the end."""
+    """Serves the program's requests. Its own output has a line for each whole record, and one at the end."""
 
     def __init__(self, command, program, folder, prologue, most, keeps, lists):
         self.path = os.path.join(folder, "mailbox-" + secrets.token_hex(16))
@@ -112,8 +112,8 @@ class Server:
             self.problem = str(fault)
 
     def reply(self):
-        """A byte for a record that is confirmed. Without it the server serves no more."""
-        with contextlib.suppress(OSError, ValueError):  # the server has ended, or got no earlier one
+        """Sends a byte for a confirmed record. Without this byte the server stops serving."""
+        with contextlib.suppress(OSError, ValueError):  # the server has ended, or got no earlier byte
             if self.problem:
                 self.process.stdin.close()
             self.process.stdin.write("\n")
@@ -135,7 +135,8 @@ class Server:
             raise Failed(self.problem)
 
     def asked(self):
-        """A line for each request, with processes numbered in the order in which they first asked, and their threads."""
+        """A line for each request. Processes are numbered in the order of their first requests, and so are their
+        threads."""
         processes, threads = {}, {}
         with open(self.list, encoding="ascii") as file:
             for line in file:

@@ -1,6 +1,6 @@
-// Answers requests for rng-under, one at a time, by the core: each becomes an event of a session of `rng live`, and its
-// answer and bytes are those of the event's line. Between two requests, the events of the prologue are made when they are
-// due. It ends at SIGTERM, and writes lines for rng-under to standard output.
+// Answers requests for rng-under, one at a time, by the core. Each request becomes an event of a session of `rng live`,
+// and gets the answer and the bytes of the event's line. Between two requests the events of the prologue are made when
+// they are due. The server ends at SIGTERM, and writes lines for rng-under to standard output.
 #define _GNU_SOURCE
 #include "mailbox.h"
 #include "session.h"
@@ -22,9 +22,9 @@
 static const char *const WORDS[] = {"read", "dread", "uread", "write", "add", "credit", "bits", "reseed"};
 
 static struct mailbox *box;
-static FILE *list; // of the requests, if it is wanted
+static FILE *list; // the list of requests, if it is wanted
 static uint64_t served, most;
-static int is_spent; // a request came after the last one that is to be served
+static int is_spent; // a request came after the last one that has to be served
 static volatile sig_atomic_t is_over;
 
 // ---- The prologue ------------------------------------------------------------------------------------------------
@@ -38,9 +38,9 @@ struct fault {
 enum { AT_END = 0x10000 }; // a read of no byte, as at the end of a file
 
 static struct fault of_requests, of_opens;
-static uint32_t cut, is_cut_kept; // if not 0, the next request for more bytes gets so many
+static uint32_t cut, is_cut_kept; // if not 0, the next request for more bytes than this gets only so many
 
-// The rest of the prologue: lines with the number of requests after which they are due.
+// The rest of the prologue: its lines, each with the number of requests after which it is due.
 static FILE *plan;
 static char *part;
 static size_t part_room;
@@ -75,7 +75,7 @@ static int take_part(const char *text) {
     return 0;
 }
 
-// What is due after the requests so far.
+// Makes what is due after the requests so far.
 static int feed(void) {
     for (; due <= served; next_part())
         if (take_part(strchr(part, ' ') + 1))
@@ -103,7 +103,7 @@ static void put_hex(char *to, const unsigned char *bytes, size_t length) {
     *to = '\0';
 }
 
-// Of each digit one more than its value.
+// For each digit, its value plus one.
 static const unsigned char VALUES[256] = {['0'] = 1, ['1'] = 2,  ['2'] = 3,  ['3'] = 4,  ['4'] = 5,  ['5'] = 6,
                                           ['6'] = 7, ['7'] = 8,  ['8'] = 9,  ['9'] = 10, ['a'] = 11, ['b'] = 12,
                                           ['c'] = 13, ['d'] = 14, ['e'] = 15, ['f'] = 16};
@@ -118,7 +118,7 @@ static int take_hex(unsigned char *to, const char *digits, size_t length) {
     return is_hex ? 0 : give_up("a line of `rng live` has other bytes than its event asks for");
 }
 
-// Writes the event of a request. `length` is what the event asks for, or has.
+// Writes the event of a request. `length` is the number of bytes that the event asks for, or contains.
 static void write_event(const struct request *wish, uint32_t length) {
     const char *word = WORDS[wish->word];
     size_t at = (size_t)snprintf(event, sizeof event, "%s", word);
@@ -145,7 +145,7 @@ static int errno_of(const char *answer) {
     return give_up("`rng live` answered %s, which is no answer of a request", answer);
 }
 
-// What the program gets of a line whose answer is ok.
+// The bytes that the program gets from a line whose answer is ok.
 static int64_t result_of(const struct request *wish, uint32_t length, const char *data) {
     if (wish->word <= UREAD)
         return length && take_hex(box->data, data, length) ? OVER : (int64_t)length;
@@ -176,7 +176,7 @@ static int is_lawful(const struct request *wish) {
            (!has_credit || wish->flags <= INT_MAX) && (wish->word != DREAD || wish->flags <= 1);
 }
 
-// A request that an error of the prologue answers has no event.
+// If an error of the prologue answers a request, the request has no event.
 static void note(const struct request *wish, const struct line *line, int64_t answer) {
     char place[32] = "-";
     served++;
@@ -237,7 +237,7 @@ static void stop(int number) {
     __atomic_add_fetch(&box->bell, 1, __ATOMIC_SEQ_CST);
 }
 
-// Mutexes that processes share, and that outlive a process that is killed.
+// Mutexes that processes share, and that survive a process that is killed.
 static int make_locks(void) {
     pthread_mutexattr_t kind;
     return pthread_mutexattr_init(&kind) || pthread_mutexattr_setpshared(&kind, PTHREAD_PROCESS_SHARED) ||
@@ -245,7 +245,7 @@ static int make_locks(void) {
            pthread_mutex_init(&box->alive, &kind) || pthread_mutex_lock(&box->alive);
 }
 
-// A program that root starts may give up its rights, and is served even so.
+// A program that root starts may drop its rights, and is still served.
 static int make_mailbox(const char *path) {
     int file = open(path, O_RDWR | O_CREAT | O_EXCL | O_CLOEXEC, 0600);
     int failed = file < 0 ? errno : posix_fallocate(file, 0, sizeof *box);
@@ -265,7 +265,7 @@ static FILE *opened(const char *path, const char *mode) {
     return file;
 }
 
-// The server outlives signals that a terminal sends to all, but not rng-under.
+// The server survives signals that a terminal sends to all processes, but not the end of rng-under.
 static void set_signals(pid_t front) {
     static const int ignored[] = {SIGINT, SIGQUIT, SIGHUP, SIGTERM, SIGPIPE, SIGXFSZ};
     for (size_t at = 0; at < sizeof ignored / sizeof *ignored; at++)

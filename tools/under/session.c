@@ -13,9 +13,9 @@
 #include <unistd.h>
 
 enum { FIELDS = 5, SEED = 32 };
-static const char CLOSING[] = "kread 32\nbits\nend\n"; // of a record that another one follows
+static const char CLOSING[] = "kread 32\nbits\nend\n"; // the last lines of a record that another record follows
 
-// Events on which later ones depend. Of each kind the last is kept, and a new session repeats it.
+// Events on which later events depend. The last event of each kind is kept, and a new session repeats it.
 static char settings[][128] = {"at ", "on ", "hw "};
 enum { SETTINGS = sizeof settings / sizeof *settings };
 static int is_set[SETTINGS];
@@ -86,7 +86,7 @@ static int keep(FILE *file, const char *name, const char *text, size_t length) {
     return give_up("%s/%s-%u: %s; TMPDIR can name another folder", folder, name, now.number, strerror(errno));
 }
 
-// Hands a text to the core, and to the script.
+// Writes a text to the core and to the script.
 static int tell(const char *text, size_t length) {
     now.text += length;
     if (keep(now.script, "script", text, length))
@@ -101,7 +101,8 @@ static int tell(const char *text, size_t length) {
     return 0;
 }
 
-// Takes the next line into `now.line`, without its line feed. The core writes one, and then waits for the next event.
+// Takes the next line into `now.line`, without its line feed. The core writes one line, and then waits for the next
+// event.
 static int hear(void) {
     size_t length = 0;
     while (!length || now.line[length - 1] != '\n') {
@@ -120,7 +121,7 @@ static int hear(void) {
 
 // ---- Events ------------------------------------------------------------------------------------------------------
 
-// Takes the line apart, and compares its number and its word with those of the event.
+// Splits the line into its fields, and compares its number and its word with those of the event.
 static int read_line(const char *event, struct line *line) {
     char *rest = now.line, *fields[FIELDS], place[32];
     size_t word = strcspn(event, " \n");
@@ -175,8 +176,8 @@ static int begin(unsigned number) {
     return strcmp(now.line, "rngtranscript 1") ? give_up("%s live began with another line", program) : 0;
 }
 
-// Announces a record that is whole. Standard input has a byte for each record that was confirmed; at most one record waits
-// for that, so that records do not fill the folder.
+// Announces a whole record. Standard input has a byte for each confirmed record. At most one record waits for its byte,
+// so that records do not fill the folder.
 static int hand_over(void) {
     char one;
     ssize_t got = 1;
@@ -188,8 +189,8 @@ static int hand_over(void) {
     return got == 1 ? 0 : give_up("a record was not confirmed");
 }
 
-// The next record begins with the settings, and with a seed that has the credit of the old core: 256 bits if that was
-// ready.
+// The next record begins with the settings, and with a seed that has the credit of the old core: 256 bits if the old
+// core was ready.
 static int cut(void) {
     char seed[2 * SEED + 1], event[2 * SEED + 32];
     const char *bits = "256";

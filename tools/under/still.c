@@ -1,6 +1,6 @@
-// For LD_PRELOAD: clocks stand, and processes are numbered in the order in which they first asked. So what a program
-// makes of clock and process numbers is the same at each run. The numbers are above those that the kernel gives, so none
-// is another process's; a call that takes one gets the kernel's own back here.
+// For LD_PRELOAD: clocks stand still, and processes are numbered in the order in which they first asked. So the output
+// that a program makes from clock and process numbers is the same at each run. The numbers are above those of the
+// kernel, so none belongs to another process; a call that takes such a number gets the kernel's number here.
 #define _GNU_SOURCE
 #include <dlfcn.h>
 #include <fcntl.h>
@@ -33,7 +33,7 @@ static uint32_t *table(void) {
 
 static __attribute__((constructor)) void begin(void) { (void)getpid(); }
 
-// The place of a process in the table, which one that is new gets where it may.
+// The row of a process in the table. A new process gets a row if it may.
 static int place_of(pid_t process, int may_be_new) {
     uint32_t *rows = table();
     for (int at = 0; at < PROCESSES; at++) {
@@ -78,7 +78,7 @@ int sigqueue(pid_t process, int number, const union sigval value) {
 
 // ---- Clocks ------------------------------------------------------------------------------------------------------
 
-// A monotonic clock stands early, so that what waits for a moment by it does not wait longer than it would.
+// A monotonic clock stands early, so that a program that waits for a moment by it does not wait longer than otherwise.
 int clock_gettime(clockid_t clock, struct timespec *now) {
     int is_date = clock == CLOCK_REALTIME || clock == CLOCK_REALTIME_COARSE || clock == CLOCK_TAI;
     now->tv_sec = is_date ? SECOND : 1;

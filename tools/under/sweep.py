@@ -1,4 +1,5 @@
-"""rng-under --sweep: runs a program again and again, in each case that a kernel can bring it into, and tells what it did.
+"""rng-under --sweep: runs a program again and again, in each case into which a kernel can bring it, and reports what it
+did.
 
 docs/CALLERS.md says what the cases and the verdicts are; man/rng-under.1 is the short form.
 """
@@ -26,15 +27,18 @@ ALONE = ("record", "asked", "stats", "seed", "most", "still")
 def add_arguments(parser):
     more = parser.add_argument_group("a sweep of all cases")
     more.add_argument("--sweep", action="store_true",
-                      help="runs the program in each case that a kernel can bring it into, and tells what it did; "
-                           "{dir} in ARGS is a new folder at each run, whose files count as output")
+                      help="runs the program in each case that a kernel can bring it into, and prints a verdict for each; "
+                           "{dir} in ARGS is a new folder at each run, and its files count as output")
     more.add_argument("--only", metavar="CASES",
-                      help="with --sweep: these cases, by commas: names as EPERM or late:2, patterns as 'late:*', or "
-                           "lawful (where nothing is named), combined, unlawful, all")
-    more.add_argument("--jobs", metavar="N", type=int, help="with --sweep: so many runs side by side")
-    more.add_argument("--seconds", metavar="N", type=float, help="with --sweep: a run that takes longer hangs; 30")
-    more.add_argument("--input", metavar="FILE", help="with --sweep: the standard input of each run; none")
-    more.add_argument("--json", metavar="FILE", help="with --sweep: leaves a line of JSON for each case")
+                      help="with --sweep: these cases, separated by commas: names such as EPERM or late:2, patterns such "
+                           "as 'late:*', or lawful (the default), combined, unlawful, all")
+    more.add_argument("--jobs", metavar="N", type=int,
+                      help="with --sweep: runs at the same time; the default is the number of processors")
+    more.add_argument("--seconds", metavar="N", type=float,
+                      help="with --sweep: a run that takes longer hangs; the default is 30")
+    more.add_argument("--input", metavar="FILE",
+                      help="with --sweep: the standard input of each run; the default is empty input")
+    more.add_argument("--json", metavar="FILE", help="with --sweep: writes a line of JSON to FILE for each case")
 
 
 def problem_of(given):
@@ -157,7 +161,7 @@ class Report:
             print(f"    and on standard error: {said}")
 
     def end(self, is_whole):
-        """The rows that are left, how to see each again, and the exit status."""
+        """Prints the remaining rows and how to see each again; returns the exit status."""
         self.clear()
         place = {name: at for at, name in enumerate(self.order)} if self.count else {}
         found = sorted(self.findings, key=lambda it: place[it.case.name])
@@ -179,7 +183,7 @@ class Report:
 # ---- The command -------------------------------------------------------------------------------------------------
 
 class Stopped(Exception):
-    """A signal says that no more is to be tried."""
+    """A signal came: no more runs are made."""
 
 
 def stop(number, _):
@@ -222,7 +226,7 @@ def sweep_in(room, given, command, json_file):
 
 
 def main(given, command, room):
-    """Sweeps in a folder that is there, and returns the exit status. OSError where a file cannot be made."""
+    """Sweeps in an existing folder, and returns the exit status. Raises OSError if a file cannot be made."""
     given.seconds = given.seconds or 30
     for number in (signal.SIGINT, signal.SIGTERM, signal.SIGHUP):
         signal.signal(number, stop)

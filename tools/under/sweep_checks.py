@@ -1,5 +1,5 @@
-"""Checks of rng-under --sweep, of the faults of a prologue and of --still, with the callers of callers/judged: for each
-verdict one, and for each way to serve. Prints a line for each, and ends non-zero where one fails."""
+"""Checks of rng-under --sweep, of the faults of a prologue and of --still, with the callers of callers/judged: one for
+each verdict, and for each way of serving. Prints a line for each, and ends non-zero if one fails."""
 
 import concurrent.futures
 import json
@@ -17,7 +17,7 @@ OWN, INTERRUPTED = 125, 130
 TEMPORARY = os.path.join(ROOM, "t")
 READY = "add 000102030405060708090a0b0c0d0e0f101112131415161718191a1b1c1d1e1f 256"
 
-# Of each caller the verdict in each case that is tried.
+# For each caller, the verdict in each case that is tried.
 WANTED = {
     "well": {"empty": "WELL", "no-device": "WELL", "EPERM": "REFUSES", "interrupted:1": "WELL", "reseed:1": "WELL"},
     "refuses": {"empty": "REFUSES", "ENOSYS": "REFUSES"},
@@ -32,7 +32,7 @@ WANTED = {
     "crash": {"empty": "CRASH"},
     "hangs": {"empty": "HANGS"},
 }
-# The C library's malloc asks first where the supervisor sees it too: a request's number is one more there.
+# Where the supervisor sees it too, the C library's malloc asks first, so a request's number is one higher there.
 SUPERVISED = {
     "well": {"early": "WELL", "no-device": "WELL", "EPERM": "REFUSES"},
     "refuses": {"empty": "REFUSES"},
@@ -71,7 +71,7 @@ def findings_of(path):
 # ---- Verdicts ----------------------------------------------------------------------------------------------------
 
 def problem_of_verdicts(words, name, cases):
-    """What is wrong with the verdicts of a caller, in the table, as JSON and as a status."""
+    """What is wrong with the verdicts on a caller, in the table, in JSON and in the status."""
     path = os.path.join(ROOM, name + ".json")
     seconds = "6" if name == "hangs" else "60"
     status, out, err = sweep(*words, "--jobs", "2", "--seconds", seconds, "--json", path, "--only", ",".join(cases),
@@ -91,7 +91,7 @@ def check_verdicts(way, words, wanted):
 
 
 def check_wrong_one():
-    """What writes as many bytes as ever, and other ones at each run, is not called well for that."""
+    """A caller whose output has the usual length, and differs at each run, does not count as well because of that."""
     path = os.path.join(ROOM, "json")
     sweep("--json", path, caller("mixes"))
     found = {case: it["verdict"] for case, it in findings_of(path).items()}
@@ -122,7 +122,8 @@ def check_folder():
 
 
 def check_many():
-    """A sample of many requests is told, and takes the first, the last, and the first of each process."""
+    """If there are many requests, this is said, and the sample has the first, the last, and the first of each
+    process."""
     path = os.path.join(ROOM, "json")
     status, out, err = sweep("--only", "fork:*", CALLER, "many", "3", "16")
     tell("sweep: no fork, no case", "" if status == 125 and "no such case" in err else f"{status} {out} {err}")
@@ -167,7 +168,7 @@ def start_sweep(*words):
 
 
 def check_interrupt():
-    """One signal ends a sweep with what was found, and nothing goes on."""
+    """One signal ends a sweep with what was found so far, and no process goes on."""
     for number in (signal.SIGINT, signal.SIGTERM):
         began = start_sweep("--only", "reseed:1,late:1", caller("hangs"))
         first = [began.stdout.readline()]
@@ -184,7 +185,8 @@ def check_interrupt():
 
 
 def check_killed_children(way, words):
-    """Children of the program are killed while they ask, each run at other moments, so that they ask more or less."""
+    """Children of the program are killed while they ask. Each run kills them at other moments, so they ask more or
+    less."""
     path = os.path.join(ROOM, "json")
     status, _, err = sweep(*words, "--only", "empty,reseed:1,reseed:2", "--json", path, caller("killed"))
     found = {case: it["verdict"] for case, it in findings_of(path).items()}
@@ -193,7 +195,7 @@ def check_killed_children(way, words):
 
 
 def check_killed_sweep():
-    """A sweep that is killed leaves no process, and its folder only until the next run."""
+    """A sweep that is killed leaves no process; its folder stays only until the next run."""
     began = start_sweep("--seconds", "60", "--only", "late:1", caller("hangs"))
     time.sleep(3)
     began.kill()
@@ -213,7 +215,7 @@ def runs_of(process):
 
 
 def check_killed_run():
-    """A rng-under of a sweep that is killed is told, and what it ran is ended."""
+    """If a rng-under of a sweep is killed, this is reported, and the processes that it ran are ended."""
     began = start_sweep("--seconds", "60", "--only", "late:1", caller("hangs"))
     killed = set()
     until = time.monotonic() + 60
@@ -235,7 +237,7 @@ def check_killed_run():
 # ---- Faults and --still ------------------------------------------------------------------------------------------
 
 def check_faults(way, words):
-    """Each fault answers the requests that it can, once or always, and the record is the core's."""
+    """Each fault answers the requests that it can, once or always, and the record stays that of the core."""
     asked, path = os.path.join(ROOM, "asked"), os.path.join(ROOM, "record")
     for kind, first, count in (("EINTR", "read 16 0 EINTR", 1), ("EPERM always", "read 16 0 EPERM", 8),
                                ("ENOSYS", "read 16 0 ENOSYS", 1), ("EIO always", "read 16 0 EIO", 11),
@@ -282,7 +284,7 @@ def check_still(way, words):
 
 
 def check_static():
-    """Of a static program the clock goes on, and that is told; its verdict is another one for it."""
+    """The clock of a static program goes on, and this is said; such a program's verdict is another one."""
     if compile_one("fixed_static", "callers/judged/fixed.c", "-static")[0]:
         return skip("sweep of a static program", "none can be linked")
     ran = under("--still", caller("fixed_static"))

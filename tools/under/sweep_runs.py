@@ -1,5 +1,5 @@
-"""Runs of a program for rng-under --sweep: each by rng-under, side by side, with a time limit, and with all that it left
-behind ended."""
+"""Runs of a program for rng-under --sweep: rng-under makes each run. Runs are side by side, have a time limit, and all
+processes that they left behind are ended."""
 
 import ctypes
 import hashlib
@@ -40,18 +40,18 @@ class Request:
         self.is_unready = event in unready
 
     def waits(self):
-        """Whether it would wait for a core that is not ready."""
+        """Whether the request would wait for a core that is not ready."""
         return self.is_read and self.word != "uread" and not self.flags & (GRND_NONBLOCK | GRND_INSECURE)
 
     def is_interrupted_wait(self):
         return self.waits() and self.answer == "EINTR" and not self.is_fault
 
     def is_mallocs(self):
-        """The C library's malloc asks so for a key of its own."""
+        """Whether this is how the C library's malloc asks for a key of its own."""
         return (self.word, self.asked, self.flags) == ("read", 8, GRND_NONBLOCK)
 
     def is_odd(self):
-        """Whether it got no bytes, or fewer than it asked for, or those of a core that was not ready."""
+        """Whether the request got no bytes, fewer than it asked for, or those of a core that was not ready."""
         return self.is_fault or self.is_unready or self.served < self.asked
 
     def told(self):
@@ -78,7 +78,7 @@ class Program:
         return [*self.ways, *(["--still"] if is_still else []), "--prologue", case_name, "--seed", seed]
 
     def run(self, case, seed, is_still, most, steps=None):
-        """steps: others than the case's own, on a core with two CPUs."""
+        """steps: other steps than the case's own, on a core with two CPUs."""
         self.number += 1
         return Run(self, os.path.join(self.room, str(self.number)), case, seed, is_still, most, steps)
 
@@ -116,7 +116,7 @@ class Run:
             os.close(it)
 
     def is_over(self):
-        """Ends one that has taken too long, or that writes and writes."""
+        """Ends a run that has taken too long, or that writes without end."""
         if self.process.poll() is not None:
             return True
         self.is_hung = time.monotonic() - self.began > self.program.seconds
@@ -136,7 +136,7 @@ class Run:
             return b""
 
     def gather(self):
-        """Takes in what the run left, and removes its folder."""
+        """Takes in what the run left, and removes the run's folder."""
         self.seconds, self.status = time.monotonic() - self.began, self.process.returncode
         out = self.read("out")
         self.err = self.read("err").decode(errors="replace").strip()
@@ -154,7 +154,7 @@ class Run:
         shutil.rmtree(self.folder, ignore_errors=True)
 
     def transcript(self):
-        """The fields of each line, where the first is as in the list of requests."""
+        """The fields of each line, in which the first is as in the list of requests."""
         texts = self.read("record").decode(errors="replace").split("\nrngtranscript 1\n")[1:]
         for number, text in enumerate(texts, 1):
             record = f"{number}:" if number > 1 else ""
@@ -162,7 +162,7 @@ class Run:
                 yield [record + line.split(" ")[0], *line.split(" ")[1:]]
 
     def own_fault(self):
-        """What rng-under itself said where it failed or ended the program, or nothing."""
+        """What rng-under itself said if it failed or ended the program, or nothing."""
         said = [line[len("rng-under: "):] for line in self.err.splitlines() if line.startswith("rng-under: ")]
         return said[-1] if said and self.status == OWN else ""
 
@@ -170,7 +170,7 @@ class Run:
 # ---- Side by side ------------------------------------------------------------------------------------------------
 
 def end_with_parent():
-    """In a new process: it is killed if the sweep is, and its supervisor ends what it ran."""
+    """In the new process: it is killed if the sweep is, and its supervisor ends what it ran."""
     ctypes.CDLL(None).prctl(PR_SET_PDEATHSIG, signal.SIGKILL, 0, 0, 0)
 
 
@@ -192,7 +192,8 @@ def children():
 
 
 class Course:
-    """A generator that yields lists of runs to be made, and is sent them when they are over. It returns a result."""
+    """A generator that yields lists of runs to make, and is sent them when they are over. Finally it returns a
+    result."""
 
     def __init__(self, steps):
         self.steps, self.runs, self.result, self.is_done = steps, [], None, False
@@ -242,7 +243,7 @@ class Lanes:
             self.running.append(run)
 
     def wait(self):
-        """Until one run at least is over."""
+        """Waits until at least one run is over."""
         while self.running:
             over = [it for it in self.running if it.is_over()]
             self.running = [it for it in self.running if it not in over]
@@ -252,7 +253,7 @@ class Lanes:
             time.sleep(0.005)
 
     def end_orphans(self):
-        """What a run left whose rng-under was killed has become a child of this process."""
+        """If a run's rng-under was killed, the processes that the run left have become children of this process."""
         known = {it.process.pid for it in self.running}
         for _ in range(1000):
             orphans = [it for it in children() if it not in known]

@@ -1,6 +1,6 @@
-"""What a case of rng-under --sweep says of a program: a verdict, by what its runs did and wrote.
+"""The verdict that a case of rng-under --sweep gives on a program, by what the program's runs did and wrote.
 
-Each case runs with two seeds. Where less was served than without the case, or bytes of a core that was not ready were,
+Each case runs with two seeds. If fewer bytes were served than without the case, or bytes of a core that was not ready,
 further runs find out whether the output depends on those bytes. Such a run changes the bytes of one request and no
 other, in a way that a kernel can: the request is served on another CPU, and another process reads in its place.
 """
@@ -14,7 +14,7 @@ WELL, REFUSES, LESS, ASKS_ON, HANGS, CRASH, WITHOUT, UNREADY, FIXED = ORDER = (
     "WELL", "REFUSES", "LESS", "ASKS-ON", "HANGS", "CRASH", "WITHOUT", "UNREADY", "FIXED")
 FAILED = "FAILED"  # no verdict: the tool's own fault
 SEEDS = ("1", "2")
-WEIGHED = 16  # requests of a run whose bytes are looked for in the output
+WEIGHED = 16  # for so many requests of a run, the output is searched for their bytes
 TAIL = 50
 
 
@@ -23,25 +23,25 @@ def is_bad(word):
 
 
 class Finding:
-    """A case's verdict, why, the requests that it speaks of, and the runs with the two seeds."""
+    """A case's verdict, the reason, the requests that it is about, and the runs with the two seeds."""
 
     def __init__(self, case, word, why, runs, point=0):
         self.case, self.word, self.why, self.runs, self.point = case, word, why, runs, point
 
     def request(self):
-        """The number of the request and what it met; of none: 0 and nothing."""
+        """The number of the request and what happened at it; 0 and nothing if there is none."""
         rows = self.runs[0].requests
         at = self.point or self.case.point
         return (at, rows[at - 1].told()) if 0 < at <= len(rows) else (0, "")
 
 
 class Base:
-    """The program with nothing done to it: a core that is ready, two seeds, and one of them once more."""
+    """The runs of the undisturbed program: a core that is ready, two seeds, and one of them once more."""
 
     def __init__(self, one, two, again):
         served = [it.served for it in (one, two, again)]
         self.one, self.requests, self.served = one, one.requests, min(served)
-        self.is_steady = min(served) == max(served)  # else fewer bytes of another run say nothing
+        self.is_steady = min(served) == max(served)  # otherwise fewer bytes in another run mean nothing
         self.is_still = one.is_still
         self.depends, self.is_repeatable = one.digest != two.digest, one.digest == again.digest
         self.weight = None
@@ -75,13 +75,13 @@ def first_odd(run):
 
 
 def waits(run):
-    """Whether it calls again and again what would wait in the kernel."""
+    """Whether the program calls again and again what would wait in the kernel."""
     tail = run.requests[-TAIL:]
     return len(tail) == TAIL and all(it.is_interrupted_wait() for it in tail)
 
 
 def by_its_end(run):
-    """A verdict and why, or None where the program ended with status 0."""
+    """A verdict and the reason, or None if the program ended with status 0."""
     if run.is_flood:
         return HANGS, "it wrote more than 64 MiB"
     if run.is_hung:
@@ -117,12 +117,13 @@ def worse(ends):
 # ---- Which bytes were used ---------------------------------------------------------------------------------------
 
 def other_bytes_at(steps, point):
-    """The same, but that request `point` gets other bytes: those of CPU 1, while CPU 0 serves another process."""
+    """The same run, but request `point` gets other bytes: those of CPU 1, while CPU 0 serves another process."""
     return [*steps, (point - 1, "uread 1"), (point - 1, "on 1"), (point, "on 0")]
 
 
 def other_early_bytes(steps):
-    """The same, but that another process has read one byte of the early core before. A ready core's bytes stay."""
+    """The same run, but before it another process has read one byte of the early core. A ready core's bytes stay the
+    same."""
     at = next(place for place, (_, line) in enumerate(steps) if line == cases.EARLY)
     return [*steps[:at + 1], (0, "uread 1"), *steps[at + 1:]]
 
@@ -132,7 +133,7 @@ def counted(run):
 
 
 def weight_of(case, one, compares, run_of):
-    """How many of the bytes that a run was served its output depends on; where that does not show, all."""
+    """How many of the bytes that a run was served its output depends on; all, if this does not show."""
     served = [at for at, it in enumerate(one.requests, 1) if it.served and not it.is_unready]
     if not compares or len(served) > WEIGHED:
         return counted(one)
@@ -142,7 +143,7 @@ def weight_of(case, one, compares, run_of):
 
 
 def uses_unready(case, one, two, compares, run_of):
-    """Why bytes of a core that was not ready were used, or nothing where they were not."""
+    """The reason why bytes of a core that was not ready were used, or nothing if they were not."""
     what = f"the output depends on bytes of an unready core, {one.unready} of {one.served}"
     if not compares:
         if not sum(it.served for it in one.requests if it.is_unready and not it.is_mallocs()):
@@ -167,7 +168,7 @@ def judged(case, base, program, is_still=True):
     runs = (one, two)
     end = worse([by_its_end(one), by_its_end(two)])
     if end and end[0] in (HANGS, ASKS_ON) and is_still:
-        # Held still, a clock may be what it waits for.
+        # If time is held still, a clock may be what it waits for.
         return (yield from judged(case, base, program, is_still=False))
     if end:
         return Finding(case, *end, runs, first_odd(one))
@@ -181,7 +182,7 @@ def judged(case, base, program, is_still=True):
 
 
 def judged_by_bytes(case, base, runs, run_of):
-    """Where fewer bytes were served, or such of a core that was not ready."""
+    """The case in which fewer bytes were served, or bytes of a core that was not ready."""
     one, two = runs
     again, = yield [run_of(case, SEEDS[0])]
     compares = base.compares() and again.digest == one.digest
@@ -204,7 +205,7 @@ def judged_by_bytes(case, base, runs, run_of):
 
 
 def tried(program):
-    """The steps to a Base, and what hinders one: with clock and process numbers held still, and else without."""
+    """The steps to a Base, or to what prevents one: with clock and process numbers held still, and else without."""
     for is_still in (True, False):
         runs = yield [program.run(cases.READY_CASE, seed, is_still, 65535) for seed in (*SEEDS, SEEDS[0])]
         end = worse([by_its_end(it) for it in runs])

@@ -1,4 +1,4 @@
--- Keys and rests of batches that are held after beginnings of a book's lists were not used in these beginnings.
+-- A book's lists are cut to beginnings. No byte of a key or rest that is held after these beginnings was used in them.
 use Rattle.std.proofs.Common.{◌≡◌, ℕ, ◌+◌, ◌-◌, ◌*◌, ◌++◌, List, [], ◌∷◌, length, Option, Some, None, inl, inr, refl, sym, subst, ap, ◌∙◌, arith}
 use Rattle.std.specs.Prelude.{Bool, true, false, slice_get, option_and_then}
 use Rattle.std.specs.List.{fold}
@@ -37,7 +37,8 @@ lawful_front {S} {E} May step s whole part begins lawful =
     subst P (take-append_seam part begins.0)
     (lawful_take May step s (part ++ begins.0) (length part) (subst P begins.1 lawful))
 
--- if an entry of a beginning has a name, it has this name in the whole list
+-- if `of` gives a name for the entry at a place of a beginning, `of` gives the same name for this place of the whole
+-- list
 named_front : {A B : Type 0} (of : A → Option B) (whole part : List A) (i : ℕ) (b : B) → BeginsWith whole part →
     option_and_then of (slice_get part i) ≡ Some b → option_and_then of (slice_get whole i) ≡ Some b
 named_front of whole part i b begins is =
@@ -54,7 +55,7 @@ used_front uses_at step s (e ∷ es) fs k q h =
           (used_front uses_at step (step s e) es fs k q b)
     ]
 
--- the names and uses of a CPU do not depend on the base's list, which only gives generations
+-- the names and uses of a CPU do not depend on the base's list; that list gives the CPU only generations
 module _ (base other : List BaseEntry) (c : ℕ) where
   same_names : (g : ℕ) (s : CpuState) (es : List CpuEntry) →
       fold (cpu_step base c) (record s { generation = g }) es
@@ -115,7 +116,7 @@ module _ (whole part : Lists) (lanes : ForwardLawful whole) (states : LawfulStat
         ends = begins.ends caller state;
       })
 
-  -- a key that the base has had is one of its own keys
+  -- a key that the base has had is one of the base's own keys
   base_own : (place roots : ℕ) (k : KeyName) → base_side.IsOld place roots k → Own whole base_key k
   base_own place roots (Root r) old = omega arith
   base_own place roots (Base i) old = omega arith
@@ -157,14 +158,14 @@ module _ (whole part : Lists) (lanes : ForwardLawful whole) (states : LawfulStat
     is = t.is;
   })
 
-  -- a use of a CPU is one in the walk along its list
+  -- a CPU's uses in `part` stay uses if the CPU's list is replayed over the base's whole list
   walk_used : (c : ℕ) (k : KeyName) (q : ℕ) → IsUsed (cpu_uses part c) k q →
       IsUsed (uses_from (cpu_uses_at c (is_rekeyed part c)) (cpu_step whole.base c) cpu_start (cpu_list part c)) k q
   walk_used c k q used =
       let P : List Use → Type 0 = λ us. IsUsed us k q in
       subst P (same_uses part.base whole.base c (is_rekeyed part c) 0 cpu_start (cpu_list part c)) used
 
-  -- each key that a holder uses is one of its own
+  -- each key that a holder uses is one of the holder's own keys
   own_used : (h : KeyHolder) (k : KeyName) (q : ℕ) → IsUsed (uses_of part h) k q → Own whole h k
   own_used base_key k q used =
       let P : List BaseEntry → Type 0 = λ es. IsUsed (uses_from base_uses_at base_step base_start es) k q in
@@ -178,7 +179,7 @@ module _ (whole part : Lists) (lanes : ForwardLawful whole) (states : LawfulStat
     | inr (inr l) ↦ state_own caller state k l
   ]
 
-  -- this byte of a holder's own key was not used by the holder
+  -- `k` is one of the holder's own keys, and the holder did not use byte `q` of `k`
   record Unused (h : KeyHolder) (k : KeyName) (q : ℕ) : Type 0 where
     own : Own whole h k
     unused : IsUsed (uses_of part h) k q → ⊥
@@ -235,7 +236,7 @@ module _ (whole part : Lists) (lanes : ForwardLawful whole) (states : LawfulStat
         unused = λ used. (state_walk caller state).apart k q used (inr (inl b));
       }
 
-  -- if a holder did not use a byte of its own key, no other holder did
+  -- if a holder did not use a byte of its own key, no holder used this byte
   apart : (h : KeyHolder) (k : KeyName) (q : ℕ) → Unused h k q → IsUsed (uses part) k q → ⊥
   apart h k q ok used =
       let by = used_by part k q used in

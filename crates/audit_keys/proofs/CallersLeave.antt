@@ -1,4 +1,4 @@
--- A caller's calls leave the same lists as each of their meanings.
+-- The law `CallsLeave`: whatever meanings a caller's calls have, `lists_left` gives the lists of these meanings.
 use Rattle.std.proofs.Common.{◌≡◌, ℕ, zero, suc, ◌<◌, ◌≤◌, Bool, true, false, List, [], ◌∷◌, ◌++◌, map, refl, sym, subst, ap, ◌∙◌, arith, length, replicate}
 use Rattle.std.specs.Prelude.{◌==◌, if◌then◌else◌, slice_get, slice_set, unwrap_or, nat_lt}
 use Rattle.std.proofs.lemmas.Bool.Decides.{nat_tests}
@@ -9,7 +9,7 @@ use Rattle.key_names.specs.declared.events.Event.{Event}
 use Rattle.key_names.specs.declared.events.Event.TheVariants.{Drop, State}
 use Rattle.key_names.specs.Lanes.Book.{Lists}
 use Rattle.key_names.specs.Callers.Calls.{Setting, Call, alone, vread_call, unbound, ending}
-use Rattle.key_names.specs.Callers.Deeds.{deeds_of}
+use Rattle.key_names.specs.Callers.Effects.{effects_of}
 use Rattle.key_names.specs.Transcripts.SeenLine.{SeenLine}
 use Rattle.key_names.specs.Kernel.VgetrandomState.{VgetrandomState, wiped_state}
 use Rattle.key_names.specs.Callers.Meaning.{CallerState, caller_start, CallMeaning, current_state, Means, LineMeaning, AloneMeans}
@@ -25,47 +25,47 @@ use Rattle.audit_keys.proofs.VreadsLeave.{vread_leaves}
 abbrev pub outline_at : Outlines → ℕ → Outline
 outline_at o k = unwrap_or (slice_get o.each k) wiped_outline
 
--- each state has its outline
-pub record Stands (o : Outlines) (c : CallerState) : Type 0 where
+-- `o` has the outline of each of the caller's states, and the number of the current state
+pub record Conforms (o : Outlines) (c : CallerState) : Type 0 where
   pub count : length o.each ≡ 16
   pub states : length c.states ≡ 16
   pub current : o.current ≡ c.current
   pub each : (k : ℕ) → k < 16 → IsBetweenCalls (outline_at o k) (state_at c k)
 
--- after a call the outlines still match the states, and the call left the entries of its meaning
+-- after a call the outlines match the states, and the call left the entries of its meaning
 pub record Goes (o : Outlines) (call : Call) (m : CallMeaning) : Type 0 where
-  pub stands : Stands (outlines_after o call) m.after
+  pub conforms : Conforms (outlines_after o call) m.after
   pub entries : entries_left o call ≡ m.entries
 
-stands_as : {l l' : Outline} {x x' : VgetrandomState} → l ≡ l' → x ≡ x' → IsBetweenCalls l' x' → IsBetweenCalls l x
-stands_as {l = l} {l' = l'} {x = x} {x' = x'} p q is =
+conforms_as : {l l' : Outline} {x x' : VgetrandomState} → l ≡ l' → x ≡ x' → IsBetweenCalls l' x' → IsBetweenCalls l x
+conforms_as {l = l} {l' = l'} {x = x} {x' = x'} p q is =
     let P : Outline → Type 0 = λ y. IsBetweenCalls y x in
     let Q : VgetrandomState → Type 0 = λ y. IsBetweenCalls l' y in subst P (sym p) (subst Q (sym q) is)
 
-wiped_stands : IsBetweenCalls wiped_outline wiped_state
-wiped_stands = record { outline = record { generation = refl; served = refl }; idle = refl }
+wiped_conforms : IsBetweenCalls wiped_outline wiped_state
+wiped_conforms = record { outline = record { generation = refl; served = refl }; idle = refl }
 
--- a call that changes no state leaves the outlines matching
-same_stands : (o p : Outlines) (c d : CallerState) → Stands o c → p.each ≡ o.each → d.states ≡ c.states →
-    p.current ≡ d.current → Stands p d
-same_stands o p c d st outlines states current = record {
+-- if a call changes no state and no outline, the outlines still match the states
+same_conforms : (o p : Outlines) (c d : CallerState) → Conforms o c → p.each ≡ o.each → d.states ≡ c.states →
+    p.current ≡ d.current → Conforms p d
+same_conforms o p c d st outlines states current = record {
   count = ap length outlines ∙ st.count;
   states = ap length states ∙ st.states;
   current = current;
   each = λ k below.
-      stands_as (ap (λ x. unwrap_or (slice_get x k) wiped_outline) outlines)
+      conforms_as (ap (λ x. unwrap_or (slice_get x k) wiped_outline) outlines)
       (ap (λ x. unwrap_or (slice_get x k) wiped_state) states) (st.each k below);
 }
 
--- if a call changes the current state and its outline alike, the outlines still match
-set_stands : (o : Outlines) (c d : CallerState) (new : Outline) (x : VgetrandomState) → Stands o c →
+-- if a call gives the current state and its outline new values that match, all outlines still match their states
+set_conforms : (o : Outlines) (c d : CallerState) (new : Outline) (x : VgetrandomState) → Conforms o c →
     d.states ≡ slice_set c.states c.current x → d.current ≡ c.current → IsBetweenCalls new x →
-    Stands (with_outline o new) d
-set_stands o c d new x st states current is = record {
+    Conforms (with_outline o new) d
+set_conforms o c d new x st states current is = record {
   count = length_set o.each o.current new ∙ st.count;
   states = ap length states ∙ length_set c.states c.current x ∙ st.states;
   current = st.current ∙ sym current;
-  each = λ k below. stand k below (o.current == k) refl;
+  each = λ k below. conform k below (o.current == k) refl;
 }
   where
     new_state : (k : ℕ) → o.current ≡ k → k < 16 → state_at d k ≡ x
@@ -79,21 +79,21 @@ set_stands o c d new x st states current is = record {
         ap (λ xs. unwrap_or (slice_get xs k) wiped_state) states
         ∙ ap (λ o. unwrap_or o wiped_state) (set_other c.states c.current k x (λ e. ne (st.current ∙ e)))
 
-    stand : (k : ℕ) → k < 16 → (b : Bool) → (o.current == k) ≡ b →
+    conform : (k : ℕ) → k < 16 → (b : Bool) → (o.current == k) ≡ b →
         IsBetweenCalls (outline_at (with_outline o new) k) (state_at d k)
-    stand k below true e =
+    conform k below true e =
         let same : o.current ≡ k = eqb-true o.current k e in
-        stands_as (ap (λ i. unwrap_or (slice_get (slice_set o.each i new) k) wiped_outline) same
+        conforms_as (ap (λ i. unwrap_or (slice_get (slice_set o.each i new) k) wiped_outline) same
         ∙ ap (λ o. unwrap_or o wiped_outline) (set_here o.each k new (omega (arith, st.count))))
         (new_state k same below) is
-    stand k below false e =
+    conform k below false e =
         let ne : o.current ≡ k → ⊥ = λ p. (let yes : (o.current == k) ≡ true = eq-eqb o.current k p in absurd cc) in
-        stands_as (ap (λ o. unwrap_or o wiped_outline) (set_other o.each o.current k new ne)) (old_state k ne)
+        conforms_as (ap (λ o. unwrap_or o wiped_outline) (set_other o.each o.current k new ne)) (old_state k ne)
         (st.each k below)
 
--- the outline of the current state matches it, even if the state's number is too large
-current_stands : (o : Outlines) (c : CallerState) → Stands o c → IsBetweenCalls (current_outline o) (current_state c)
-current_stands o c st = go (nat_lt o.current 16) refl
+-- the outline of the current state matches this state, even if the state's number is too large
+current_conforms : (o : Outlines) (c : CallerState) → Conforms o c → IsBetweenCalls (current_outline o) (current_state c)
+current_conforms o c st = go (nat_lt o.current 16) refl
   where
     go : (b : Bool) → nat_lt o.current 16 ≡ b → IsBetweenCalls (current_outline o) (current_state c)
     go true e =
@@ -102,71 +102,71 @@ current_stands o c st = go (nat_lt o.current 16) refl
         subst P st.current (st.each o.current below)
     go false e =
         let above : 16 ≤ o.current = grind (arith, nat_tests) in
-        stands_as {l = current_outline o} {l' = wiped_outline} {x = current_state c} {x' = wiped_state}
+        conforms_as {l = current_outline o} {l' = wiped_outline} {x = current_state c} {x' = wiped_state}
         (ap (λ o. unwrap_or o wiped_outline) (slice_get_past o.each o.current (omega (arith, st.count))))
         (ap (λ o. unwrap_or o wiped_state)
-        (slice_get_past c.states c.current (omega (arith, st.states, st.current)))) wiped_stands
+        (slice_get_past c.states c.current (omega (arith, st.states, st.current)))) wiped_conforms
 
 -- ---- one call
 
-alone_goes : (o : Outlines) (event : Event) (m : CallMeaning) → Stands o m.before → AloneMeans event m →
-    Stands (outlines_after_event o event) m.after × (entries_of_event event ≡ m.entries)
+alone_goes : (o : Outlines) (event : Event) (m : CallMeaning) → Conforms o m.before → AloneMeans event m →
+    Conforms (outlines_after_event o event) m.after × (entries_of_event event ≡ m.entries)
 alone_goes o Drop m st means = (
-  set_stands o m.before m.after wiped_outline wiped_state st (ap (λ (c : CallerState). c.states) means.after)
-      (ap (λ (c : CallerState). c.current) means.after) wiped_stands,
+  set_conforms o m.before m.after wiped_outline wiped_state st (ap (λ (c : CallerState). c.states) means.after)
+      (ap (λ (c : CallerState). c.current) means.after) wiped_conforms,
   sym means.entries,
 )
 alone_goes o (State number) m st means = (
-  same_stands o _ m.before m.after st refl (ap (λ (c : CallerState). c.states) means.after)
+  same_conforms o _ m.before m.after st refl (ap (λ (c : CallerState). c.states) means.after)
       (sym (ap (λ (c : CallerState). c.current) means.after)),
   sym means.entries,
 )
 alone_goes o event m st means = (
-  same_stands o _ m.before m.after st refl (ap (λ (c : CallerState). c.states) means.after)
+  same_conforms o _ m.before m.after st refl (ap (λ (c : CallerState). c.states) means.after)
       (st.current ∙ sym (ap (λ (c : CallerState). c.current) means.after)),
   sym means.entries,
 )
 
-abbrev pub HasDeeds : Lists → SeenLine → LineMeaning → Type 0
-HasDeeds lists line m = deeds_of lists line.steps ≡ m.deeds
+abbrev pub HasEffects : Lists → SeenLine → LineMeaning → Type 0
+HasEffects lists line m = effects_of lists line.steps ≡ m.effects
 
-pub call_goes : (lists : Lists) (o : Outlines) (call : Call) (m : CallMeaning) → Stands o m.before → Means call m →
-    EachOfCall (HasDeeds lists) call m → Goes o call m
-call_goes lists o (alone event line) m st means deeds =
-    let goes = alone_goes o event m st means in record { stands = goes.0; entries = goes.1 }
-call_goes lists o (vread_call n flags line acts) m st means deeds =
-    let v = vread_leaves lists n flags acts line.steps m (nothing_left (current_outline o)) means deeds.0
-    (current_stands o m.before st) in
+pub call_goes : (lists : Lists) (o : Outlines) (call : Call) (m : CallMeaning) → Conforms o m.before → Means call m →
+    EachOfCall (HasEffects lists) call m → Goes o call m
+call_goes lists o (alone event line) m st means effects =
+    let goes = alone_goes o event m st means in record { conforms = goes.0; entries = goes.1 }
+call_goes lists o (vread_call n flags line acts) m st means effects =
+    let v = vread_leaves lists n flags acts line.steps m (nothing_left (current_outline o)) means effects.0
+    (current_conforms o m.before st) in
     record {
-      stands = set_stands o m.before m.after _ v.state st (ap (λ (c : CallerState). c.states) v.after)
-          (ap (λ (c : CallerState). c.current) v.after) v.stands;
+      conforms = set_conforms o m.before m.after _ v.state st (ap (λ (c : CallerState). c.states) v.after)
+          (ap (λ (c : CallerState). c.current) v.after) v.conforms;
       entries = v.entries;
     }
-call_goes lists o (unbound bound) m st means deeds = record {
-  stands = same_stands o o m.before m.after st refl (ap (λ (c : CallerState). c.states) means.after)
+call_goes lists o (unbound bound) m st means effects = record {
+  conforms = same_conforms o o m.before m.after st refl (ap (λ (c : CallerState). c.states) means.after)
       (st.current ∙ sym (ap (λ (c : CallerState). c.current) means.after));
   entries = sym means.entries;
 }
-call_goes lists o (ending line) m st means deeds = record {
-  stands = same_stands o o m.before m.after st refl (ap (λ (c : CallerState). c.states) means.after)
+call_goes lists o (ending line) m st means effects = record {
+  conforms = same_conforms o o m.before m.after st refl (ap (λ (c : CallerState). c.states) means.after)
       (st.current ∙ sym (ap (λ (c : CallerState). c.current) means.after));
   entries = sym means.entries;
 }
 
 -- ---- one call after another
 
-pub stands_at : (o : Outlines) (c d : CallerState) → c ≡ d → Stands o c → Stands o d
-stands_at o c d e st = let P : CallerState → Type 0 = λ x. Stands o x in subst P e st
+pub conforms_at : (o : Outlines) (c d : CallerState) → c ≡ d → Conforms o c → Conforms o d
+conforms_at o c d e st = let P : CallerState → Type 0 = λ x. Conforms o x in subst P e st
 
-calls_go : (lists : Lists) (o : Outlines) (c : CallerState) (calls : List Call) (ms : List CallMeaning) → Stands o c →
-    CallsMean c calls ms → EachLine (HasDeeds lists) calls ms → (k : ℕ) → list_left k o calls ≡ entries_of_state k ms
-calls_go lists o c [] [] st means deeds k = refl
-calls_go lists o c [] (m ∷ ms) st means deeds k = absurd means
-calls_go lists o c (call ∷ calls) [] st means deeds k = absurd means
-calls_go lists o c (call ∷ calls) (m ∷ ms) st means deeds k =
-    let here : Stands o m.before = stands_at o c m.before (sym means.0) st in
-    let one : Goes o call m = call_goes lists o call m here means.1 deeds.0 in
-    let more = calls_go lists (outlines_after o call) m.after calls ms one.stands means.2 deeds.1 k in
+calls_go : (lists : Lists) (o : Outlines) (c : CallerState) (calls : List Call) (ms : List CallMeaning) → Conforms o c →
+    CallsMean c calls ms → EachLine (HasEffects lists) calls ms → (k : ℕ) → list_left k o calls ≡ entries_of_state k ms
+calls_go lists o c [] [] st means effects k = refl
+calls_go lists o c [] (m ∷ ms) st means effects k = absurd means
+calls_go lists o c (call ∷ calls) [] st means effects k = absurd means
+calls_go lists o c (call ∷ calls) (m ∷ ms) st means effects k =
+    let here : Conforms o m.before = conforms_at o c m.before (sym means.0) st in
+    let one : Goes o call m = call_goes lists o call m here means.1 effects.0 in
+    let more = calls_go lists (outlines_after o call) m.after calls ms one.conforms means.2 effects.1 k in
     let first : left_in k o call ≡ (if m.before.current == k then m.entries else []) =
     ap (λ i. if i == k then entries_left o call else []) here.current
     ∙ ap (λ es. if m.before.current == k then es else []) one.entries in
@@ -175,12 +175,12 @@ calls_go lists o c (call ∷ calls) (m ∷ ms) st means deeds k =
 
 -- ---- the lists
 
-pub at_start : (setting : Setting) → Stands first_outlines (caller_start setting)
+pub at_start : (setting : Setting) → Conforms first_outlines (caller_start setting)
 at_start setting = record {
   count = refl;
   states = refl;
   current = refl;
-  each = λ k below. stands_as (replicated 16 k wiped_outline) (replicated 16 k wiped_state) wiped_stands;
+  each = λ k below. conforms_as (replicated 16 k wiped_outline) (replicated 16 k wiped_state) wiped_conforms;
 }
   where
     replicated : {A : Type 0} (n k : ℕ) (x : A) → unwrap_or (slice_get (replicate n x) k) x ≡ x
@@ -195,7 +195,7 @@ map_same f g (x ∷ xs) same = ap (λ y. y ∷ map f xs) (same x) ∙ ap (λ ys.
 pub calls_leave : CallsLeave
 calls_leave lists setting calls ms means =
     map_same (λ k. list_left k first_outlines calls) (λ k. entries_of_state k ms) (range_with_len 0 16)
-    (calls_go lists first_outlines (caller_start setting) calls ms (at_start setting) means.follows means.deeds)
+    (calls_go lists first_outlines (caller_start setting) calls ms (at_start setting) means.follows means.effects)
 
 pub all_leave : (lists : Lists) (settings : ℕ → Setting) (c : ℕ) (callers : List (List Call))
     (ms : List (List CallMeaning)) →

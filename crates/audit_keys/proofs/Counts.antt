@@ -1,4 +1,5 @@
--- There are at most as many refills and served integers as entries before them.
+-- A list has at most one refill, or one integer from a batch, for each entry. So a count of refills or of integers
+-- overflows 64 bits only if the list has 2^64 entries.
 use Rattle.std.proofs.Common.{◌≤◌, ◌+◌, ◌^◌, ℕ, suc, Bool, true, false, List, [], ◌∷◌, Option, Some, None, ap, arith}
 use Rattle.std.specs.Prelude.{unwrap_or, ◌==◌, if◌then◌else◌, Result, Ok, Err, OnErr}
 use Rattle.std.specs.List.{fold}
@@ -11,7 +12,7 @@ use Rattle.key_names.specs.Kernel.Batches.{Fill, one_more_served}
 use Rattle.key_names.specs.Lanes.CpuList.{CpuState, cpu_step, cpu_key_in_use}
 use Rattle.key_names.specs.Lanes.StateList.{NamedState, state_step}
 use Rattle.audit_keys.specs.declared.cpu_uses.CpuKeys.{CpuKeys}
-use Rattle.audit_keys.specs.Fills.{fill_of, count_of, CpuStands, IsCountedOut}
+use Rattle.audit_keys.specs.Fills.{fill_of, count_of, CpuConforms, IsCountedOut}
 use Rattle.audit_keys.specs.StateKeys.{IsRefilledOut}
 
 pub refills_below : (caller state : ℕ) (s : NamedState) (es : List VEntry) → s.refills ≤ s.place →
@@ -70,20 +71,20 @@ pub counts_below : (base : List BaseEntry) (c : ℕ) (s : CpuState) (es : List C
 counts_below base c s [] h = h
 counts_below base c s (e ∷ es) h = counts_below base c (cpu_step base c s e) es (step_counts base c s e h)
 
-pub counted_out : (s : CpuState) (place : ℕ) (keys : CpuKeys) (e : CpuEntry) → CpuStands s place keys →
+pub counted_out : (s : CpuState) (place : ℕ) (keys : CpuKeys) (e : CpuEntry) → CpuConforms s place keys →
     AreCounted s.place s.fills → IsCountedOut keys.fills e → 2 ^ 64 ≤ place + 1
-counted_out s place keys (Read look refill taken) stands counts out = absurd out
-counted_out s place keys (Int look refill width true) stands counts out = absurd out
-counted_out s place keys (Int look refill width false) stands counts out =
-    let is = ap (λ o. count_of (unwrap_or o None)) (stands.fills width out.0) in
+counted_out s place keys (Read look refill taken) conforms counts out = absurd out
+counted_out s place keys (Int look refill width true) conforms counts out = absurd out
+counted_out s place keys (Int look refill width false) conforms counts out =
+    let is = ap (λ o. count_of (unwrap_or o None)) (conforms.fills width out.0) in
     let low = counts width in
-    let same = stands.place_is in
+    let same = conforms.place_is in
     let high = out.1 in
     omega (arith, is, low, same, high)
-counted_out s place keys (Irq v1 v2 now) stands counts out = absurd out
-counted_out s place keys (Dump now) stands counts out = absurd out
-counted_out s place keys Prepare stands counts out = absurd out
-counted_out s place keys Online stands counts out = absurd out
+counted_out s place keys (Irq v1 v2 now) conforms counts out = absurd out
+counted_out s place keys (Dump now) conforms counts out = absurd out
+counted_out s place keys Prepare conforms counts out = absurd out
+counted_out s place keys Online conforms counts out = absurd out
 
 pub on_err : {A E : Type 0} (r : Result A E) (P : Type 0) → P → OnErr r P
 on_err (Ok x) P h = tt

@@ -1,4 +1,5 @@
--- A walk along a lane's visits up to a stamp: one more visit is kept, or it is not.
+-- The code goes along a lane's visits and keeps the data of those up to a stamp. The kept data are `list_to`, and their
+-- entries are those of `visits_to`.
 use Rattle.std.proofs.Common.{◌≡◌, ◌+◌, ℕ, zero, suc, Bool, true, false, List, [], ◌∷◌, ◌++◌, take, refl, sym, ap, ◌∙◌, append-nil, arith}
 use Rattle.std.specs.Prelude.{Some, slice_get, map, nat_le, if◌then◌else◌}
 use Rattle.std.specs.Global.{Vec}
@@ -8,11 +9,11 @@ use Rattle.judge_log.specs.declared.kept.KeptCpu.{KeptCpu}
 use Rattle.audit_keys.specs.KeptEntries.{cpu_entries}
 use Rattle.audit_keys.specs.Moments.{visits_to}
 use Rattle.audit_keys.specs.declared.moments.Moment.{Moment}
-use Rattle.audit_keys.specs.Told.{cpu_lists}
+use Rattle.audit_keys.specs.Listed.{cpu_lists}
 use Rattle.audit_keys.specs.Cut.{is_by, lane_moments, list_to, moment_lists, stamps_of, visit_stamps}
 
 module _ {K : Type 0} (stamp : ℕ) where
-  -- the visit at a place, if its stamp is not above the cut
+  -- the kept entry `k` if `b` is true (the visit's stamp is at most `stamp`), and otherwise nothing
   abbrev kept_by : Bool → K → List K
   kept_by b k = if b then k ∷ [] else []
 
@@ -58,7 +59,7 @@ module _ {K : Type 0} (stamp : ℕ) where
       cut_more moments kept place k cut cut' b is so by
       (more ∙ sym (append-nil cut) ∙ ap (λ t. cut ++ kept_by t k) (sym e))
 
--- if visits are cut at a stamp, their kept entries are those of the visits up to the stamp
+-- if kept entries are cut at a stamp by their moments, what is left are the entries of the visits up to the stamp
 pub visits_kept : {K E : Type 0} (entry : K → E) (stamp : ℕ) (kept : List K) (moments : List Moment)
     (visits : List (Visit E)) → map entry kept ≡ entries_of visits → stamps_of moments ≡ visit_stamps visits →
     map entry (list_to stamp moments kept) ≡ entries_of (visits_to stamp visits)
@@ -85,7 +86,7 @@ moments_at [] i = refl
 moments_at (lane ∷ cpus) zero = refl
 moments_at (lane ∷ cpus) (suc i) = moments_at cpus i
 
--- the visits of one more CPU are cut
+-- the cut lists of the first `i + 1` CPUs are the cut lists of the first `i` CPUs, and then the cut list of CPU `i`
 pub lane_more : (stamp : ℕ) (lanes : List (Vec KeptCpu)) (moments : List (List Moment))
     (cpus : List (List (Visit CpuEntry))) (i : ℕ) (lane cut : Vec KeptCpu) (ms : List Moment) →
     cpu_lists lanes ≡ map entries_of cpus → map stamps_of moments ≡ map visit_stamps cpus →

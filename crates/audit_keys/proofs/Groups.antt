@@ -1,4 +1,4 @@
--- The elements with one key in a list that is sorted by the key.
+-- In a list sorted by key, the elements with the same key form a range. Two partition points bound this range.
 use Rattle.std.proofs.Common.{◌≡◌, ◌≤◌, ◌<◌, ◌+◌, ◌-◌, ℕ, Bool, true, false, List, [], ◌∷◌, ◌++◌, length, take, drop, get_or, refl, sym, ap, subst, ◌∙◌, append-nil, arith}
 use Rattle.std.specs.Prelude.{All, not, ◌&&◌, filter, IsSortedByKey}
 use Rattle.std.specs.Cmp.{IsTotalOrder}
@@ -45,10 +45,10 @@ before_is_not Less e = refl
 before_is_not Equal e = cc
 before_is_not Greater e = cc
 
-behind_is_not : (a : Ordering) → is_le a ≡ false → is_eq a ≡ false
-behind_is_not Less e = cc
-behind_is_not Equal e = cc
-behind_is_not Greater e = refl
+after_is_not : (a : Ordering) → is_le a ≡ false → is_eq a ≡ false
+after_is_not Less e = cc
+after_is_not Equal e = cc
+after_is_not Greater e = refl
 
 between_is : (a : Ordering) → is_lt a ≡ false → is_le a ≡ true → is_eq a ≡ true
 between_is Less e f = cc
@@ -72,7 +72,8 @@ module _ {X K : Type 0} {R : K → K → Ordering} (o : IsTotalOrder R) (key : X
   abbrev is_at : X → Bool
   is_at x = is_eq (R (key x) k)
 
-  -- the group begins at the first element that is not before the key, and ends at the last that is not after it
+  -- the group of a key begins at the first element that is not before the key. The group ends with the last element
+  -- that is not after the key
   group_is : (xs : List X) (first count : ℕ) → first ≤ length xs →
       IsPartitionPoint (λ x. is_lt (R (key x) k) ≡ true) (λ x. is_lt (R (key x) k) ≡ false) xs first →
       IsPartitionPoint (λ x. is_le (R (key x) k) ≡ true) (λ x. is_le (R (key x) k) ≡ false) (drop first xs) count →
@@ -110,7 +111,7 @@ module _ {X K : Type 0} {R : K → K → Ordering} (o : IsTotalOrder R) (key : X
       back i d below =
           let size = length-drop count (drop first xs) in
           rw (get_or-drop count (drop first xs) i d)
-          (behind_is_not (R (key (get_or (drop first xs) (count + i) d)) k)
+          (after_is_not (R (key (get_or (drop first xs) (count + i) d)) k)
           (counts.1 (count + i) d (omega arith) (omega (arith, below, size, high))))
 
 -- the order of names
@@ -125,9 +126,9 @@ module _ {X : Type 0} (key : X → KeyName) (k : KeyName) where
   whole all first =
       take_all (length all - first) (drop first all) (let size = length-drop first all in omega (arith, size))
 
-  pub behind_parted : (all : List X) (first : ℕ) → IsSortedByKey key cmp all →
+  pub after_parted : (all : List X) (first : ℕ) → IsSortedByKey key cmp all →
       IsPartitionedBy (λ x. is_le (cmp (key x) k)) (take (length all - first) (drop first all))
-  behind_parted all first sorted = rw (whole all first) (count_parted total-law key k all first sorted)
+  after_parted all first sorted = rw (whole all first) (count_parted total-law key k all first sorted)
 
   -- the group of a name lies between two partition points
   pub named : (all : List X) (first count : ℕ) → first ≤ length all →

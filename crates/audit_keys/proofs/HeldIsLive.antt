@@ -1,4 +1,4 @@
--- The listed held keys and rests are live, and the live ones are listed.
+-- The law `HeldIsLive`: the keys and rests in `book_tells` are live, and the live keys and rests are in `book_tells`.
 use Rattle.std.proofs.Common.{◌≡◌, ◌<◌, ◌+◌, ℕ, zero, suc, Bool, true, false, List, [], ◌∷◌, ◌++◌, length, refl, sym, ap, subst, ◌⊎◌, inl, inr, arith}
 use Rattle.std.specs.Prelude.{Option, Some, None, All, Contains, nat_lt, if◌then◌else◌}
 use Rattle.std.specs.List.{flat_map, range_with_len}
@@ -18,7 +18,7 @@ use Rattle.audit_keys.specs.declared.held.HeldKey.{HeldKey}
 use Rattle.audit_keys.specs.declared.held.HeldRest.{HeldRest}
 use Rattle.audit_keys.specs.Rests.{widths}
 use Rattle.audit_keys.specs.Held.{held_key, held_rest, key_holder, batch_holder}
-use Rattle.audit_keys.specs.Told.{told_below, base_tells, cpu_tells, cpus_tell, state_tells, caller_tells, callers_tell, book_tells}
+use Rattle.audit_keys.specs.Listed.{listed_below, base_tells, cpu_tells, cpus_tell, state_tells, caller_tells, callers_tell, book_tells}
 use Rattle.audit_keys.specs.HeldIsLive.{BooksTellLive, HasByteWidth}
 
 all_of_each : {T : Type 0} (P : T → Type 0) (tells : ℕ → List T) (ns : List ℕ) → ((n : ℕ) → All P (tells n)) →
@@ -27,7 +27,7 @@ all_of_each P tells [] all = All-nil P
 all_of_each P tells (n ∷ ns) all =
     All-append P (tells n) (flat_map tells ns) (all n) (all_of_each P tells ns all)
 
--- the results of one number are among those of a range that has it
+-- the results for a range of numbers include those for each number of the range
 one_of_each : {T : Type 0} (tells : ℕ → List T) (a n j : ℕ) (x : T) → j < n → Contains (tells (a + j)) x →
     Contains (flat_map tells (range_with_len a n)) x
 one_of_each tells a zero j x below is = absurd (omega arith)
@@ -40,7 +40,7 @@ one_of_each tells a (suc n) (suc j) x below is =
     (let e : a + suc j ≡ (a + 1) + j = omega arith in subst (λ m. Contains (tells m) x) e is))
 
 one_below : {T : Type 0} (tells : ℕ → List T) (n j : ℕ) (x : T) → j < n → Contains (tells j) x →
-    Contains (told_below n tells) x
+    Contains (listed_below n tells) x
 one_below tells n j x below is =
     one_of_each tells 0 n j x below (let e : j ≡ 0 + j = omega arith in subst (λ m. Contains (tells m) x) e is)
 
@@ -49,7 +49,7 @@ one_width : {T : Type 0} (tells : ℕ → List T) (w : ℕ) (x : T) → w < 256 
 unfolding widths
 one_width tells w x below is = one_below tells 256 w x below is
 
--- if a list is not empty, its number is below the count
+-- a list at number `n` is empty, or `n` is below the number of lists
 within : {E : Type 0} (xss : List (List E)) (n : ℕ) → (list_at xss n ≡ []) ⊎ (n < length xss)
 within [] n = inl refl
 within (xs ∷ xss) zero = inr (omega arith)
@@ -76,18 +76,18 @@ module _ (lists : Lists) where
       go true = All-cons RestLive (record { holder = holder; span = span }) [] is (All-nil RestLive)
       go false = All-nil RestLive
 
-  key_told : (holder : KeyHolder) (o : Option KeyName) (key : KeyName) → o ≡ Some key →
+  key_listed : (holder : KeyHolder) (o : Option KeyName) (key : KeyName) → o ≡ Some key →
       Contains (held_key holder o) (record { holder = holder; key = key })
-  key_told holder None key is = cc
-  key_told holder (Some k) key is =
+  key_listed holder None key is = cc
+  key_listed holder (Some k) key is =
       let e : k ≡ key = cc in
       subst (λ x. Contains {X = HeldKey} (held_key holder (Some x)) (record { holder = holder; key = key })) (sym e)
       (0, omega arith, refl)
 
-  rest_told : (holder : BatchHolder) (o : Option Span) (span : Span) → 0 < span.len → o ≡ Some span →
+  rest_listed : (holder : BatchHolder) (o : Option Span) (span : Span) → 0 < span.len → o ≡ Some span →
       Contains (held_rest holder o) (record { holder = holder; span = span })
-  rest_told holder None span has is = cc
-  rest_told holder (Some s) span has is =
+  rest_listed holder None span has is = cc
+  rest_listed holder (Some s) span has is =
       let e : s ≡ span = cc in
       subst (λ x. Contains {X = HeldRest} (held_rest holder (Some x)) (record { holder = holder; span = span })) (sym e) here
     where
@@ -134,10 +134,10 @@ module _ (lists : Lists) where
   -- the results of a state are among those of all states
   one_state : {T : Type 0} (tells : ℕ → ℕ → List T) (caller state : ℕ) (x : T) → caller < length lists.callers →
       state < length (list_at lists.callers caller) → Contains (tells caller state) x →
-      Contains (told_below (length lists.callers)
-      (λ n. told_below (length (list_at lists.callers n)) (tells n))) x
+      Contains (listed_below (length lists.callers)
+      (λ n. listed_below (length (list_at lists.callers n)) (tells n))) x
   one_state tells caller state x low below is =
-      one_below (λ n. told_below (length (list_at lists.callers n)) (tells n)) (length lists.callers) caller x low
+      one_below (λ n. listed_below (length (list_at lists.callers n)) (tells n)) (length lists.callers) caller x low
       (one_below (tells caller) (length (list_at lists.callers caller)) state x below is)
 
   all_keys : (holder : KeyHolder) (key : KeyName) → live_key lists (key_holder holder) ≡ Some key →
@@ -145,13 +145,13 @@ module _ (lists : Lists) where
   all_keys Base key is =
       Contains-append_left ((base_tells lists).keys ++ (cpus_tell lists).keys) (callers_tell lists).keys _
       (Contains-append_left (base_tells lists).keys (cpus_tell lists).keys _
-      (key_told Base (live_key lists base_key) key is))
+      (key_listed Base (live_key lists base_key) key is))
   all_keys (Cpu c) key is = elim (within lists.cpus c) [
     | inl e ↦ (let s = ap (λ es. (cpu_after lists.base c es).key) e in cc)
     | inr low ↦ Contains-append_left ((base_tells lists).keys ++ (cpus_tell lists).keys) (callers_tell lists).keys _
         (Contains-append_right (base_tells lists).keys (cpus_tell lists).keys _
         (one_below (λ n. (cpu_tells lists n).keys) (length lists.cpus) c (record { holder = Cpu c; key = key }) low
-        (key_told (Cpu c) (live_key lists (cpu_key c)) key is)))
+        (key_listed (Cpu c) (live_key lists (cpu_key c)) key is)))
   ]
   all_keys (State of) key is = elim (within lists.callers of.caller) [
     | inl e ↦ (let s = ap (λ ess. (state_after of.caller of.state (list_at ess of.state)).key) e in cc)
@@ -159,7 +159,7 @@ module _ (lists : Lists) where
       | inl e ↦ (let s = ap (λ es. (state_after of.caller of.state es).key) e in cc)
       | inr below ↦ Contains-append_right ((base_tells lists).keys ++ (cpus_tell lists).keys) (callers_tell lists).keys _
           (one_state (λ caller state. (state_tells lists caller state).keys) of.caller of.state (record { holder = State of; key = key }) low below
-          (key_told (State of) (live_key lists (state_key of.caller of.state)) key is))
+          (key_listed (State of) (live_key lists (state_key of.caller of.state)) key is))
     ]
   ]
 
@@ -171,7 +171,7 @@ module _ (lists : Lists) where
     | inr low ↦ Contains-append_left (cpus_tell lists).rests (callers_tell lists).rests _
         (one_below (λ n. (cpu_tells lists n).rests) (length lists.cpus) c (record { holder = CpuBatch c w; span = span }) low
         (one_width (λ v. held_rest (CpuBatch c v) (fill_rest v ((cpu_end lists c).fills v))) w (record { holder = CpuBatch c w; span = span }) byte
-        (rest_told (CpuBatch c w) (live_rest lists (cpu_batch c w)) span has is)))
+        (rest_listed (CpuBatch c w) (live_rest lists (cpu_batch c w)) span has is)))
   ]
   all_rests (StateBatch of) span byte has is = elim (within lists.callers of.caller) [
     | inl e ↦ (let s = ap (λ ess. state_rest (state_after of.caller of.state (list_at ess of.state))) e in cc)
@@ -179,7 +179,7 @@ module _ (lists : Lists) where
       | inl e ↦ (let s = ap (λ es. state_rest (state_after of.caller of.state es)) e in cc)
       | inr below ↦ Contains-append_right (cpus_tell lists).rests (callers_tell lists).rests _
           (one_state (λ caller state. (state_tells lists caller state).rests) of.caller of.state (record { holder = StateBatch of; span = span }) low below
-          (rest_told (StateBatch of) (live_rest lists (state_batch of.caller of.state)) span has is))
+          (rest_listed (StateBatch of) (live_rest lists (state_batch of.caller of.state)) span has is))
     ]
   ]
 

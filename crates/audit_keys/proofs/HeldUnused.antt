@@ -1,4 +1,4 @@
--- The keys and rests of batches that are held in a book were not used.
+-- Each list of a book is a beginning of itself. So by the law of beginnings, held keys and rests were not used.
 use Rattle.std.proofs.Common.{[], sym}
 use Rattle.std.proofs.lemmas.List.{append-nil}
 use Rattle.key_names.specs.Lanes.Book.{Lists, lists_of, cpu_list, state_list, LawfulStates}

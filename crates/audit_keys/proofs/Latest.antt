@@ -1,4 +1,5 @@
--- The greatest of a stamp and the stamps of visits. The order of the visits does not matter.
+-- `latest_of` does not depend on the order of visits. So the code may count the vread's own visits first, and the
+-- visits of the acts after them.
 use Rattle.std.proofs.Common.{◌≡◌, ℕ, ◌≤◌, max, Bool, true, false, List, [], ◌∷◌, ◌++◌, refl, sym, ap, ◌∙◌, append_assoc, arith, take, drop}
 use Rattle.std.specs.Prelude.{if◌then◌else◌, slice_get}
 use Rattle.std.specs.Option.{option_map_or}
@@ -7,7 +8,7 @@ use Rattle.key_names.specs.declared.names.Step.TheVariants.{Look, Visit as Marke
 use Rattle.key_names.specs.declared.point.Point.{Point}
 use Rattle.key_names.specs.declared.point.Point.TheVariants.{Start, Written, Serve, End}
 use Rattle.key_names.specs.Callers.Calls.{BoundAct}
-use Rattle.key_names.specs.Callers.History.{is_mark, steps_at_point, cut_behind_visits, cut_behind_rekey, vread_steps}
+use Rattle.key_names.specs.Callers.History.{is_mark, steps_at_point, cut_after_visits, cut_after_rekey, vread_steps}
 use Rattle.key_names.specs.Kernel.Points.{is_same_point}
 use Rattle.std.proofs.lemmas.List.{take-append-drop}
 use Rattle.audit_keys.specs.Stamps.{latest_of}
@@ -34,16 +35,16 @@ latest_swaps stamp a b =
 
 -- ---- a vread
 
-visits_whole : (steps : List Step) → (cut_behind_visits steps).0 ++ (cut_behind_visits steps).1 ≡ steps
+visits_whole : (steps : List Step) → (cut_after_visits steps).0 ++ (cut_after_visits steps).1 ≡ steps
 visits_whole [] = refl
 visits_whole (Look g ∷ steps) = refl
 visits_whole (Marked mark ∷ steps) = ap (λ s. Marked mark ∷ s) (visits_whole steps)
 
-rekey_whole : (steps : List Step) → (cut_behind_rekey steps).0 ++ (cut_behind_rekey steps).1 ≡ steps
+rekey_whole : (steps : List Step) → (cut_after_rekey steps).0 ++ (cut_after_rekey steps).1 ≡ steps
 rekey_whole steps = go (option_map_or is_mark (slice_get steps 2) false)
   where
     cut : List Step × List Step
-    cut = cut_behind_visits (drop 2 steps)
+    cut = cut_after_visits (drop 2 steps)
 
     go : (b : Bool) → let parts : List Step × List Step = if b then (take 2 steps ++ cut.0, cut.1) else ([], steps) in
         parts.0 ++ parts.1 ≡ steps
@@ -51,7 +52,7 @@ rekey_whole steps = go (option_map_or is_mark (slice_get steps 2) false)
         ∙ take-append-drop 2 steps
     go false = refl
 
--- the steps of one more act count at the act's point, and at no other
+-- the steps of one more act count at the act's point, and at no other point
 pub at_point : (stamp : ℕ) (bound : BoundAct) (acts : List BoundAct) (point : Point) → is_same_point bound.point point ≡ true →
     latest_of stamp (steps_at_point (bound ∷ acts) point)
     ≡ latest_of (latest_of stamp bound.line.steps) (steps_at_point acts point)
@@ -62,7 +63,7 @@ pub elsewhere : (stamp : ℕ) (bound : BoundAct) (acts : List BoundAct) (point :
     latest_of stamp (steps_at_point (bound ∷ acts) point) ≡ latest_of stamp (steps_at_point acts point)
 elsewhere stamp bound acts point is = rw is refl
 
--- steps come in seven parts; the fourth and the last may be counted right after the first
+-- if steps come in seven parts, the fourth part and the last part may be counted right after the first part
 parts_move : (s : ℕ) (a p q c r t d : List Step) →
     latest_of s (a ++ p ++ q ++ c ++ r ++ t ++ d)
     ≡ latest_of (latest_of (latest_of (latest_of (latest_of s (a ++ c ++ d)) p) q) r) t
@@ -87,13 +88,13 @@ parts_move s a p q c r t d =
     y : ℕ
     y = latest_of (latest_of s a) c
 
--- the visits of the acts may be counted after the vread's own
+-- the visits of the acts may be counted after the vread's own visits
 pub latest_vread : (stamp : ℕ) (steps : List Step) (acts : List BoundAct) →
     latest_of stamp (vread_steps steps acts)
     ≡ latest_of (latest_of (latest_of (latest_of (latest_of stamp steps) (steps_at_point acts Start))
     (steps_at_point acts Written)) (steps_at_point acts Serve)) (steps_at_point acts End)
 latest_vread stamp steps acts =
-    let cut : List Step × List Step = cut_behind_rekey (drop 2 steps) in
+    let cut : List Step × List Step = cut_after_rekey (drop 2 steps) in
     let whole : take 2 steps ++ cut.0 ++ cut.1 ≡ steps =
     append_assoc (take 2 steps) cut.0 cut.1 ∙ ap (λ s. take 2 steps ++ s) (rekey_whole (drop 2 steps))
     ∙ take-append-drop 2 steps in

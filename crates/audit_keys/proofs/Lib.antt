@@ -7,7 +7,7 @@ mod Beginnings
 mod HeldUnused
 pub mod UseMoments
 -- The files of proofs/.
-mod Stands
+mod Conforms
 mod Along
 mod Below
 mod Tells
@@ -24,6 +24,6 @@ pub mod CallersLeave
 pub mod Latest
 pub mod Over
 pub mod StateCuts
-pub mod ToldCalls
+pub mod ListedCalls
 pub mod Starts
 pub mod LineEnds

@@ -1,7 +1,7 @@
--- The lines of callers, with their calls' ends, given the stamps at the callers' starts.
+-- The ends of all lines depend only on the calls and on the stamps at the callers' starts.
 use Rattle.std.proofs.Common.{◌≡◌, ℕ, suc, ◌+◌, ◌<◌, ◌≤◌, List, [], ◌∷◌, length, refl, ap, arith}
 use Rattle.key_names.specs.Callers.Calls.{Call}
-use Rattle.audit_keys.specs.LineEnds.{all_line_ends, line_ends, told_lines}
+use Rattle.audit_keys.specs.LineEnds.{all_line_ends, line_ends, listed_lines}
 use Rattle.audit_keys.specs.Stamps.{start_stamp}
 
 -- the line ends do not change if the stamps at all callers' starts are equal
@@ -13,8 +13,8 @@ lines_same f g c (calls ∷ callers) same =
     let more = lines_same f g (suc c) callers (λ d low high. same d (omega arith) (omega arith)) in
     λ i. one i ∷ more i
 
-pub lines_are_told : (starts : ℕ → ℕ) (callers : List (List Call)) →
+pub lines_are_listed : (starts : ℕ → ℕ) (callers : List (List Call)) →
     ((c : ℕ) → c < length callers → starts c ≡ start_stamp callers c) →
-    all_line_ends starts 0 callers ≡ told_lines callers
-lines_are_told starts callers same =
+    all_line_ends starts 0 callers ≡ listed_lines callers
+lines_are_listed starts callers same =
     lines_same starts (start_stamp callers) 0 callers (λ c low high. same c (omega arith))

@@ -1,4 +1,5 @@
--- Whether the read at a place is taken as a key: after one more entry, and after all entries.
+-- The code marks each place of a CPU whose read a vgetrandom state takes as its key. After all entries of states, the
+-- marks are those of `takes_read`. With these marks the CPU's uses are the same as with `is_rekeyed`.
 use Rattle.std.proofs.Common.{◌≡◌, ◌≤◌, ◌<◌, ◌+◌, ℕ, Bool, true, false, List, [], ◌∷◌, ◌++◌, length, take, get_or, refl, sym, ap, ◌∙◌, arith}
 use Rattle.std.specs.Prelude.{◌||◌, map}
 use Rattle.std.specs.Global.{Vec}
@@ -12,9 +13,9 @@ use Rattle.key_names.specs.declared.entries.VEntry.{VEntry}
 use Rattle.key_names.specs.Lanes.CpuList.{CpuState, cpu_step}
 use Rattle.key_names.specs.Keys.Uses.{rekeys_place}
 use Rattle.audit_keys.specs.Fills.{rekeys_of}
-use Rattle.audit_keys.specs.ToldFrom.{told_from}
+use Rattle.audit_keys.specs.ListedFrom.{listed_from}
 use Rattle.audit_keys.specs.UsedAt.{cpu_used_at}
-use Rattle.audit_keys.specs.Told.{takes_read, caller_lists}
+use Rattle.audit_keys.specs.Listed.{takes_read, caller_lists}
 
 or_assoc : (a b c : Bool) → ((a || b) || c) ≡ (a || (b || c))
 or_assoc true b c = refl
@@ -24,7 +25,7 @@ pub or_false : (a : Bool) → a ≡ (a || false)
 or_false true = refl
 or_false false = refl
 
--- now has the marks of old and those of the first i elements; each element takes certain places
+-- `now` has the marks of `old`, and a mark at each place that one of the first `i` elements takes
 abbrev pub MarkedBy : {X : Type 0} → (ℕ → X → Bool) → List X → ℕ → List Bool → List Bool → Type 0
 MarkedBy takes xs i old now = (k : ℕ) → k < length old →
     rekeys_of now k ≡ (rekeys_of old k || list_any (takes k) (take i xs))
@@ -45,7 +46,7 @@ pub marked_all : {X : Type 0} (takes : ℕ → X → Bool) (xs : List X) (i : �
 marked_all takes xs i old now all h k low =
     h k low ∙ ap (λ ys. rekeys_of old k || list_any (takes k) ys) (take_all i xs all)
 
--- an entry of a state takes a read exactly if it does so in the book's list
+-- the image of some element passes a test exactly if some element of the mapped list passes the test
 any_map : {A B : Type 0} (f : A → B) (test : B → Bool) (xs : List A) →
     list_any (λ x. test (f x)) xs ≡ list_any test (map f xs)
 any_map f test [] = refl
@@ -68,7 +69,7 @@ takes_read_is c callers k =
     ∙ any_map (λ (states : Vec (Vec VEntry)). map (λ (es : Vec VEntry). es.items) states.items)
     (λ lists. lists_take c k lists) callers
 
--- uses depend on which reads are taken only at the list's own places
+-- a CPU's uses depend on which reads are taken only at the places of the CPU's list
 module _ (base : List BaseEntry) (c : ℕ) (f g : ℕ → Bool) where
   same_at : (s : CpuState) (e : CpuEntry) → f s.place ≡ g s.place → cpu_used_at c f s e ≡ cpu_used_at c g s e
   same_at s (Read look refill taken) is = rw is refl
@@ -81,10 +82,10 @@ module _ (base : List BaseEntry) (c : ℕ) (f g : ℕ → Bool) where
 
   pub same_used : (s : CpuState) (es : List CpuEntry) →
       ((k : ℕ) → s.place ≤ k → k < s.place + length es → f k ≡ g k) →
-      told_from (cpu_used_at c f) (cpu_step base c) s es ≡ told_from (cpu_used_at c g) (cpu_step base c) s es
+      listed_from (cpu_used_at c f) (cpu_step base c) s es ≡ listed_from (cpu_used_at c g) (cpu_step base c) s es
   same_used s [] same = refl
   same_used s (e ∷ es) same =
-      ap (λ us. us ++ told_from (cpu_used_at c f) (cpu_step base c) (cpu_step base c s e) es)
+      ap (λ us. us ++ listed_from (cpu_used_at c f) (cpu_step base c) (cpu_step base c s e) es)
       (same_at s e (same s.place (omega arith) (omega arith)))
       ∙ ap (λ us. cpu_used_at c g s e ++ us)
       (same_used (cpu_step base c s e) es (λ k low high. same k (omega (arith, low)) (omega (arith, high))))

@@ -1,4 +1,5 @@
--- An outline follows its state through a copy, a wipe and a new key, with the same entries.
+-- If an outline matches a state, the outline matches the state after a copy, a wipe or a new key too. The outline and
+-- the state leave the same entries.
 use Rattle.std.proofs.Common.{◌≡◌, ℕ, zero, suc, ◌+◌, ◌-◌, ◌<◌, Bool, true, false, [], ◌++◌, refl, sym, ap, ◌∙◌, append_assoc, append-nil, arith}
 use Rattle.std.specs.Prelude.{◌==◌, ◌/◌, ◌%◌, nat_le, if◌then◌else◌}
 use Rattle.std.proofs.lemmas.Bool.{eqb-true, eq-eqb}
@@ -46,7 +47,7 @@ generation_test o s g is = ap (λ x. x == published_by g) is.generation ∙ same
 
 -- ---- a copy
 
--- a state with this position in its batch
+-- a state with position `pos` in its batch
 abbrev at : ℕ → VgetrandomState
 at pos = record { batch = []; key = []; generation = 0; pos = pos; in_use = false }
 
@@ -81,20 +82,20 @@ copy_outline l s c n is = record {
       ∙ ap (λ b. (copy_if b (outlined l.outline) c n).pos) (sym (same_left l.outline s n is));
 }
 
--- a copy of more bytes than the batch has left serves the rest of it, then blocks, and then a new batch
+-- a copy of more bytes than the batch has left serves the rest of the batch, then blocks, and then part of a new batch
 pub copied_beyond : (n c : ℕ) (l : Left) → has_left (outlined l.outline) n ≡ false → copied n c l
     ≡ refilled c ((n - (96 - l.outline.served)) / 64) ((n - (96 - l.outline.served)) % 64)
     (left_more (serve_entry l.outline.served (96 - l.outline.served)) l)
 copied_beyond n c l beyond =
     let o = outlined l.outline in
     let front = serve_entry l.outline.served (96 - l.outline.served) in
-    let behind = refill_entries c (whole_blocks o n) (new_batch_bytes o n) in
+    let following = refill_entries c (whole_blocks o n) (new_batch_bytes o n) in
     ap (λ b. with_served (copy_if b o c n).pos
-    (left_more (if b then serve_entry l.outline.served n else front ++ behind) l)) beyond
+    (left_more (if b then serve_entry l.outline.served n else front ++ following) l)) beyond
     ∙ ap (λ es. with_served (new_batch_bytes o n) (record l { entries = es }))
-    (sym (append_assoc l.entries front behind))
+    (sym (append_assoc l.entries front following))
 
--- such a copy in two steps: the rest of the batch is served, and then the batch is refilled
+-- such a copy may be made in two steps: first the rest of the batch is served, and then the batch is refilled
 pub refilled_is : (n c served left whole last : ℕ) (l m new : Left) → served ≡ l.outline.served → left ≡ 96 - served →
     left < n → m ≡ left_more (serve_entry served left) l → whole ≡ (n - left) / 64 → last ≡ (n - left) % 64 →
     new ≡ refilled c whole last m → new ≡ copied n c l

@@ -1,4 +1,5 @@
--- The lists of a caller's states after its calls.
+-- Call by call, the code appends to each list the entries of `list_over`. At the end the lists are those of
+-- `caller_over`.
 use Rattle.std.proofs.Common.{◌≡◌, ℕ, zero, suc, ◌+◌, ◌<◌, Bool, true, false, List, [], ◌∷◌, ◌++◌, map, refl, sym, ap, ◌∙◌, append_assoc, append-nil, arith, length, replicate, get_or}
 use Rattle.std.specs.Prelude.{◌==◌, if◌then◌else◌, slice_get, slice_set, unwrap_or}
 use Rattle.std.specs.List.{range_with_len}
@@ -21,7 +22,7 @@ use Rattle.audit_keys.specs.Stamped.{left_by, kept_lists, States, first_states, 
 abbrev list_of : States → ℕ → List StateEntry
 list_of s k = unwrap_or (slice_get s.lists k) []
 
--- the entries of a call if the state is the current one, and otherwise none
+-- the entries `es` if the list is that of the current state, and otherwise none
 abbrev here_or_none : {E : Type 0} → Bool → List E → List E
 here_or_none b es = if b then es else []
 
@@ -29,7 +30,7 @@ nothing_by : (i : ℕ) (end : CallEnd) (b : Bool) → left_by i end (here_or_non
 nothing_by i end true = refl
 nothing_by i end false = refl
 
--- this call, with this end, appends these entries to the list of the current state
+-- call number `i`, with the end `end`, appends the entries `l` to the list of the current state
 record Puts (s : States) (i : ℕ) (end : CallEnd) (l : List VEntry) (t : States) : Type 0 where
   count : length t.lists ≡ length s.lists
   lists : (k : ℕ) → k < length s.lists →
@@ -171,7 +172,7 @@ list_put (x ∷ xs) zero list new more low is put =
 list_put (x ∷ xs) (suc i) list new more low is put =
     ap (λ ls. x.items ∷ ls) (list_put xs i list new more (omega arith) is put)
 
--- the lists of one caller more
+-- the lists of all callers are the lists of the first caller, and then those of the callers after it
 pub one_caller : (starts : ℕ → ℕ) (c : ℕ) (calls : List Call) (callers : List (List Call))
     (lists : List (List StateEntry)) → lists ≡ caller_over (starts c) calls →
     all_over starts c (calls ∷ callers) ≡ (lists ∷ []) ++ all_over starts (c + 1) callers

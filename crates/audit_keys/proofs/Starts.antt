@@ -1,4 +1,5 @@
--- The stamp of the last visit before a caller's start.
+-- The stamp at a caller's start is the greatest of the stamp at its parent's start and the stamps of the parent's own
+-- visits before the fork.
 use Rattle.std.proofs.Common.{◌≡◌, ℕ, zero, suc, ◌+◌, ◌<◌, ◌≤◌, Option, Some, None, List, [], ◌∷◌, ◌++◌, inl, inr, refl, sym, ap, ◌∙◌, arith, append_assoc, length, get_or, take}
 use Rattle.std.specs.Prelude.{map, slice_get, unwrap_or}
 use Rattle.std.specs.Global.{Vec}
@@ -19,7 +20,7 @@ use Rattle.judge_lines.proofs.Forks.{AtParent, at_parent, steps_before}
 use Rattle.audit_keys.specs.Stamps.{latest_of, start_stamp}
 use Rattle.audit_keys.proofs.Latest.{latest-append}
 
--- among the own steps of all callers, those at a caller's number are its own
+-- `owns` has the own steps of all callers: at each caller's number it has the steps of this caller
 pub own_kept : (owns : List (Vec Step)) (callers : List (List Call)) (c : ℕ) (steps : Vec Step) →
     map (λ own. own.items) owns ≡ map calls_steps callers → c < length owns → steps ≡ get_or owns c steps →
     steps.items ≡ calls_steps (list_at callers c)
@@ -35,7 +36,7 @@ pub owns_long : (owns : List (Vec Step)) (callers : List (List Call)) →
 owns_long owns callers e =
     sym (length-map callers calls_steps) ∙ sym (ap length e) ∙ length-map owns (λ (own : Vec Step). own.items)
 
--- the stamp at the start of a caller that this fork makes
+-- the stamp at the start of the caller that this fork makes; 0 if no fork makes the caller
 abbrev pub start_from : (ℕ → ℕ) → List (List Call) → Option Fork → ℕ
 start_from starts callers None = 0
 start_from starts callers (Some fork) =
@@ -43,9 +44,9 @@ start_from starts callers (Some fork) =
 
 module _ (starts : ℕ → ℕ) (callers : List (List Call)) (c : ℕ)
     (known : (p : ℕ) → p < c → starts p ≡ start_stamp callers p) (unknown : (p : ℕ) → c ≤ p → starts p ≡ 0) where
-  behind_parent : (parent : Parent) → parent_from c 0 callers ≡ Some parent →
+  after_parent : (parent : Parent) → parent_from c 0 callers ≡ Some parent →
       latest_of 0 (start_of callers c) ≡ latest_of (starts parent.caller) (steps_before parent.fork)
-  behind_parent parent is = elim (cases_lt p c) [
+  after_parent parent is = elim (cases_lt p c) [
     | inl low ↦ ap (latest_of 0) (start_is_a_front callers c parent is low
         ∙ append_assoc (start_of callers p) (calls_steps parent.fork.before) (through_visit parent.fork.line.steps))
         ∙ latest-append 0 (start_of callers p) (steps_before parent.fork)
@@ -75,7 +76,7 @@ module _ (starts : ℕ → ℕ) (callers : List (List Call)) (c : ℕ)
           ∙ ap (λ p. latest_of (starts p) (take f.fork.steps (calls_steps (list_at callers f.fork.parent)))) fork_is
           ∙ ap (λ k. latest_of (starts parent.caller) (take f.fork.steps (calls_steps (list_at callers k)))) k_is
           ∙ ap (λ n. latest_of (starts parent.caller) (take n (calls_steps (list_at callers f.k)))) f.steps
-          ∙ ap (latest_of (starts parent.caller)) f.front ∙ sym (behind_parent parent is)
+          ∙ ap (latest_of (starts parent.caller)) f.front ∙ sym (after_parent parent is)
 
 -- ---- the own steps
 

@@ -1,4 +1,4 @@
--- The entries in the lists, and those that a cut at a stamp or at a call keeps.
+-- The lists have the entries that all calls left. A cut at a stamp or at a call keeps the entries of the first calls.
 use Rattle.std.proofs.Common.{◌≡◌, ℕ, zero, suc, ◌+◌, ◌<◌, ◌≤◌, Bool, true, false, List, [], ◌∷◌, ◌++◌, map, refl, sym, ap, ◌∙◌, arith, length, take}
 use Rattle.std.specs.Prelude.{if◌then◌else◌, nat_le, filter}
 use Rattle.std.specs.List.{range_with_len}
@@ -86,7 +86,8 @@ module _ (stamp : ℕ) where
   later : (before : ℕ) (call : Call) → nat_le before stamp ≡ false → nat_le (over_at before call) stamp ≡ false
   later before call by = let above = latest_above before (call_steps call) in grind (arith, nat_tests)
 
-  -- if a call was not over by the stamp, the cut keeps no entry of it or of a later call
+  -- `before` is the stamp of the last visit before these calls. If `before` is above the cut's stamp, the cut keeps no
+  -- entry of these calls
   none_kept : (k : ℕ) (o : Outlines) (i before : ℕ) (calls : List Call) → nat_le before stamp ≡ false →
       entries_by (Stamp stamp) (list_over k o i before calls) ≡ []
   none_kept k o i before [] by = refl
@@ -148,7 +149,8 @@ module _ (n : ℕ) where
       ∙ ap (λ es. es ++ entries_by (ByCall n) rest) (of_others i (end_of before call) (left_in k o call) test)
       ∙ none_first k (outlines_after o call) (i + 1) (over_at before call) calls (omega arith)
 
-  -- if m more of the calls are kept, the cut keeps the entries of the first m calls
+  -- if the first of these calls has number `i`, and the cut keeps `m` calls, the cut keeps the entries of the first `m`
+  -- calls
   first_list : (k : ℕ) (o : Outlines) (i m before : ℕ) (calls : List Call) → i + m ≡ suc n →
       entries_by (ByCall n) (list_over k o i before calls) ≡ list_left k o (take m calls)
   first_list k o i zero before calls is = none_first k o i before calls (omega arith)

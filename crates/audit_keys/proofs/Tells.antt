@@ -1,9 +1,9 @@
--- Results are joined part by part.
+-- `joined` appends results part by part: births to births, endings to endings, and so on.
 use Rattle.std.proofs.Common.{◌≡◌, ◌+◌, ℕ, sym, ap, ◌∙◌, append_assoc, append-nil}
-use Rattle.audit_keys.specs.Told.{Tells, joined, nothing, all_below}
+use Rattle.audit_keys.specs.Listed.{Tells, joined, nothing, all_below}
 use Rattle.audit_keys.proofs.Below.{below_more}
 
--- two results are equal if each of their parts is
+-- `a` and `b` have equal parts, so the two results are equal
 pub record AreSame (a b : Tells) : Type 0 where
   pub births : a.births ≡ b.births
   pub endings : a.endings ≡ b.endings
@@ -51,7 +51,8 @@ all_more tells n = tells_same (all_below (n + 1) tells) (joined (all_below n tel
   uses = below_more (λ i. (tells i).uses) n;
 })
 
--- the results of number n are joined after those of the numbers below n
+-- if the results for `n` are joined to the results for the numbers below `n`, the whole has those for the numbers below
+-- `n + 1`
 pub joined_more : (tells : ℕ → Tells) (n : ℕ) (old now new : Tells) → now ≡ joined old (all_below n tells) →
     new ≡ joined now (tells n) → new ≡ joined old (all_below (n + 1) tells)
 joined_more tells n old now new h more =

@@ -1,4 +1,5 @@
--- At each moment, the book has beginnings of the whole book's lists.
+-- The lists of the book at a moment are beginnings of the whole book's lists. So what is held at the moment was not
+-- used before it.
 use Rattle.std.proofs.Common.{◌≡◌, ℕ, zero, suc, ◌+◌, ◌<◌, Bool, true, false, cond, List, [], ◌∷◌, ◌++◌, inl, inr, refl, sym, ap, ◌∙◌, arith, take, append_assoc}
 use Rattle.std.specs.Prelude.{map, nat_le, ◌==◌, if◌then◌else◌}
 use Rattle.std.specs.List.{AllByRecursion}
@@ -21,12 +22,12 @@ use Rattle.key_names.proofs.Transcripts.TranscriptStates.{caller_keeps}
 use Rattle.audit_keys.specs.Moments.{BeginsWith, visits_to, first_calls, book_at, MomentsHoldUnused}
 use Rattle.audit_keys.proofs.Beginnings.{hold_unused}
 
--- BeginsWith holds of lists that equal a list and its beginning
+-- `BeginsWith` still holds if both lists are replaced by equal lists
 begins_same : {E : Type 0} (whole part whole' part' : List E) → whole ≡ whole' → part ≡ part' →
     BeginsWith whole' part' → BeginsWith whole part
 begins_same whole part whole' part' p q begins = (begins.0, p ∙ begins.1 ∙ ap (λ es. es ++ begins.0) (sym q))
 
--- a function that keeps the empty list may be applied before or after an element is taken
+-- if `f` of the empty list is empty, `f` may be applied before or after the list at number `n` is taken
 pub mapped_at : {A B : Type 0} (f : List A → List B) → f [] ≡ [] → (xss : List (List A)) (n : ℕ) →
     list_at (map f xss) n ≡ f (list_at xss n)
 mapped_at f none [] n = sym none
@@ -39,7 +40,7 @@ above_too stamp low [] lt above = tt
 above_too stamp low (h ∷ hs) lt above = (let le = above.0 in omega arith, above_too stamp low hs lt above.1)
 
 module _ {E : Type 0} (lane : LaneId) (stamp : ℕ) where
-  -- no visit after a stamp is a visit up to the stamp
+  -- if all visits are after a stamp, none of them is up to the stamp
   none_to : (i : ℕ) (visits : List (Visit E)) → AllByRecursion (λ h. stamp < h.stamp) (visits_from lane i visits) →
       visits_to stamp visits ≡ []
   none_to i [] above = refl
@@ -69,7 +70,7 @@ module _ {E : Type 0} (lane : LaneId) (stamp : ℕ) where
           let none = none_to (suc i) visits (above_too stamp v.stamp (visits_from lane (suc i) visits) lt rising.0) in
           (entries_of (v ∷ visits), ap (λ vs. entries_of vs ++ entries_of (v ∷ visits)) (sym none))
 
--- part is a beginning of a state's list, and after it the state waits for no particular entry
+-- `part` is a beginning of a state's list `whole`, and after `part` any entry may come next in the state
 record CutState (caller k : ℕ) (whole part : List VEntry) : Type 0 where
   begins : BeginsWith whole part
   ends : (state_after caller k part).expected ≡ anything
@@ -84,7 +85,7 @@ cut_same caller k whole part whole' part' p q cut = record {
   ends = ap (λ es. (state_after caller k es).expected) q ∙ cut.ends;
 }
 
--- the entries of the first calls are the first entries
+-- the entries of the first `n` calls are a beginning of the entries of all calls
 entries_begin : (k n : ℕ) (ms : List CallMeaning) →
     BeginsWith (entries_of_state k ms) (entries_of_state k (take n ms))
 entries_begin k zero ms = (entries_of_state k ms, refl)
@@ -94,7 +95,7 @@ entries_begin k (suc n) (m ∷ ms) =
     let rest = entries_begin k n ms in
     (rest.0, ap (λ es. own ++ es) rest.1 ∙ sym (append_assoc own (entries_of_state k (take n ms)) rest.0))
 
--- the first calls have the first meanings
+-- if all calls have the meanings `ms`, the first `n` calls have the first `n` meanings
 pub calls_front : (s : CallerState) (n : ℕ) (calls : List Call) (ms : List CallMeaning) → CallsMean s calls ms →
     CallsMean s (take n calls) (take n ms)
 calls_front s zero calls ms mean = tt
@@ -112,7 +113,7 @@ lines_front P (suc n) (call ∷ calls) [] each = absurd each
 lines_front P (suc n) (call ∷ calls) (m ∷ ms) each = (each.0, lines_front P n calls ms each.1)
 
 module _ (lists : Lists) (settings : ℕ → Setting) (made : ℕ → ℕ) where
-  -- the state's list after the first calls of its caller is a beginning
+  -- a state's list after the first `n` calls of its caller is a beginning of the state's list
   one_caller : (caller n : ℕ) (setting : Setting) (calls : List Call) (ms : List CallMeaning) →
       CallerMeans lists setting calls ms → (k : ℕ) →
       CutState caller k (list_at (state_lists ms) k) (list_at (state_lists (take n ms)) k)
@@ -122,7 +123,7 @@ module _ (lists : Lists) (settings : ℕ → Setting) (made : ℕ → ℕ) where
           begins = entries_begin k n ms;
           ends = (caller_keeps lists caller k lt setting (take n calls) (take n ms) (record {
             follows = calls_front _ n calls ms means.follows;
-            deeds = lines_front _ n calls ms means.deeds;
+            effects = lines_front _ n calls ms means.effects;
           })).ends;
         })
     | inr le ↦ cut_same caller k (list_at (state_lists ms) k) (list_at (state_lists (take n ms)) k) [] []
@@ -134,7 +135,8 @@ module _ (lists : Lists) (settings : ℕ → Setting) (made : ℕ → ℕ) where
       at xs lt = let p : 0 + k ≡ k = omega arith in
           made_at (λ i. entries_of_state i xs) 0 16 k lt ∙ ap (λ i. entries_of_state i xs) p
 
-  -- the lists of all callers' states are beginnings; c is the number of the first caller
+  -- for all callers' states: each state's list after the first calls of its caller is a beginning of the state's list;
+  -- `c` is the number of the first caller
   all_callers : (caller c : ℕ) (callers : List (List Call)) (mss : List (List CallMeaning)) →
       EachCaller (λ c calls ms. CallerMeans lists (settings c) calls ms) c callers mss → (i k : ℕ) →
       CutState caller k (list_at (list_at (map state_lists mss) i) k)

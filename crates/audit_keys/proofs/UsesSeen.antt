@@ -1,4 +1,4 @@
--- The listed uses are the book's.
+-- A use that the code lists also has its entry and a new key's name. Without these, the uses are those of `key_names`.
 use Rattle.std.proofs.Common.{◌≡◌, ◌+◌, ◌*◌, ℕ, Bool, true, false, List, [], ◌∷◌, ◌++◌, Option, Some, None, refl, ap, ◌∙◌}
 use Rattle.std.specs.Prelude.{nat_lt, if◌then◌else◌}
 use Rattle.std.proofs.lemmas.List.{map-append}
@@ -25,18 +25,18 @@ use Rattle.audit_keys.specs.declared.state_uses.StateOf.{StateOf}
 use Rattle.audit_keys.specs.declared.used.Origin.{Origin}
 use Rattle.audit_keys.specs.declared.used.Origin.TheVariants.{Lane}
 use Rattle.audit_keys.specs.declared.used.Used.{Used}
-use Rattle.audit_keys.specs.ToldFrom.{told_from}
+use Rattle.audit_keys.specs.ListedFrom.{listed_from}
 use Rattle.audit_keys.specs.UsedAt.{kept_as, served_by, named_used, taken_used, read_used, batch_used, state_origin}
 use Rattle.audit_keys.specs.UsedAt.{base_used_at, cpu_used_at, state_used_at}
 use Rattle.audit_keys.specs.UsesSeen.{use_seen, uses_seen, AreSeenAsUses}
 
 seen_from : {S E : Type 0} (used_at : S → E → List Used) (uses_at : S → E → List Use) (step : S → E → S) →
     ((s : S) (e : E) → uses_seen (used_at s e) ≡ uses_at s e) → (s : S) (es : List E) →
-    uses_seen (told_from used_at step s es) ≡ uses_from uses_at step s es
+    uses_seen (listed_from used_at step s es) ≡ uses_from uses_at step s es
 seen_from used_at uses_at step seen s [] = refl
 seen_from used_at uses_at step seen s (e ∷ es) =
-    map-append use_seen (used_at s e) (told_from used_at step (step s e) es)
-    ∙ ap (λ us. us ++ uses_seen (told_from used_at step (step s e) es)) (seen s e)
+    map-append use_seen (used_at s e) (listed_from used_at step (step s e) es)
+    ∙ ap (λ us. us ++ uses_seen (listed_from used_at step (step s e) es)) (seen s e)
     ∙ ap (λ us. uses_at s e ++ us) (seen_from used_at uses_at step seen (step s e) es)
 
 named_seen : (key : Option KeyName) (used_of : KeyName → List Used) (uses_of : KeyName → List Use) →

@@ -1,32 +1,33 @@
--- A vread leaves the entries that the steps of its line show.
+-- The law `VreadLeaves`: whatever meaning a vread has, `vread_left` gives the entries of this meaning, and the outline
+-- of the state after the vread.
 use Rattle.std.proofs.Common.{◌≡◌, ℕ, zero, suc, ◌≤◌, Bool, true, false, ◌+◌, List, [], ◌∷◌, ◌++◌, refl, sym, subst, ap, ◌∙◌, append_assoc, append-nil, length, arith}
 use Rattle.std.specs.Prelude.{◌==◌, ◌&&◌, ◌||◌, not, MatchBool, if◌then◌else◌}
 use Rattle.key_names.specs.declared.names.Step.{Step}
 use Rattle.key_names.specs.declared.names.Step.TheVariants.{Look}
 use Rattle.key_names.specs.Lanes.Book.{Lists}
 use Rattle.key_names.specs.Callers.Calls.{Setting, BoundAct}
-use Rattle.key_names.specs.Callers.Deeds.{Deed, looked, deeds_of}
+use Rattle.key_names.specs.Callers.Effects.{Effect, looked, effects_of}
 use Rattle.key_names.specs.Kernel.Flags.{is_bad}
 use Rattle.key_names.specs.Callers.Forms.{Looked}
 use Rattle.key_names.specs.Kernel.VgetrandomState.{VgetrandomState}
 use Rattle.key_names.specs.Kernel.BatchCopy.{has_left, whole_blocks, new_batch_bytes, state_of_same_batch, state_of_new_batch, state_after_copy, serves_locally}
-use Rattle.key_names.specs.Kernel.Vgetrandom.{HostStep, publishes, AttemptEnd, holds, outdated, Attempt, Outcome, outcome_behind, BySystem, ByNothing, AfterAttempt, AfterBoth, SecondAttempt, FirstAttempt, FromPublished, FromLook}
-use Rattle.key_names.specs.Callers.VreadSteps.{PointReached, points_of, published_by, Shows, WipesStand, looks_of, NeverFall}
+use Rattle.key_names.specs.Kernel.Vgetrandom.{HostStep, publishes, AttemptEnd, holds, outdated, Attempt, Outcome, prefix_outcome, BySystem, ByNothing, AfterAttempt, AfterBoth, SecondAttempt, FirstAttempt, FromPublished, FromLook}
+use Rattle.key_names.specs.Callers.VreadSteps.{PointReached, points_of, published_by, Shows, WipesConform, looks_of, NeverFall}
 use Rattle.key_names.specs.Callers.Meaning.{CallMeaning, current_state, ByLocalCopy, ByVgetrandom, LocalOrCall, VreadMeans}
 use Rattle.key_names.proofs.Unique.UniqueAttempts.{AllReady}
 use Rattle.key_names.proofs.Unique.UniqueCalls.{all_ready}
-use Rattle.judge_vread.proofs.CallPoints.{attempt_points, first_as_told, second_not_wiped}
+use Rattle.judge_vread.proofs.CallPoints.{attempt_points, first_as_inferred, second_not_wiped}
 use Rattle.audit_keys.specs.Outline.{IsOutline, IsBetweenCalls, outlined}
-use Rattle.audit_keys.specs.Left.{Left, Behind, copied, attempted, tried_twice, copies_alone, first_look, vread_left}
+use Rattle.audit_keys.specs.Left.{Left, After, copied, attempted, tried_twice, copies_alone, first_look, vread_left}
 use Rattle.audit_keys.specs.Laws.{Leaves, VreadLeaves}
 use Rattle.audit_keys.proofs.Outlines.{same_test, sym_test, generation_test, same_entries, same_left, copy_outline}
 use Rattle.audit_keys.proofs.KeySteps.{FirstStep, first_step}
 use Rattle.audit_keys.proofs.AttemptsLeave.{Gives, WipesAre, AttemptLeaves, attempt_leaves}
 
--- a call leaves the entries of its outcome, and the outline of its state
+-- `new` has the entries of `l` and then those of `outcome`; its outline is that of the outcome's state
 pub record CallLeaves (l : Left) (outcome : Outcome) (new : Left) : Type 0 where
   pub entries : new.entries ≡ l.entries ++ outcome.entries
-  pub stands : IsBetweenCalls new.outline outcome.state
+  pub conforms : IsBetweenCalls new.outline outcome.state
 
 leaves_at : (l : Left) (o o' : Outcome) (new new' : Left) → o ≡ o' → new ≡ new' → CallLeaves l o' new' →
     CallLeaves l o new
@@ -34,18 +35,18 @@ leaves_at l o o' new new' p q h =
     let P : Outcome → Type 0 = λ x. CallLeaves l x new in let Q : Left → Type 0 = λ x. CallLeaves l o' x in
     subst P (sym p) (subst Q (sym q) h)
 
--- a call that changes no state leaves no entry
+-- if a call leaves no entries, and `l` has the outline of the state after the call, the call leaves `l` as it was
 nothing_more : (l : Left) (o : Outcome) → o.entries ≡ [] → IsBetweenCalls l.outline o.state → CallLeaves l o l
 nothing_more l o none is =
-    record { entries = sym (append-nil l.entries) ∙ ap (λ es. l.entries ++ es) (sym none); stands = is }
+    record { entries = sym (append-nil l.entries) ∙ ap (λ es. l.entries ++ es) (sym none); conforms = is }
 
--- an attempt that ends its call leaves the entries and the outline of the call
-attempt_alone : (l : Left) (rest : List Step) (a : Attempt) (b : Behind) (after : Outcome) → Gives l.entries rest a b →
+-- if the call ends with this attempt, the attempt leaves the entries and the outline that the call leaves
+attempt_alone : (l : Left) (rest : List Step) (a : Attempt) (b : After) (after : Outcome) → Gives l.entries rest a b →
     after.entries ≡ [] → after.state.in_use ≡ false → after.state.generation ≡ a.state.generation →
-    after.state.pos ≡ a.state.pos → CallLeaves l (outcome_behind a.entries after) b.left
+    after.state.pos ≡ a.state.pos → CallLeaves l (prefix_outcome a.entries after) b.left
 attempt_alone l rest a b after g none idle generation pos = record {
   entries = g.entries ∙ ap (λ es. l.entries ++ es) (sym (append-nil a.entries) ∙ ap (λ es. a.entries ++ es) (sym none));
-  stands = record {
+  conforms = record {
     outline = record {
       generation = generation ∙ g.outline.generation;
       served = pos ∙ g.outline.served;
@@ -55,27 +56,27 @@ attempt_alone l rest a b after g none idle generation pos = record {
 }
 
 module _ (lists : Lists) (set : Setting) (n flags : ℕ) where
-  shows_at : (xs ys : List HostStep) (ds : List Deed) → xs ≡ ys → Shows set xs ds → Shows set ys ds
+  shows_at : (xs ys : List HostStep) (ds : List Effect) → xs ≡ ys → Shows set xs ds → Shows set ys ds
   shows_at xs ys ds p shows = let P : List HostStep → Type 0 = λ x. Shows set x ds in subst P p shows
 
   -- ---- the second attempt
 
   second_leaves : (acts : List BoundAct) (k w1 w2 w3 w4 : Bool) (points : List PointReached) (c : ℕ)
-      (s : VgetrandomState) (l : Left) (ds : List Deed) (rest : List Step) (steps : List HostStep) (outcome : Outcome) →
-      SecondAttempt n flags c s steps outcome → Shows set steps ds → deeds_of lists rest ≡ ds → AllReady ds →
-      points ≡ attempt_points k w1 w2 w3 w4 (points_of steps) → WipesStand acts points → IsOutline l.outline s →
+      (s : VgetrandomState) (l : Left) (ds : List Effect) (rest : List Step) (steps : List HostStep) (outcome : Outcome) →
+      SecondAttempt n flags c s steps outcome → Shows set steps ds → effects_of lists rest ≡ ds → AllReady ds →
+      points ≡ attempt_points k w1 w2 w3 w4 (points_of steps) → WipesConform acts points → IsOutline l.outline s →
       CallLeaves l outcome (attempted [] n c l rest).left
-  second_leaves acts k w1 w2 w3 w4 points c s l ds rest steps outcome by shows deeds ready all stand is =
+  second_leaves acts k w1 w2 w3 w4 points c s l ds rest steps outcome by shows effects ready all conform is =
       leaves_at l outcome _ _ _ by.outcome_is refl (go b.holds goes)
     where
       sh : AttemptLeaves lists set by.rest n c s by.tried rest by.attempt
       sh = attempt_leaves lists set by.rest n c s by.tried ds rest by.attempt by.tries
-          (shows_at steps (by.tried ++ by.rest) ds by.steps_are shows) deeds ready
+          (shows_at steps (by.tried ++ by.rest) ds by.steps_are shows) effects ready
 
       wipes : WipesAre [] sh.keyed sh.w1 sh.w2 sh.w3 sh.w4
       wipes =
           let none = second_not_wiped acts k w1 w2 w3 w4 sh.keyed sh.w1 sh.w2 sh.w3 sh.w4 points (points_of steps)
-          (points_of by.rest) all (ap points_of by.steps_are ∙ sh.points) stand in
+          (points_of by.rest) all (ap points_of by.steps_are ∙ sh.points) conform in
           record {
             start = sym none.start;
             written = λ keyed. none.written keyed;
@@ -83,7 +84,7 @@ module _ (lists : Lists) (set : Setting) (n flags : ℕ) where
             end = sym none.end;
           }
 
-      b : Behind
+      b : After
       b = attempted [] n c l rest
 
       g : Gives l.entries sh.rest by.attempt b
@@ -96,7 +97,7 @@ module _ (lists : Lists) (set : Setting) (n flags : ℕ) where
           by.outcome_after in subst P g.end by.goes_on
 
       go : (h : Bool) → AfterAttempt n flags (AfterBoth n flags) (if h then holds else outdated) by.attempt by.rest
-          by.outcome_after → CallLeaves l (outcome_behind by.attempt.entries by.outcome_after) b.left
+          by.outcome_after → CallLeaves l (prefix_outcome by.attempt.entries by.outcome_after) b.left
       go true x =
           attempt_alone l sh.rest by.attempt b by.outcome_after g (ap (λ (o : Outcome). o.entries) x.outcome_is)
           (ap (λ (o : Outcome). o.state.in_use) x.outcome_is) (ap (λ (o : Outcome). o.state.generation) x.outcome_is)
@@ -108,32 +109,32 @@ module _ (lists : Lists) (set : Setting) (n flags : ℕ) where
 
   -- ---- the first attempt
 
-  first_leaves : (acts : List BoundAct) (s : VgetrandomState) (l : Left) (ds : List Deed) (rest : List Step)
+  first_leaves : (acts : List BoundAct) (s : VgetrandomState) (l : Left) (ds : List Effect) (rest : List Step)
       (steps : List HostStep) (outcome : Outcome) → FirstAttempt n flags s steps outcome → Shows set steps ds →
-      deeds_of lists rest ≡ ds → AllReady ds → WipesStand acts (points_of steps) → IsOutline l.outline s →
+      effects_of lists rest ≡ ds → AllReady ds → WipesConform acts (points_of steps) → IsOutline l.outline s →
       CallLeaves l outcome (tried_twice acts n l rest)
-  first_leaves acts s l ds rest steps outcome by shows deeds ready stand is =
+  first_leaves acts s l ds rest steps outcome by shows effects ready conform is =
       leaves_at l outcome _ _ _ by.outcome_is refl (go b.holds goes)
     where
       sh : AttemptLeaves lists set by.rest n 0 s by.tried rest by.attempt
       sh = attempt_leaves lists set by.rest n 0 s by.tried ds rest by.attempt by.tries
-          (shows_at steps (by.tried ++ by.rest) ds by.steps_are shows) deeds ready
+          (shows_at steps (by.tried ++ by.rest) ds by.steps_are shows) effects ready
 
       points : points_of steps ≡ attempt_points sh.keyed sh.w1 sh.w2 sh.w3 sh.w4 (points_of by.rest)
       points = ap points_of by.steps_are ∙ sh.points
 
       wipes : WipesAre acts sh.keyed sh.w1 sh.w2 sh.w3 sh.w4
       wipes =
-          let told = first_as_told acts sh.keyed sh.w1 sh.w2 sh.w3 sh.w4 (points_of steps) (points_of by.rest) points
-          stand in
+          let listed = first_as_inferred acts sh.keyed sh.w1 sh.w2 sh.w3 sh.w4 (points_of steps) (points_of by.rest) points
+          conform in
           record {
-            start = sym told.start;
-            written = λ keyed. told.written keyed;
-            serve = sym told.serve;
-            end = sym told.end;
+            start = sym listed.start;
+            written = λ keyed. listed.written keyed;
+            serve = sym listed.serve;
+            end = sym listed.end;
           }
 
-      b : Behind
+      b : After
       b = attempted acts n 0 l rest
 
       g : Gives l.entries sh.rest by.attempt b
@@ -146,21 +147,21 @@ module _ (lists : Lists) (set : Setting) (n flags : ℕ) where
           by.outcome_after in subst P g.end by.goes_on
 
       again : SecondAttempt n flags by.attempt.next_block by.attempt.state by.rest by.outcome_after →
-          CallLeaves l (outcome_behind by.attempt.entries by.outcome_after)
+          CallLeaves l (prefix_outcome by.attempt.entries by.outcome_after)
           (attempted [] n b.next_block b.left b.rest).left
       again x =
           let P : ℕ → Type 0 = λ c. SecondAttempt n flags c by.attempt.state by.rest by.outcome_after in
           let h = second_leaves acts sh.keyed sh.w1 sh.w2 sh.w3 sh.w4 (points_of steps) b.next_block by.attempt.state
-          b.left sh.deeds b.rest by.rest by.outcome_after (subst P (sym g.next_block) x) sh.shows
-          (ap (deeds_of lists) g.rest_is ∙ sh.behind) sh.ready points stand g.outline in
+          b.left sh.effects b.rest by.rest by.outcome_after (subst P (sym g.next_block) x) sh.shows
+          (ap (effects_of lists) g.rest_is ∙ sh.following) sh.ready points conform g.outline in
           record {
             entries = h.entries ∙ ap (λ es. es ++ by.outcome_after.entries) g.entries
                 ∙ append_assoc l.entries by.attempt.entries by.outcome_after.entries;
-            stands = h.stands;
+            conforms = h.conforms;
           }
 
       go : (h : Bool) → AfterAttempt n flags (SecondAttempt n flags) (if h then holds else outdated) by.attempt by.rest
-          by.outcome_after → CallLeaves l (outcome_behind by.attempt.entries by.outcome_after)
+          by.outcome_after → CallLeaves l (prefix_outcome by.attempt.entries by.outcome_after)
           (if h then b.left else (attempted [] n b.next_block b.left b.rest).left)
       go true x =
           attempt_alone l sh.rest by.attempt b by.outcome_after g (ap (λ (o : Outcome). o.entries) x.outcome_is)
@@ -175,13 +176,13 @@ module _ (lists : Lists) (set : Setting) (n flags : ℕ) where
   system_leaves s l steps outcome by is =
       leaves_at l outcome _ l l by.outcome_is refl (nothing_more l _ refl is)
 
-  look_leaves : (acts : List BoundAct) (s : VgetrandomState) (l : Left) (ds : List Deed) (line : List Step)
+  look_leaves : (acts : List BoundAct) (s : VgetrandomState) (l : Left) (ds : List Effect) (line : List Step)
       (steps : List HostStep) (outcome : Outcome) → FromLook n flags s steps outcome → Shows set steps ds →
-      deeds_of lists line ≡ ds → NeverFall (looks_of ds) → WipesStand acts (points_of steps) →
+      effects_of lists line ≡ ds → NeverFall (looks_of ds) → WipesConform acts (points_of steps) →
       IsBetweenCalls l.outline s → (n == 0) ≡ false →
       ((g : ℕ) (rest : List Step) → line ≡ Look g ∷ rest → (g == 0) ≡ false → copies_alone acts n g l ≡ false) →
       CallLeaves l outcome (first_look acts n l line)
-  look_leaves acts s l ds line steps outcome by shows deeds fall stand is some alone =
+  look_leaves acts s l ds line steps outcome by shows effects fall conform is some alone =
       leaves_at l outcome outcome _ _ refl (ap (first_look acts n l) line_is) (go (g == 0) refl s.in_use is.idle goes)
     where
       y : Shows set (publishes by.published ∷ by.rest) ds
@@ -191,16 +192,16 @@ module _ (lists : Lists) (set : Setting) (n flags : ℕ) where
       g = y.0
 
       f : FirstStep lists (looked y.0) y.1 line
-      f = first_step lists (looked y.0) y.1 line (deeds ∙ y.2)
+      f = first_step lists (looked y.0) y.1 line (effects ∙ y.2)
 
       line_is : line ≡ Look g ∷ f.rest
       line_is = f.steps_are ∙ ap (λ x. x ∷ f.rest) f.tells
 
       falls : NeverFall (looks_of (looked y.0 ∷ y.1))
-      falls = let P : List Deed → Type 0 = λ d. NeverFall (looks_of d) in subst P y.2 fall
+      falls = let P : List Effect → Type 0 = λ d. NeverFall (looks_of d) in subst P y.2 fall
 
-      stands : WipesStand acts (points_of by.rest)
-      stands = let P : List PointReached → Type 0 = λ x. WipesStand acts x in subst P (ap points_of by.steps_are) stand
+      conforms : WipesConform acts (points_of by.rest)
+      conforms = let P : List PointReached → Type 0 = λ x. WipesConform acts x in subst P (ap points_of by.steps_are) conform
 
       goes : MatchBool (g == 0) (BySystem n flags s by.rest outcome)
           (MatchBool s.in_use (BySystem n flags s by.rest outcome)
@@ -228,8 +229,8 @@ module _ (lists : Lists) (set : Setting) (n flags : ℕ) where
           let one : 1 ≤ g = positive g e in
           leaves_at l outcome outcome _ _ refl
           (ap (λ b. if b then copied n 0 l else tried_twice acts n l f.rest) (alone g f.rest line_is e))
-          (first_leaves acts (record s { in_use = true }) l y.1 f.rest by.rest outcome x y.3.1 f.behind
-          (all_ready g (looks_of y.1) one falls) stands
+          (first_leaves acts (record s { in_use = true }) l y.1 f.rest by.rest outcome x y.3.1 f.following
+          (all_ready g (looks_of y.1) one falls) conforms
           (record { generation = is.outline.generation; served = is.outline.served }))
         where
           positive : (g : ℕ) → (g == 0) ≡ false → 1 ≤ g
@@ -262,12 +263,12 @@ kept_idle true s c n idle = idle
 kept_idle false s c n idle = idle
 
 module _ (lists : Lists) (n flags : ℕ) (acts : List BoundAct) (steps : List Step) (m : CallMeaning) (l : Left)
-    (looks : NeverFall (looks_of m.own.deeds)) (deeds : deeds_of lists steps ≡ m.own.deeds)
+    (looks : NeverFall (looks_of m.own.effects)) (effects : effects_of lists steps ≡ m.own.effects)
     (is : IsBetweenCalls l.outline (current_state m.before)) where
   abbrev s : VgetrandomState
   s = current_state m.before
 
-  -- if the first look finds the core ready, no copy alone serves the call
+  -- the statement that, if the first look finds the core ready, the batch alone does not serve the vread
   abbrev Called : Type 0
   Called = (g : ℕ) (rest : List Step) → steps ≡ Look g ∷ rest → (g == 0) ≡ false → copies_alone acts n g l ≡ false
 
@@ -276,10 +277,10 @@ module _ (lists : Lists) (n flags : ℕ) (acts : List BoundAct) (steps : List St
     entries = h.entries ∙ ap (λ es. l.entries ++ es) (sym v.entries);
     state = v.outcome.state;
     after = v.after;
-    stands = h.stands;
+    conforms = h.conforms;
   }
 
-  -- the call on the current state, which depends on whether its flags are bad
+  -- the call on the current state: if the flags are bad, the call goes to the system; otherwise it begins with its look
   abbrev CallBy : ByVgetrandom n flags acts m → Bool → Type 0
   CallBy v bad = MatchBool bad (BySystem n flags s v.steps v.outcome) (FromLook n flags s v.steps v.outcome)
 
@@ -291,18 +292,18 @@ module _ (lists : Lists) (n flags : ℕ) (acts : List BoundAct) (steps : List St
   by_call v false true p q alone =
       of_call v l (empty_leaves lists m.before.setting n flags s l v.steps v.outcome (subst (CallBy v) p v.is_call) is q)
   by_call v false false p q alone =
-      of_call v _ (look_leaves lists m.before.setting n flags acts s l m.own.deeds steps v.steps v.outcome
-      (subst (CallBy v) p v.is_call) v.shows deeds looks v.wipes is q (alone refl refl))
+      of_call v _ (look_leaves lists m.before.setting n flags acts s l m.own.effects steps v.steps v.outcome
+      (subst (CallBy v) p v.is_call) v.shows effects looks v.wipes is q (alone refl refl))
 
-  by_copy : (g : ℕ) (rest : List Deed) → ByLocalCopy n rest m → Leaves m l (copied n 0 l)
+  by_copy : (g : ℕ) (rest : List Effect) → ByLocalCopy n rest m → Leaves m l (copied n 0 l)
   by_copy g rest c = record {
     entries = ap (λ es. l.entries ++ es) (same_entries l.outline s 0 n is.outline ∙ sym c.entries);
     state = state_after_copy s 0 n;
     after = c.after;
-    stands = record { outline = copy_outline l s 0 n is.outline; idle = kept_idle (has_left s n) s 0 n is.idle };
+    conforms = record { outline = copy_outline l s 0 n is.outline; idle = kept_idle (has_left s n) s 0 n is.idle };
   }
 
-  -- the outline decides, as the state does, whether a copy is made without a call
+  -- whether the batch alone serves the vread is the same by the outline as by the state
   local_is : (g : ℕ) → (length acts == 0) ≡ true → serves_locally (published_by g) s n
       ≡ (not (g == 0) && copies_alone acts n g l)
   local_is g no_acts =
@@ -313,15 +314,15 @@ module _ (lists : Lists) (n flags : ℕ) (acts : List BoundAct) (steps : List St
       ∙ ap (λ b. not (g == 0) && (l.outline.found == g && b)) (sym (same_left l.outline s n is.outline))
       ∙ ap (λ b. not (g == 0) && (b && (l.outline.found == g && has_left (outlined l.outline) n))) (sym no_acts)
 
-  look_at : (g : ℕ) (rest : List Deed) → m.own.deeds ≡ looked g ∷ rest → (line : List Step) × (steps ≡ Look g ∷ line)
+  look_at : (g : ℕ) (rest : List Effect) → m.own.effects ≡ looked g ∷ rest → (line : List Step) × (steps ≡ Look g ∷ line)
   look_at g rest e =
-      let f = first_step lists (looked g) rest steps (deeds ∙ e) in
+      let f = first_step lists (looked g) rest steps (effects ∙ e) in
       (f.rest, f.steps_are ∙ ap (λ x. x ∷ f.rest) f.tells)
 
   same_look : (g h : ℕ) (xs ys : List Step) → Look g ∷ xs ≡ Look h ∷ ys → g ≡ h
   same_look g h xs ys e = cc
 
-  by_look : Looked (LocalOrCall n flags acts m) m.own.deeds → (length acts == 0) ≡ true → is_bad flags ≡ false →
+  by_look : Looked (LocalOrCall n flags acts m) m.own.effects → (length acts == 0) ≡ true → is_bad flags ≡ false →
       (n == 0) ≡ false → Leaves m l (first_look acts n l steps)
   by_look (g, rest, e, way) no_acts p q =
       go (serves_locally (published_by g) s n) (g == 0) (copies_alone acts n g l) refl refl refl way
@@ -355,7 +356,7 @@ module _ (lists : Lists) (n flags : ℕ) (acts : List BoundAct) (steps : List St
   by_ways v = go (length acts == 0) (n == 0) (is_bad flags) refl refl refl v.ways
     where
       go : (a z b : Bool) → (length acts == 0) ≡ a → (n == 0) ≡ z → is_bad flags ≡ b →
-          MatchBool (a && (not z && not b)) (Looked (LocalOrCall n flags acts m) m.own.deeds)
+          MatchBool (a && (not z && not b)) (Looked (LocalOrCall n flags acts m) m.own.effects)
           (ByVgetrandom n flags acts m) →
           Leaves m l (if b || z then l else first_look acts n l steps)
       go true false false ea ez eb x = by_look x ea eb ez
@@ -365,5 +366,5 @@ module _ (lists : Lists) (n flags : ℕ) (acts : List BoundAct) (steps : List St
           ap (λ b. b && (l.outline.found == g && has_left (outlined l.outline) n)) ea)
 
 pub vread_leaves : VreadLeaves
-vread_leaves lists n flags acts steps m l means deeds is =
-    by_ways lists n flags acts steps m l means.looks deeds is means
+vread_leaves lists n flags acts steps m l means effects is =
+    by_ways lists n flags acts steps m l means.looks effects is means

@@ -11,7 +11,7 @@ use Rattle.audit_keys.specs.declared.outline.Outline.{Outline}
 use Rattle.audit_keys.specs.Outline.{wiped_outline}
 use Rattle.audit_keys.specs.Left.{nothing_left, vread_left}
 
--- the outline of each state, and the number of the current one
+-- the outline of each state, and the number of the current state
 pub record Outlines : Type 0 where
   pub each : List Outline
   pub current : ℕ
@@ -49,11 +49,11 @@ entries_left o (vread_call n flags line acts) =
 entries_left o (unbound bound) = []
 entries_left o (ending line) = []
 
--- the entries that a call leaves in the list of state k
+-- the entries that a call leaves in the list of state `k`
 abbrev pub left_in : ℕ → Outlines → Call → List VEntry
 left_in k o call = if o.current == k then entries_left o call else []
 
--- the entries that several calls leave in the list of state k
+-- the entries that several calls leave in the list of state `k`
 abbrev pub list_left : ℕ → Outlines → List Call → List VEntry
 list_left k o [] = []
 list_left k o (call ∷ calls) = left_in k o call ++ list_left k (outlines_after o call) calls

@@ -6,7 +6,7 @@ use Rattle.audit_keys.specs.KeptEntries.{base_entries}
 use Rattle.judge_log.specs.declared.kept.Lists.{Lists as KeptLists}
 use Rattle.audit_keys.specs.declared.moments.Moment.{Moment}
 use Rattle.audit_keys.specs.declared.moments.Moments.{Moments}
-use Rattle.audit_keys.specs.Told.{cpu_lists}
+use Rattle.audit_keys.specs.Listed.{cpu_lists}
 
 abbrev pub stamps_of : List Moment → List ℕ
 stamps_of moments = map (λ m. m.stamp) moments
@@ -18,12 +18,12 @@ abbrev pub lane_moments : Option (Vec Moment) → List Moment
 lane_moments None = []
 lane_moments (Some lane) = lane.items
 
--- whether a moment's stamp is not above the cut
+-- whether there is a moment, and its stamp is at most `stamp`
 abbrev pub is_by : ℕ → Option Moment → Bool
 is_by stamp None = false
 is_by stamp (Some moment) = nat_le moment.stamp stamp
 
--- the kept entries of the visits up to a stamp, from those of all visits and their moments
+-- of a lane's kept entries, those whose visit has a stamp of at most `stamp`; `moments` has the stamps of the visits
 abbrev pub list_to : {K : Type 0} → ℕ → List Moment → List K → List K
 list_to stamp moments [] = []
 list_to stamp [] (k ∷ kept) = []
@@ -33,7 +33,7 @@ list_to stamp (m ∷ moments) (k ∷ kept) =
 abbrev pub visit_stamps : {E : Type 0} → List (Visit E) → List ℕ
 visit_stamps visits = map (λ v. v.stamp) visits
 
--- the kept data and the stamps are those of the book's visits of the base and the CPUs
+-- `kept` has the entries of the book's visits of the base and the CPUs, and `moments` has the stamps of these visits
 pub record KeepsVisits (book : Book) (kept : KeptLists) (moments : Moments) : Type 0 where
   pub base : base_entries kept.base.items ≡ entries_of book.base
   pub base_stamps : stamps_of moments.base.items ≡ visit_stamps book.base

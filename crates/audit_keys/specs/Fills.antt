@@ -21,7 +21,7 @@ count_of (Some fill) = fill.count
 abbrev pub count_at : List (Option Fill) → ℕ → ℕ
 count_at kept w = count_of (unwrap_or (slice_get kept w) None)
 
--- the count after one more integer does not fit into 64 bits
+-- after this entry the count of the entry's batch would not fit into 64 bits
 abbrev pub IsCountedOut : List (Option Fill) → CpuEntry → Type 0
 IsCountedOut kept (Int look refill width false) = (width < 256) × (2 ^ 64 ≤ count_at kept width + 1)
 IsCountedOut kept (Int look refill width true) = ⊥
@@ -31,7 +31,7 @@ IsCountedOut kept (Dump now) = ⊥
 IsCountedOut kept Prepare = ⊥
 IsCountedOut kept Online = ⊥
 
--- for each width that fits into a byte, kept has the last fill
+-- for each width that fits into a byte, `kept` has the last fill
 abbrev pub AreFills : (ℕ → Option BookFill) → List (Option Fill) → Type 0
 AreFills fills kept = (w : ℕ) → w < 256 → slice_get kept w ≡ Some (fill_of (fills w))
 
@@ -39,12 +39,12 @@ AreFills fills kept = (w : ℕ) → w < 256 → slice_get kept w ≡ Some (fill_
 abbrev pub served_more : ℕ → (ℕ → Option BookFill) → ℕ → Option BookFill
 served_more width fills w = if w == width then one_more_served (fills w) else fills w
 
--- the key and the fills are those of the CPU before the entry at a place
-pub record CpuStands (s : CpuState) (place : ℕ) (keys : CpuKeys) : Type 0 where
+-- `s` is a CPU's state before the entry at `place`, and `keys` has the key and the fills of `s`
+pub record CpuConforms (s : CpuState) (place : ℕ) (keys : CpuKeys) : Type 0 where
   pub place_is : s.place ≡ place
   pub key : keys.key ≡ s.key
   pub fills : AreFills s.fills keys.fills
 
--- whether a vgetrandom state takes the read at each place
+-- whether a vgetrandom state takes the read at `place`; the list has the answer for each place
 abbrev pub rekeys_of : List Bool → ℕ → Bool
 rekeys_of rekeyed place = unwrap_or (slice_get rekeyed place) false

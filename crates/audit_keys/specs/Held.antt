@@ -14,7 +14,7 @@ use Rattle.audit_keys.specs.declared.held.BatchHolder.TheVariants.{Cpu as CpuBat
 use Rattle.audit_keys.specs.declared.held.HeldKey.{HeldKey}
 use Rattle.audit_keys.specs.declared.held.HeldRest.{HeldRest}
 
--- the holder in the terms of the definitions
+-- the holder, as a value of the type that `key_names` has for holders
 abbrev pub key_holder : KeyHolder → BookKeyHolder
 key_holder Base = base_key
 key_holder (Cpu cpu) = cpu_key cpu
@@ -29,7 +29,7 @@ abbrev pub held_key : KeyHolder → Option KeyName → List HeldKey
 held_key holder None = []
 held_key holder (Some key) = record { holder = holder; key = key } ∷ []
 
--- the rest of a holder's batch, if it has bytes
+-- the rest of a holder's batch, if this rest has bytes
 abbrev pub held_rest : BatchHolder → Option Span → List HeldRest
 held_rest holder None = []
 held_rest holder (Some span) = if nat_lt 0 span.len then record { holder = holder; span = span } ∷ [] else []

@@ -1,4 +1,4 @@
--- The listed keys and rests are exactly those that the holders have after all entries.
+-- The keys and rests in `book_tells` are those that the book's holders have after all entries.
 use Rattle.std.specs.Prelude.{◌≡◌, ◌<◌, ⊤, Some, All, Contains}
 use Rattle.key_names.specs.declared.names.KeyName.{KeyName}
 use Rattle.key_names.specs.declared.names.Span.{Span}
@@ -8,7 +8,7 @@ use Rattle.audit_keys.specs.declared.held.KeyHolder.{KeyHolder}
 use Rattle.audit_keys.specs.declared.held.BatchHolder.{BatchHolder}
 use Rattle.audit_keys.specs.declared.held.BatchHolder.TheVariants.{Cpu, State}
 use Rattle.audit_keys.specs.Held.{key_holder, batch_holder}
-use Rattle.audit_keys.specs.Told.{book_tells}
+use Rattle.audit_keys.specs.Listed.{book_tells}
 
 -- the width of a batch fits into a byte
 abbrev pub HasByteWidth : BatchHolder → Type 0

@@ -1,4 +1,5 @@
--- The keys and rests of batches that are held in a book were not used. In terms of names, this is forward secrecy.
+-- No byte of a key, or of the rest of a batch, that is held at the end of a book was used. In terms of names, this is
+-- forward secrecy.
 use Rattle.std.specs.Prelude.{ℕ, ◌≡◌, Some, List}
 use Rattle.key_names.specs.declared.names.KeyName.{KeyName}
 use Rattle.key_names.specs.declared.names.Span.{Span}

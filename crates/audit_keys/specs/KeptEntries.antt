@@ -1,4 +1,4 @@
--- The entries that are kept for the lanes.
+-- The entries of the base and of a CPU, taken from the data that `judge_log` keeps of each visit.
 use Rattle.std.specs.Prelude.{List, map}
 use Rattle.key_names.specs.declared.entries.BaseEntry.{BaseEntry}
 use Rattle.key_names.specs.declared.entries.CpuEntry.{CpuEntry}

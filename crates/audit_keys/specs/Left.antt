@@ -1,5 +1,6 @@
--- The outline and the entries that a vread leaves for a state, by the steps of its line. The cases are those of the
--- code. If the steps are not those of a vread, the entries end before the first step that does not fit.
+-- The outline and the entries that a vread leaves for a state. The steps of the vread's line determine both. The
+-- definitions follow the code, case by case. If the steps are not those of a vread, the entries end before the first
+-- step that does not fit.
 use Rattle.std.specs.Prelude.{ℕ, ◌==◌, ◌&&◌, ◌||◌, Bool, true, Option, None, Some, List, [], ◌∷◌, ◌++◌, length}
 use Rattle.std.specs.Prelude.{if◌then◌else◌}
 use Rattle.key_names.specs.declared.entries.VEntry.{VEntry}
@@ -22,7 +23,7 @@ pub record Left : Type 0 where
   pub outline : Outline
   pub entries : List VEntry
 
--- a call begins: it has left no entry, and the state has this outline
+-- the beginning of a call: the call has left no entry, and the state has this outline
 abbrev pub nothing_left : Outline → Left
 nothing_left outline = record { outline = outline; entries = [] }
 
@@ -35,18 +36,18 @@ pushed entry l = left_more (entry ∷ []) l
 abbrev pub wiped : Left → Left
 wiped l = record { outline = wiped_outline; entries = l.entries ++ Wipe ∷ [] }
 
--- the state after a point, with a wipe there or without one
+-- the state after a point: wiped if an act there wipes, and otherwise unchanged
 abbrev pub met : Bool → Left → Left
 met wipes l = if wipes then wiped l else l
 
--- the state after this many bytes of its batch were served
+-- the state, with `served` bytes of its batch served
 abbrev pub with_served : ℕ → Left → Left
 with_served served l = record l { outline = record l.outline { served = served } }
 
 abbrev pub refilled : ℕ → ℕ → ℕ → Left → Left
 refilled c m r l = with_served r (left_more (refill_entries c m r) l)
 
--- the state after a copy of n bytes; c is the key's next block
+-- the state after `n` bytes were copied out; `c` is the key's next block before the copy
 abbrev pub copied : ℕ → ℕ → Left → Left
 copied n c l =
     with_served (state_after_copy (outlined l.outline) c n).pos (left_more (copy_entries (outlined l.outline) c n) l)
@@ -85,18 +86,19 @@ keyed key l = pushed (Rekey key.cpu key.place) (with_served 96 l)
 
 -- ---- an attempt
 
--- the end of an attempt, the steps after it, and the outline and entries that it leaves
-pub record Behind : Type 0 where
+-- the end of an attempt: the key's next block, whether the attempt held, the steps after the attempt, and the outline
+-- and entries that the attempt left
+pub record After : Type 0 where
   pub next_block : ℕ
   pub holds : Bool
   pub rest : List Step
   pub left : Left
 
 -- the end of an attempt whose steps end too early
-abbrev pub cut_short : ℕ → Left → Behind
+abbrev pub cut_short : ℕ → Left → After
 cut_short c l = record { next_block = c; holds = true; rest = []; left = l }
 
-abbrev pub looked_again : List BoundAct → ℕ → ℕ → Left → ℕ → List Step → Behind
+abbrev pub looked_again : List BoundAct → ℕ → ℕ → Left → ℕ → List Step → After
 looked_again acts n c l found rest =
     let end = met (is_wiped acts End) (copied n c l) in record {
       next_block = block_after_copy (outlined l.outline) c n;
@@ -105,39 +107,39 @@ looked_again acts n c l found rest =
       left = end;
     }
 
--- an attempt from Serve on
-abbrev pub from_serve : List BoundAct → ℕ → ℕ → Left → List Step → Behind
+-- an attempt from the point Serve on
+abbrev pub from_serve : List BoundAct → ℕ → ℕ → Left → List Step → After
 from_serve acts n c l (Look found ∷ rest) = looked_again acts n c (met (is_wiped acts Serve) l) found rest
 from_serve acts n c l _ = cut_short c l
 
-abbrev pub with_key : List BoundAct → ℕ → ℕ → Left → Option KeyAndRest → Behind
+abbrev pub with_key : List BoundAct → ℕ → ℕ → Left → Option KeyAndRest → After
 with_key acts n c l None = cut_short c l
 with_key acts n c l (Some k) = from_serve acts n c (keyed k.key l) k.rest
 
--- an attempt from Written on
-abbrev pub from_written : List BoundAct → ℕ → ℕ → Left → List Step → Behind
+-- an attempt from the point Written on
+abbrev pub from_written : List BoundAct → ℕ → ℕ → Left → List Step → After
 from_written acts n c l steps = with_key acts n c (met (is_wiped acts Written) l) (key_in_front steps)
 
--- an attempt from Start on, after a look that found this generation
-abbrev pub from_start : List BoundAct → ℕ → ℕ → ℕ → Left → List Step → Behind
+-- an attempt after the point Start; the attempt's look found the generation `found`
+abbrev pub from_start : List BoundAct → ℕ → ℕ → ℕ → Left → List Step → After
 from_start acts n c found l steps =
     if l.outline.found == found then from_serve acts n c l steps
     else from_written acts n c (record l { outline = record l.outline { found = found } }) steps
 
--- an attempt to copy n bytes; c is the key's next block
-abbrev pub attempted : List BoundAct → ℕ → ℕ → Left → List Step → Behind
+-- an attempt to copy `n` bytes; `c` is the key's next block
+abbrev pub attempted : List BoundAct → ℕ → ℕ → Left → List Step → After
 attempted acts n c l (Look found ∷ rest) = from_start acts n c found (met (is_wiped acts Start) l) rest
 attempted acts n c l _ = cut_short c l
 
 -- ---- a vread
 
-abbrev pub tried_again : ℕ → Behind → Left
+abbrev pub tried_again : ℕ → After → Left
 tried_again n b = if b.holds then b.left else (attempted [] n b.next_block b.left b.rest).left
 
 abbrev pub tried_twice : List BoundAct → ℕ → Left → List Step → Left
 tried_twice acts n l steps = tried_again n (attempted acts n 0 l steps)
 
--- whether a copy is made without a call, at a look that found this generation
+-- whether the batch alone serves the vread, without a vgetrandom call; the first look found the generation `found`
 abbrev pub copies_alone : List BoundAct → ℕ → ℕ → Left → Bool
 copies_alone acts n found l = length acts == 0 && (l.outline.found == found && has_left (outlined l.outline) n)
 
@@ -150,6 +152,6 @@ abbrev pub first_look : List BoundAct → ℕ → Left → List Step → Left
 first_look acts n l (Look found ∷ rest) = from_look acts n found l rest
 first_look acts n l _ = l
 
--- the state after a vread of n bytes with these flags and acts
+-- the state after a vread of `n` bytes with these flags and acts
 abbrev pub vread_left : ℕ → ℕ → List BoundAct → Left → List Step → Left
 vread_left n flags acts l steps = if is_bad flags || n == 0 then l else first_look acts n l steps

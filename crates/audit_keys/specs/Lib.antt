@@ -1,5 +1,5 @@
 -- The files of specs/.
-pub mod ToldFrom
+pub mod ListedFrom
 pub mod UsedAt
 pub mod UsesSeen
 pub mod KeptEntries
@@ -11,7 +11,7 @@ pub mod Moments
 pub mod Lives
 pub mod Rests
 pub mod Held
-pub mod Told
+pub mod Listed
 pub mod HeldIsLive
 pub mod Cut
 pub mod Rows
@@ -26,5 +26,5 @@ pub mod Stamps
 pub mod Ends
 pub mod Stamped
 pub mod StateCut
-pub mod ToldEnds
+pub mod ListedEnds
 pub mod LineEnds

@@ -6,7 +6,7 @@ use Rattle.key_names.specs.Transcripts.SeenLine.{SeenLine}
 use Rattle.audit_keys.specs.declared.line_ends.LineEnd.{LineEnd}
 use Rattle.audit_keys.specs.Stamps.{over_at, start_stamp}
 
--- a line of the call with this number, which was over at this stamp
+-- a line of a call; the call has the number `call`, and was over at `stamp`
 abbrev pub line_of_call : ℕ → ℕ → SeenLine → LineEnd
 line_of_call call stamp line = record { event = line.event; call = call; stamp = stamp }
 
@@ -20,14 +20,15 @@ call_ends i stamp (vread_call n flags line acts) = act_ends i stamp acts ++ line
 call_ends i stamp (unbound bound) = line_of_call i stamp bound.line ∷ []
 call_ends i stamp (ending line) = line_of_call i stamp line ∷ []
 
--- the lines of several calls: i is the number of the first, and `before` is the stamp of the last visit before them
+-- the lines of several calls; `i` is the number of the first call, and `before` is the stamp of the last visit before
+-- these calls
 abbrev pub line_ends : ℕ → ℕ → List Call → List LineEnd
 line_ends i before [] = []
 line_ends i before (call ∷ calls) =
     call_ends i (over_at before call) call ++ line_ends (i + 1) (over_at before call) calls
 
--- the lines of all callers; `starts` gives the stamp of the last visit before a caller's calls, and c is the number of
--- the first
+-- the lines of all callers; `starts` gives the stamp of the last visit before a caller's calls, and `c` is the number
+-- of the first caller
 abbrev pub all_line_ends : (ℕ → ℕ) → ℕ → List (List Call) → List (List LineEnd)
 all_line_ends starts c [] = []
 all_line_ends starts c (calls ∷ callers) = line_ends 0 (starts c) calls ∷ all_line_ends starts (suc c) callers
@@ -36,8 +37,8 @@ abbrev pub lines_in : List (Vec LineEnd) → List (List LineEnd)
 lines_in lines = map (λ list. list.items) lines
 
 -- the lines of each caller, each with its call and the stamp when that call was over
-abbrev pub told_lines : List (List Call) → List (List LineEnd)
-told_lines callers = all_line_ends (start_stamp callers) 0 callers
+abbrev pub listed_lines : List (List Call) → List (List LineEnd)
+listed_lines callers = all_line_ends (start_stamp callers) 0 callers
 
 abbrev pub AreLineEnds : List (List Call) → List (Vec LineEnd) → Type 0
-AreLineEnds callers lines = lines_in lines ≡ told_lines callers
+AreLineEnds callers lines = lines_in lines ≡ listed_lines callers

@@ -1,4 +1,5 @@
--- The keys that the entries of a list make, and the keys that they replace or erase, each with its entry.
+-- The keys that the entries of a list make, and the keys that these entries replace or erase. Each key is listed with
+-- its entry.
 use Rattle.std.specs.Prelude.{ℕ, true, false, Option, Some, None, List, [], ◌∷◌, ◌++◌, nat_lt, if◌then◌else◌}
 use Rattle.key_names.specs.declared.names.LaneId.{LaneId}
 use Rattle.key_names.specs.declared.names.LaneId.TheVariants.{Pool as PoolLane, Base as BaseLane, Cpu as CpuLane}
@@ -34,7 +35,7 @@ abbrev pub ended : Origin → Option KeyName → List Ending
 ended by None = []
 ended by (Some key) = record { key = key; by = by } ∷ []
 
--- a user's read of more than 32 bytes makes its call key, and erases it
+-- a user's read of more than 32 bytes makes a call key (the same read erases this key)
 abbrev pub long_births : LaneId → ℕ → Taken → List Birth
 long_births lane place (User n) =
     if nat_lt 32 n then born (Call lane place) InRead (Lane lane place) ∷ [] else []
@@ -45,12 +46,12 @@ long_endings lane place (User n) =
     if nat_lt 32 n then ended (Lane lane place) (Some (Call lane place)) else []
 long_endings lane place (Kernel n) = []
 
--- a root is made by the extraction that gives it, and the base holds it
+-- an extraction makes the root that it gives, and the base holds this root
 abbrev pub root_births : Option ℕ → List Birth
 root_births None = []
 root_births (Some r) = born (Root r) InBase (Lane PoolLane r) ∷ []
 
--- the key before an entry is replaced if the entry names another key
+-- if an entry names another key, the entry replaces the key before it
 abbrev pub replaced : Origin → Option ℕ → Option KeyName → List Ending
 replaced by None key = []
 replaced by (Some n) key = ended by key
@@ -107,13 +108,13 @@ cpu_endings_at c s (Dump now) = []
 cpu_endings_at c s Prepare = []
 cpu_endings_at c s Online = []
 
--- a refill keeps a key, if the state had one
+-- if the state had a key, a refill makes the state's next key
 abbrev pub refill_births : StateOf → NamedState → Option KeyName → List Birth
 refill_births of s None = []
 refill_births of s (Some key) =
     born (Vdso of.caller of.state s.refills) (InState of) (state_origin of s.place) ∷ []
 
--- a rekey takes the key that the read of a CPU made for it
+-- the key of a rekey is a call key, and the read of a CPU made this key
 abbrev pub state_births_at : StateOf → NamedState → VEntry → List Birth
 state_births_at of s (Rekey cpu cpu_place) =
     born (Call (CpuLane cpu) cpu_place) (InState of) (Lane (CpuLane cpu) cpu_place) ∷ []

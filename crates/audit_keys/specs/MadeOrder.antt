@@ -8,7 +8,7 @@ use Rattle.audit_keys.specs.declared.used.Origin.{Origin}
 use Rattle.audit_keys.specs.declared.used.Origin.TheVariants.{Lane, State}
 use Rattle.audit_keys.specs.declared.moments.Moment.{Moment}
 use Rattle.audit_keys.specs.declared.moments.Moments.{Moments}
-use Rattle.audit_keys.specs.declared.rows.Row.{Row}
+use Rattle.audit_keys.specs.declared.rows.KeyRow.{KeyRow}
 use Rattle.audit_keys.specs.Cut.{lane_moments}
 use Rattle.audit_keys.specs.declared.rows.MadeRank.{MadeRank}
 use Rattle.audit_keys.specs.contracts.rows.MadeRankOrd.TheImpl.{ghosts as ranks}
@@ -17,7 +17,7 @@ abbrev pub state_moments : Option (Vec (Vec Moment)) → ℕ → List Moment
 state_moments None state = []
 state_moments (Some states) state = lane_moments (slice_get states.items state)
 
--- the moment at which an entry was left, if it is known
+-- the moment at which an entry was left, if this moment is known
 abbrev pub moment_at : Moments → Origin → Option Moment
 moment_at moments (Lane Pool place) = slice_get moments.pool.items place
 moment_at moments (Lane Base place) = slice_get moments.base.items place
@@ -36,9 +36,9 @@ is_call_key (CpuKey c i) = false
 is_call_key (Call lane i) = true
 is_call_key (Vdso caller state n) = false
 
--- keys rank by the stamp of the entry that made them, then by the entry. Of two keys of one visit the call key comes
--- second
-abbrev pub made_rank : Moments → Row → MadeRank
+-- keys rank by the stamp of the entry that made the key, and then by this entry. If one visit made two keys, the call
+-- key comes second
+abbrev pub made_rank : Moments → KeyRow → MadeRank
 made_rank moments row = record {
   stamp = stamp_or_0 (moment_at moments row.made);
   made = row.made;
@@ -46,5 +46,5 @@ made_rank moments row = record {
 }
 
 -- rows are in the order in which their keys were made
-abbrev pub RowsByMaking : Moments → List Row → Type 0
+abbrev pub RowsByMaking : Moments → List KeyRow → Type 0
 RowsByMaking moments rows = IsSortedByKey (made_rank moments) ranks.cmp rows

@@ -7,7 +7,8 @@ use Rattle.audit_keys.specs.declared.outline.Outline.{Outline}
 abbrev pub wiped_outline : Outline
 wiped_outline = record { found = 0; served = 0 }
 
--- the outline of this state: at a look that found the outline's generation, the vDSO published the state's generation
+-- `o` is the outline of `s`: the generation of `s` is the one that the vDSO publishes when the core's generation is
+-- `o.found`, and `s` has the position `o.served` in its batch
 pub record IsOutline (o : Outline) (s : VgetrandomState) : Type 0 where
   pub generation : s.generation ≡ published_by o.found
   pub served : s.pos ≡ o.served
@@ -17,7 +18,7 @@ pub record IsBetweenCalls (o : Outline) (s : VgetrandomState) : Type 0 where
   pub outline : IsOutline o s
   pub idle : s.in_use ≡ false
 
--- a state that has this outline, with no bytes as its key and its batch
+-- a state that has this outline, and whose key and batch are empty lists
 abbrev pub outlined : Outline → VgetrandomState
 outlined o =
     record { batch = []; key = []; generation = published_by o.found; pos = o.served; in_use = false }

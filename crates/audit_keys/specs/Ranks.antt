@@ -1,10 +1,10 @@
--- Lists in the order of their keys' names.
+-- The pieces, and likewise the endings, are sorted by the names of their keys.
 use Rattle.std.specs.Prelude.{List, IsSortedByKey}
 use Rattle.key_names.specs.contracts.names.KeyNameOrd.TheImpl.{ghosts as names}
 use Rattle.audit_keys.specs.declared.lives.Ending.{Ending}
-use Rattle.audit_keys.specs.declared.rows.Piece.{Piece}
+use Rattle.audit_keys.specs.declared.rows.KeyPiece.{KeyPiece}
 
-abbrev pub PiecesByKey : List Piece → Type 0
+abbrev pub PiecesByKey : List KeyPiece → Type 0
 PiecesByKey pieces = IsSortedByKey (λ piece. piece.span.key) names.cmp pieces
 
 abbrev pub EndingsByKey : List Ending → Type 0

@@ -1,4 +1,4 @@
--- The rests of batches that entries give up. A rest is the bytes of a batch that were not served.
+-- Entries give up rests of batches. The rest of a batch is its bytes that were not served.
 use Rattle.std.specs.Prelude.{ℕ, ◌≡◌, true, false, Option, Some, None, List, [], ◌∷◌, nat_lt, if◌then◌else◌}
 use Rattle.std.specs.List.{flat_map, range_with_len}
 use Rattle.key_names.specs.declared.names.LaneId.TheVariants.{Cpu as CpuLane}
@@ -14,22 +14,22 @@ use Rattle.key_names.specs.Keys.LiveMaterial.{fill_rest, state_rest}
 use Rattle.audit_keys.specs.declared.state_uses.StateOf.{StateOf}
 use Rattle.audit_keys.specs.declared.used.Origin.{Origin}
 use Rattle.audit_keys.specs.declared.used.Origin.TheVariants.{Lane}
-use Rattle.audit_keys.specs.StateKeys.{StateStands}
+use Rattle.audit_keys.specs.StateKeys.{StateConforms}
 use Rattle.audit_keys.specs.UsedAt.{state_origin}
 use Rattle.audit_keys.specs.declared.lives.GivenUp.{GivenUp}
 use Rattle.audit_keys.specs.declared.batches.StateBatch.{StateBatch}
 
--- the keys and the batch are those of the state before the entry at a place
-pub record BatchStands (s : NamedState) (place : ℕ) (batch : StateBatch) : Type 0 where
-  pub keys : StateStands s place batch.keys
+-- `s` is a state before the entry at `place`, and `batch` has the keys and the position of `s`
+pub record BatchConforms (s : NamedState) (place : ℕ) (batch : StateBatch) : Type 0 where
+  pub keys : StateConforms s place batch.keys
   pub pos : batch.pos ≡ s.pos
 
--- a rest that an entry gives up, if it has bytes
+-- the rest `span` that the entry `by` gives up, if this rest has bytes
 abbrev pub given_up : Origin → Option Span → List GivenUp
 given_up by None = []
 given_up by (Some span) = if nat_lt 0 span.len then record { span = span; by = by } ∷ [] else []
 
--- the widths of batches that fit into a byte
+-- the batch widths that fit into a byte
 unfoldable pub widths : List ℕ
 widths = range_with_len 0 256
 

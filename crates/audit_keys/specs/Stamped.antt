@@ -1,4 +1,4 @@
--- A caller's states after some of its calls: the entries that were left, each with the end of its call.
+-- A caller's states after some of its calls. Each entry is listed with the call that left it, and with this call's end.
 use Rattle.std.specs.Prelude.{ℕ, suc, ◌+◌, List, [], ◌∷◌, ◌++◌, map, replicate, slice_get, slice_set, unwrap_or}
 use Rattle.std.specs.List.{range_with_len}
 use Rattle.std.specs.Global.{Vec}
@@ -13,7 +13,7 @@ use Rattle.audit_keys.specs.Callers.{Outlines, first_outlines, current_outline, 
 use Rattle.audit_keys.specs.Ends.{end_of}
 use Rattle.audit_keys.specs.Stamps.{over_at}
 
--- the entries that call number `call` left, with the call's end
+-- the entries that call number `call` left, each with the call's end
 abbrev pub left_by : ℕ → CallEnd → List VEntry → List StateEntry
 left_by call end entries = map (λ e. record { entry = e; call = call; end = end }) entries
 
@@ -35,7 +35,8 @@ first_states stamp = record { outlines = first_outlines; lists = replicate 16 []
 abbrev pub current_list : States → List StateEntry
 current_list s = unwrap_or (slice_get s.lists s.outlines.current) []
 
--- the states after the call with this number and this end left this for the current one
+-- the states after a call with this number and this end; the call left the outline and the entries of `l` for the
+-- current state
 abbrev pub left_over : ℕ → CallEnd → Left → States → States
 left_over call end l s = record {
   outlines = with_outline s.outlines l.outline;
@@ -49,7 +50,7 @@ states_after_event call end s (State number) =
     record s { outlines = record s.outlines { current = number }; stamp = end.stamp }
 states_after_event call end s _ = record s { stamp = end.stamp }
 
--- the states after the call with number i
+-- the states after the call with the number `i`
 abbrev pub states_after : ℕ → States → Call → States
 states_after i s (alone event line) = states_after_event i (end_of s.stamp (alone event line)) s event
 states_after i s (vread_call n flags line acts) = left_over i (end_of s.stamp (vread_call n flags line acts))
@@ -57,13 +58,13 @@ states_after i s (vread_call n flags line acts) = left_over i (end_of s.stamp (v
 states_after i s (unbound bound) = record s { stamp = over_at s.stamp (unbound bound) }
 states_after i s (ending line) = record s { stamp = over_at s.stamp (ending line) }
 
--- the states after several calls, the first of which has number i
+-- the states after several calls; the first call has the number `i`
 abbrev pub states_from : ℕ → States → List Call → States
 states_from i s [] = s
 states_from i s (call ∷ calls) = states_from (i + 1) (states_after i s call) calls
 
--- the entries that calls leave in the list of state k; i is the number of the first call, and `before` is the stamp of
--- the last visit before it
+-- the entries that calls leave in the list of state `k`; `i` is the number of the first call, and `before` is the stamp
+-- of the last visit before this call
 abbrev pub list_over : ℕ → Outlines → ℕ → ℕ → List Call → List StateEntry
 list_over k o i before [] = []
 list_over k o i before (call ∷ calls) =
@@ -74,7 +75,7 @@ list_over k o i before (call ∷ calls) =
 abbrev pub caller_over : ℕ → List Call → List (List StateEntry)
 caller_over start calls = map (λ k. list_over k first_outlines 0 start calls) (range_with_len 0 16)
 
--- the lists that the calls of all callers leave; c is the number of the first
+-- the lists that the calls of all callers leave; `c` is the number of the first caller
 abbrev pub all_over : (ℕ → ℕ) → ℕ → List (List Call) → List (List (List StateEntry))
 all_over starts c [] = []
 all_over starts c (calls ∷ callers) = caller_over (starts c) calls ∷ all_over starts (suc c) callers

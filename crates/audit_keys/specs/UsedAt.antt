@@ -1,4 +1,5 @@
--- The uses of each entry: bytes of which key, the key that they become if they are kept, and the entry.
+-- The uses by each entry. A use has bytes of a key, the purpose of these bytes (kept as a named key, or served), and
+-- the entry.
 use Rattle.std.specs.Prelude.{ℕ, ◌+◌, ◌*◌, Bool, true, false, Option, Some, None, List, [], ◌∷◌, nat_lt, if◌then◌else◌}
 use Rattle.key_names.specs.declared.names.LaneId.TheVariants.{Base as BaseLane, Cpu as CpuLane}
 use Rattle.key_names.specs.declared.names.KeyName.{KeyName}
@@ -23,7 +24,7 @@ use Rattle.audit_keys.specs.declared.used.Origin.TheVariants.{Lane, State}
 use Rattle.audit_keys.specs.declared.used.Purpose.TheVariants.{Kept, Served}
 use Rattle.audit_keys.specs.declared.used.Used.{Used}
 
--- an entry keeps 32 bytes of a key, from this byte on, as the key with this name
+-- the entry `by` keeps 32 bytes of `key`, from byte `from` on, as the key with the name `name`
 abbrev pub kept_as : Origin → KeyName → ℕ → KeyName → Used
 kept_as by key from name =
     record { span = record { key = key; from = from; len = 32 }; purpose = Kept name; by = by }
@@ -37,8 +38,8 @@ abbrev pub named_used : Option KeyName → (KeyName → List Used) → List Used
 named_used None used_of = []
 named_used (Some key) used_of = used_of key
 
--- the bytes that a read takes after the 32 that the erasure keeps. `call` names the next 32 bytes if they become a key,
--- and `rekeys` is whether a vgetrandom state takes them
+-- the uses of the bytes that a read takes after the 32 bytes that the erasure keeps. `call` is the name of the next 32
+-- bytes if they become a key, and `rekeys` is whether a vgetrandom state takes them as its key
 abbrev pub taken_used : Bool → Origin → KeyName → KeyName → Taken → List Used
 taken_used rekeys by key call (User n) =
     if nat_lt 32 n then kept_as by key 32 call ∷ served_by by call 64 n ∷ []
@@ -72,7 +73,7 @@ batch_used by width None = []
 batch_used by width (Some fill) =
     named_used fill.key (λ key. served_by by key (32 + width * fill.count) width ∷ [])
 
--- the uses of a CPU's entry; `rekeys` is, for each place, whether a vgetrandom state takes the read there
+-- the uses of a CPU's entry; for each place, `rekeys` is whether a vgetrandom state takes the read there
 abbrev pub cpu_used_at : ℕ → (ℕ → Bool) → CpuState → CpuEntry → List Used
 cpu_used_at c rekeys s (Read look refill taken) = named_used (cpu_key_in_use (Read look refill taken) s.key)
     (λ key. read_used (rekeys s.place) (Lane (CpuLane c) s.place) key (Cpu c s.place) (Call (CpuLane c) s.place) taken)
@@ -86,7 +87,7 @@ cpu_used_at c rekeys s (Dump now) = []
 cpu_used_at c rekeys s Prepare = []
 cpu_used_at c rekeys s Online = []
 
--- the entry of a vgetrandom state at a place
+-- the origin that denotes the entry at `place` in the list of a vgetrandom state
 abbrev pub state_origin : StateOf → ℕ → Origin
 state_origin of place = State of.caller of.state place
 

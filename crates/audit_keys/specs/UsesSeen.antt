@@ -1,4 +1,4 @@
--- The listed uses, and the uses of the book that they equal.
+-- A use that the code lists also has its entry and a new key's name. Without these, the uses are those of `key_names`.
 use Rattle.std.specs.Prelude.{ℕ, ◌≡◌, Bool, List, map}
 use Rattle.key_names.specs.declared.entries.BaseEntry.{BaseEntry}
 use Rattle.key_names.specs.declared.entries.CpuEntry.{CpuEntry}
@@ -12,7 +12,7 @@ use Rattle.audit_keys.specs.declared.state_uses.StateOf.{StateOf}
 use Rattle.audit_keys.specs.declared.used.Purpose.{Purpose}
 use Rattle.audit_keys.specs.declared.used.Purpose.TheVariants.{Kept, Served}
 use Rattle.audit_keys.specs.declared.used.Used.{Used}
-use Rattle.audit_keys.specs.ToldFrom.{told_from}
+use Rattle.audit_keys.specs.ListedFrom.{listed_from}
 use Rattle.audit_keys.specs.UsedAt.{base_used_at, cpu_used_at, state_used_at}
 
 abbrev pub purpose_of : Purpose → BookPurpose
@@ -25,13 +25,13 @@ use_seen used = record { span = used.span; purpose = purpose_of used.purpose }
 abbrev pub uses_seen : List Used → List Use
 uses_seen used = map use_seen used
 
--- for every list, the listed uses are the uses of its entries
+-- for every list, the uses that the code lists are those that the definitions give
 pub record AreSeenAsUses : Type 0 where
   pub base : (es : List BaseEntry) →
-      uses_seen (told_from base_used_at base_step base_start es) ≡ uses_from base_uses_at base_step base_start es
+      uses_seen (listed_from base_used_at base_step base_start es) ≡ uses_from base_uses_at base_step base_start es
   pub cpus : (base : List BaseEntry) (c : ℕ) (rekeys : ℕ → Bool) (es : List CpuEntry) →
-      uses_seen (told_from (cpu_used_at c rekeys) (cpu_step base c) cpu_start es)
+      uses_seen (listed_from (cpu_used_at c rekeys) (cpu_step base c) cpu_start es)
       ≡ uses_from (cpu_uses_at c rekeys) (cpu_step base c) cpu_start es
   pub states : (of : StateOf) (es : List VEntry) →
-      uses_seen (told_from (state_used_at of) (state_step of.caller of.state) state_start es)
+      uses_seen (listed_from (state_used_at of) (state_step of.caller of.state) state_start es)
       ≡ uses_from state_uses_at (state_step of.caller of.state) state_start es

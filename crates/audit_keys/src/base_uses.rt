@@ -2,7 +2,7 @@
 ghost use Rattle.std.specs.Prelude.{◌≡◌, ◌++◌, IfOk, OnOk};
 ghost use Rattle.key_names.specs.Lanes.BaseList.{BaseState, base_start, base_step, base_key_in_use, base_key_after};
 ghost use Rattle.audit_keys.specs.KeptEntries.{base_entries};
-ghost use Rattle.audit_keys.specs.ToldFrom.{told_from};
+ghost use Rattle.audit_keys.specs.ListedFrom.{listed_from};
 ghost use Rattle.audit_keys.specs.UsedAt.{base_used_at};
 
 use crate::read_uses::{InUse, push_read};
@@ -11,7 +11,7 @@ use judge_log::{KeptBase, root_of};
 use key_names::{BaseEntry, KeyName, LaneId};
 use std::alloc::{AllocError, Global};
 
-/// The key in use at an entry: the root that the entry names, or the key before it if it names none.
+/// The key in use at an entry: the root that the entry names. If the entry names no root, the key before the entry.
 pub fn key_in_use(entry: BaseEntry, key: Option<KeyName>) -> Option<KeyName>
     ensures { result ≡ base_key_in_use entry key }
 {
@@ -21,7 +21,7 @@ pub fn key_in_use(entry: BaseEntry, key: Option<KeyName>) -> Option<KeyName>
     }
 }
 
-/// The key after the entry at a place.
+/// The key of the base after the entry at a place. `key` is the key before the entry.
 pub fn key_after(place: u64, entry: BaseEntry, key: Option<KeyName>) -> Option<KeyName>
     ensures { result ≡ base_key_after place entry key }
 {
@@ -31,7 +31,7 @@ pub fn key_after(place: u64, entry: BaseEntry, key: Option<KeyName>) -> Option<K
     }
 }
 
-// Adds the uses of the entry at a place; `key` is the key before it.
+// Adds the uses of the entry at a place; `key` is the key before the entry.
 fn push_uses(
     uses: &mut Vec<Used>,
     key: Option<KeyName>,
@@ -67,7 +67,7 @@ fn push_uses(
 /// `AllocError` if there is no memory for them.
 pub fn base_uses(alloc: Global, base: &[KeptBase]) -> Result<Vec<Used>, AllocError>
     ensures { IfOk result (λ uses.
-        uses.items ≡ told_from base_used_at base_step base_start (base_entries base.now)) }
+        uses.items ≡ listed_from base_used_at base_step base_start (base_entries base.now)) }
 {
     let mut uses = Vec::new(alloc);
     let mut key = None;

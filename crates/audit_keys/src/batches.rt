@@ -1,4 +1,4 @@
-//! The rests of batches.
+//! The rests of batches: bytes that were not served.
 ghost use Rattle.std.specs.Prelude.{ℕ, List, ◌≡◌, ◌≤◌, ◌+◌, ◌*◌, ◌^◌, Option, length, IfOk, OnOk, OnErr};
 ghost use Rattle.key_names.specs.declared.entries.BaseEntry.{BaseEntry as BookBase};
 ghost use Rattle.key_names.specs.Kernel.Batches.{Fill as BookFill};
@@ -6,10 +6,10 @@ ghost use Rattle.key_names.specs.Lanes.BaseList.{base_after};
 ghost use Rattle.key_names.specs.Lanes.CpuList.{cpu_after};
 ghost use Rattle.key_names.specs.Lanes.StateList.{NamedState, state_start, state_step, state_after};
 ghost use Rattle.key_names.specs.Keys.LiveMaterial.{fill_rest, named_span, state_rest};
-ghost use Rattle.audit_keys.specs.Fills.{fill_of, count_of, CpuStands};
+ghost use Rattle.audit_keys.specs.Fills.{fill_of, count_of, CpuConforms};
 ghost use Rattle.audit_keys.specs.KeptEntries.{base_entries, cpu_entries};
 ghost use Rattle.audit_keys.specs.StateKeys.{IsRefilledOut};
-ghost use Rattle.audit_keys.specs.Rests.{BatchStands};
+ghost use Rattle.audit_keys.specs.Rests.{BatchConforms};
 
 use crate::base_uses;
 use crate::cpu_uses::{CpuKeys, Fill, next_byte};
@@ -21,7 +21,7 @@ use std::alloc::AllocError;
 /// The end of a CPU's batch in the keystream of its key. The batch follows the 32 bytes that became the next key.
 const BATCH_END: u64 = 32 + BATCH_BYTES;
 
-/// The keys of a vgetrandom state, and the first byte of its batch that was not served.
+/// The keys of a vgetrandom state, and the position of the first byte of its batch that was not served.
 #[derive(Clone, Copy)]
 pub(crate) struct StateBatch {
     pub(crate) keys: StateKeys,
@@ -34,7 +34,7 @@ fn named_span(key: Option<KeyName>, from: u64, len: u64) -> Option<Span>
     key.map(|key| Span { key, from, len })
 }
 
-/// The rest of a CPU's batch. The number of a byte cannot exceed 64 bits in a run, since no memory has room for so many
+/// The rest of a CPU's batch. In a run a byte's number fits into 64 bits, since no memory has room for so many
 /// integers.
 ///
 /// # Errors
@@ -53,9 +53,9 @@ pub(crate) fn fill_rest(width: u64, fill: Option<Fill>) -> Result<Option<Span>, 
 }
 
 impl StateBatch {
-    /// The keys and the batch of a state before its first entry: it has neither.
+    /// A state before its first entry has no keys and no batch.
     pub(crate) fn start() -> StateBatch
-        ensures { BatchStands state_start 0 result }
+        ensures { BatchConforms state_start 0 result }
     {
         StateBatch {
             keys: StateKeys::start(),
@@ -69,8 +69,8 @@ impl StateBatch {
     ///
     /// `AllocError` if there are more refills than any memory has room for.
     pub(crate) fn step(&mut self, of: StateOf, entry: VEntry) -> Result<(), AllocError>
-        ensures after { (s : NamedState) (place : ℕ) → BatchStands s place self.old →
-            OnOk result (BatchStands (state_step of.caller of.state s entry) (place + 1) self.new) }
+        ensures after { (s : NamedState) (place : ℕ) → BatchConforms s place self.old →
+            OnOk result (BatchConforms (state_step of.caller of.state s entry) (place + 1) self.new) }
         ensures none { OnErr result (IsRefilledOut self.old.keys.refills entry) }
     {
         self.keys.step(of, entry)?;
@@ -87,9 +87,9 @@ impl StateBatch {
     ///
     /// # Errors
     ///
-    /// `AllocError` if the number of its first byte is 2^64 or more.
+    /// `AllocError` if the number of the rest's first byte is 2^64 or more.
     pub(crate) fn rest(&self) -> Result<Option<Span>, AllocError>
-        ensures rest { (s : NamedState) (place : ℕ) → BatchStands s place self.now →
+        ensures rest { (s : NamedState) (place : ℕ) → BatchConforms s place self.now →
             IfOk result (λ span. span ≡ state_rest s) }
         ensures none { OnErr result (2 ^ 64 ≤ 64 * self.now.keys.batch_from + self.now.pos) }
     {
@@ -102,7 +102,7 @@ impl StateBatch {
     }
 }
 
-/// The base's key after its entries.
+/// The key of the base after all these entries.
 pub(crate) fn base_end(base: &[KeptBase]) -> Option<KeyName>
     ensures { result ≡ (base_after (base_entries base.now)).key }
 {
@@ -113,14 +113,14 @@ pub(crate) fn base_end(base: &[KeptBase]) -> Option<KeyName>
     key
 }
 
-/// The key and the fills of a CPU after its entries.
+/// The key and the fills of a CPU after all these entries.
 ///
 /// # Errors
 ///
 /// `AllocError` if there are more integers than any memory has room for.
 pub(crate) fn cpu_end(cpu: u32, lane: &[KeptCpu]) -> Result<CpuKeys, AllocError>
     ensures end { (base : List BookBase) → let s = cpu_after base cpu (cpu_entries lane.now) in
-        IfOk result (λ keys. CpuStands s s.place keys) }
+        IfOk result (λ keys. CpuConforms s s.place keys) }
     ensures none { OnErr result (2 ^ 64 ≤ length lane.now) }
 {
     let mut keys = CpuKeys::start();
@@ -130,14 +130,14 @@ pub(crate) fn cpu_end(cpu: u32, lane: &[KeptCpu]) -> Result<CpuKeys, AllocError>
     Ok(keys)
 }
 
-/// The keys and the batch of a vgetrandom state after its entries.
+/// The keys and the batch of a vgetrandom state after all these entries.
 ///
 /// # Errors
 ///
 /// `AllocError` if there are more refills than any memory has room for.
 pub(crate) fn state_end(of: StateOf, entries: &[VEntry]) -> Result<StateBatch, AllocError>
     ensures end { let s = state_after of.caller of.state entries.now in
-        IfOk result (λ batch. BatchStands s s.place batch) }
+        IfOk result (λ batch. BatchConforms s s.place batch) }
     ensures none { OnErr result (2 ^ 64 ≤ length entries.now) }
 {
     let mut batch = StateBatch::start();

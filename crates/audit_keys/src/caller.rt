@@ -1,4 +1,4 @@
-//! The vgetrandom states of a caller, while its calls are taken.
+//! The vgetrandom states of a caller, call by call.
 ghost use Rattle.std.specs.Prelude.{◌≡◌, ◌++◌, OnOk};
 ghost use Rattle.audit_keys.specs.Stamped.{left_by};
 
@@ -6,7 +6,7 @@ use crate::entry::{CallEnd, StateEntry};
 use crate::leaving::Leaving;
 use crate::outline::Outline;
 use crate::stamps::end_of;
-use judge_lines::called::Called;
+use judge_lines::called::CalledLines;
 use key_names::{Event, VEntry};
 use std::alloc::{AllocError, Global};
 use std::marker::Model;
@@ -14,8 +14,8 @@ use std::marker::Model;
 /// How many vgetrandom states a caller has.
 const STATES: usize = 16;
 
-// Appends to a list the entries that a call left, with the number of the call and its end.
-fn put_behind(
+// Appends to a list the entries that a call left. Each gets the number of the call and the call's end.
+fn put_after(
     list: &mut Vec<StateEntry>,
     left: &[VEntry],
     call: usize,
@@ -33,17 +33,17 @@ fn put_behind(
     Ok(())
 }
 
-/// The sixteen vgetrandom states of a caller: their outlines, their lists up to now, the number of the current one, and
-/// the stamp of the caller's last visit.
+/// The sixteen vgetrandom states of a caller: the outline and the list so far of each state, and the number of the
+/// current state. Also has the stamp of the caller's last visit.
 #[derive(Drop)]
-pub(crate) struct Caller {
+pub(crate) struct AuditedCaller {
     outlines: Vec<Outline>,
     lists: Vec<Vec<StateEntry>>,
     current: usize,
     stamp: u64,
 }
 
-impl Model for Caller {
+impl Model for AuditedCaller {
     ghost use Rattle.audit_keys.specs.Stamped.{States, kept_lists};
 
     ghost Value = { States };
@@ -55,20 +55,20 @@ impl Model for Caller {
     } };
 }
 
-impl Caller {
+impl AuditedCaller {
     ghost use Rattle.std.specs.Prelude.{◌≡◌, ◌++◌, IfOk, OnOk, slice_set};
     ghost use Rattle.judge_lines.specs.Called.{seen_call};
     ghost use Rattle.audit_keys.specs.Callers.{current_outline, with_outline};
     ghost use Rattle.audit_keys.specs.Stamped.{States, first_states, current_list, left_by, left_over, kept_lists};
     ghost use Rattle.audit_keys.specs.Stamped.{states_after, states_after_event};
 
-    /// A caller that has made no call yet. `stamp` is the stamp of the last visit that its ancestors made before its
-    /// start.
+    /// A caller that has made no call yet. `stamp` is the stamp of the last visit that the caller's ancestors made
+    /// before the caller's start.
     ///
     /// # Errors
     ///
     /// `AllocError` if there is no memory for the states.
-    pub(crate) fn start(alloc: Global, stamp: u64) -> Result<Caller, AllocError>
+    pub(crate) fn start(alloc: Global, stamp: u64) -> Result<AuditedCaller, AllocError>
         ensures { IfOk result (λ caller. caller ≡ first_states stamp) }
     {
         let mut outlines = Vec::with_capacity(alloc, STATES)?;
@@ -77,7 +77,7 @@ impl Caller {
             outlines.push(Outline::wiped())?;
             lists.push(Vec::new(alloc))?;
         }
-        Ok(Caller {
+        Ok(AuditedCaller {
             outlines,
             lists,
             current: 0,
@@ -111,7 +111,7 @@ impl Caller {
         if self.current >= self.lists.len() {
             return Ok(());
         }
-        put_behind(&mut self.lists[self.current], left, call, end)?;
+        put_after(&mut self.lists[self.current], left, call, end)?;
         Ok(())
     }
 
@@ -124,7 +124,7 @@ impl Caller {
         self.put(left.entries(), call, end)
     }
 
-    // Takes a single event, as the call with this number and this end.
+    // Takes a call that is a single event. The call has this number and this end.
     fn event(
         &mut self,
         alloc: Global,
@@ -151,19 +151,19 @@ impl Caller {
     ///
     /// # Errors
     ///
-    /// `AllocError` if there is no memory for the entries that it leaves.
+    /// `AllocError` if there is no memory for the entries that the call leaves.
     pub(crate) fn call(
         &mut self,
         alloc: Global,
         number: usize,
-        call: &Called<'_>,
+        call: &CalledLines<'_>,
     ) -> Result<(), AllocError>
         ensures { OnOk result (self.new ≡ states_after number self.old (seen_call call.now)) }
     {
         let end = end_of(self.stamp, call);
         match call {
-            Called::Alone { event, .. } => self.event(alloc, event, number, end),
-            Called::Vread {
+            CalledLines::Alone { event, .. } => self.event(alloc, event, number, end),
+            CalledLines::Vread {
                 len,
                 flags,
                 line,
@@ -173,7 +173,7 @@ impl Caller {
                 left.vread(*len, *flags, acts, line.steps)?;
                 self.keep(&left, number, end)
             }
-            Called::Unbound(_) | Called::Ending(_) => {
+            CalledLines::Unbound(_) | CalledLines::Ending(_) => {
                 self.stamp = end.stamp;
                 Ok(())
             }

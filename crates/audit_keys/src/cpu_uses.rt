@@ -3,9 +3,9 @@ ghost use Rattle.std.specs.Prelude.{ℕ, Bool, List, ◌≡◌, ◌≤◌, ◌+�
 ghost use Rattle.key_names.specs.declared.entries.BaseEntry.{BaseEntry as BookBase};
 ghost use Rattle.key_names.specs.Lanes.CpuList.{CpuState, cpu_start, cpu_step, cpu_key_in_use, cpu_key_after};
 ghost use Rattle.key_names.specs.Kernel.Batches.{Fill as BookFill, one_more_served};
-ghost use Rattle.audit_keys.specs.Fills.{fill_of, count_of, count_at, served_more, AreFills, CpuStands, IsCountedOut, rekeys_of};
+ghost use Rattle.audit_keys.specs.Fills.{fill_of, count_of, count_at, served_more, AreFills, CpuConforms, IsCountedOut, rekeys_of};
 ghost use Rattle.audit_keys.specs.KeptEntries.{cpu_entries};
-ghost use Rattle.audit_keys.specs.ToldFrom.{told_from};
+ghost use Rattle.audit_keys.specs.ListedFrom.{listed_from};
 ghost use Rattle.audit_keys.specs.UsedAt.{batch_used, cpu_used_at};
 
 use crate::read_uses::{InUse, push_read};
@@ -14,26 +14,26 @@ use judge_log::{KeptCpu, base_refill_of};
 use key_names::{CpuEntry, KeyName, LaneId};
 use std::alloc::{AllocError, Global};
 
-/// How many widths of batches a byte can give.
+/// The number of batch widths that fit into a byte.
 pub const WIDTHS: usize = 256;
 
-/// The last fill of a batch: the key that was in use, and how many integers the batch has served since, the first
-/// included.
+/// The last fill of a batch: the key that was in use, and how many integers the batch has served since the fill. The
+/// integer served at the fill counts too.
 #[derive(Clone, Copy, Debug, PartialEq, Eq)]
 pub struct Fill {
     pub key: Option<KeyName>,
     pub count: u64,
 }
 
-/// The key of a CPU, and the last fill of each width's batch.
+/// The key of a CPU, and for each width the last fill of its batch.
 #[derive(Clone, Copy)]
 pub struct CpuKeys {
     pub key: Option<KeyName>,
     pub fills: [Option<Fill>; WIDTHS],
 }
 
-/// The key in use at an entry: the key that the base handed over in the refill that the entry names, or the key before
-/// the entry if it names none.
+/// The key in use at an entry. If the entry names a refill, this is the key that the base handed over in that refill.
+/// Otherwise it is the key before the entry.
 pub fn key_in_use(entry: CpuEntry, key: Option<KeyName>) -> Option<KeyName>
     ensures { result ≡ cpu_key_in_use entry key }
 {
@@ -43,7 +43,7 @@ pub fn key_in_use(entry: CpuEntry, key: Option<KeyName>) -> Option<KeyName>
     }
 }
 
-/// The key after the entry at a place of a CPU.
+/// The key of a CPU after the entry at a place. `key` is the key before the entry.
 pub fn key_after(cpu: u32, place: u64, entry: CpuEntry, key: Option<KeyName>) -> Option<KeyName>
     ensures { result ≡ cpu_key_after cpu place entry key }
 {
@@ -55,8 +55,8 @@ pub fn key_after(cpu: u32, place: u64, entry: CpuEntry, key: Option<KeyName>) ->
     }
 }
 
-/// The first byte of the next integer in a fill's keystream, after `count` integers of this width. It cannot exceed 64
-/// bits in a run, since no memory has room for so many integers.
+/// The number of the next integer's first byte in a fill's keystream, after `count` integers of this width. In a run
+/// this number fits into 64 bits, since no memory has room for so many integers.
 ///
 /// # Errors
 ///
@@ -125,7 +125,7 @@ fn serve_more(fills: &mut [Option<Fill>; WIDTHS], width: u8) -> Result<(), Alloc
 }
 
 impl CpuKeys {
-    /// The keys of a CPU before its first entry: it has none, and no batch was filled.
+    /// Before its first entry a CPU has no key, and no batch was filled.
     pub fn start() -> CpuKeys
         ensures key { result.key ≡ None }
         ensures fills { AreFills (λ w. None) result.fills }
@@ -145,7 +145,7 @@ impl CpuKeys {
         entry: CpuEntry,
         rekeys: bool,
     ) -> Result<(), AllocError>
-        ensures { (s : CpuState) (rekeyed : ℕ → Bool) → CpuStands s place self.now → rekeyed place ≡ rekeys →
+        ensures { (s : CpuState) (rekeyed : ℕ → Bool) → CpuConforms s place self.now → rekeyed place ≡ rekeys →
             OnOk result (uses.new.items ≡ uses.old.items ++ cpu_used_at cpu rekeyed s entry) }
     {
         let by = Origin::Lane(LaneId::Cpu(cpu), place);
@@ -180,8 +180,8 @@ impl CpuKeys {
     ///
     /// `AllocError` if there are more integers than any memory has room for.
     pub fn step(&mut self, cpu: u32, place: u64, entry: CpuEntry) -> Result<(), AllocError>
-        ensures after { (s : CpuState) (base : List BookBase) → CpuStands s place self.old →
-            OnOk result (CpuStands (cpu_step base cpu s entry) (place + 1) self.new) }
+        ensures after { (s : CpuState) (base : List BookBase) → CpuConforms s place self.old →
+            OnOk result (CpuConforms (cpu_step base cpu s entry) (place + 1) self.new) }
         ensures none { OnErr result (IsCountedOut self.old.fills entry) }
     {
         let used = key_in_use(entry, self.key);
@@ -219,12 +219,11 @@ fn rekeys_at(rekeyed: &[bool], place: u64) -> bool
     }
 }
 
-/// All uses of a CPU's entries, in order. `rekeyed` is, for each place, whether a vgetrandom state takes the read
-/// there.
+/// All uses of a CPU's entries, in order. For each place, `rekeyed` is whether a vgetrandom state takes the read there.
 ///
 /// # Errors
 ///
-/// `AllocError` if there is no memory for them, or if a byte of a batch has a number of 2^64 or more.
+/// `AllocError` if there is no memory for the uses, or if a byte of a batch has a number of 2^64 or more.
 pub fn cpu_uses(
     alloc: Global,
     cpu: u32,
@@ -232,7 +231,7 @@ pub fn cpu_uses(
     rekeyed: &[bool],
 ) -> Result<Vec<Used>, AllocError>
     ensures { (base : List BookBase) → IfOk result (λ uses. uses.items
-        ≡ told_from (cpu_used_at cpu (rekeys_of rekeyed.now)) (cpu_step base cpu) cpu_start (cpu_entries lane.now)) }
+        ≡ listed_from (cpu_used_at cpu (rekeys_of rekeyed.now)) (cpu_step base cpu) cpu_start (cpu_entries lane.now)) }
 {
     let mut uses = Vec::new(alloc);
     let mut keys = CpuKeys::start();

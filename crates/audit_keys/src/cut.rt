@@ -3,14 +3,14 @@ ghost use Rattle.std.specs.Prelude.{◌≡◌, [], IfOk, map, slice_get};
 ghost use Rattle.key_names.specs.Lanes.Book.{Book, entries_of};
 ghost use Rattle.audit_keys.specs.KeptEntries.{base_entries};
 ghost use Rattle.audit_keys.specs.Moments.{visits_to};
-ghost use Rattle.audit_keys.specs.Told.{cpu_lists};
+ghost use Rattle.audit_keys.specs.Listed.{cpu_lists};
 ghost use Rattle.audit_keys.specs.Cut.{is_by, list_to, KeepsVisits};
 
 use crate::moments::{Moment, Moments};
 use judge_log::{KeptCpu, Lists};
 use std::alloc::{AllocError, Global};
 
-// Whether the stamp of the visit at a place is at most this one.
+// Whether the visit at a place has a stamp of at most `stamp`.
 fn is_by(moments: &[Moment], place: usize, stamp: u64) -> bool
     ensures { result ≡ is_by stamp (slice_get moments.now place) }
 {
@@ -20,7 +20,7 @@ fn is_by(moments: &[Moment], place: usize, stamp: u64) -> bool
     }
 }
 
-// The kept entries of a lane's visits up to a stamp.
+// The kept entries of those visits of a lane whose stamps are at most `stamp`.
 fn list_to<T: Copy + Drop>(
     alloc: Global,
     stamp: u64,
@@ -38,7 +38,7 @@ fn list_to<T: Copy + Drop>(
     Ok(cut)
 }
 
-// The visits of all CPUs up to a stamp.
+// For each CPU, the kept entries of its visits up to a stamp.
 fn cpus_to(
     alloc: Global,
     stamp: u64,
@@ -55,7 +55,8 @@ fn cpus_to(
     Ok(cpus)
 }
 
-/// The kept entries of a book's base and CPUs up to a stamp. The pool's are left out, since the pool holds no key.
+/// The kept entries of a book's base and CPUs up to a stamp. The pool's entries are left out, since the pool holds no
+/// key.
 ///
 /// # Errors
 ///

@@ -7,12 +7,12 @@ use key_names::VEntry;
 /// The end of a call, and the line that shows it.
 #[derive(Clone, Copy, Debug, PartialEq, Eq)]
 pub struct CallEnd {
-    /// The stamp of the last visit that the caller, or an ancestor before the caller's start, had made by then. It is 0
-    /// if they made none.
+    /// The stamp of the last visit that was made by the end of the call: by the caller, or by an ancestor before the
+    /// caller's start. The stamp is 0 if there was no such visit.
     pub stamp: u64,
     /// The number of the line's caller.
     pub caller: u32,
-    /// The number of the line's event. For a `vread` it is that of the `vread` itself, and not of an act inside it.
+    /// The number of the line's event. For a `vread` this is the event of the `vread` itself, and never that of an act.
     pub event: u32,
 }
 
@@ -30,7 +30,7 @@ pub struct StateEntry {
 pub enum Cut {
     /// The entries of the calls that were over by this stamp.
     Stamp(u64),
-    /// The entries of the calls up to and including the one with this number.
+    /// The entries of the calls up to and including the call with this number.
     Call(usize),
 }
 

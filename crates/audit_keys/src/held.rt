@@ -19,7 +19,7 @@ use judge_log::{KeptBase, KeptCpu};
 use key_names::{KeyName, Span, VEntry};
 use std::alloc::{AllocError, Global};
 
-/// The holder of a key from one entry to the next.
+/// The holder of a key between two entries.
 #[derive(Clone, Copy, Debug, PartialEq, Eq)]
 pub enum KeyHolder {
     Base,
@@ -27,7 +27,7 @@ pub enum KeyHolder {
     State(StateOf),
 }
 
-/// The holder of a batch: a CPU for each width of integers, in bytes, or a vgetrandom state.
+/// The holder of a batch. A CPU holds one batch for each width of integers, in bytes. A vgetrandom state holds one.
 #[derive(Clone, Copy, Debug, PartialEq, Eq)]
 pub enum BatchHolder {
     Cpu { cpu: u32, width: u8 },
@@ -41,27 +41,27 @@ pub struct HeldKey {
     pub key: KeyName,
 }
 
-/// The rest of a batch that is held: bytes that were not served.
+/// The rest of a batch, which is held. These bytes of the batch were not served.
 #[derive(Clone, Copy, Debug, PartialEq, Eq)]
 pub struct HeldRest {
     pub holder: BatchHolder,
     pub span: Span,
 }
 
-/// Keys and rests of batches that are held.
+/// The keys that are held, and the rests of batches that are held.
 #[derive(Drop)]
-pub struct Held {
+pub struct HeldMaterial {
     pub keys: Vec<HeldKey>,
     pub rests: Vec<HeldRest>,
 }
 
-impl Held {
+impl HeldMaterial {
     /// No key and no rest.
-    pub(crate) fn none(alloc: Global) -> Held
+    pub(crate) fn none(alloc: Global) -> HeldMaterial
         ensures keys { result.keys.items ≡ [] }
         ensures rests { result.rests.items ≡ [] }
     {
-        Held {
+        HeldMaterial {
             keys: Vec::new(alloc),
             rests: Vec::new(alloc),
         }
@@ -77,7 +77,7 @@ impl Held {
         Ok(())
     }
 
-    // Adds the rest of a batch, if it has bytes.
+    // Adds the rest of a batch, if this rest has bytes.
     fn rest(&mut self, holder: BatchHolder, span: Option<Span>) -> Result<(), AllocError>
         ensures keys { self.new.keys.items ≡ self.old.keys.items }
         ensures rests { OnOk result (self.new.rests.items ≡ self.old.rests.items ++ held_rest holder span) }
@@ -104,11 +104,11 @@ impl Held {
         Ok(())
     }
 
-    /// Adds the key of the base after its entries.
+    /// Adds the key that the base has after all these entries.
     ///
     /// # Errors
     ///
-    /// `AllocError` if there is no memory for it.
+    /// `AllocError` if there is no memory for the key.
     pub(crate) fn add_base(&mut self, base: &[KeptBase]) -> Result<(), AllocError>
         ensures keys { OnOk result (self.new.keys.items
             ≡ self.old.keys.items ++ held_key Base (base_after (base_entries base.now)).key) }
@@ -117,7 +117,7 @@ impl Held {
         self.key(KeyHolder::Base, base_end(base))
     }
 
-    /// Adds the key and the rests of a CPU after its entries.
+    /// Adds the key and the rests that a CPU has after all these entries.
     ///
     /// # Errors
     ///
@@ -134,7 +134,7 @@ impl Held {
         Ok(())
     }
 
-    /// Adds the key and the rest of a vgetrandom state after its entries.
+    /// Adds the key and the rest that a vgetrandom state has after all these entries.
     ///
     /// # Errors
     ///

@@ -1,17 +1,17 @@
-//! The keys and rests that a book holds after its last entries. The lives and uses before them are left out.
+//! The keys and rests that a book holds after its last entries. `listed` also gives births, endings and uses.
 ghost use Rattle.std.specs.Prelude.{◌≡◌, ◌++◌, IfOk, OnOk, map};
 ghost use Rattle.key_names.specs.Lanes.Book.{Lists as BookLists, list_at};
-ghost use Rattle.audit_keys.specs.Told.{HasEntries, book_tells, caller_lists, caller_tells, callers_tell, cpu_lists, cpus_tell};
+ghost use Rattle.audit_keys.specs.Listed.{HasEntries, book_tells, caller_lists, caller_tells, callers_tell, cpu_lists, cpus_tell};
 
-use crate::held::Held;
+use crate::held::HeldMaterial;
+use crate::listed::number_of;
 use crate::state_uses::StateOf;
-use crate::told::number_of;
 use judge_log::{KeptCpu, Lists};
 use key_names::VEntry;
 use std::alloc::{AllocError, Global};
 
 // Adds the keys and rests of each CPU.
-fn add_cpus(held: &mut Held, cpus: &[Vec<KeptCpu>]) -> Result<(), AllocError>
+fn add_cpus(held: &mut HeldMaterial, cpus: &[Vec<KeptCpu>]) -> Result<(), AllocError>
     ensures keys { (lists : BookLists) → cpu_lists cpus.now ≡ lists.cpus →
         OnOk result (held.new.keys.items ≡ held.old.keys.items ++ (cpus_tell lists).keys) }
     ensures rests { (lists : BookLists) → cpu_lists cpus.now ≡ lists.cpus →
@@ -25,7 +25,11 @@ fn add_cpus(held: &mut Held, cpus: &[Vec<KeptCpu>]) -> Result<(), AllocError>
 }
 
 // Adds the keys and rests of each vgetrandom state of a caller.
-fn add_states(held: &mut Held, caller: u32, states: &[Vec<VEntry>]) -> Result<(), AllocError>
+fn add_states(
+    held: &mut HeldMaterial,
+    caller: u32,
+    states: &[Vec<VEntry>],
+) -> Result<(), AllocError>
     ensures keys { (lists : BookLists) → map (λ es. es.items) states.now ≡ list_at lists.callers caller →
         OnOk result (held.new.keys.items ≡ held.old.keys.items ++ (caller_tells lists caller).keys) }
     ensures rests { (lists : BookLists) → map (λ es. es.items) states.now ≡ list_at lists.callers caller →
@@ -43,7 +47,7 @@ fn add_states(held: &mut Held, caller: u32, states: &[Vec<VEntry>]) -> Result<()
 }
 
 // Adds the keys and rests of the vgetrandom states of all callers.
-fn add_callers(held: &mut Held, callers: &[Vec<Vec<VEntry>>]) -> Result<(), AllocError>
+fn add_callers(held: &mut HeldMaterial, callers: &[Vec<Vec<VEntry>>]) -> Result<(), AllocError>
     ensures keys { (lists : BookLists) → caller_lists callers.now ≡ lists.callers →
         OnOk result (held.new.keys.items ≡ held.old.keys.items ++ (callers_tell lists).keys) }
     ensures rests { (lists : BookLists) → caller_lists callers.now ≡ lists.callers →
@@ -56,8 +60,8 @@ fn add_callers(held: &mut Held, callers: &[Vec<Vec<VEntry>>]) -> Result<(), Allo
     Ok(())
 }
 
-/// The keys and rests that a book holds after its last entries. `kept` has its lanes, and `callers` has the entries of
-/// each vgetrandom state of each caller.
+/// The keys and rests that a book holds after its last entries. `kept` has the book's lanes. `callers` has the entries
+/// of each vgetrandom state of each caller.
 ///
 /// # Errors
 ///
@@ -67,13 +71,13 @@ pub fn hold_book(
     alloc: Global,
     kept: &Lists,
     callers: &[Vec<Vec<VEntry>>],
-) -> Result<Held, AllocError>
+) -> Result<HeldMaterial, AllocError>
     ensures keys { (lists : BookLists) → HasEntries lists kept.now callers.now →
         IfOk result (λ held. held.keys.items ≡ (book_tells lists).keys) }
     ensures rests { (lists : BookLists) → HasEntries lists kept.now callers.now →
         IfOk result (λ held. held.rests.items ≡ (book_tells lists).rests) }
 {
-    let mut held = Held::none(alloc);
+    let mut held = HeldMaterial::none(alloc);
     held.add_base(&kept.base)?;
     add_cpus(&mut held, &kept.cpus)?;
     add_callers(&mut held, callers)?;

@@ -1,4 +1,4 @@
-//! A vgetrandom state while a call is taken: its outline, and the entries that the call has left.
+//! One call on a vgetrandom state, step by step: the state's outline, and the entries that the call has left.
 ghost use Rattle.std.specs.Prelude.{◌≡◌, None, Some, [], true, MatchOption, map};
 ghost use Rattle.key_names.specs.Callers.VreadSteps.{is_wiped};
 ghost use Rattle.judge_lines.specs.Called.{seen_act};
@@ -10,10 +10,10 @@ use key_names::{InsideAct, LaneId, Point, Step, VEntry, flags};
 use std::alloc::{AllocError, Global};
 use std::marker::Model;
 
-/// The bytes of a batch.
+/// The number of bytes of a batch.
 const BATCH_BYTES: u8 = 96;
 
-/// The bytes of a block of keystream.
+/// The number of bytes of a block of keystream.
 const BLOCK_BYTES: u32 = 64;
 
 /// A visit of a CPU that reads a key.
@@ -23,23 +23,23 @@ pub(crate) struct KeyRead {
     pub(crate) place: u64,
 }
 
-/// The end of an attempt: the key's next block, whether the generation published at the end is still the state's, and
-/// the steps after the attempt.
+/// The end of an attempt: the key's next block, whether the attempt held, and the steps after the attempt. An attempt
+/// holds if the generation published at its end is still that of the state.
 #[derive(Clone, Copy)]
-pub(crate) struct Tried<'a> {
+pub(crate) struct AttemptOutcome<'a> {
     pub(crate) next_block: u64,
     pub(crate) holds: bool,
     pub(crate) rest: &'a [Step],
 }
 
-impl<'a> Tried<'a> {
-    // The steps end before the attempt does.
-    fn cut_short(block: u64) -> Tried<'a>
+impl<'a> AttemptOutcome<'a> {
+    // The outcome of an attempt whose steps end too early.
+    fn cut_short(block: u64) -> AttemptOutcome<'a>
         ensures next { result.next_block ≡ block }
         ensures holds { result.holds ≡ true }
         ensures rest { result.rest.now ≡ [] }
     {
-        Tried {
+        AttemptOutcome {
             next_block: block,
             holds: true,
             rest: &[],
@@ -47,7 +47,7 @@ impl<'a> Tried<'a> {
     }
 }
 
-// Whether an act at this point wipes.
+// Whether an act at this point wipes the state.
 fn wipes(acts: &[ActLine<'_>], point: Point) -> bool
     ensures { result ≡ is_wiped (map seen_act acts.now) point }
 {
@@ -88,7 +88,8 @@ fn key_in_front(steps: &[Step]) -> Option<(KeyRead, &[Step])>
     }
 }
 
-// The key and the steps after the call, if the call visits the base before the CPU.
+// The key that the call reads and the steps after the call, if the call visits the base before the CPU. `steps` begin
+// after the visit of the base.
 fn second_key(steps: &[Step]) -> Option<(KeyRead, &[Step])>
     ensures { MatchOption result (second_key steps.now ≡ None)
         (λ r. second_key steps.now ≡ Some (record { key = r.0; rest = r.1.now })) }
@@ -124,7 +125,7 @@ impl Leaving {
     ghost use Rattle.audit_keys.specs.Left.{copied, keyed, from_serve, from_written, attempted, tried_twice};
     ghost use Rattle.audit_keys.specs.Left.{from_look, vread_left};
 
-    /// A call begins on a state of this outline.
+    /// Begins a call on a state with this outline.
     pub(crate) fn begin(alloc: Global, outline: Outline) -> Leaving
         ensures { result ≡ nothing_left outline }
     {
@@ -134,7 +135,7 @@ impl Leaving {
         }
     }
 
-    /// The outline of the state now.
+    /// The current outline of the state.
     pub(crate) fn outline(&self) -> Outline
         ensures { result ≡ self.now.outline }
     {
@@ -155,11 +156,11 @@ impl Leaving {
         Ok(())
     }
 
-    /// The state's memory becomes zeros.
+    /// Wipes the state: its memory becomes zeros.
     ///
     /// # Errors
     ///
-    /// `AllocError` if there is no memory for its entry.
+    /// `AllocError` if there is no memory for the entry of the wipe.
     pub(crate) fn wipe(&mut self) -> Result<(), AllocError>
         ensures { OnOk result (self.new ≡ wiped self.old) }
     {
@@ -168,7 +169,7 @@ impl Leaving {
         Ok(())
     }
 
-    // The acts of a point happen.
+    // Takes the acts of a point: the state is wiped if one of them wipes.
     fn meet(&mut self, acts: &[ActLine<'_>], point: Point) -> Result<(), AllocError>
         ensures { OnOk result (self.new ≡ met (is_wiped (map seen_act acts.now) point) self.old) }
     {
@@ -196,7 +197,7 @@ impl Leaving {
         Ok(())
     }
 
-    // Serves whole blocks of the key from block `from` on, and begins a new batch with this many bytes served.
+    // Serves `whole` blocks of the key from block `from` on. Then begins a new batch, of which `last` bytes are served.
     fn refill(&mut self, from: u64, whole: u64, last: u8) -> Result<(), AllocError>
         requires { from + whole < 2 ^ 64 }
         ensures { OnOk result (self.new ≡ refilled from whole last self.old) }
@@ -229,14 +230,14 @@ impl Leaving {
         Ok(block + whole + 2)
     }
 
-    // An attempt from Serve on.
+    // An attempt from the point Serve on.
     fn from_serve<'a>(
         &mut self,
         acts: &[ActLine<'_>],
         len: u32,
         block: u64,
         steps: &'a [Step],
-    ) -> Result<Tried<'a>, AllocError>
+    ) -> Result<AttemptOutcome<'a>, AllocError>
         requires near { block ≤ 2 ^ 32 }
         ensures tries { IfOk result (λ t. from_serve (map seen_act acts.now) len block self.old steps.now
             ≡ record { next_block = t.next_block; holds = t.holds; rest = t.rest.now; left = self.new }) }
@@ -247,13 +248,13 @@ impl Leaving {
                 self.meet(acts, Point::Serve)?;
                 let next_block = self.copy(block, len)?;
                 self.meet(acts, Point::End)?;
-                Ok(Tried {
+                Ok(AttemptOutcome {
                     next_block,
                     holds: self.outline.found == *found,
                     rest,
                 })
             }
-            _ => Ok(Tried::cut_short(block)),
+            _ => Ok(AttemptOutcome::cut_short(block)),
         }
     }
 
@@ -267,14 +268,14 @@ impl Leaving {
         })
     }
 
-    // An attempt from Written on.
+    // An attempt from the point Written on.
     fn from_written<'a>(
         &mut self,
         acts: &[ActLine<'_>],
         len: u32,
         block: u64,
         steps: &'a [Step],
-    ) -> Result<Tried<'a>, AllocError>
+    ) -> Result<AttemptOutcome<'a>, AllocError>
         requires near { block ≤ 2 ^ 32 }
         ensures tries { IfOk result (λ t. from_written (map seen_act acts.now) len block self.old steps.now
             ≡ record { next_block = t.next_block; holds = t.holds; rest = t.rest.now; left = self.new }) }
@@ -286,7 +287,7 @@ impl Leaving {
                 self.take_key(key)?;
                 self.from_serve(acts, len, block, rest)
             }
-            None => Ok(Tried::cut_short(block)),
+            None => Ok(AttemptOutcome::cut_short(block)),
         }
     }
 
@@ -297,7 +298,7 @@ impl Leaving {
         len: u32,
         block: u64,
         steps: &'a [Step],
-    ) -> Result<Tried<'a>, AllocError>
+    ) -> Result<AttemptOutcome<'a>, AllocError>
         requires near { block ≤ 2 ^ 32 }
         ensures tries { IfOk result (λ t. attempted (map seen_act acts.now) len block self.old steps.now
             ≡ record { next_block = t.next_block; holds = t.holds; rest = t.rest.now; left = self.new }) }
@@ -312,11 +313,11 @@ impl Leaving {
                 self.outline.found = *found;
                 self.from_written(acts, len, block, rest)
             }
-            _ => Ok(Tried::cut_short(block)),
+            _ => Ok(AttemptOutcome::cut_short(block)),
         }
     }
 
-    // An attempt. If it does not hold, a second one follows, without acts.
+    // An attempt. If the attempt does not hold, a second attempt without acts follows.
     fn try_twice(
         &mut self,
         acts: &[ActLine<'_>],
@@ -332,7 +333,7 @@ impl Leaving {
         Ok(())
     }
 
-    // A `vread` after its first look. It wants at least one byte and has good flags.
+    // A `vread` after its first look. The `vread` wants at least one byte, and its flags are good.
     fn look(
         &mut self,
         acts: &[ActLine<'_>],
@@ -357,7 +358,7 @@ impl Leaving {
     ///
     /// # Errors
     ///
-    /// `AllocError` if there is no memory for its entries.
+    /// `AllocError` if there is no memory for the entries of the `vread`.
     pub(crate) fn vread(
         &mut self,
         len: u32,

@@ -3,14 +3,14 @@ ghost use Rattle.std.specs.Prelude.{◌≡◌, ◌++◌, IfOk, List, OnOk, map, 
 ghost use Rattle.key_names.specs.Transcripts.IsTranscript.{script_calls};
 ghost use Rattle.key_names.specs.Transcripts.SeenLine.{SeenLine};
 ghost use Rattle.key_names.specs.Texts.ScriptGrammar.{Script};
-ghost use Rattle.judge_lines.specs.Begun.{PartsStand};
+ghost use Rattle.judge_lines.specs.Begun.{PartsConform};
 ghost use Rattle.judge_lines.specs.Called.{seen_act, seen_call, seen_calls};
 ghost use Rattle.audit_keys.specs.LineEnds.{call_ends, lines_in, line_ends, all_line_ends, act_ends, AreLineEnds};
 
 use crate::lists::{start_at, starts_of};
-use crate::stamps::{behind_call, own_line};
-use judge_lines::begin::Parts;
-use judge_lines::called::{ActLine, Called};
+use crate::stamps::{after_call, own_line};
+use judge_lines::begin::TranscriptParts;
+use judge_lines::called::{ActLine, CalledLines};
 use std::alloc::{AllocError, Global};
 
 /// A line of a caller, and its call. The lines of the acts inside a `vread` are lines of the `vread`'s call.
@@ -20,12 +20,12 @@ pub struct LineEnd {
     pub event: u32,
     /// The number of the call among the caller's calls, from 0.
     pub call: usize,
-    /// The stamp of the last visit that the caller, or an ancestor before its start, had made when the call was over.
-    /// It is 0 if they made none.
+    /// The stamp of the last visit that was made by the end of the call: by the caller, or by an ancestor before the
+    /// caller's start. The stamp is 0 if there was no such visit.
     pub stamp: u64,
 }
 
-// Adds the lines of the acts inside the call with this number, which was over at this stamp.
+// Adds the lines of the acts inside a call. The call has this number, and was over at this stamp.
 fn push_acts(
     lines: &mut Vec<LineEnd>,
     call: usize,
@@ -44,16 +44,16 @@ fn push_acts(
     Ok(())
 }
 
-// Adds the lines of the call with this number, which was over at this stamp.
+// Adds the lines of a call. The call has this number, and was over at this stamp.
 fn push_call(
     lines: &mut Vec<LineEnd>,
     number: usize,
     stamp: u64,
-    call: &Called<'_>,
+    call: &CalledLines<'_>,
 ) -> Result<(), AllocError>
     ensures { OnOk result (lines.new.items ≡ lines.old.items ++ call_ends number stamp (seen_call call.now)) }
 {
-    if let Called::Vread { acts, .. } = call {
+    if let CalledLines::Vread { acts, .. } = call {
         push_acts(lines, number, stamp, acts)?;
     }
     let line = own_line(call);
@@ -65,14 +65,18 @@ fn push_call(
     Ok(())
 }
 
-// The lines of a caller with these calls. `stamp` is that of the last visit before the first call.
-fn caller_lines(alloc: Global, stamp: u64, calls: &[Called<'_>]) -> Result<Vec<LineEnd>, AllocError>
+// The lines of a caller with these calls. `stamp` is the stamp of the last visit before the first call.
+fn caller_lines(
+    alloc: Global,
+    stamp: u64,
+    calls: &[CalledLines<'_>],
+) -> Result<Vec<LineEnd>, AllocError>
     ensures { IfOk result (λ lines. lines.items ≡ line_ends 0 stamp (map seen_call calls.now)) }
 {
     let mut lines = Vec::new(alloc);
     let mut over = stamp;
     for (number, call) in calls.iter().enumerate() {
-        over = behind_call(over, call);
+        over = after_call(over, call);
         push_call(&mut lines, number, over, call)?;
     }
     Ok(lines)
@@ -82,7 +86,7 @@ fn caller_lines(alloc: Global, stamp: u64, calls: &[Called<'_>]) -> Result<Vec<L
 fn all_lines(
     alloc: Global,
     starts: &[u64],
-    callers: &[Vec<Called<'_>>],
+    callers: &[Vec<CalledLines<'_>>],
 ) -> Result<Vec<Vec<LineEnd>>, AllocError>
     ensures { IfOk result (λ lines. lines_in lines.items
         ≡ all_line_ends (λ c. unwrap_or (slice_get starts.now c) 0) 0 (seen_calls callers.now)) }
@@ -100,8 +104,11 @@ fn all_lines(
 /// # Errors
 ///
 /// `AllocError` if there is no memory for them.
-pub fn line_ends(alloc: Global, parts: &Parts<'_>) -> Result<Vec<Vec<LineEnd>>, AllocError>
-    ensures { (script : Script) (t : List (List SeenLine)) → PartsStand script t parts.now →
+pub fn line_ends(
+    alloc: Global,
+    parts: &TranscriptParts<'_>,
+) -> Result<Vec<Vec<LineEnd>>, AllocError>
+    ensures { (script : Script) (t : List (List SeenLine)) → PartsConform script t parts.now →
         IfOk result (λ lines. AreLineEnds (script_calls script t) lines.items) }
 {
     let starts = starts_of(alloc, parts)?;

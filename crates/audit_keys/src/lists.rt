@@ -6,7 +6,7 @@ ghost use Rattle.key_names.specs.Callers.History.{calls_steps};
 ghost use Rattle.key_names.specs.Transcripts.IsTranscript.{script_calls};
 ghost use Rattle.key_names.specs.Transcripts.SeenLine.{SeenLine};
 ghost use Rattle.key_names.specs.Texts.ScriptGrammar.{Script};
-ghost use Rattle.judge_lines.specs.Begun.{PartsStand};
+ghost use Rattle.judge_lines.specs.Begun.{PartsConform};
 ghost use Rattle.judge_lines.specs.Called.{seen_call, seen_calls};
 ghost use Rattle.judge_lines.specs.Orders.{all_forks};
 ghost use Rattle.audit_keys.specs.StateCut.{AreCut};
@@ -14,13 +14,13 @@ ghost use Rattle.audit_keys.specs.Entries.{all_lists_in};
 ghost use Rattle.audit_keys.specs.Laws.{AreStateLists};
 ghost use Rattle.audit_keys.specs.Stamped.{kept_lists, all_kept, caller_over, all_over};
 ghost use Rattle.audit_keys.specs.Stamps.{start_stamp, AreStarts};
-ghost use Rattle.audit_keys.specs.ToldEnds.{AreToldEnds};
+ghost use Rattle.audit_keys.specs.ListedEnds.{AreListedEnds};
 
-use crate::caller::Caller;
+use crate::caller::AuditedCaller;
 use crate::entry::StateEntry;
 use crate::stamps::latest;
-use judge_lines::begin::Parts;
-use judge_lines::called::Called;
+use judge_lines::begin::TranscriptParts;
+use judge_lines::called::CalledLines;
 use judge_lines::order::{Fork, all_own_steps, front_of};
 use key_names::Step;
 use std::alloc::{AllocError, Global};
@@ -43,14 +43,14 @@ fn steps_before<'a>(own: &'a [Vec<Step>], fork: Fork) -> &'a [Step]
     }
 }
 
-/// The stamp at a caller's start, or 0 if there is none.
+/// The stamp at a caller's start, or 0 if `starts` has none for this caller.
 pub(crate) fn start_at(starts: &[u64], caller: usize) -> u64
     ensures { result ≡ unwrap_or (slice_get starts.now caller) 0 }
 {
     starts.get(caller).copied().unwrap_or(0)
 }
 
-// The stamp of the last visit before a caller's start, from the stamps at the starts of the callers before it.
+// The stamp of the last visit before a caller's start. `starts` has these stamps for all callers of lower number.
 fn start_stamp(starts: &[u64], own: &[Vec<Step>], forks: &[Fork], caller: usize) -> u64
     ensures { (callers : List (List Call)) → map (λ own. own.items) own.now ≡ map calls_steps callers →
         forks.now ≡ all_forks 0 callers → length starts.now ≡ caller →
@@ -80,15 +80,15 @@ fn start_stamps(alloc: Global, own: &[Vec<Step>], forks: &[Fork]) -> Result<Vec<
     Ok(starts)
 }
 
-// The lists of a caller with these calls. `stamp` is that of the last visit before the first call.
+// The lists of a caller with these calls. `stamp` is the stamp of the last visit before the first call.
 fn caller_lists(
     alloc: Global,
     stamp: u64,
-    calls: &[Called<'_>],
+    calls: &[CalledLines<'_>],
 ) -> Result<Vec<Vec<StateEntry>>, AllocError>
     ensures { IfOk result (λ lists. kept_lists lists.items ≡ caller_over stamp (map seen_call calls.now)) }
 {
-    let mut caller = Caller::start(alloc, stamp)?;
+    let mut caller = AuditedCaller::start(alloc, stamp)?;
     for (number, call) in calls.iter().enumerate() {
         caller.call(alloc, number, call)?;
     }
@@ -99,7 +99,7 @@ fn caller_lists(
 fn all_lists(
     alloc: Global,
     starts: &[u64],
-    callers: &[Vec<Called<'_>>],
+    callers: &[Vec<CalledLines<'_>>],
 ) -> Result<Vec<Vec<Vec<StateEntry>>>, AllocError>
     ensures { IfOk result (λ lists. all_kept lists.items
         ≡ all_over (λ c. unwrap_or (slice_get starts.now c) 0) 0 (seen_calls callers.now)) }
@@ -112,13 +112,14 @@ fn all_lists(
     Ok(lists)
 }
 
-/// For each caller, the stamp of the last visit that its ancestors made before its start, or 0 if they made none.
+/// For each caller, the stamp of the last visit that its ancestors made before the caller's start. The stamp is 0 if
+/// there was no such visit.
 ///
 /// # Errors
 ///
 /// `AllocError` if there is no memory for them.
-pub(crate) fn starts_of(alloc: Global, parts: &Parts<'_>) -> Result<Vec<u64>, AllocError>
-    ensures { (script : Script) (t : List (List SeenLine)) → PartsStand script t parts.now →
+pub(crate) fn starts_of(alloc: Global, parts: &TranscriptParts<'_>) -> Result<Vec<u64>, AllocError>
+    ensures { (script : Script) (t : List (List SeenLine)) → PartsConform script t parts.now →
         IfOk result (λ starts. AreStarts (script_calls script t) starts.items) }
 {
     let own = all_own_steps(alloc, &parts.calls)?;
@@ -126,21 +127,21 @@ pub(crate) fn starts_of(alloc: Global, parts: &Parts<'_>) -> Result<Vec<u64>, Al
     Ok(starts)
 }
 
-/// For each of the sixteen vgetrandom states of each caller, the entries that its calls leave, in order. Each entry is
-/// listed with the call that left it: the call's number, the stamp when it was over, and its line.
+/// For each of the sixteen vgetrandom states of each caller, the entries that the caller's calls leave, in order. Each
+/// entry is listed with the call that left it: the call's number, the stamp when the call was over, and its line.
 ///
 /// # Errors
 ///
 /// `AllocError` if there is no memory for them.
 pub fn state_lists(
     alloc: Global,
-    parts: &Parts<'_>,
+    parts: &TranscriptParts<'_>,
 ) -> Result<Vec<Vec<Vec<StateEntry>>>, AllocError>
     ensures lists { IfOk result (λ lists. AreStateLists (seen_calls parts.now.calls.items) (all_lists_in lists.items)) }
-    ensures cut { (script : Script) (t : List (List SeenLine)) → PartsStand script t parts.now →
+    ensures cut { (script : Script) (t : List (List SeenLine)) → PartsConform script t parts.now →
         IfOk result (λ lists. AreCut (script_calls script t) lists.items) }
-    ensures ends { (script : Script) (t : List (List SeenLine)) → PartsStand script t parts.now →
-        IfOk result (λ lists. AreToldEnds (script_calls script t) (all_kept lists.items)) }
+    ensures ends { (script : Script) (t : List (List SeenLine)) → PartsConform script t parts.now →
+        IfOk result (λ lists. AreListedEnds (script_calls script t) (all_kept lists.items)) }
 {
     let starts = starts_of(alloc, parts)?;
     let lists = all_lists(alloc, &starts, &parts.calls)?;

@@ -1,17 +1,17 @@
-//! The entries that make and that erase each key, and the rests of batches that are given up.
+//! The entry that makes each key, the entry that erases it, and the rests of batches that are given up.
 ghost use Rattle.std.specs.Prelude.{ℕ, ◌≡◌, ◌++◌, ◌∷◌, [], List, Option, Some, OnOk};
 ghost use Rattle.key_names.specs.declared.entries.BaseEntry.{BaseEntry as BookBase};
 ghost use Rattle.key_names.specs.Kernel.Batches.{Fill as BookFill};
 ghost use Rattle.key_names.specs.Lanes.BaseList.{BaseState, base_start, base_step};
 ghost use Rattle.key_names.specs.Lanes.CpuList.{CpuState, cpu_start, cpu_step};
 ghost use Rattle.key_names.specs.Lanes.StateList.{NamedState, state_start, state_step};
-ghost use Rattle.audit_keys.specs.Fills.{AreFills, CpuStands};
+ghost use Rattle.audit_keys.specs.Fills.{AreFills, CpuConforms};
 ghost use Rattle.audit_keys.specs.KeptEntries.{base_entries, cpu_entries};
-ghost use Rattle.audit_keys.specs.ToldFrom.{told_from};
+ghost use Rattle.audit_keys.specs.ListedFrom.{listed_from};
 ghost use Rattle.audit_keys.specs.Lives.{born, ended, long_births, long_endings};
 ghost use Rattle.audit_keys.specs.Lives.{base_births_at, base_endings_at, cpu_births_at, cpu_endings_at};
 ghost use Rattle.audit_keys.specs.Lives.{state_births_at, state_endings_at};
-ghost use Rattle.audit_keys.specs.Rests.{BatchStands, given_up, fills_given_up, cpu_given_up_at, state_given_up_at};
+ghost use Rattle.audit_keys.specs.Rests.{BatchConforms, given_up, fills_given_up, cpu_given_up_at, state_given_up_at};
 
 use crate::batches::{StateBatch, fill_rest};
 use crate::cpu_uses::{CpuKeys, Fill, WIDTHS};
@@ -28,7 +28,7 @@ pub enum Holder {
     Base,
     Cpu(u32),
     State(StateOf),
-    /// One user's read of more than 32 bytes, which erases the key at its end.
+    /// A single user's read of more than 32 bytes. The read erases the key at its end.
     Read,
 }
 
@@ -47,7 +47,7 @@ pub struct Ending {
     pub by: Origin,
 }
 
-/// The rest of a batch, which an entry gave up: these bytes were not served.
+/// The rest of a batch. An entry gave up these bytes, which were not served.
 #[derive(Clone, Copy, Debug, PartialEq, Eq)]
 pub struct GivenUp {
     pub span: Span,
@@ -96,7 +96,7 @@ impl Lives {
         Ok(())
     }
 
-    // Adds the call key of a user's read of more than 32 bytes, which the same entry erases.
+    // Adds the call key if this is a user's read of more than 32 bytes. The same entry makes and erases this key.
     fn read(&mut self, taken: Taken, lane: LaneId, place: u64) -> Result<(), AllocError>
         ensures births { OnOk result (self.new.births.items ≡ self.old.births.items ++ long_births lane place taken) }
         ensures endings { OnOk result (self.new.endings.items
@@ -111,7 +111,7 @@ impl Lives {
         Ok(())
     }
 
-    // Adds the rest of a batch, if it has bytes.
+    // Adds the rest of a batch as given up, if this rest has bytes.
     fn give_up(&mut self, span: Option<Span>, by: Origin) -> Result<(), AllocError>
         ensures births { self.new.births.items ≡ self.old.births.items }
         ensures endings { self.new.endings.items ≡ self.old.endings.items }
@@ -125,7 +125,7 @@ impl Lives {
         Ok(())
     }
 
-    // Adds the rests of all batches of a CPU.
+    // Adds the rests of all batches of a CPU as given up.
     fn give_up_fills(
         &mut self,
         fills: &[Option<Fill>; WIDTHS],
@@ -188,9 +188,9 @@ impl Lives {
     /// `AllocError` if there is no memory for them.
     pub(crate) fn base(&mut self, base: &[KeptBase]) -> Result<(), AllocError>
         ensures births { OnOk result (self.new.births.items ≡ self.old.births.items
-            ++ told_from base_births_at base_step base_start (base_entries base.now)) }
+            ++ listed_from base_births_at base_step base_start (base_entries base.now)) }
         ensures endings { OnOk result (self.new.endings.items ≡ self.old.endings.items
-            ++ told_from base_endings_at base_step base_start (base_entries base.now)) }
+            ++ listed_from base_endings_at base_step base_start (base_entries base.now)) }
         ensures given_up { self.new.given_up.items ≡ self.old.given_up.items }
     {
         let mut key = None;
@@ -245,7 +245,7 @@ impl Lives {
     ) -> Result<(), AllocError>
         ensures births { self.new.births.items ≡ self.old.births.items }
         ensures endings { self.new.endings.items ≡ self.old.endings.items }
-        ensures given_up { (s : CpuState) → CpuStands s place keys.now → OnOk result (self.new.given_up.items
+        ensures given_up { (s : CpuState) → CpuConforms s place keys.now → OnOk result (self.new.given_up.items
             ≡ self.old.given_up.items ++ cpu_given_up_at cpu s entry) }
     {
         let by = Origin::Lane(LaneId::Cpu(cpu), place);
@@ -270,11 +270,11 @@ impl Lives {
     /// `AllocError` if there is no memory for them, or if a byte of a batch has a number of 2^64 or more.
     pub(crate) fn cpu(&mut self, cpu: u32, lane: &[KeptCpu]) -> Result<(), AllocError>
         ensures births { (base : List BookBase) → OnOk result (self.new.births.items ≡ self.old.births.items
-            ++ told_from (cpu_births_at cpu) (cpu_step base cpu) cpu_start (cpu_entries lane.now)) }
+            ++ listed_from (cpu_births_at cpu) (cpu_step base cpu) cpu_start (cpu_entries lane.now)) }
         ensures endings { (base : List BookBase) → OnOk result (self.new.endings.items ≡ self.old.endings.items
-            ++ told_from (cpu_endings_at cpu) (cpu_step base cpu) cpu_start (cpu_entries lane.now)) }
+            ++ listed_from (cpu_endings_at cpu) (cpu_step base cpu) cpu_start (cpu_entries lane.now)) }
         ensures given_up { (base : List BookBase) → OnOk result (self.new.given_up.items ≡ self.old.given_up.items
-            ++ told_from (cpu_given_up_at cpu) (cpu_step base cpu) cpu_start (cpu_entries lane.now)) }
+            ++ listed_from (cpu_given_up_at cpu) (cpu_step base cpu) cpu_start (cpu_entries lane.now)) }
     {
         let mut keys = CpuKeys::start();
         for (place, kept) in lane.iter().enumerate() {
@@ -293,11 +293,11 @@ impl Lives {
         place: u64,
         entry: VEntry,
     ) -> Result<(), AllocError>
-        ensures births { (s : NamedState) → BatchStands s place batch.now → OnOk result (self.new.births.items
+        ensures births { (s : NamedState) → BatchConforms s place batch.now → OnOk result (self.new.births.items
             ≡ self.old.births.items ++ state_births_at of s entry) }
-        ensures endings { (s : NamedState) → BatchStands s place batch.now → OnOk result (self.new.endings.items
+        ensures endings { (s : NamedState) → BatchConforms s place batch.now → OnOk result (self.new.endings.items
             ≡ self.old.endings.items ++ state_endings_at of s entry) }
-        ensures given_up { (s : NamedState) → BatchStands s place batch.now → OnOk result (self.new.given_up.items
+        ensures given_up { (s : NamedState) → BatchConforms s place batch.now → OnOk result (self.new.given_up.items
             ≡ self.old.given_up.items ++ state_given_up_at of s entry) }
     {
         let by = Origin::State {
@@ -331,11 +331,11 @@ impl Lives {
     /// `AllocError` if there is no memory for them, or if a byte of a batch has a number of 2^64 or more.
     pub(crate) fn state(&mut self, of: StateOf, entries: &[VEntry]) -> Result<(), AllocError>
         ensures births { OnOk result (self.new.births.items ≡ self.old.births.items
-            ++ told_from (state_births_at of) (state_step of.caller of.state) state_start entries.now) }
+            ++ listed_from (state_births_at of) (state_step of.caller of.state) state_start entries.now) }
         ensures endings { OnOk result (self.new.endings.items ≡ self.old.endings.items
-            ++ told_from (state_endings_at of) (state_step of.caller of.state) state_start entries.now) }
+            ++ listed_from (state_endings_at of) (state_step of.caller of.state) state_start entries.now) }
         ensures given_up { OnOk result (self.new.given_up.items ≡ self.old.given_up.items
-            ++ told_from (state_given_up_at of) (state_step of.caller of.state) state_start entries.now) }
+            ++ listed_from (state_given_up_at of) (state_step of.caller of.state) state_start entries.now) }
     {
         let mut batch = StateBatch::start();
         for (place, entry) in entries.iter().enumerate() {

@@ -1,4 +1,4 @@
-//! The moments at which the entries of a book were left, and their lines.
+//! The moment at which each entry of a book was left, and the line of the entry.
 ghost use Rattle.std.specs.Prelude.{◌≡◌, slice_get};
 ghost use Rattle.audit_keys.specs.Cut.{lane_moments};
 ghost use Rattle.audit_keys.specs.MadeOrder.{moment_at, state_moments};
@@ -8,20 +8,20 @@ use key_names::LaneId;
 
 /// A line of a transcript, by its caller and its event.
 #[derive(Clone, Copy, Debug, PartialEq, Eq, PartialOrd, Ord)]
-pub struct Line {
+pub struct LineOf {
     pub caller: u32,
     pub event: u32,
 }
 
-/// The stamp of an entry, and the line that left it. For an entry of a vgetrandom state, the stamp is that when the
-/// call that left it was over.
+/// The stamp of an entry, and the line that left the entry. An entry of a vgetrandom state has the stamp at which its
+/// call was over.
 #[derive(Clone, Copy, Debug, PartialEq, Eq)]
 pub struct Moment {
     pub stamp: u64,
-    pub line: Line,
+    pub line: LineOf,
 }
 
-/// The moments of all entries: of each lane by place, and of each vgetrandom state of each caller.
+/// The moments of all entries. Each lane, and each vgetrandom state of each caller, has a list of moments by place.
 #[derive(Drop)]
 pub struct Moments {
     pub pool: Vec<Moment>,
@@ -61,7 +61,7 @@ impl Moments {
         }
     }
 
-    /// The moment of an entry, if there is one.
+    /// The moment of an entry. None if no moment is listed for the entry.
     pub fn at(&self, origin: Origin) -> Option<Moment>
         ensures { result ≡ moment_at self.now origin }
     {

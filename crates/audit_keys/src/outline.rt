@@ -2,8 +2,8 @@
 ghost use Rattle.std.specs.Prelude.{◌≡◌};
 ghost use Rattle.audit_keys.specs.Outline.{wiped_outline};
 
-/// The part of a vgetrandom state that determines which entries a call leaves. The state's key and its batch do not
-/// matter for that.
+/// The part of a vgetrandom state that determines which entries a call leaves. These entries do not depend on the bytes
+/// of the state's key and batch.
 #[derive(Clone, Copy, Debug, PartialEq, Eq)]
 pub struct Outline {
     /// The generation that a look found when the state's key was read, or 0 if the state has been wiped since.

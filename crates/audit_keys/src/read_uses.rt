@@ -45,7 +45,7 @@ impl InUse {
     }
 }
 
-// Adds the uses of the bytes that a read takes after those that the erasure keeps.
+// Adds the uses of the bytes that a read takes after the 32 bytes that the erasure keeps.
 fn push_taken(
     uses: &mut Vec<Used>,
     used: InUse,
@@ -67,12 +67,12 @@ fn push_taken(
     Ok(())
 }
 
-/// Adds the uses of an erasure and its read. The erasure keeps the key `next`. The 32 bytes after it are named `call`
-/// if they become a key, and `rekeys` is whether a vgetrandom state takes them.
+/// Adds the uses of an erasure and its read. The erasure keeps the key `next`. If the 32 bytes after that key become a
+/// key, `call` is the name of this key. `rekeys` is whether a vgetrandom state takes these 32 bytes.
 ///
 /// # Errors
 ///
-/// `AllocError` if there is no memory for it.
+/// `AllocError` if there is no memory for the uses.
 pub(crate) fn push_read(
     uses: &mut Vec<Used>,
     used: InUse,

@@ -1,4 +1,4 @@
-//! A row for each key: its holder, the entries that made it and erased it, and the fates of its bytes.
+//! A row for each key: the key's holder, the entries that made and erased the key, and the fates of its bytes.
 ghost use Rattle.std.specs.Prelude.{◌≡◌, ◌++◌, IfOk, OnOk, All, map, option_map, slice_get, IsPermutation};
 ghost use Rattle.std.specs.List.Sorted.{IsNonDecreasingBy};
 ghost use Rattle.key_names.specs.declared.names.KeyName.{KeyName as BookName};
@@ -7,10 +7,10 @@ ghost use Rattle.audit_keys.specs.Rows.{pieces_of, endings_of, birth_of, IsRow};
 ghost use Rattle.audit_keys.specs.Ranks.{PiecesByKey, EndingsByKey};
 ghost use Rattle.audit_keys.specs.MadeOrder.{made_rank, RowsByMaking};
 
-use crate::held::{Held, HeldRest};
+use crate::held::{HeldMaterial, HeldRest};
+use crate::listed::ListedKeys;
 use crate::lives::{Birth, Ending, GivenUp, Holder, Lives};
 use crate::moments::Moments;
-use crate::told::Told;
 use crate::used::{Origin, Purpose, Used};
 use key_names::{KeyName, Span};
 use std::alloc::{AllocError, Global};
@@ -22,7 +22,7 @@ pub enum Fate {
     Became(KeyName),
     /// This entry served the bytes.
     Served(Origin),
-    /// This entry gave up the rest of a batch that had the bytes.
+    /// The bytes were in the rest of a batch, and this entry gave up that rest.
     GivenUp(Origin),
     /// The bytes are in a batch, and were not served.
     Held,
@@ -30,38 +30,38 @@ pub enum Fate {
 
 /// Bytes of a key, and their fate.
 #[derive(Clone, Copy, Debug, PartialEq, Eq)]
-pub struct Piece {
+pub struct KeyPiece {
     pub span: Span,
     pub fate: Fate,
 }
 
-/// A key.
+/// A key, the entries that made and ended the key, and the fates of its bytes.
 #[derive(Debug, Drop)]
-pub struct Row {
+pub struct KeyRow {
     pub key: KeyName,
     pub holder: Holder,
     /// The entry that made the key.
     pub made: Origin,
-    /// The entry that erased or replaced the key, if it is not held at the end.
+    /// The entry that erased or replaced the key, if there is one.
     pub ended: Option<Origin>,
-    /// The fates of the key's bytes, in the order of their first bytes.
-    pub pieces: Vec<Piece>,
+    /// Pieces of the key's keystream with their fates, in the order of their first bytes.
+    pub pieces: Vec<KeyPiece>,
 }
 
-fn used_piece(used: Used) -> Piece
+fn used_piece(used: Used) -> KeyPiece
     ensures { result ≡ used_piece used }
 {
     let fate = match used.purpose {
         Purpose::Kept(name) => Fate::Became(name),
         Purpose::Served => Fate::Served(used.by),
     };
-    Piece {
+    KeyPiece {
         span: used.span,
         fate,
     }
 }
 
-fn push_used(pieces: &mut Vec<Piece>, uses: &[Used]) -> Result<(), AllocError>
+fn push_used(pieces: &mut Vec<KeyPiece>, uses: &[Used]) -> Result<(), AllocError>
     ensures { OnOk result (pieces.new.items ≡ pieces.old.items ++ map used_piece uses.now) }
 {
     for used in uses {
@@ -70,11 +70,11 @@ fn push_used(pieces: &mut Vec<Piece>, uses: &[Used]) -> Result<(), AllocError>
     Ok(())
 }
 
-fn push_given_up(pieces: &mut Vec<Piece>, rests: &[GivenUp]) -> Result<(), AllocError>
+fn push_given_up(pieces: &mut Vec<KeyPiece>, rests: &[GivenUp]) -> Result<(), AllocError>
     ensures { OnOk result (pieces.new.items ≡ pieces.old.items ++ map given_up_piece rests.now) }
 {
     for rest in rests {
-        pieces.push(Piece {
+        pieces.push(KeyPiece {
             span: rest.span,
             fate: Fate::GivenUp(rest.by),
         })?;
@@ -82,11 +82,11 @@ fn push_given_up(pieces: &mut Vec<Piece>, rests: &[GivenUp]) -> Result<(), Alloc
     Ok(())
 }
 
-fn push_held(pieces: &mut Vec<Piece>, rests: &[HeldRest]) -> Result<(), AllocError>
+fn push_held(pieces: &mut Vec<KeyPiece>, rests: &[HeldRest]) -> Result<(), AllocError>
     ensures { OnOk result (pieces.new.items ≡ pieces.old.items ++ map held_piece rests.now) }
 {
     for rest in rests {
-        pieces.push(Piece {
+        pieces.push(KeyPiece {
             span: rest.span,
             fate: Fate::Held,
         })?;
@@ -94,13 +94,14 @@ fn push_held(pieces: &mut Vec<Piece>, rests: &[HeldRest]) -> Result<(), AllocErr
     Ok(())
 }
 
-// The uses and the rests of all keys. The uses are freed, since they take as much memory as the pieces.
+// The uses and the rests of all keys, as pieces. The uses themselves are freed, since they take as much memory as the
+// pieces.
 fn all_pieces(
     alloc: Global,
     uses: Vec<Used>,
     lives: &Lives,
-    held: &Held,
-) -> Result<Vec<Piece>, AllocError>
+    held: &HeldMaterial,
+) -> Result<Vec<KeyPiece>, AllocError>
     ensures { IfOk result (λ pieces. pieces.items
         ≡ all_pieces (record { lives = lives.now; held = held.now; uses = uses })) }
 {
@@ -111,30 +112,30 @@ fn all_pieces(
     Ok(pieces)
 }
 
-// The pieces of a key, from those of all keys, which are sorted by the keys' names.
-fn pieces_of(all: &[Piece], key: KeyName) -> &[Piece]
+// The pieces of a key. `all` has the pieces of all keys, sorted by the keys' names.
+fn pieces_of(all: &[KeyPiece], key: KeyName) -> &[KeyPiece]
     requires { PiecesByKey all.now }
     ensures { result.now ≡ pieces_of key all.now }
 {
     let first = all.partition_point(|piece| piece.span.key < key);
-    let behind = &all[first..];
-    let count = behind.partition_point(|piece| piece.span.key <= key);
-    &behind[..count]
+    let following = &all[first..];
+    let count = following.partition_point(|piece| piece.span.key <= key);
+    &following[..count]
 }
 
-// The endings of a key, from those of all keys, which are sorted by the keys' names.
+// The endings of a key. `all` has the endings of all keys, sorted by the keys' names.
 fn endings_of(all: &[Ending], key: KeyName) -> &[Ending]
     requires { EndingsByKey all.now }
     ensures { result.now ≡ endings_of key all.now }
 {
     let first = all.partition_point(|ending| ending.key < key);
-    let behind = &all[first..];
-    let count = behind.partition_point(|ending| ending.key <= key);
-    &behind[..count]
+    let following = &all[first..];
+    let count = following.partition_point(|ending| ending.key <= key);
+    &following[..count]
 }
 
 // The pieces of a key, in the order of their first bytes.
-fn row_pieces(alloc: Global, all: &[Piece], key: KeyName) -> Result<Vec<Piece>, AllocError>
+fn row_pieces(alloc: Global, all: &[KeyPiece], key: KeyName) -> Result<Vec<KeyPiece>, AllocError>
     requires { PiecesByKey all.now }
     ensures all { IfOk result (λ pieces. IsPermutation (pieces_of key all.now) pieces.items) }
     ensures ordered { IfOk result (λ pieces. IsNonDecreasingBy (λ piece. piece.span.from) pieces.items) }
@@ -152,19 +153,19 @@ fn ended_by(all: &[Ending], key: KeyName) -> Option<Origin>
     endings_of(all, key).first().map(|ending| ending.by)
 }
 
-// The row of a key that is made.
+// The row of the key whose birth is `birth`.
 fn row_of(
     alloc: Global,
     birth: &Birth,
-    pieces: &[Piece],
+    pieces: &[KeyPiece],
     endings: &[Ending],
-) -> Result<Row, AllocError>
+) -> Result<KeyRow, AllocError>
     requires pieces { PiecesByKey pieces.now }
     requires endings { EndingsByKey endings.now }
     ensures birth { IfOk result (λ row. birth_of row ≡ birth.now) }
     ensures row { IfOk result (λ row. IsRow pieces.now endings.now row) }
 {
-    Ok(Row {
+    Ok(KeyRow {
         key: birth.key,
         holder: birth.holder,
         made: birth.by,
@@ -178,8 +179,8 @@ fn sorted_pieces(
     alloc: Global,
     uses: Vec<Used>,
     lives: &Lives,
-    held: &Held,
-) -> Result<Vec<Piece>, AllocError>
+    held: &HeldMaterial,
+) -> Result<Vec<KeyPiece>, AllocError>
     ensures sorted { IfOk result (λ pieces. PiecesByKey pieces.items) }
     ensures same { (key : BookName) → IfOk result (λ pieces. pieces_of key pieces.items
         ≡ pieces_of key (all_pieces (record { lives = lives.now; held = held.now; uses = uses }))) }
@@ -203,9 +204,9 @@ fn sorted_endings(alloc: Global, all: &[Ending]) -> Result<Vec<Ending>, AllocErr
 fn rows_of(
     alloc: Global,
     births: &[Birth],
-    pieces: &[Piece],
+    pieces: &[KeyPiece],
     endings: &[Ending],
-) -> Result<Vec<Row>, AllocError>
+) -> Result<Vec<KeyRow>, AllocError>
     requires pieces { PiecesByKey pieces.now }
     requires endings { EndingsByKey endings.now }
     ensures births { IfOk result (λ rows. map birth_of rows.items ≡ births.now) }
@@ -223,17 +224,17 @@ fn rows_of(
 /// # Errors
 ///
 /// `AllocError` if there is no memory for them.
-pub fn make_rows(alloc: Global, told: Told) -> Result<Vec<Row>, AllocError>
-    ensures births { IfOk result (λ rows. map birth_of rows.items ≡ told.lives.births.items) }
-    ensures rows { IfOk result (λ rows. All (IsRow (all_pieces told) told.lives.endings.items) rows.items) }
+pub fn make_rows(alloc: Global, listed: ListedKeys) -> Result<Vec<KeyRow>, AllocError>
+    ensures births { IfOk result (λ rows. map birth_of rows.items ≡ listed.lives.births.items) }
+    ensures rows { IfOk result (λ rows. All (IsRow (all_pieces listed) listed.lives.endings.items) rows.items) }
 {
-    let pieces = sorted_pieces(alloc, told.uses, &told.lives, &told.held)?;
-    let endings = sorted_endings(alloc, &told.lives.endings)?;
-    let rows = rows_of(alloc, &told.lives.births, &pieces, &endings)?;
+    let pieces = sorted_pieces(alloc, listed.uses, &listed.lives, &listed.held)?;
+    let endings = sorted_endings(alloc, &listed.lives.endings)?;
+    let rows = rows_of(alloc, &listed.lives.births, &pieces, &endings)?;
     Ok(rows)
 }
 
-/// The rank of a row in the order in which keys were made. Of two keys of one visit, the one that the erasure kept
+/// The rank of a row in the order in which keys were made. If one visit made two keys, the key that the erasure kept
 /// comes first.
 #[derive(Clone, Copy, PartialEq, Eq, PartialOrd, Ord)]
 struct MadeRank {
@@ -243,7 +244,7 @@ struct MadeRank {
     is_call_key: bool,
 }
 
-fn made_rank(moments: &Moments, row: &Row) -> MadeRank
+fn made_rank(moments: &Moments, row: &KeyRow) -> MadeRank
     ensures { result ≡ made_rank moments.now row.now }
 {
     MadeRank {
@@ -258,7 +259,7 @@ fn made_rank(moments: &Moments, row: &Row) -> MadeRank
 /// # Errors
 ///
 /// `AllocError` if there is no memory to sort them.
-pub fn sort_rows(rows: &mut Vec<Row>, moments: &Moments) -> Result<(), AllocError>
+pub fn sort_rows(rows: &mut Vec<KeyRow>, moments: &Moments) -> Result<(), AllocError>
     ensures same { IsPermutation rows.old.items rows.new.items }
     ensures ordered { OnOk result (RowsByMaking moments.now rows.new.items) }
 {

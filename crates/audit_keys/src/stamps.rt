@@ -8,10 +8,10 @@ ghost use Rattle.audit_keys.specs.Stamps.{latest_of, over_at};
 
 use crate::entry::CallEnd;
 use judge_lines::bare::BareLine;
-use judge_lines::called::{ActLine, Called};
+use judge_lines::called::{ActLine, CalledLines};
 use key_names::{Point, Step};
 
-/// The greatest of this stamp and the stamps of the visits among some steps.
+/// The greatest among `stamp` and the stamps of the visits in `steps`.
 pub(crate) fn latest(stamp: u64, steps: &[Step]) -> u64
     ensures { result ≡ latest_of stamp steps.now }
 {
@@ -24,8 +24,8 @@ pub(crate) fn latest(stamp: u64, steps: &[Step]) -> u64
     latest
 }
 
-// The last stamp after the acts at a point.
-fn behind_point(stamp: u64, acts: &[ActLine<'_>], point: Point) -> u64
+// The greatest stamp after the acts at a point. `stamp` is the greatest stamp before them.
+fn after_point(stamp: u64, acts: &[ActLine<'_>], point: Point) -> u64
     ensures { result ≡ latest_of stamp (steps_at_point (map seen_act acts.now) point) }
 {
     let mut last = stamp;
@@ -37,45 +37,47 @@ fn behind_point(stamp: u64, acts: &[ActLine<'_>], point: Point) -> u64
     last
 }
 
-// The last stamp after a `vread` and the acts inside it.
-fn behind_vread(stamp: u64, steps: &[Step], acts: &[ActLine<'_>]) -> u64
+// The greatest stamp after a `vread` and the acts inside it. `stamp` is the greatest stamp before the `vread`.
+fn after_vread(stamp: u64, steps: &[Step], acts: &[ActLine<'_>]) -> u64
     ensures { result ≡ latest_of stamp (vread_steps steps.now (map seen_act acts.now)) }
 {
     let own = latest(stamp, steps);
-    let started = behind_point(own, acts, Point::Start);
-    let written = behind_point(started, acts, Point::Written);
-    let served = behind_point(written, acts, Point::Serve);
-    behind_point(served, acts, Point::End)
+    let started = after_point(own, acts, Point::Start);
+    let written = after_point(started, acts, Point::Written);
+    let served = after_point(written, acts, Point::Serve);
+    after_point(served, acts, Point::End)
 }
 
-/// The last stamp after a call.
-pub(crate) fn behind_call(stamp: u64, call: &Called<'_>) -> u64
+/// The stamp of the last visit that was made by the end of a call. `stamp` is that of the last visit before the call.
+pub(crate) fn after_call(stamp: u64, call: &CalledLines<'_>) -> u64
     ensures { result ≡ over_at stamp (seen_call call.now) }
 {
     match call {
-        Called::Alone { line, .. } | Called::Ending(line) => latest(stamp, line.steps),
-        Called::Unbound(act) => latest(stamp, act.line.steps),
-        Called::Vread { line, acts, .. } => behind_vread(stamp, line.steps, acts),
+        CalledLines::Alone { line, .. } | CalledLines::Ending(line) => latest(stamp, line.steps),
+        CalledLines::Unbound(act) => latest(stamp, act.line.steps),
+        CalledLines::Vread { line, acts, .. } => after_vread(stamp, line.steps, acts),
     }
 }
 
-/// The line of a call. For a `vread` it is the `vread`'s own, and no act's.
-pub(crate) fn own_line<'a>(call: &Called<'a>) -> BareLine<'a>
+/// The line of a call. For a `vread` this is the `vread`'s own line, and never an act's.
+pub(crate) fn own_line<'a>(call: &CalledLines<'a>) -> BareLine<'a>
     ensures { seen_bare result ≡ own_line (seen_call call.now) }
 {
     match call {
-        Called::Alone { line, .. } | Called::Vread { line, .. } | Called::Ending(line) => *line,
-        Called::Unbound(act) => act.line,
+        CalledLines::Alone { line, .. }
+        | CalledLines::Vread { line, .. }
+        | CalledLines::Ending(line) => *line,
+        CalledLines::Unbound(act) => act.line,
     }
 }
 
-/// The end of a call. `stamp` is that of its caller's last visit before it.
-pub(crate) fn end_of(stamp: u64, call: &Called<'_>) -> CallEnd
+/// The end of a call. `stamp` is the stamp of the caller's last visit before the call.
+pub(crate) fn end_of(stamp: u64, call: &CalledLines<'_>) -> CallEnd
     ensures { result ≡ end_of stamp (seen_call call.now) }
 {
     let line = own_line(call);
     CallEnd {
-        stamp: behind_call(stamp, call),
+        stamp: after_call(stamp, call),
         caller: line.caller,
         event: line.event,
     }

@@ -1,8 +1,8 @@
 //! The uses of a vgetrandom state's entries.
 ghost use Rattle.std.specs.Prelude.{ℕ, ◌≡◌, ◌≤◌, ◌+◌, ◌*◌, ◌^◌, ◌++◌, IfOk, OnOk, OnErr};
 ghost use Rattle.key_names.specs.Lanes.StateList.{NamedState, state_start, state_step};
-ghost use Rattle.audit_keys.specs.StateKeys.{StateStands, IsRefilledOut};
-ghost use Rattle.audit_keys.specs.ToldFrom.{told_from};
+ghost use Rattle.audit_keys.specs.StateKeys.{StateConforms, IsRefilledOut};
+ghost use Rattle.audit_keys.specs.ListedFrom.{listed_from};
 ghost use Rattle.audit_keys.specs.UsedAt.{state_used_at};
 
 use crate::read_uses::InUse;
@@ -10,10 +10,10 @@ use crate::used::{Origin, Used};
 use key_names::{KeyName, LaneId, VEntry};
 use std::alloc::{AllocError, Global};
 
-/// The bytes of a block of keystream.
+/// The number of bytes of a block of keystream.
 const BLOCK_BYTES: u64 = 64;
 
-/// The bytes of a batch; a refill keeps the next key after them.
+/// The number of bytes of a batch. A refill keeps as the next key the bytes after these.
 pub const BATCH_BYTES: u64 = 96;
 
 /// A vgetrandom state of a caller.
@@ -34,12 +34,12 @@ pub struct StateKeys {
     pub batch_from: u64,
 }
 
-/// The number, in a key's keystream, of the byte that is `more` bytes after the first byte of a block. It cannot exceed
-/// 64 bits in a run, which uses no block so far on.
+/// The number, in a key's keystream, of the byte that is `more` bytes after the first byte of `block`. In a run this
+/// number fits into 64 bits, since no run uses a block so far on.
 ///
 /// # Errors
 ///
-/// `AllocError` if it is 2^64 or more.
+/// `AllocError` if the number is 2^64 or more.
 pub fn byte_of(block: u64, more: u64) -> Result<u64, AllocError>
     ensures byte { IfOk result (λ byte. byte ≡ 64 * block + more) }
     ensures none { OnErr result (2 ^ 64 ≤ 64 * block + more) }
@@ -49,9 +49,9 @@ pub fn byte_of(block: u64, more: u64) -> Result<u64, AllocError>
 }
 
 impl StateKeys {
-    /// The keys of a state before its first entry: it has none.
+    /// A state before its first entry has no keys.
     pub fn start() -> StateKeys
-        ensures { StateStands state_start 0 result }
+        ensures { StateConforms state_start 0 result }
     {
         StateKeys {
             key: None,
@@ -69,7 +69,7 @@ impl StateKeys {
         place: u64,
         entry: VEntry,
     ) -> Result<(), AllocError>
-        ensures { (s : NamedState) → StateStands s place self.now → OnOk result (uses.new.items
+        ensures { (s : NamedState) → StateConforms s place self.now → OnOk result (uses.new.items
             ≡ uses.old.items ++ state_used_at of s entry) }
     {
         let by = Origin::State {
@@ -103,8 +103,8 @@ impl StateKeys {
     ///
     /// `AllocError` if there are more refills than any memory has room for.
     pub fn step(&mut self, of: StateOf, entry: VEntry) -> Result<(), AllocError>
-        ensures after { (s : NamedState) (place : ℕ) → StateStands s place self.old →
-            OnOk result (StateStands (state_step of.caller of.state s entry) (place + 1) self.new) }
+        ensures after { (s : NamedState) (place : ℕ) → StateConforms s place self.old →
+            OnOk result (StateConforms (state_step of.caller of.state s entry) (place + 1) self.new) }
         ensures none { OnErr result (IsRefilledOut self.old.refills entry) }
     {
         match entry {
@@ -136,7 +136,7 @@ impl StateKeys {
 /// `AllocError` if there is no memory for them, or if a byte of a key has a number of 2^64 or more.
 pub fn state_uses(alloc: Global, of: StateOf, entries: &[VEntry]) -> Result<Vec<Used>, AllocError>
     ensures { IfOk result (λ uses. uses.items
-        ≡ told_from (state_used_at of) (state_step of.caller of.state) state_start entries.now) }
+        ≡ listed_from (state_used_at of) (state_step of.caller of.state) state_start entries.now) }
 {
     let mut uses = Vec::new(alloc);
     let mut keys = StateKeys::start();

@@ -4,8 +4,8 @@ use key_names::{KeyName, LaneId, Span};
 /// The length of a key, which is also the longest read that needs no call key.
 pub const KEY_BYTES: u32 = 32;
 
-/// An entry that makes, uses or erases a key. It is at a place of a lane, or of the list of a caller's vgetrandom
-/// state. Lanes come before states.
+/// An entry that makes, uses or erases a key. The entry is at a place of a lane, or at a place in the list of a
+/// caller's vgetrandom state. In the order, entries of lanes come before entries of states.
 #[derive(Clone, Copy, Debug, PartialEq, Eq, PartialOrd, Ord)]
 pub enum Origin {
     Lane(LaneId, u64),

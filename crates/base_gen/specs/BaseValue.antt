@@ -1,4 +1,4 @@
--- What contracts see of a base, and how an entry of the base's list changes it.
+-- The base in contracts, and how an entry of the base's list changes it.
 use Rattle.std.specs.Prelude.{ℕ, Bool, true, Option, Some, None, List, if◌then◌else◌}
 use Rattle.key_names.specs.declared.entries.BaseEntry.{BaseEntry}
 use Rattle.key_names.specs.declared.entries.BaseEntry.TheVariants.{Early as EarlyEntry, Reseed, Tick}
@@ -21,7 +21,7 @@ pub record BaseValue : Type 0 where
   pub generation : ℕ
   -- the moment at which the reseed timer is due, in milliseconds
   pub timer : Option ℕ
-  -- the system is young: no reseed at 120 seconds or later has computed an interval
+  -- whether the system is young: no reseed at 120 seconds of uptime or later has computed an interval
   pub early_boot : Bool
   -- how many callers run
   pub running : ℕ
@@ -29,11 +29,11 @@ pub record BaseValue : Type 0 where
 abbrev pub start : BaseValue
 start = record { key = zero_key; phase = empty; generation = 0; timer = None; early_boot = true; running = 1 }
 
--- the key was replaced by the front of its own keystream
+-- the base after an erasure: the first 32 bytes of the key's own keystream replace the key
 abbrev pub erased : BaseValue → BaseValue
 erased b = record b { key = keystream b.key 0 32 }
 
--- the value of the key in use at an entry: the root if the entry names one, else the base key
+-- the value of the key in use at an entry: the root if the entry names one, else the base's key
 abbrev pub key_in_use : Option ℕ → List ℕ → List ℕ → List ℕ
 key_in_use None root key = key
 key_in_use (Some place) root key = root
@@ -49,7 +49,8 @@ after_entry e root b = record {
   running = running_after e b.running;
 }
 
--- a call that installs a root acts as its entry. The root's place in the pool's list does not matter, so it is 0 here
+-- a call that installs a root changes the base as the call's entry does. The pool place of the root does not matter, so
+-- it is 0
 abbrev pub seeded_early : List ℕ → BaseValue → BaseValue
 seeded_early root b = after_entry (EarlyEntry (Some 0)) root b
 
@@ -59,7 +60,7 @@ reseeded now root b = after_entry (Reseed 0 now) root b
 abbrev pub fired : ℕ → List ℕ → BaseValue → BaseValue
 fired now root b = after_entry (Tick now (Some 0)) root b
 
--- the base after a list that leaves this state, with this value of its key
+-- the base after a list, given the state after the list and the value of the key
 abbrev pub base_at : BaseState → List ℕ → BaseValue
 base_at s value = record {
   key = value;
@@ -70,6 +71,6 @@ base_at s value = record {
   running = s.running;
 }
 
--- the base after all entries of a list, with the roots that the pool's list made
+-- the base after all entries of a list, with the roots that the pool's list gives
 abbrev pub after_entries : List PoolEntry → List BaseEntry → BaseValue
 after_entries pool entries = base_at (base_after entries) (base_value_after pool entries)

@@ -1,4 +1,4 @@
-//! The base key and the state that the kernel keeps with it.
+//! The base key, and the state that the kernel keeps with it.
 
 ghost use Rattle.std.specs.Prelude.{◌≡◌, ◌↔◌, ◌+◌, ◌^◌, ◌<◌, ◌≤◌, Some, length, IsTrue};
 ghost use Rattle.key_names.specs.Kernel.Keystream.{keystream};
@@ -9,8 +9,8 @@ use crate::phase::Phase;
 use chacha_blocks::{Detached, derive_key, erase};
 use std::marker::Model;
 
-/// The base key (`base_crng`), the phase of the core, how often it was reseeded, when the next reseed is due,
-/// and how many callers run.
+/// The base key (`base_crng`) and its generation, the phase of the core, the moment of the next reseed, and the number
+/// of running callers.
 #[derive(Drop)]
 pub struct Base {
     key: [u8; 32],
@@ -37,8 +37,7 @@ impl Model for Base {
 }
 
 impl Base {
-    /// The base at the start of the system: a key of zeros that nothing has seeded yet, no
-    /// timer, and one running caller.
+    /// The base at the start of the system: a key of zeros, not seeded yet, no timer, and one running caller.
     pub fn start() -> Base
         ensures { result ≡ start }
     {
@@ -66,7 +65,7 @@ impl Base {
         self.generation
     }
 
-    /// How many callers run. It is for callers that use this crate without the lanes; the core uses [`Base::idle`].
+    /// How many callers run. This is for users of the crate without lanes; the core uses [`Base::idle`].
     pub fn running(&self) -> u32
         ensures { result ≡ self.now.running }
     {
@@ -80,16 +79,15 @@ impl Base {
         self.running == 0
     }
 
-    /// Replaces the key by a root for one draw while the core is empty, as the kernel's `crng_make_state` does by
-    /// `extract_entropy` while `crng_init` is `CRNG_EMPTY`.
+    /// Replaces the key by a root for one draw from an empty core. In the kernel, `crng_make_state` calls
+    /// `extract_entropy` if `crng_init` is `CRNG_EMPTY`.
     pub fn fill_empty(&mut self, root: [u8; 32])
         ensures { self.new ≡ record self.old { key = root } }
     {
         self.key = root;
     }
 
-    /// Installs a root once half of the bits needed for readiness are credited
-    /// (`_credit_init_bits` at `POOL_EARLY_BITS`).
+    /// Installs a root as an early key, when 128 bits are credited (`_credit_init_bits` at `POOL_EARLY_BITS`).
     pub fn install_early(&mut self, root: [u8; 32])
         ensures { self.new ≡ seeded_early root self.old }
     {
@@ -97,9 +95,8 @@ impl Base {
         self.phase = Phase::Early;
     }
 
-    /// Installs a root at this moment in milliseconds (`crng_reseed`). The generation goes up by one, and
-    /// the core is ready. A pending timer stays; if there is no timer, one is set. `now` is below 2^40, and
-    /// the generation below 2^63.
+    /// Installs a root at this moment in milliseconds (`crng_reseed`). The generation goes up by one, and the core
+    /// becomes ready. A timer is set if none is pending. `now` is below 2^40, and the generation below 2^63.
     pub fn install(&mut self, root: [u8; 32], now: u64)
         requires generation { self.old.generation < 2 ^ 63 }
         requires now { now < 2 ^ 40 }
@@ -121,9 +118,9 @@ impl Base {
         }
     }
 
-    /// Installs a root at this moment in milliseconds (`crng_reseed` as the delayed work), and sets the next timer. The
-    /// generation goes up by one, and the core is ready. The lanes check that the timer is due. `now` is below 2^40,
-    /// and the generation below 2^63.
+    /// Installs a root at this moment in milliseconds, and sets the next timer (`crng_reseed` as the delayed work). The
+    /// generation goes up by one, and the core becomes ready. The lanes check that the timer is due. `now` is below
+    /// 2^40, and the generation below 2^63.
     pub fn fire(&mut self, root: [u8; 32], now: u64)
         requires generation { self.old.generation < 2 ^ 63 }
         requires now { now < 2 ^ 40 }
@@ -132,7 +129,8 @@ impl Base {
         self.timer = Some(self.reseed(root, now));
     }
 
-    // All of `install` and `fire` except the timer. Returns the moment at which the next reseed is due.
+    // What `install` and `fire` have in common: everything but the timer. Returns the moment at which the next reseed
+    // is due.
     fn reseed(&mut self, root: [u8; 32], now: u64) -> u64
         requires generation { self.old.generation < 2 ^ 63 }
         requires now { now < 2 ^ 40 }
@@ -150,8 +148,8 @@ impl Base {
         now + reseed_interval(&mut self.early_boot, now)
     }
 
-    /// Erases the key (`crng_fast_key_erasure`). Fills `out`, at most 32 bytes, from the rest of the erased block, and
-    /// returns the old key from block 1 on.
+    /// Erases the key (`crng_fast_key_erasure`). Fills `out`, at most 32 bytes, from the rest of the erasure's block,
+    /// and returns the old key with block 1 next.
     pub fn draw(&mut self, out: &mut [u8]) -> Detached
         requires { length out.old ≤ 32 }
         ensures state { self.new ≡ erased self.old }
@@ -162,8 +160,8 @@ impl Base {
         erase(&mut self.key, out)
     }
 
-    /// Erases the key, and returns 32 bytes as a key. It is for a CPU's refill or, before the core is ready, for one
-    /// user's read of more than 32 bytes (`crng_make_state`).
+    /// Erases the key, and returns bytes 32 to 64 of its keystream as a key. That key is for a CPU's refill or, before
+    /// the core is ready, for one user's read of more than 32 bytes (`crng_make_state`).
     pub fn call_key(&mut self) -> [u8; 32]
         ensures state { self.new ≡ erased self.old }
         ensures key { result ≡ keystream self.old.key 32 32 }
@@ -171,14 +169,14 @@ impl Base {
         derive_key(&mut self.key)
     }
 
-    /// Counts one more running caller. 2^32 - 1 stays as it is.
+    /// Counts one more running caller. The count stays at 2^32 - 1 once it is there.
     pub fn up(&mut self)
         ensures { self.new ≡ record self.old { running = one_more self.old.running } }
     {
         self.running = self.running.saturating_add(1);
     }
 
-    /// Counts one running caller less. 0 stays 0.
+    /// Counts one running caller less. The count stays at 0 once it is there.
     pub fn down(&mut self)
         ensures { self.new ≡ record self.old { running = one_less self.old.running } }
     {
@@ -186,9 +184,8 @@ impl Base {
     }
 }
 
-/// The milliseconds until the next reseed (`crng_reseed_interval`). While the system is young, they are
-/// half its age in whole seconds, and at least one second. Once an interval is taken at 120 seconds or
-/// later, they are a minute for good.
+/// The milliseconds until the next reseed (`crng_reseed_interval`). While the system is young, they are half its age in
+/// whole seconds, and at least one second. From the first reseed at 120 seconds or later on, they are always a minute.
 fn reseed_interval(early_boot: &mut bool, now: u64) -> u64
     ensures early_boot { early_boot.new ≡ early_boot_after (Some now) early_boot.old }
     ensures interval { result ≡ interval early_boot.old now }

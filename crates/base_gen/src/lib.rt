@@ -1,10 +1,45 @@
 //! The base key, from which each CPU's key comes, with the state that the kernel keeps with it: the phase of the core,
-//! the generation, the reseed timer and the number of running callers.
+//! the generation and the reseed timer; and the number of running callers. It is `base_crng` of drivers/char/random.c,
+//! with `crng_reseed`, `crng_reseed_interval`, and the base's part of `crng_make_state`.
 //!
-//! Each call changes the base as one entry of the base's list does. `after_entry e root b` of `specs/BaseValue.antt` is
-//! the base after entry `e` of base `b`, if `root` is the root that `e` names. `fill_empty` with a `draw` after it is
-//! one entry, a draw with a root. The bytes that a call hands out are those of the key in use. The crate uses
-//! `chacha_blocks` for erasures and bytes. The lanes check whether an entry may follow those before it.
+//! Each call changes the base as one entry of its list does: `after_entry e root b` of `specs/BaseValue.antt` is the
+//! base after entry `e` of base `b`, if `root` is the root that `e` names. Only [`Base::fill_empty`] with a
+//! [`Base::draw`] after it is one entry, a draw with a root. The crate uses `chacha_blocks` for erasures and bytes. The
+//! lanes check whether an entry may follow those before it.
+//!
+//! # Example
+//!
+//! ```rust
+//! let mut base = Base::start();
+//! let mut out = [1; 32];
+//! let rest = base.draw(&mut out);
+//! assert_eq!(rt; Some(&out[..]), zero_stream(32, 64));
+//! assert_eq!(rt; rest.key, [0; 32]);
+//! assert_eq!(rt; rest.next_block, 1);
+//! ```
+//!
+//! From `crates/test_core/src/base_gen_tests.rt`.
+//!
+//! # Proved
+//!
+//! - [`Base::install_early`], [`Base::install`] and [`Base::fire`]: the base after the entry that installs this root.
+//!   The generation, the phase and the timer are those of the definition.
+//! - [`Base::draw`] and [`Base::call_key`]: bytes 0 to 32 of the key's own keystream replace the key. The bytes that go
+//!   out are those from 32 on.
+//! - [`Base::due`]: the timer is set, and due at this moment.
+//! - [`Base::up`] and [`Base::down`]: the count of running callers goes up or down by one, and stays between 0 and 2^32
+//!   - 1.
+//!
+//! # Tested only
+//!
+//! Nothing beyond what is proved. The rows `reseed` and `due` of `test_vectors` have the answers of another
+//! implementation.
+//!
+//! # Differs from the kernel
+//!
+//! - The kernel does not count running callers. Here the count lets a waiting read give up.
+//! - The timer never runs on its own: a caller asks [`Base::due`], and calls [`Base::fire`]. In the kernel it is
+//!   delayed work.
 #![tactic(auto)]
 
 pub mod base;

@@ -5,7 +5,7 @@
 pub enum Phase {
     /// Little or no entropy is credited (`CRNG_EMPTY`).
     Empty,
-    /// Half of the bits needed for readiness are credited (`CRNG_EARLY`).
+    /// 128 bits are credited, half of those needed for readiness (`CRNG_EARLY`).
     Early,
     /// The base was seeded with 256 bits (`CRNG_READY`).
     Ready,

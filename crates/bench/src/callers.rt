@@ -9,7 +9,7 @@ use std::thread;
 use std::thread::Threads;
 use transcript_text::Transcript;
 
-/// A script of two callers for runs without words.
+/// A script of two callers, for the program without words.
 pub const SHORT_RUN: &[u8] =
     b"rngscript 1\ncpus 2\ncaller 0\ncredit 256\nfork 1\nkread 32\ncaller 1\non 1\nkread 32\nend\n";
 
@@ -28,7 +28,7 @@ fn line_count(transcript: &Transcript) -> u64 {
     count
 }
 
-/// How many lines a run of the script in `text` has. The script is run `times` times, each time on a new table.
+/// Runs the script in `text` `times` times, each time on a new table. Returns the number of lines of the last run.
 pub fn runs<R: Threads + Wait + Sync>(
     rt: &R,
     alloc: Global,
@@ -48,8 +48,8 @@ fn add_one<R: Wait>(rt: &R, number: &Mutex<u64>) {
     *guard = guard.wrapping_add(1);
 }
 
-/// A number after `count` threads, each of which adds one. Each thread has its own scope, and is joined before the next
-/// one starts.
+/// Starts `count` threads, each of which adds one to a number, and returns the number. Each thread has its own scope,
+/// and is joined before the next one starts.
 pub fn threads<R: Threads + Wait + Sync>(rt: &R, count: u32) -> u64 {
     let number = Mutex::new(0u64);
     let shared = &number;

@@ -23,7 +23,7 @@ const SET: Setting = Setting {
     hw: [0; 32],
 };
 
-/// The pool's bits after `each` samples of each feeder, 1 to 10,000.
+/// The pool's bits after `each` samples of each feeder. `each` is 1 to 10,000.
 pub fn feeds<R: Threads + Wait + Sync>(rt: &R, alloc: Global, each: u32) -> Result<u64> {
     if each == 0 || each > 10_000 {
         bail!("{each} samples of each feeder");

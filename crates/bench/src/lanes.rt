@@ -71,7 +71,7 @@ pub fn visits<R: Wait>(rt: &R, alloc: Global, count: u32) -> Result<u64, AllocEr
     Ok(pass.stamp())
 }
 
-/// A number after `count` locks of a `Mutex`, each of which adds one.
+/// Locks a `Mutex` `count` times, adds one to a number each time, and returns the number.
 pub fn locks<R: Wait>(rt: &R, count: u32) -> u64 {
     let number = Mutex::new(0u64);
     for _ in 0..count {

@@ -1,25 +1,39 @@
-//! Loops that are measured by hand, by the scripts in `bench/`.
-//!
-//! Without words each loop runs a few times. `WORD NUMBER` runs one loop NUMBER times:
+//! Loops that are measured by hand, by the scripts in `bench/`. `rt run` in the crate's folder proves it, and builds
+//! and runs `out/bench`. Without words each loop runs a few times. `out/bench WORD NUMBER` runs one loop NUMBER times,
+//! and one line shows the last result:
 //!
 //! - `keystream` and `plain` write NUMBER bytes of a key's stream, and `hash` hashes NUMBER bytes.
-//! - `bulk` hashes NUMBER samples of 64 bytes, `updated` hashes them one by one, and `mixed` mixes them into an
-//!   input pool.
+//! - `bulk` hashes NUMBER samples of 64 bytes, `updated` hashes them one by one, and `mixed` mixes them into an input
+//!   pool.
 //! - `interrupts` mixes NUMBER interrupts into a fast pool.
 //! - `visits` takes a lane and puts it NUMBER times, and `locks` locks a `Mutex`.
 //! - `reads` makes NUMBER writes of three bytes, each followed by a read of 4,096 bytes, and `shown` also turns the
 //!   bytes into hexadecimal.
 //! - `bare-LEN`, `fill-LEN`, `kernel-LEN` and `user-LEN` make NUMBER reads of LEN bytes.
-//! - `script` and `transcript` read the text on standard input NUMBER times, and `script_lines` and
-//!   `transcript_lines` go over it with a plain loop.
+//! - `script` and `transcript` read the text on standard input NUMBER times, and `script_lines` and `transcript_lines`
+//!   go over it with a plain loop.
 //! - `runs` reads the script on standard input once and runs it NUMBER times, without the text of a transcript.
 //! - `threads` starts and joins a thread NUMBER times.
 //! - `feeds` hands in NUMBER samples of each of 16 feeders through the queue, each feeder in a thread, and `irqs` makes
 //!   the same interrupts by one caller, without a queue.
 //!
-//! One line shows the last result.
+//! # Example
 //!
-//! The only promise is that the loops do not abort.
+//! ```rust
+//! let mut bytes = vec![in alloc; 0; len as usize]?;
+//! fill(&KEY, 0, &mut bytes);
+//! Ok(end_of(&bytes))
+//! ```
+//!
+//! From `crates/bench/src/parts.rt`.
+//!
+//! # Proved
+//!
+//! Only that the loops do not abort.
+//!
+//! # Tested only
+//!
+//! The result of each loop: the file `stdout`.
 #![tactic(auto)]
 
 mod callers;

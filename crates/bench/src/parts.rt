@@ -74,7 +74,7 @@ pub fn mixed(count: u32) -> u64 {
     end_of(&pool.extract(&[0; 32]))
 }
 
-// A separate function, so that the pool is in memory between two interrupts.
+// This is a separate function so that the pool is in memory between two interrupts.
 #[inline(never)]
 fn interrupt(pool: &mut FastPool, v1: u64, v2: u64, now: u64) -> bool {
     pool.mix(v1, v2, now)
@@ -104,13 +104,13 @@ fn extracted(seed: &[u8; 32], counter: u64) -> [u8; 32] {
 
 // The state between two reads, which is the pool without credits.
 #[derive(Drop)]
-struct Pool {
+struct PoolLoop {
     hash: Blake2s,
 }
 
-impl Pool {
-    fn empty() -> Pool {
-        Pool {
+impl PoolLoop {
+    fn empty() -> PoolLoop {
+        PoolLoop {
             hash: Blake2s::plain(),
         }
     }
@@ -129,7 +129,7 @@ impl Pool {
 
 /// `count` writes of three bytes, each followed by a read of 4,096 bytes, made directly on the primitives.
 pub fn reads(count: u32) -> u64 {
-    let mut pool = Pool::empty();
+    let mut pool = PoolLoop::empty();
     let mut bytes = [0; READ];
     for _ in 0..count {
         pool.write_and_read(&mut bytes);
@@ -139,7 +139,7 @@ pub fn reads(count: u32) -> u64 {
 
 /// The writes and reads of `reads`, with the bytes of each read in hexadecimal, as in a transcript.
 pub fn shown(count: u32) -> u64 {
-    let mut pool = Pool::empty();
+    let mut pool = PoolLoop::empty();
     let mut bytes = [0; READ];
     let mut digits = [0; 2 * READ];
     for _ in 0..count {

@@ -8,7 +8,7 @@ use std::alloc::{AllocError, Global};
 
 /// The function that fills the buffer in a read.
 #[derive(Clone, Copy)]
-pub enum Maker {
+pub enum ReadFunction {
     /// A new generator of the kit, without any other work.
     Bare,
     /// The key's stream from its start.
@@ -19,14 +19,14 @@ pub enum Maker {
     User,
 }
 
-/// The maker and the length in a word like `user-100`.
-pub fn made_of(word: &str) -> Option<(Maker, u32)> {
+/// The function and the length that a word like `user-100` names.
+pub fn made_of(word: &str) -> Option<(ReadFunction, u32)> {
     let (name, len) = word.split_once('-')?;
     let maker = match name {
-        "bare" => Maker::Bare,
-        "fill" => Maker::Fill,
-        "kernel" => Maker::Kernel,
-        "user" => Maker::User,
+        "bare" => ReadFunction::Bare,
+        "fill" => ReadFunction::Fill,
+        "kernel" => ReadFunction::Kernel,
+        "user" => ReadFunction::User,
         _ => return None,
     };
     Some((maker, len.parse::<u32>().ok()?))
@@ -39,15 +39,15 @@ fn bare(key: &[u8; 32], bytes: &mut [u8]) {
 }
 
 /// Makes `count` reads of `len` bytes.
-pub fn many(alloc: Global, maker: Maker, len: u32, count: u32) -> Result<u64, AllocError> {
+pub fn many(alloc: Global, maker: ReadFunction, len: u32, count: u32) -> Result<u64, AllocError> {
     let mut key = [0; 32];
     let mut bytes = vec![in alloc; 0; len as usize]?;
     for _ in 0..count {
         match maker {
-            Maker::Bare => bare(&key, &mut bytes),
-            Maker::Fill => fill(&key, 0, &mut bytes),
-            Maker::Kernel => erase_and_fill(&mut key, &mut bytes),
-            Maker::User => user_read(&mut key, &mut bytes),
+            ReadFunction::Bare => bare(&key, &mut bytes),
+            ReadFunction::Fill => fill(&key, 0, &mut bytes),
+            ReadFunction::Kernel => erase_and_fill(&mut key, &mut bytes),
+            ReadFunction::User => user_read(&mut key, &mut bytes),
         }
     }
     Ok(end_of(&bytes))

@@ -1,4 +1,4 @@
-//! Loops that go over a text several times. Each returns the count of the last time.
+//! Loops that go over a text several times. Each returns the count of its last time.
 ghost use Rattle.std.specs.Prelude.{◌<◌, IfSome, length};
 
 use anyhow::{Result, bail};
@@ -7,10 +7,10 @@ use memchr::memchr;
 use std::alloc::Global;
 use transcript_text::Transcript;
 
-/// A script for runs without words.
+/// A script, for the program without words.
 pub const SCRIPT: &[u8] = b"rngscript 1\ncpus 1\ncaller 0\nwrite 616263\nirq 1 2\nend\n";
 
-/// A transcript for runs without words.
+/// A transcript, for the program without words.
 pub const TRANSCRIPT: &[u8] =
     b"rngtranscript 1\n0.0 read ok ~0,p:0@1,b:0@2 616263\n0.1 end ok b:1@3 -\nend\n";
 
@@ -52,7 +52,7 @@ pub fn transcript(alloc: Global, text: &[u8], times: u32) -> Result<u64> {
     Ok(count)
 }
 
-/// Which lines of a text have the bytes that a plain loop decodes.
+/// The lines of a text whose bytes a plain loop decodes.
 #[derive(Clone, Copy)]
 pub enum Lines {
     /// The lines of writes.
@@ -89,7 +89,7 @@ fn decoded(alloc: Global, lines: Lines, text: &[u8]) -> Result<u64> {
     Ok(count)
 }
 
-/// The number of bytes that the lines of a text show. The loop looks only for line ends and for these bytes.
+/// The number of bytes in the lines of this kind. The loop looks only for line ends and for these bytes.
 pub fn plain_lines(alloc: Global, lines: Lines, text: &[u8], times: u32) -> Result<u64> {
     let mut count = 0;
     for _ in 0..times {

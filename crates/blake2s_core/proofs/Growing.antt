@@ -1,4 +1,4 @@
--- How the state of a hash follows a message as it grows.
+-- How the state of a hash changes when bytes are added to the text: `Conforms` also holds for the longer text.
 use Rattle.std.proofs.Common.{◌≡◌, ℕ, ◌+◌, ◌-◌, ◌*◌, ◌/◌, ◌%◌, ◌^◌, ◌<◌, ◌≤◌, List, [], ◌∷◌, ◌++◌, length, take, drop, replicate, get_or, false, Option, Some, None, refl, sym, ap, ◌∙◌, arith, length-append, length-drop}
 use Rattle.std.specs.Simd.{first_chunks}
 use Rattle.std.proofs.lemmas.List.{append_assoc, take-append-le, drop-append-le, take_all, get_or-take, drop_at, drop-drop}
@@ -6,7 +6,7 @@ use Rattle.std.proofs.lemmas.List.FromFn.{fill_by_all, get_or-map-range_with_len
 use Rattle.std.proofs.lemmas.List.Sums.{fold-append}
 use Rattle.key_names.specs.Kernel.Blake2s.{Block, block_bytes, compressed, inner_block, inner_blocks, inner_count, key_len, message, start_words}
 use Rattle.key_names.proofs.Lists.Chunks.{get_or-first_chunks}
-use Rattle.blake2s_core.specs.Hash.{Hash, IsAfter, Stands}
+use Rattle.blake2s_core.specs.Hash.{Hash, IsAfter, Conforms}
 
 -- ---- blocks of a message
 
@@ -16,7 +16,7 @@ pub block_bytes_whole : (bytes : List ℕ) (i : ℕ) → 64 * i + 64 ≤ length 
 block_bytes_whole bytes i fits =
     take-append-le 64 (drop (64 * i) bytes) (replicate 64 0) (omega (arith, length-drop (64 * i) bytes))
 
--- a block that lies wholly within the message stays when the message grows
+-- a block that lies wholly within the message stays the same when the message grows
 pub block_bytes-append : (bytes more : List ℕ) (i : ℕ) → 64 * i + 64 ≤ length bytes
     → block_bytes (bytes ++ more) i ≡ block_bytes bytes i
 block_bytes-append bytes more i fits =
@@ -25,7 +25,7 @@ block_bytes-append bytes more i fits =
     ∙ take-append-le 64 (drop (64 * i) bytes) more (omega (arith, length-drop (64 * i) bytes))
     ∙ sym (block_bytes_whole bytes i fits)
 
--- the first n blocks stay when the message grows
+-- the first n blocks stay the same when the message grows
 pub inner_blocks-append : (bytes more : List ℕ) (n : ℕ) → 64 * n ≤ length bytes
     → inner_blocks (bytes ++ more) n ≡ inner_blocks bytes n
 inner_blocks-append bytes more n fits =
@@ -44,7 +44,7 @@ IsAfter-append words count start bytes more n fits after = record {
   counted = after.counted;
 }
 
--- after one more block, the words and the count are those after n + 1 blocks
+-- IsAfter holds for n + 1 blocks after block n is hashed
 pub IsAfter_more : (words : List ℕ) (count : ℕ) (start bytes block : List ℕ) (n : ℕ)
     → IsAfter words count start bytes n → block ≡ block_bytes bytes n
     → IsAfter (compressed words (record { bytes = block; count = (count + 64) % 2 ^ 64; is_last = false }))
@@ -63,13 +63,13 @@ pub record IsTail (bytes : List ℕ) (n : ℕ) (tail : List ℕ) : Type 0 where
   pub dropped : drop (64 * n) bytes ≡ tail
   pub counted : length bytes ≡ 64 * n + length tail
 
--- without its first k blocks, the tail after n blocks is the tail after n + k blocks
+-- the bytes after n blocks, without their first k blocks, are the bytes after n + k blocks
 IsTail-drop : (bytes tail : List ℕ) (n k : ℕ) → IsTail bytes n tail → drop (64 * k) tail ≡ drop (64 * (n + k)) bytes
 IsTail-drop bytes tail n k is_tail =
     let place : 64 * n + 64 * k ≡ 64 * (n + k) = omega arith in
     rw (← is_tail.dropped) (drop-drop (64 * k) (64 * n) bytes ∙ ap (λ (i : ℕ). drop i bytes) place)
 
--- the whole chunks of a tail are blocks of the message
+-- the chunks of 64 bytes in the tail are blocks of the message
 pub chunk_block : (bytes tail : List ℕ) (n inner k : ℕ) (chunks : List (List ℕ)) → IsTail bytes n tail
     → chunks ≡ first_chunks 64 (length tail / 64) tail → k < inner → inner ≤ length tail / 64
     → get_or (take inner chunks) k [] ≡ block_bytes bytes (n + k)
@@ -87,39 +87,39 @@ pub message-append : (key : Option (List ℕ)) (text more : List ℕ)
 message-append None text more = refl
 message-append (Some key) text more = sym (append_assoc (key ++ replicate 32 0) text more)
 
-module _ (hash : Hash) (key : Option (List ℕ)) (text : List ℕ) (stands : Stands hash key text) where
+module _ (hash : Hash) (key : Option (List ℕ)) (text : List ℕ) (conforms : Conforms hash key text) where
   length-rest : length hash.rest ≡ length (message key text) - 64 * inner_count (message key text)
-  length-rest = ap length stands.last ∙ length-drop (64 * inner_count (message key text)) (message key text)
+  length-rest = ap length conforms.last ∙ length-drop (64 * inner_count (message key text)) (message key text)
 
-  -- the kept bytes, and the bytes that follow the text, are the rest of the longer message
+  -- the kept bytes and the added bytes together are the end of the longer message
   rest-append : (more : List ℕ)
       → hash.rest ++ more ≡ drop (64 * inner_count (message key text)) (message key text ++ more)
   rest-append more =
       let m = message key text in
-      ap (λ (r : List ℕ). r ++ more) stands.last ∙ sym (drop-append-le (64 * inner_count m) m more (omega arith))
+      ap (λ (r : List ℕ). r ++ more) conforms.last ∙ sym (drop-append-le (64 * inner_count m) m more (omega arith))
 
-  -- if more bytes still fit into the last block, they are kept after the others
-  pub Stands_short : (more rest : List ℕ) → length hash.rest + length more ≤ 64 → rest ≡ hash.rest ++ more
-      → Stands (record hash { rest = rest }) key (text ++ more)
-  Stands_short more rest fits grown =
+  -- if the added bytes fit into the last block, they are appended to the kept bytes
+  pub Conforms_short : (more rest : List ℕ) → length hash.rest + length more ≤ 64 → rest ≡ hash.rest ++ more
+      → Conforms (record hash { rest = rest }) key (text ++ more)
+  Conforms_short more rest fits grown =
       let m = message key text in
       let n : ℕ = inner_count m in
       let same : inner_count (m ++ more) ≡ n = omega (arith, length-rest, length-append m more) in
       let start = start_words (key_len key) in
-      let after = IsAfter-append hash.words hash.count start m more n (omega arith) stands.blocks in record {
+      let after = IsAfter-append hash.words hash.count start m more n (omega arith) conforms.blocks in record {
         blocks = rw (message-append key text more, same) after;
         last = rw (message-append key text more, same) (grown ∙ rest-append more);
       }
 
-  -- the words after the blocks hashed so far are also those of the longer message
-  pub Stands-IsAfter : (more : List ℕ)
+  -- the words after the blocks hashed so far are the same for the longer message
+  pub Conforms-IsAfter : (more : List ℕ)
       → IsAfter hash.words hash.count (start_words (key_len key)) (message key (text ++ more))
       (inner_count (message key text))
-  Stands-IsAfter more =
+  Conforms-IsAfter more =
       let m = message key text in
       let start = start_words (key_len key) in
       rw message-append
-      (IsAfter-append hash.words hash.count start m more (inner_count m) (omega arith) stands.blocks)
+      (IsAfter-append hash.words hash.count start m more (inner_count m) (omega arith) conforms.blocks)
 
   module _ (more head tail : List ℕ) (cut : more ≡ head ++ tail) (full : length hash.rest + length head ≡ 64) where
     message_cut : message key (text ++ more) ≡ (message key text ++ head) ++ tail
@@ -130,7 +130,7 @@ module _ (hash : Hash) (key : Option (List ℕ)) (text : List ℕ) (stands : Sta
     length_front : length (message key text ++ head) ≡ 64 * (inner_count (message key text) + 1)
     length_front = omega (arith, length-rest, length-append (message key text) head)
 
-    -- the head fills the block of the kept bytes
+    -- the head of the added bytes fills up the block of the kept bytes
     pub filled_block : hash.rest ++ head ≡ block_bytes (message key (text ++ more)) (inner_count (message key text))
     filled_block =
         let front = message key text ++ head in
@@ -149,12 +149,12 @@ module _ (hash : Hash) (key : Option (List ℕ)) (text : List ℕ) (stands : Sta
           counted = rw message_cut (omega (arith, length_front, length-append front tail));
         }
 
--- all blocks but the last of a tail are hashed, and the last is kept
-pub Stands_tail : (key : Option (List ℕ)) (text words rest : List ℕ) (count : ℕ) (tail : List ℕ) (n k : ℕ)
+-- `Conforms` holds if all blocks of the tail but the last were hashed, and the last is kept
+pub Conforms_tail : (key : Option (List ℕ)) (text words rest : List ℕ) (count : ℕ) (tail : List ℕ) (n k : ℕ)
     → IsTail (message key text) n tail → 0 < length tail → k ≡ (length tail - 1) / 64
     → IsAfter words count (start_words (key_len key)) (message key text) (n + k) → rest ≡ drop (64 * k) tail
-    → Stands (record { words = words; rest = rest; count = count }) key text
-Stands_tail key text words rest count tail n k is_tail some last after kept =
+    → Conforms (record { words = words; rest = rest; count = count }) key text
+Conforms_tail key text words rest count tail n k is_tail some last after kept =
     let same : inner_count (message key text) ≡ n + k = omega (arith, is_tail.counted) in record {
       blocks = rw same after;
       last = rw same (kept ∙ IsTail-drop (message key text) tail n k is_tail);

@@ -9,13 +9,13 @@ pub record Hash : Type 0 where
   pub rest : List ℕ
   pub count : ℕ
 
--- the hash words and the count after the first n blocks of a message; more bytes follow each of these blocks
+-- the hash words and the count are those after the first n blocks of a message, none of which is its last
 pub record IsAfter (words : List ℕ) (count : ℕ) (start bytes : List ℕ) (n : ℕ) : Type 0 where
   pub hashed : words ≡ fold compressed start (inner_blocks bytes n)
   pub counted : count ≡ 64 * n % 2 ^ 64
 
--- the hash matches the key and the text: it has hashed every block of the message but the last, and keeps the last
-pub record Stands (hash : Hash) (key : Option (List ℕ)) (text : List ℕ) : Type 0 where
+-- the hash matches the key and the text: all blocks of their message but the last were hashed, and the last is kept
+pub record Conforms (hash : Hash) (key : Option (List ℕ)) (text : List ℕ) : Type 0 where
   pub blocks : IsAfter hash.words hash.count (start_words (key_len key)) (message key text)
       (inner_count (message key text))
   pub last : hash.rest ≡ drop (64 * inner_count (message key text)) (message key text)

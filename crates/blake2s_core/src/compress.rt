@@ -26,7 +26,8 @@ fn mix(a: u32, b: u32, c: u32, d: u32, x: u32, y: u32) -> (u32, u32, u32, u32)
     (a, b, c, d)
 }
 
-// One round, with the message words in its order: the columns of the vector as a square, then its diagonals.
+// One round, with the message words in this round's order: first the columns of the vector as a square, then its
+// diagonals.
 #[inline(always)]
 fn round(v: [u32; 16], m: [u32; 16]) -> [u32; 16]
     ensures { result ≡ round v m }
@@ -44,8 +45,8 @@ fn round(v: [u32; 16], m: [u32; 16]) -> [u32; 16]
     ]
 }
 
-// Rounds written out, so that the place of each message word is a constant of the code. A loop over the
-// schedule takes a third longer.
+// Rounds written out, so that the index of each message word is a constant. A loop over the schedule takes a third
+// longer.
 macro_rules! rounds {
     ($words:ident, $start:ident, $([$($place:literal)*])*) => {{
         let v = $start;
@@ -54,7 +55,7 @@ macro_rules! rounds {
     }};
 }
 
-// The ten rounds, by the message schedule (section 2.7).
+// The ten rounds, each with the message words in the order of its schedule (section 2.7).
 #[inline(always)]
 fn all_rounds(words: &[u32; 16], start: [u32; 16]) -> [u32; 16]
     ensures { result ≡ rounds words.now start }
@@ -74,7 +75,7 @@ fn all_rounds(words: &[u32; 16], start: [u32; 16]) -> [u32; 16]
     )
 }
 
-// The vector before the rounds. `count` is the number of the message's bytes up to the end of the block.
+// The vector before the rounds. `count` is the number of the message's bytes up to the end of this block.
 #[inline(always)]
 fn start_vector(h: [u32; 8], count: u64, is_last: bool) -> [u32; 16]
     ensures { result ≡ start_vector h count is_last }

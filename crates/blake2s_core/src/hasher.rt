@@ -2,7 +2,7 @@
 
 ghost use Rattle.std.specs.Prelude.{◌≡◌, ℕ, ◌+◌, ◌%◌, ◌^◌, ◌<◌, ◌≤◌, ◌++◌, true, Option, Some, None, List, [], length, take, get_or, MatchOption};
 ghost use Rattle.key_names.specs.Kernel.Blake2s.{blake2s, block_bytes, compressed, start_words};
-ghost use Rattle.blake2s_core.specs.Hash.{Hash, IsAfter, Stands};
+ghost use Rattle.blake2s_core.specs.Hash.{Hash, IsAfter, Conforms};
 
 use crate::compress::{IV, compress};
 use byteorder::{ByteOrder, LittleEndian};
@@ -18,7 +18,7 @@ struct Chain {
 }
 
 impl Chain {
-    // The words before any block, for a hash of 32 bytes and a key of `key_len` (section 2.5).
+    // The words before any block, for a hash of 32 bytes under a key of `key_len` bytes (section 2.5).
     fn start(key_len: u8) -> Chain
         ensures words { result.words ≡ start_words key_len }
         ensures count { result.count ≡ 0 }
@@ -28,7 +28,7 @@ impl Chain {
         Chain { words, count: 0 }
     }
 
-    // Hashes one block. The message has more bytes after it.
+    // Hashes one block that is not the message's last.
     fn hash_block(&mut self, block: &[u8; 64])
         ensures { (start bytes : List ℕ) (n : ℕ) → IsAfter self.old.words self.old.count start bytes n
             → block.now ≡ block_bytes bytes n
@@ -38,7 +38,7 @@ impl Chain {
         self.words = compress(self.words, block, self.count, false);
     }
 
-    // Hashes blocks. The message has more bytes after them.
+    // Hashes blocks, none of which is the message's last.
     fn hash_blocks(&mut self, blocks: &[[u8; 64]])
         ensures { (start bytes : List ℕ) (n : ℕ) → IsAfter self.old.words self.old.count start bytes n
             → ((k : ℕ) → k < length blocks.now → get_or blocks.now k [] ≡ block_bytes bytes (n + k))
@@ -49,7 +49,7 @@ impl Chain {
         }
     }
 
-    // The words after the last block. `used` of its bytes are the message's.
+    // The words after the last block, whose first `used` bytes are the message's.
     fn hash_last(&self, block: &[u8; 64], used: usize) -> [u32; 8]
         ensures { result ≡ compressed self.now.words
             (record { bytes = block.now; count = (self.now.count + used) % 2 ^ 64; is_last = true }) }
@@ -59,11 +59,11 @@ impl Chain {
     }
 }
 
-/// A hash of a text that comes in pieces, as the kernel's `struct blake2s_state`. It keeps the bytes of the last block,
-/// which is hashed only at the end. It keeps nothing of the text before them.
+/// A hash of a text that comes in pieces, like the kernel's `struct blake2s_state`. Only the bytes of the last block
+/// are kept, since that block is hashed at the end.
 ///
-/// Contracts see it as a `Hash` of specs/: the hash words, the kept bytes, and the count of the bytes before them.
-/// `Stands hash key text` means that these are the state that RFC 7693 makes from the key and the text.
+/// In contracts a hash is a `Hash` of specs/: the hash words, the kept bytes, and the number of bytes before them.
+/// `Conforms hash key text` means that RFC 7693 makes this state from the key and the text.
 #[derive(Drop)]
 pub struct Blake2s {
     chain: Chain,
@@ -82,7 +82,7 @@ impl Model for Blake2s {
 impl Blake2s {
     /// A hash without a key, of no bytes yet (`blake2s_init`).
     pub fn plain() -> Blake2s
-        ensures { Stands result None [] }
+        ensures { Conforms result None [] }
     {
         Blake2s {
             chain: Chain::start(0),
@@ -91,9 +91,9 @@ impl Blake2s {
         }
     }
 
-    /// A hash under a key, of no bytes yet (`blake2s_init_key`): the key, padded with zeros, is the first block.
+    /// A hash under a key, of no bytes yet (`blake2s_init_key`). The first block is the key, padded with zeros.
     pub fn keyed(key: &[u8; 32]) -> Blake2s
-        ensures { Stands result (Some key.now) [] }
+        ensures { Conforms result (Some key.now) [] }
     {
         let mut rest = [0; 64];
         rest[..32].copy_from_slice(key);
@@ -104,10 +104,10 @@ impl Blake2s {
         }
     }
 
-    /// Appends bytes to the text (`blake2s_update`). The length is not limited: the count is taken modulo 2^64.
+    /// Appends bytes to the text (`blake2s_update`). The text may have any length: the count is taken modulo 2^64.
     pub fn update(&mut self, text: &[u8])
-        ensures { (key : Option (List ℕ)) (before : List ℕ) → Stands self.old key before
-            → Stands self.new key (before ++ text.now) }
+        ensures { (key : Option (List ℕ)) (before : List ℕ) → Conforms self.old key before
+            → Conforms self.new key (before ++ text.now) }
     {
         let room = BLOCK_LEN - self.rest_len;
         if text.len() <= room {
@@ -129,7 +129,7 @@ impl Blake2s {
 
     /// The 32 bytes of the hash of the whole text (`blake2s_final`).
     pub fn finish(mut self) -> [u8; 32]
-        ensures { (key : Option (List ℕ)) (text : List ℕ) → Stands self key text → result ≡ blake2s key text }
+        ensures { (key : Option (List ℕ)) (text : List ℕ) → Conforms self key text → result ≡ blake2s key text }
     {
         let used = self.rest_len;
         self.rest[used..].fill(0);

@@ -7,7 +7,7 @@ pub mod CallShapes
 pub mod Callings
 pub mod CanAdvance
 pub mod CoreDone
-pub mod InsideCourse
+pub mod InsidePath
 pub mod InsideDone
 pub mod KeyCuts
 pub mod OwnSites

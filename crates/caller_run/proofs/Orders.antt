@@ -1,4 +1,4 @@
--- A caller's steps are those of its lines, in its own order.
+-- A caller's steps, in the caller's own order, are those of its lines.
 pub mod CallChains
 pub mod CallLists
 pub mod CallSteps
@@ -10,5 +10,5 @@ pub mod ItemSteps
 pub mod OwnPlaces
 pub mod OwnSteps
 pub mod PartItems
-pub mod ToldAnew
+pub mod EmittedAnew
 pub mod LoopCalls

@@ -2,7 +2,7 @@
 pub mod OnceEach
 pub mod Parents
 pub mod Ancestors
-pub mod Groves
+pub mod ForkTrees
 pub mod Planned
 pub mod Slots
 pub mod LogFills

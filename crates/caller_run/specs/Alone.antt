@@ -15,31 +15,32 @@ use Rattle.rng_core.specs.Makes.{setting_of}
 use Rattle.rng_core.specs.Settings.{first_setting}
 use Rattle.transcript_text.specs.Gathered.{Gathered}
 use Rattle.caller_run.specs.declared.alone.LoneRun.{LoneRun}
-use Rattle.caller_run.specs.declared.caller.Caller.{Caller}
-use Rattle.caller_run.specs.declared.reply.Reply.{Reply}
+use Rattle.caller_run.specs.declared.making.caller.Caller.{Caller}
+use Rattle.caller_run.specs.declared.output.reply.Reply.{Reply}
 use Rattle.caller_run.specs.Calling.{Called, StateRead}
 use Rattle.caller_run.specs.Laws.{LawfulRuns}
 use Rattle.caller_run.specs.Says.{most_shown, shown_by, ShowsFit}
 use Rattle.caller_run.specs.Standing.{CanAdvanceWith, HasAdvanced, Start}
-use Rattle.caller_run.specs.Ways.{IsFirst}
+use Rattle.caller_run.specs.RunningCallers.{IsFirst}
 
--- the line of the event is final when it is made: the event is no act that waits for a vread, and forks no caller
-abbrev pub IsToldOnce : Event → Type 0
-IsToldOnce (Inside point act) = ⊥
-IsToldOnce (Fork child) = ⊥
-IsToldOnce _ = ⊤
+-- the event is no act and no fork, so its line, once made, is final
+abbrev pub IsEmittedOnce : Event → Type 0
+IsEmittedOnce (Inside point act) = ⊥
+IsEmittedOnce (Fork child) = ⊥
+IsEmittedOnce _ = ⊤
 
--- a script with one caller, with no act and no fork among its events
-pub record IsToldByOne (script : Script) : Type 0 where
+-- a script with one caller, whose events include no act and no fork
+pub record IsEmittedByOne (script : Script) : Type 0 where
   pub one : length script.callers ≡ 1
-  pub once : AllByRecursion (AllByRecursion IsToldOnce) script.callers
+  pub once : AllByRecursion (AllByRecursion IsEmittedOnce) script.callers
 
--- the caller, first c and now d, made the call of such an event, with this reply, these bytes and these steps
+-- from `c` to `d`, the caller made the call of an event whose line is final, with this reply, these bytes and these
+-- steps
 abbrev pub CalledOnce : Lanes → Event → Caller → Caller → Reply → List ℕ → List Step → Type 0
 CalledOnce t (Vread len flags) c d said served steps = StateRead t len flags c d said served steps [] []
 CalledOnce t event c d said served steps = Called t event c d said served steps
 
--- lines that are not kept, as if there were room for those of these events and a last one
+-- these lines as if they were kept, with room for the lines of the remaining events and for a last line
 abbrev pub as_kept : List SeenLine → List Event → Gathered
 as_kept lines rest = record {
   lines = lines;
@@ -50,12 +51,12 @@ as_kept lines rest = record {
   step_room = 20 * (length rest + 1);
 }
 
--- the caller has made these lines of its events and can go on with the rest, if that many bytes can be served at once
+-- the caller has made `lines`, and can go on with the events `rest` if `served` bytes can be served at once
 pub record GoesAlone (t : Lanes) (served : ℕ) (begun : Start) (events rest : List Event) (c : Caller)
     (lines : List SeenLine) : Type 0 where
   pub inside : ℕ
   pub can : CanAdvanceWith t c (as_kept lines rest) [] served inside rest
-  pub once : AllByRecursion IsToldOnce rest
+  pub once : AllByRecursion IsEmittedOnce rest
   pub gone : HasAdvanced begun events rest c lines [] []
 
 -- the start of caller 0 on a new table, with this pass
@@ -69,25 +70,25 @@ pub record IsGoing (script : Script) (rest : List Event) (run : LoneRun) (lines 
   pub alone : length script.callers ≡ 1
   pub events : List Event
   pub there : slice_get script.callers 0 ≡ Some events
-  pub once : AllByRecursion IsToldOnce events
+  pub once : AllByRecursion IsEmittedOnce events
   -- the pass at the start of the run
   pub pass : Pass
   pub first : IsFirst (view pass)
   pub whole : (view pass).share ≡ 2 ^ (view pass).halvings
   pub goes : GoesAlone run.lanes (vec_len run.served) (first_start pass) events rest run.caller lines
 
--- the caller has made these events, whatever comes after them: the run goes on for each script of one caller that begins
--- with them
+-- the caller has made the events `made`: the run goes on in each script of one caller whose events begin with `made`
 abbrev pub HasMade : ℕ → List Event → LoneRun → List SeenLine → Type 0
 HasMade cpus made run lines =
-    (script : Script) (rest : List Event) → WellFormed script → IsToldByOne script → script.cpus ≡ cpus
+    (script : Script) (rest : List Event) → WellFormed script → IsEmittedByOne script → script.cpus ≡ cpus
     → script.callers ≡ (made ++ rest) ∷ [] → IsGoing script rest run lines
 
--- before its first event the run goes on for each script of one caller, if no line shows more bytes than the longest
+-- before its first event, the run can make the events of each script of one caller that has no act and no line with
+-- more than `longest` bytes
 abbrev pub HasRoom : ℕ → ℕ → LoneRun → Type 0
 HasRoom cpus longest run =
     (script : Script) (events : List Event) → WellFormed script → script.cpus ≡ cpus → length script.callers ≡ 1
-    → slice_get script.callers 0 ≡ Some events → AllByRecursion IsToldOnce events
+    → slice_get script.callers 0 ≡ Some events → AllByRecursion IsEmittedOnce events
     → AllByRecursion (λ event. most_shown event ≤ longest) events → IsGoing script events run []
 
 -- the lines are a lawful transcript of the script
@@ -98,15 +99,15 @@ IsLawful script lines = (w : View) × LawfulRuns script (lines ∷ []) w
 abbrev pub last_line : LoneRun → SeenLine
 last_line run = record {
   caller = run.caller.set.caller;
-  event = run.told.event;
-  word = run.told.word;
-  answer = run.told.said.answer;
+  event = run.recorded.event;
+  word = run.recorded.word;
+  answer = run.recorded.said.answer;
   steps = run.trace;
-  shown = shown_by (take run.told.shown run.served.items) run.told.said.shows;
+  shown = shown_by (take run.recorded.shown run.served.items) run.recorded.said.shows;
 }
 
 -- a line was made, and fits a transcript
 pub record HasLine (run : LoneRun) : Type 0 where
   pub steps_fit : AllByRecursion StepFits run.trace
-  pub shows : ShowsFit run.told.word run.told.said.shows
-  pub within : run.told.shown ≤ vec_len run.served
+  pub shows : ShowsFit run.recorded.word run.recorded.said.shows
+  pub within : run.recorded.shown ≤ vec_len run.served

@@ -1,4 +1,5 @@
--- A caller's call, of the core or out of a vgetrandom state, in the terms of a caller's run.
+-- One call of a caller is a call of the core, or a read out of a vgetrandom state. This module defines what the call
+-- changes in the caller.
 use Rattle.std.specs.Prelude.{◌≡◌, ℕ, ◌<◌, ◌≤◌, ◌^◌, List, [], length}
 use Rattle.std.specs.List.{AllByRecursion}
 use Rattle.key_names.specs.declared.events.Event.{Event}
@@ -21,34 +22,34 @@ use Rattle.lane_table.specs.Advances.{floor}
 use Rattle.rng_core.specs.declared.setting.Setting.{Setting}
 use Rattle.rng_core.specs.Traces.{Moment, moment}
 use Rattle.rng_core.specs.Makes.{Makes, MakesIn, IsOutcomeOf, setting_of}
-use Rattle.rng_core.specs.SampleDeeds.{Sampled}
+use Rattle.rng_core.specs.SampleEffects.{Sampled}
 use Rattle.rng_core.specs.Acts.{Ask, ActOutcome}
 use Rattle.rng_core.specs.Sites.{IsIdle, IsOnCpu, IsTimely, HasInHands, Same, at}
 use Rattle.rng_core.specs.declared.site.Site.{Site}
 use Rattle.rng_core.specs.InsideMakes.{bound_acts}
 use Rattle.caller_run.specs.Done.{CallDone}
 use Rattle.caller_run.specs.Says.{shown_by, line_of, ShowsFit, IsNoCount}
-use Rattle.caller_run.specs.declared.caller.Caller.{Caller}
-use Rattle.caller_run.specs.declared.reply.Reply.{Reply}
-use Rattle.caller_run.specs.declared.states.States.{States}
+use Rattle.caller_run.specs.declared.making.caller.Caller.{Caller}
+use Rattle.caller_run.specs.declared.output.reply.Reply.{Reply}
+use Rattle.caller_run.specs.declared.making.states.States.{States}
 
--- a caller with this setting and these states, as the meaning of its calls uses it
+-- a caller with this setting and these states, in the form that the meaning of calls uses
 abbrev pub caller_at : CallSetting → States → CallerState
 caller_at set states = record { setting = set; states = states.all; current = states.current }
 
-abbrev pub stand : Caller → CallerState
-stand c = caller_at (setting_of c.set) c.states.value
+abbrev pub conform : Caller → CallerState
+conform c = caller_at (setting_of c.set) c.states.value
 
--- sixteen states, one of them current. The generation of each is at most the one that the vDSO publishes if the core's
--- generation is `found`
+-- sixteen states, one of them current. Each state's generation is at most the generation that the vDSO publishes if the
+-- core's generation is `found`
 pub record Seen (found : ℕ) (s : CallerState) : Type 0 where
   pub many : length s.states ≡ 16
   pub current : s.current < 16
   pub published : AllByRecursion (λ st. st.generation ≤ published_by found) s.states
 
 -- `Seen` holds for the caller's states, with the generation that its pass has seen
-abbrev pub StatesStand : Caller → Type 0
-StatesStand c = Seen (floor (view c.pass)) (stand c)
+abbrev pub StatesConform : Caller → Type 0
+StatesConform c = Seen (floor (view c.pass)) (conform c)
 
 -- from m to n an event was done, with this answer and these data, and the samples of its visits are right
 abbrev pub Does : Setting → Event → Answer → Shown → Moment → Moment → Type 0
@@ -73,7 +74,7 @@ pub record IsReady (t : Lanes) (c : Caller) : Type 0 where
   pub cpu : c.set.cpu < t.cpus
   pub moment : c.set.now < 2 ^ 40
 
--- the caller, first c and now d, made the call of an event, with these steps and these bytes
+-- from `c` to `d`, the caller made the call of an event, with this reply, these bytes and these steps
 pub record Called (t : Lanes) (event : Event) (c d : Caller) (said : Reply) (served : List ℕ) (steps : List Step)
     : Type 0 where
   pub has : HoldsLanes t d.set.caller [] d.pass
@@ -82,23 +83,23 @@ pub record Called (t : Lanes) (event : Event) (c d : Caller) (said : Reply) (ser
   pub does : Does c.set event said.answer (shown_by served said.shows) (moment c.pass []) (moment d.pass steps)
   pub shows : ShowsFit (event_word event) said.shows
 
--- the caller, first c and now d, made its last visit
+-- from `c` to `d`, the caller made its last visit
 pub record HasLeft (t : Lanes) (c d : Caller) (steps : List Step) : Type 0 where
   pub has : HoldsLanes t d.set.caller [] d.pass
   pub set : d.set ≡ c.set
   pub reached : floor (view d.pass) ≤ (model d.pass 1).base.generation
   pub did : Makes (BaseOnly End) c.set (moment c.pass []) (moment d.pass steps)
 
--- the caller, first c and now d, read n bytes out of its current state with these flags, with these acts inside, and
--- these are the acts' outcomes
+-- from `c` to `d`, the caller read `n` bytes out of its current state with these flags. The requests `asks` are those
+-- of the acts inside, and `zs` are the acts' outcomes
 pub record StateRead (t : Lanes) (n flags : ℕ) (c d : Caller) (said : Reply) (served : List ℕ) (steps : List Step)
     (asks : List Ask) (zs : List ActOutcome) : Type 0 where
   pub has : HoldsLanes t d.set.caller [] d.pass
   pub set : d.set ≡ c.set
   pub left : VgetrandomState
-  pub stands : stand d ≡ with_state (stand c) left
+  pub conforms : conform d ≡ with_state (conform c) left
   pub published : left.generation ≤ published_by (floor (view d.pass))
-  pub done : CallDone c.set.caller (view c.pass) (view d.pass) (stand c) (stand d)
+  pub done : CallDone c.set.caller (view c.pass) (view d.pass) (conform c) (conform d)
       (vread_call n flags (line_of c.set VreadWord served said steps) (bound_acts c.set asks zs))
   pub long : length zs ≡ length asks
   pub steps_fit : AllByRecursion StepFits steps

@@ -11,7 +11,8 @@ use Rattle.lane_table.specs.WorldRule.{AllBegin, Begins, at, known_of}
 use Rattle.caller_run.specs.Laws.{Run, HasRun, IsOneOf, marked}
 use Rattle.caller_run.specs.Standing.{Start}
 
--- each lane's visits begin with those that the pass has seen, and with those of each pass that it took in
+-- in each lane, `visits` begins with the visits that the pass itself has seen, and with those that each pass taken in
+-- had seen
 pub record Hears (visits : ℕ → List Visit) (v : View) : Type 0 where
   pub known : (lane : ℕ) → lane < length v.lanes → Begins (known_of v lane) (visits lane)
   pub heard : (lane : ℕ) → lane < length v.lanes → AllBegin (at lane v).heard (visits lane)
@@ -22,17 +23,17 @@ pub record RunsIn (script : Script) (r : Run) : Type 0 where
   pub there : slice_get script.callers r.begun.caller ≡ Some events
   pub has : HasRun r.begun.caller events r
 
--- all these callers ran. Each began from one of these starts, or was forked by one of them
+-- all these callers ran. Each began from one of these starts, or was forked by one of these callers
 pub record Family (script : Script) (starts : List Start) (runs : List Run) : Type 0 where
   pub each : AllByRecursion (RunsIn script) runs
   pub began : AllByRecursion
       (λ r. IsOneOf r.begun starts ⊎ ((p : Run) × IsOneOf p runs × IsOneOf r.begun p.kids)) runs
 
--- the weight of a lane's places in the marks of a caller
+-- the sum of f over the places of a lane's marks in this caller's lines
 abbrev pub marked_by : (ℕ → ℕ) → LaneId → Run → ℕ
 marked_by f lane r = marked f lane (r.lines ∷ [])
 
--- a pass had the view v, and has w after it took in the passes of these callers
+-- a pass had the view v, and has the view w after it took in the passes of these callers
 pub record Joined (v w : View) (runs : List Run) : Type 0 where
   pub sized : length w.lanes ≡ length v.lanes
   pub hears : (visits : ℕ → List Visit) → Hears visits w →
@@ -44,7 +45,7 @@ pub record Joined (v w : View) (runs : List Run) : Type 0 where
   pub made : (lane : LaneId) → index_of lane < length v.lanes →
       (at (index_of lane) w).made ≡ (at (index_of lane) v).made + sum_by (marked_by (λ p. 1) lane) runs
 
--- both views have the same share of the table, however often it was halved
+-- the two views have the same share of the table, even if the share was halved more often in one of them
 abbrev pub SameShare : View → View → Type 0
 SameShare v w = w.share * 2 ^ v.halvings ≡ v.share * 2 ^ w.halvings
 
@@ -53,8 +54,8 @@ pub record SameHalves (v w : View) : Type 0 where
   pub share : w.share ≡ v.share
   pub halvings : w.halvings ≡ v.halvings
 
--- from x on a caller went to its end, with the view e, and forked these callers. After it took them in, with all that
--- they forked, its view is w
+-- a caller ran from the view x to its end, at which its view was e. It forked callers with these starts. After it took
+-- in the passes of these callers and of all their descendants, its view is w
 pub record RanOn (script : Script) (x e w : View) (starts : List Start) (runs : List Run) : Type 0 where
   pub family : Family script starts runs
   pub joined : Joined e w runs

@@ -4,12 +4,12 @@ use Rattle.key_names.specs.declared.events.Event.{Event}
 use Rattle.key_names.specs.declared.events.Event.TheVariants.{Fork}
 use Rattle.key_names.specs.Lanes.Book.{list_at}
 
--- callers, each followed by those that it forks and then by the next
+-- a list of callers, each with the tree of those that it forks
 pub data Forest : Type 0 where
   no_more : Forest
   more : (caller : ℕ) (kids rest : Forest) → Forest
 
--- the callers that are forked, in order
+-- the callers that an event, or a list of events, forks in order
 abbrev pub forked_by : Event → List ℕ
 forked_by (Fork child) = child ∷ []
 forked_by _ = []
@@ -23,7 +23,7 @@ abbrev pub numbers : Forest → List ℕ
 numbers no_more = []
 numbers (more c kids rest) = c ∷ (numbers kids ++ numbers rest)
 
--- the callers of these numbers, with all that they fork
+-- the tree has these callers, in this order, each with all that it forks
 module _ (callers : List (List Event)) where
   abbrev pub AreForked : Forest → List ℕ → Type 0
   AreForked no_more [] = Unit {0}

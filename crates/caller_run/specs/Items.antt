@@ -1,5 +1,5 @@
--- The order of a caller's calls, with the maker of each step: the event of its line, and the step's number in that
--- line.
+-- The steps of a caller's calls in the order in which they happen. Each step has its maker: the event of its line, and
+-- its number in that line.
 use Rattle.std.specs.Prelude.{ℕ, suc, false, List, [], ◌∷◌, ◌++◌, map, take, drop, slice_get, if◌then◌else◌}
 use Rattle.std.specs.Option.{option_map_or}
 use Rattle.std.specs.List.{flat_map}
@@ -36,19 +36,20 @@ items_at_point (bound ∷ acts) point =
     if is_same_point bound.point point then line_items bound.line ++ items_at_point acts point
     else items_at_point acts point
 
--- a cut after the visits at the front of a list
+-- cuts a list after the visits at its front
 abbrev pub cut_items : List Item → List Item × List Item
 cut_items [] = ([], [])
 cut_items (item ∷ items) =
     if is_mark item.step then (let cut = cut_items items in (item ∷ cut.0, cut.1)) else ([], item ∷ items)
 
--- the steps of a vread from the third on, cut in two at its points Serve and End
+-- cuts the steps of a vread, from the third on, at the points Serve and End. The cut is after the steps for a new key,
+-- or at the front if there are no such steps
 abbrev pub cut_rekey : List Item → List Item × List Item
 cut_rekey items =
     if option_map_or (λ item. is_mark item.step) (slice_get items 2) false
     then (let cut = cut_items (drop 2 items) in (take 2 items ++ cut.0, cut.1)) else ([], items)
 
--- the steps of a vread with those of its acts at their points
+-- the steps of a vread, with the steps of each act inside at the act's point
 abbrev pub vread_items : List Item → List BoundAct → List Item
 vread_items items acts =
     let cut = cut_rekey (drop 2 items) in

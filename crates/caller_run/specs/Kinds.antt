@@ -6,7 +6,7 @@ use Rattle.key_names.specs.declared.events.Event.TheVariants.{Read, Vread, Kread
 use Rattle.key_names.specs.declared.events.Event.TheVariants.{Int64, Reseed, Tick, Fork, Inside, Prepare, Online}
 use Rattle.key_names.specs.declared.events.Event.TheVariants.{Vmfork}
 
--- a sample, or the query of the credit
+-- a sample or a credit, or the query of the pool's bits
 abbrev pub IsSample : Event → Type 0
 IsSample (Write text) = ⊤
 IsSample (Device word text) = ⊤
@@ -23,7 +23,7 @@ IsReseed Tick = ⊤
 IsReseed (Vmfork word text) = ⊤
 IsReseed _ = ⊥
 
--- a CPU comes online
+-- a CPU is prepared, or comes online
 abbrev pub IsOfCpu : Event → Type 0
 IsOfCpu (Prepare cpu) = ⊤
 IsOfCpu (Online cpu) = ⊤

@@ -26,7 +26,8 @@ pub record Run : Type 0 where
   pub lines : List SeenLine
   pub kids : List Start
 
--- the caller of this number made these events and ended, and each generation that its pass saw is in the base's list
+-- the caller of this number made these events and ended. The base's list that its pass then knows reaches every
+-- generation that the pass saw
 pub record HasRun (caller : ℕ) (events : List Event) (r : Run) : Type 0 where
   pub own : r.begun.caller ≡ caller
   pub ended : RunEnded r.begun events r.end r.lines r.kids
@@ -45,7 +46,7 @@ pub record Began (runs : List Run) (r : Run) : Type 0 where
 abbrev pub lines_of_all : List Run → List (List SeenLine)
 lines_of_all runs = map (λ r. r.lines) runs
 
--- the weight of a lane's places, in the marks of some lines
+-- the sum of f over the places of a lane's marks in these lines
 abbrev pub marked : (ℕ → ℕ) → LaneId → List (List SeenLine) → ℕ
 marked f lane t = sum_by (λ mark. f mark.place) (lane_marks lane (all_marks t))
 

@@ -12,8 +12,8 @@ pub mod Laws
 pub mod Families
 pub mod Forest
 pub mod Took
-pub mod Grove
-pub mod Plots
-pub mod Ways
+pub mod ForkTree
+pub mod Layouts
+pub mod RunningCallers
 pub mod Plans
 pub mod Alone

@@ -21,7 +21,7 @@ made_step_of d = d.made_step
 abbrev pub made_steps_of : List NumberedStep → List MadeStep
 made_steps_of numbered_steps = map made_step_of numbered_steps
 
--- a look or a visit in the form of a caller's order
+-- a look or a visit, as an item of its caller's order
 abbrev pub item_of : NumberedStep → Item
 item_of d = record { event = d.event; number = d.number; step = step_of d.made_step }
 

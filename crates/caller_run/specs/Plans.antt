@@ -6,37 +6,37 @@ use Rattle.key_names.specs.Lanes.Book.{list_at}
 use Rattle.key_names.specs.Texts.ScriptGrammar.{Script}
 use Rattle.key_names.specs.Transcripts.SeenLine.{SeenLine}
 use Rattle.transcript_text.specs.Gathered.{Gathered}
-use Rattle.caller_run.specs.declared.plans.Plan.{Plan}
+use Rattle.caller_run.specs.declared.forking.plans.Plan.{Plan}
 use Rattle.caller_run.specs.Forest.{forks}
-use Rattle.caller_run.specs.Grove.{Plot}
-use Rattle.caller_run.specs.Plots.{plot}
-use Rattle.caller_run.specs.Ways.{IsNewSheet, ArePrepared}
+use Rattle.caller_run.specs.ForkTree.{Layout}
+use Rattle.caller_run.specs.Layouts.{layout}
+use Rattle.caller_run.specs.RunningCallers.{IsNewBuffers, ArePrepared}
 
--- new sheets of a caller and of all that it forks
-pub record IsNewRoom (callers : List (List Event)) (c : ℕ) (a : Plot) : Type 0 where
+-- the room of caller c is new: it has new buffers for c and for all that c forks
+pub record IsNewRoom (callers : List (List Event)) (c : ℕ) (a : Layout) : Type 0 where
   pub is : a.caller ≡ c
   pub there : a.caller < length callers
-  pub new : IsNewSheet a.sheet (list_at callers a.caller)
+  pub new : IsNewBuffers a.buffers (list_at callers a.caller)
   pub ready : ArePrepared callers a.kids (forks (list_at callers a.caller))
 
--- new sheets of all callers, and a slot for each
-pub record IsPlanned (script : Script) (a : Plot) (slots : List Gathered) : Type 0 where
+-- all callers have new buffers, and each caller has a slot
+pub record IsPlanned (script : Script) (a : Layout) (slots : List Gathered) : Type 0 where
   pub root : IsNewRoom script.callers 0 a
   pub slots' : length slots ≡ length script.callers
 
--- all memory of a run of the script, still empty
+-- the plan has all memory of a run of the script, still empty
 abbrev pub IsPlanFor : Script → Plan → Type 0
-IsPlanFor script plan = IsPlanned script (plot plan.root) plan.slots.items
+IsPlanFor script plan = IsPlanned script (layout plan.root) plan.slots.items
 
 -- the lines of each slot
 abbrev pub lines_in : List Gathered → List (List SeenLine)
 lines_in slots = map (λ c. c.lines) slots
 
--- the slots after each of these lines was put into the slot of its caller
+-- the slots after each caller's lines were put into that caller's slot
 abbrev pub put_in : List (List SeenLine) → List (ℕ × List SeenLine) → List (List SeenLine)
 put_in t [] = t
 put_in t (x ∷ xs) = put_in (slice_set t x.0 x.1) xs
 
 -- each of these callers has a slot
 abbrev pub HaveSlots : ℕ → List (ℕ × List SeenLine) → Type 0
-HaveSlots n told = AllByRecursion (λ x. x.0 < n) told
+HaveSlots n recorded = AllByRecursion (λ x. x.0 < n) recorded

@@ -1,4 +1,4 @@
--- The steps of a pass between two views, in any events of its caller.
+-- The steps that a pass made between two views, in any number of its caller's events.
 use Rattle.std.specs.Prelude.{◌≡◌, ℕ, ◌+◌, ◌<◌, ⊤, List, ◌++◌, length}
 use Rattle.std.specs.List.{AllByRecursion}
 use Rattle.lane_table.specs.declared.view.View.{View}
@@ -7,7 +7,7 @@ use Rattle.lane_table.specs.Steps.{Grows}
 use Rattle.lane_table.specs.Advances.{MadeStep, looked, visited, IsMarkOf, maker, places_in, stamps_in, Climbs, Sees, floor}
 use Rattle.caller_run.specs.NumberedSteps.{NumberedStep, made_steps_of}
 
--- a visit is in the pass's view, and was made by this caller as this step
+-- if the step is a visit, the view w has it as this caller's visit, made as this step of this event
 abbrev pub Stood : View → ℕ → NumberedStep → Type 0
 Stood w caller d = Standing d.made_step
   where
@@ -15,7 +15,7 @@ Stood w caller d = Standing d.made_step
     Standing (looked g) = ⊤
     Standing (visited mark e) = IsMarkOf w mark (maker caller d.event d.number) e
 
--- the part of a view that only joins change, except that each split adds a halving of the share
+-- the parts of a view that only joins change are the same in v and w, but each split added a halving of the share
 pub record SplitView (splits : ℕ) (v w : View) : Type 0 where
   pub first : w.first ≡ v.first
   pub share : w.share ≡ v.share

@@ -8,22 +8,22 @@ use Rattle.key_names.specs.declared.names.Step.{Step}
 use Rattle.key_names.specs.Texts.ScriptGrammar.{bytes_read}
 use Rattle.key_names.specs.Transcripts.SeenLine.{Shown, no_data, count, bytes_or_none, SeenLine}
 use Rattle.rng_core.specs.declared.setting.Setting.{Setting}
-use Rattle.caller_run.specs.declared.reply.Shows.{Shows}
-use Rattle.caller_run.specs.declared.reply.Shows.TheVariants.{Nothing, Served, Count}
-use Rattle.caller_run.specs.declared.reply.Reply.{Reply}
+use Rattle.caller_run.specs.declared.output.reply.LineData.{LineData}
+use Rattle.caller_run.specs.declared.output.reply.LineData.TheVariants.{Nothing, Served, Count}
+use Rattle.caller_run.specs.declared.output.reply.Reply.{Reply}
 
--- the data of a line, out of the bytes that were served
-abbrev pub shown_by : List ℕ → Shows → Shown
+-- the data that a line shows; `served` has the bytes that its call served
+abbrev pub shown_by : List ℕ → LineData → Shown
 shown_by served Nothing = no_data
 shown_by served Served = bytes_or_none served
 shown_by served (Count n) = count n
 
-abbrev pub IsNoCount : Shows → Type 0
+abbrev pub IsNoCount : LineData → Type 0
 IsNoCount Nothing = ⊤
 IsNoCount Served = ⊤
 IsNoCount (Count n) = ⊥
 
--- the largest number of bytes that the line of an event shows: those that it reads, or those of its integer
+-- the most bytes that the line of an event can show: as many as the event reads, or as its integer has
 abbrev pub most_shown : Event → ℕ
 most_shown Int8 = 1
 most_shown Int16 = 2
@@ -31,8 +31,8 @@ most_shown Int32 = 4
 most_shown Int64 = 8
 most_shown event = bytes_read event
 
--- only the line of bits has a count, and only the others have bytes
-abbrev pub ShowsFit : Word → Shows → Type 0
+-- only the line of `bits` may show a count, and only the other lines may show bytes
+abbrev pub ShowsFit : Word → LineData → Type 0
 ShowsFit word Nothing = ⊤
 ShowsFit word Served = word ≢ Bits
 ShowsFit word (Count n) = word ≡ Bits

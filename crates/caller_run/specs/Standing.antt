@@ -1,4 +1,4 @@
--- The state of a caller between two of its events, and its preconditions for the next.
+-- The state of a caller between two of its events, and the preconditions of its next event.
 use Rattle.std.specs.Prelude.{◌≡◌, ℕ, ◌+◌, ◌*◌, ◌<◌, ◌≤◌, true, Some, List, ◌∷◌, ◌++◌, length, slice_get, sum_by, vec_capacity}
 use Rattle.std.specs.List.{AllByRecursion, fold}
 use Rattle.key_names.specs.declared.events.Event.{Event}
@@ -18,15 +18,15 @@ use Rattle.rng_core.specs.Acts.{Ask, wants, all_wanted, asks_of}
 use Rattle.rng_core.specs.InsideMakes.{IsWaitingAct}
 use Rattle.rng_core.specs.declared.vdso.acts.Bound.{Bound}
 use Rattle.transcript_text.specs.Gathered.{Gathered}
-use Rattle.caller_run.specs.Calling.{IsReady, StatesStand, stand}
+use Rattle.caller_run.specs.Calling.{IsReady, StatesConform, conform}
 use Rattle.caller_run.specs.Done.{CallsDone}
 use Rattle.caller_run.specs.NumberedSteps.{NumberedStep, items_of}
 use Rattle.caller_run.specs.Items.{steps_of}
 use Rattle.caller_run.specs.Ran.{RanBy}
 use Rattle.caller_run.specs.Says.{most_shown}
 use Rattle.caller_run.specs.Waiting.{CallsSoFar}
-use Rattle.caller_run.specs.declared.caller.Caller.{Caller}
-use Rattle.caller_run.specs.declared.logs.Log.{Log}
+use Rattle.caller_run.specs.declared.making.caller.Caller.{Caller}
+use Rattle.caller_run.specs.declared.output.logs.Log.{Log}
 
 -- how many bytes an event reads inside a vread
 abbrev pub read_inside : Event → ℕ
@@ -42,7 +42,7 @@ waiting_in log = asks_of log.acts.items
 pub record CanAdvanceWith (t : Lanes) (c : Caller) (lines : Gathered) (acts : List Bound) (served inside : ℕ)
     (rest : List Event) : Type 0 where
   pub ready : IsReady t c
-  pub states : StatesStand c
+  pub states : StatesConform c
   pub range : (version : ℕ) × AllByRecursion (InRange version t.cpus) rest
   pub numbers : c.set.event + length rest ≤ 65536
   pub at : c.set.event ≡ length lines.lines
@@ -53,7 +53,7 @@ pub record CanAdvanceWith (t : Lanes) (c : Caller) (lines : Gathered) (acts : Li
   pub wanted : sum_by read_inside rest + all_wanted (asks_of acts) ≤ inside
   pub few : (length acts ≤ 8) × FewActs (length acts) rest
   pub fresh : AllByRecursion IsWaitingAct acts
-  pub told : AllByRecursion (λ a. a.event < length lines.lines) (asks_of acts)
+  pub recorded : AllByRecursion (λ a. a.event < length lines.lines) (asks_of acts)
 
 -- a caller can make these events
 pub record CanAdvance (t : Lanes) (c : Caller) (log : Log) (served inside : ℕ) (rest : List Event) : Type 0 where
@@ -90,14 +90,14 @@ pub record Forked (begun : Start) (w : View) (calls : List Call) (child : Start)
   pub view_is : child.view ≡ split_off middle
   pub set_is : child.set ≡ fold setting_after_call begun.set before
 
--- from its start a caller has made all events but the rest, and these are its lines. Acts with these requests wait, and
--- these are the callers that it forked
+-- since its start a caller has made all of `events` but the last ones, `rest`, and has these lines. Acts with the
+-- requests `asks` wait. `kids` are the starts of the callers that it forked
 pub record HasAdvanced (begun : Start) (events rest : List Event) (c : Caller) (lines : List SeenLine) (asks : List Ask)
     (kids : List Start) : Type 0 where
   pub own : c.set.caller ≡ begun.caller
   pub calls : List Call
-  pub done : CallsDone begun.caller (length kids) begun.view (view c.pass) (caller_start begun.set) (stand c) calls
-  pub settings : (stand c).setting ≡ fold setting_after_call begun.set calls
+  pub done : CallsDone begun.caller (length kids) begun.view (view c.pass) (caller_start begun.set) (conform c) calls
+  pub settings : (conform c).setting ≡ fold setting_after_call begun.set calls
   pub forked : AllByRecursion (Forked begun (view c.pass) calls) kids
   pub waiting : List Ask
   pub waits : has_vread rest ≡ true → waiting ≡ asks
@@ -110,8 +110,8 @@ pub record HasAdvanced (begun : Start) (events rest : List Event) (c : Caller) (
 abbrev pub HasLogged : Start → List Event → List Event → Caller → Log → List Start → Type 0
 HasLogged begun events rest c log kids = HasAdvanced begun events rest c log.lines.lines (waiting_in log) kids
 
--- c made this event and is d now, and its log grew. `served` bytes can be served at once, and `inside` bytes can be
--- read inside a vread
+-- the caller made this event: it was c and is now d, and its log was `log` and is now `after`. `served` bytes can be
+-- served at once, and `inside` bytes can be read inside a vread
 pub record MadeEvent (t : Lanes) (served inside : ℕ) (event : Event) (c : Caller) (log : Log) (d : Caller) (after : Log)
     : Type 0 where
   pub can : (rest : List Event) → CanAdvance t c log served inside (event ∷ rest) → CanAdvance t d after served inside rest

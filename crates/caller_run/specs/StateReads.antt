@@ -6,20 +6,21 @@ use Rattle.lane_table.specs.declared.lanes.Lanes.{Lanes}
 use Rattle.rng_core.specs.Acts.{all_wanted, asks_of, outcomes_of}
 use Rattle.rng_core.specs.InsideMakes.{IsWaitingAct}
 use Rattle.rng_core.specs.declared.vdso.acts.Bound.{Bound}
-use Rattle.caller_run.specs.Calling.{IsReady, StatesStand, StateRead}
-use Rattle.caller_run.specs.declared.caller.Caller.{Caller}
-use Rattle.caller_run.specs.declared.reply.Reply.{Reply}
-use Rattle.caller_run.specs.declared.vreads.ReadInto.{ReadInto}
+use Rattle.caller_run.specs.Calling.{IsReady, StatesConform, StateRead}
+use Rattle.caller_run.specs.declared.making.caller.Caller.{Caller}
+use Rattle.caller_run.specs.declared.output.reply.Reply.{Reply}
+use Rattle.caller_run.specs.declared.making.vreads.ReadInto.{ReadInto}
 
 -- a caller can read: its acts are not done yet, and there is room for the bytes of each
 pub record CanRead (t : Lanes) (c : Caller) (acts : List Bound) (into : ReadInto) : Type 0 where
   pub ready : IsReady t c
-  pub states : StatesStand c
+  pub states : StatesConform c
   pub short : length into.served.now ≤ 2 ^ 20
   pub fresh : AllByRecursion IsWaitingAct acts
   pub fits : length into.inside.now ≡ all_wanted (asks_of acts)
 
--- the caller, first c and now d, read with these steps and these acts inside; `after` are the acts after it
+-- from `c` to `d`, the caller read out of its current state with these steps. The acts inside were `acts` before the
+-- read, and are `after` after it
 pub record CurrentRead (t : Lanes) (c d : Caller) (said : Reply) (steps : List Step) (acts after : List Bound)
     (into done : ReadInto) : Type 0 where
   pub served : done.served.ghost_name ≡ into.served.ghost_name

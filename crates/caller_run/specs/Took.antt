@@ -1,11 +1,11 @@
--- The line of a fork, of both kinds: the child has a thread, or runs in its parent's.
+-- The line of a fork. The child has a thread of its own, or runs in its parent's thread.
 use Rattle.std.specs.Prelude.{◌≡◌, ℕ, List, [], ◌∷◌, ◌++◌, length}
 use Rattle.key_names.specs.declared.events.Event.TheVariants.{Fork}
 use Rattle.key_names.specs.declared.names.Mark.{Mark}
 use Rattle.key_names.specs.declared.names.Step.{Step}
 use Rattle.key_names.specs.declared.names.Step.TheVariants.{Visit as Marked}
 use Rattle.key_names.specs.Callers.Calls as calls
-use Rattle.key_names.specs.Callers.Deeds.{deeds_of}
+use Rattle.key_names.specs.Callers.Effects.{effects_of}
 use Rattle.key_names.specs.Callers.Forms.{Form}
 use Rattle.lane_table.specs.declared.view.Visit.{Visit}
 use Rattle.lane_table.specs.declared.view.View.{View}
@@ -24,13 +24,13 @@ pub record Tells (set : Setting) (splits : ℕ) (m n : Moment) (steps : List Ste
   pub ran : RanBy set.caller splits m.view n.view numbered_steps
   pub order : items_of numbered_steps ≡ items_from set.event (length m.steps) steps
 
--- from v to w the caller took these steps, in a line that forks this number. The first step is the fork's visit, and u
--- is the pass's view after it
+-- from v to w the caller took these steps, in the line of the fork of caller `child`. The first step is the fork's
+-- visit, and u is the pass's view after that visit
 pub record Took (set : Setting) (child : ℕ) (v u w : View) (steps : List Step) : Type 0 where
   pub mark : Mark
   pub rest : List Step
   pub steps_are : steps ≡ Marked mark ∷ rest
   pub first : Tells set 0 (knowing v []) (knowing u (Marked mark ∷ [])) (Marked mark ∷ [])
-  pub behind : Tells set 1 (knowing u (Marked mark ∷ [])) (knowing w steps) rest
+  pub following : Tells set 1 (knowing u (Marked mark ∷ [])) (knowing w steps) rest
   pub form : (lanes : ℕ) (visits : ℕ → List Visit) (callers : StateLists) → Continues lanes w visits →
-      (set : calls.Setting) → Form set (Fork child) (deeds_of (book_lists lanes visits callers) steps)
+      (set : calls.Setting) → Form set (Fork child) (effects_of (book_lists lanes visits callers) steps)

@@ -1,4 +1,5 @@
--- The acts that wait for a caller's next vread. The line of each is kept as not done, until that vread replaces it.
+-- The acts that wait for a caller's next vread. Each act's line shows the act as not done, until that vread replaces
+-- the line.
 use Rattle.std.specs.Prelude.{◌≡◌, ◌<◌, false, ⊤, List, [], ◌∷◌, ◌++◌, length, slice_set}
 use Rattle.std.specs.List.{AllByRecursion}
 use Rattle.key_names.specs.declared.events.Event.{Event}
@@ -9,13 +10,13 @@ use Rattle.rng_core.specs.Acts.{Ask, ActOutcome}
 use Rattle.rng_core.specs.InsideMakes.{act_line}
 use Rattle.rng_core.specs.declared.setting.Setting.{Setting}
 
--- a caller's lines, after those of these requests were replaced by the lines of the acts
-abbrev pub told_anew : List SeenLine → List Ask → List SeenLine → List SeenLine
-told_anew lines [] acts = lines
-told_anew lines (a ∷ asks) [] = lines
-told_anew lines (a ∷ asks) (line ∷ acts) = told_anew (slice_set lines a.event line) asks acts
+-- a caller's lines, after the line of each request was replaced by the line of the request's act
+abbrev pub emitted_anew : List SeenLine → List Ask → List SeenLine → List SeenLine
+emitted_anew lines [] acts = lines
+emitted_anew lines (a ∷ asks) [] = lines
+emitted_anew lines (a ∷ asks) (line ∷ acts) = emitted_anew (slice_set lines a.event line) asks acts
 
--- the lines of acts, by their outcomes
+-- the lines of acts that have these outcomes
 abbrev pub act_lines : Setting → List Ask → List ActOutcome → List SeenLine
 act_lines set [] zs = []
 act_lines set (a ∷ asks) [] = []
@@ -36,11 +37,11 @@ IsAlone (Vread len flags) = ⊥
 IsAlone (Inside point act) = ⊥
 IsAlone _ = ⊤
 
--- the invariant of a loop over the events; `rest` are those still to come. Whatever lines replace those of the acts,
--- and whatever lines follow, these calls were made
+-- the invariant of a loop over the events; `rest` has the events still to come. Whatever lines replace those of the
+-- waiting acts, and whatever lines follow, the calls made so far are `calls`
 pub record CallsSoFar (events rest : List Event) (lines : List SeenLine) (waiting : List Ask)
     (calls : List Call) : Type 0 where
-  pub told : AllByRecursion (λ a. a.event < length lines) waiting
+  pub recorded : AllByRecursion (λ a. a.event < length lines) waiting
   pub follows : has_vread rest ≡ false → waiting ≡ []
   pub calls_are : (acts more : List SeenLine) → length acts ≡ length waiting →
-      calls_of events (told_anew lines waiting acts ++ more) ≡ calls ++ calls_from (all_bound waiting acts) rest more
+      calls_of events (emitted_anew lines waiting acts ++ more) ≡ calls ++ calls_from (all_bound waiting acts) rest more

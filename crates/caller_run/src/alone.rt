@@ -5,14 +5,14 @@ ghost use Rattle.key_names.specs.declared.events.Event.{Event};
 ghost use Rattle.key_names.specs.Texts.ScriptGrammar.{Script as SeenScript, WellFormed};
 ghost use Rattle.key_names.specs.Texts.TranscriptGrammar.{LineFits};
 ghost use Rattle.transcript_text.specs.Views.{seen};
-ghost use Rattle.caller_run.specs.Alone.{HasLine, HasMade, HasRoom, IsGoing, IsLawful, IsToldByOne, IsToldOnce, last_line};
+ghost use Rattle.caller_run.specs.Alone.{HasLine, HasMade, HasRoom, IsGoing, IsLawful, IsEmittedByOne, IsEmittedOnce, last_line};
 ghost use Rattle.caller_run.specs.Says.{most_shown};
 
-use crate::caller::Caller;
-use crate::logs::{is_silent, most_shown};
-use crate::reply::Reply;
-use crate::states::States;
-use crate::told::Told;
+use crate::making::caller::Caller;
+use crate::making::states::States;
+use crate::output::emitted::EmittedLine;
+use crate::output::logs::{is_silent, most_shown};
+use crate::output::reply::Reply;
 use event_script::Script;
 use io_edges::Gate;
 use key_names::{Answer, Event, Trace, Word};
@@ -33,13 +33,13 @@ pub struct LoneRun {
     pub(crate) caller: Caller,
     pub(crate) trace: Trace,
     pub(crate) served: Vec<u8>,
-    pub(crate) told: Told,
+    pub(crate) recorded: EmittedLine,
 }
 
 // The largest number of bytes that a line of these events shows, or `None` if one of them is an act or a fork.
 fn longest_line(events: &[Event]) -> Option<u32>
-    ensures none { result ≡ None → All IsToldOnce events.now → ⊥ }
-    ensures once { IfSome result (λ _. All IsToldOnce events.now) }
+    ensures none { result ≡ None → All IsEmittedOnce events.now → ⊥ }
+    ensures once { IfSome result (λ _. All IsEmittedOnce events.now) }
     ensures longest { IfSome result (λ longest. All (λ event. most_shown event ≤ longest) events.now) }
 {
     let mut longest = 0;
@@ -56,7 +56,7 @@ fn longest_line(events: &[Event]) -> Option<u32>
 }
 
 impl LoneRun {
-    // The run before its first event, with room for lines of at most that many bytes.
+    // The run before its first event, with room for a line of at most `longest` bytes.
     fn with_room(alloc: Global, cpus: u32, longest: u32) -> Result<LoneRun, AllocError>
         requires { (1 ≤ cpus) × (cpus ≤ 256) }
         ensures { IfOk result (λ run. HasRoom cpus longest run) }
@@ -72,7 +72,7 @@ impl LoneRun {
             },
             trace: Trace::empty(),
             served: vec![in alloc; 0; longest as usize]?,
-            told: Told {
+            recorded: EmittedLine {
                 event: 0,
                 word: Word::End,
                 said: Reply::only(Answer::Ok),
@@ -81,8 +81,8 @@ impl LoneRun {
         })
     }
 
-    /// The run of a whole script on a new table, or `None` exactly if the script has more callers, or acts inside
-    /// vgetrandom calls: the line of an act is made twice. All memory is taken here.
+    /// The run of a whole script on a new table. `None` exactly if the script has several callers, or has acts inside
+    /// vgetrandom calls: the line of such an act is made twice. All memory is taken here.
     ///
     /// # Errors
     ///
@@ -91,7 +91,7 @@ impl LoneRun {
         requires { WellFormed script.now }
         ensures run { IfOk result (λ found. IfSome found (λ run. (events : List Event)
             × (slice_get script.now.callers 0 ≡ Some events) × IsGoing script.now events run [])) }
-        ensures none { IfOk result (λ found. found ≡ None → IsToldByOne script.now → ⊥) }
+        ensures none { IfOk result (λ found. found ≡ None → IsEmittedByOne script.now → ⊥) }
     {
         if script.callers() > 1 {
             return Ok(None);
@@ -102,8 +102,8 @@ impl LoneRun {
         Ok(Some(LoneRun::with_room(alloc, script.cpus(), longest)?))
     }
 
-    /// The run of a script that is still being written, on a new table with that many CPUs. All memory is taken here,
-    /// with room for the longest line that any event has.
+    /// The run of a script that is still being written, on a new table with `cpus` CPUs. All memory is taken here, with
+    /// room for the longest line that any event has.
     ///
     /// # Errors
     ///
@@ -128,7 +128,7 @@ impl LoneRun {
     {
         let set = self.caller.set;
         gate.before(rt, set.caller, set.event);
-        self.told = self
+        self.recorded = self
             .caller
             .call_once(rt, &self.lanes, &mut self.trace, &mut self.served, event);
         self.caller.go_on(event);
@@ -144,7 +144,7 @@ impl LoneRun {
         self.trace.clear();
         self.caller.leave(rt, &self.lanes, &mut self.trace);
         self.lanes.settle(&mut self.caller.pass);
-        self.told = Told {
+        self.recorded = EmittedLine {
             event: self.caller.set.event,
             word: Word::End,
             said: Reply::only(Answer::Ok),
@@ -158,8 +158,8 @@ impl LoneRun {
         ensures line { seen result ≡ last_line self.now }
         ensures fits { LineFits (seen result) }
     {
-        let shown = &self.served[..self.told.shown];
-        self.told
+        let shown = &self.served[..self.recorded.shown];
+        self.recorded
             .view(self.caller.set.caller, self.trace.steps(), shown)
     }
 }

@@ -3,44 +3,61 @@
 //! [`run_all`] runs caller 0 from its start to its end, in a thread. A child that it forks runs in a further thread, or
 //! in its parent's if no thread can be made ([`run_here`]), and can fork children in turn. A parent joins its children
 //! after its own last visit. All memory of a run is taken first, as a [`Plan`]. Only threads come later; their stacks
-//! have the size that their callers' forks need.
-//!
-//! The only caller of a script can also be handed its events one by one ([`LoneRun`]); then no line is kept.
-//!
-//! However the callers' calls interleave, the lines are a lawful transcript of the script, with the book of the lanes'
-//! lists ([`laws`]). This is promised of each run that ends. It is not promised that a run ends, nor that two callers
-//! ever run at once.
+//! have the size that their callers' forks need. The only caller of a script can also be handed its events one by one
+//! ([`LoneRun`]); then no line is kept.
 //!
 //! The clauses of `rng_core` describe each call and its steps. Those of `lane_table` describe a pass's view of the
 //! lanes, and how passes are split off, lent and joined. This crate uses clauses alone: no code here looks into a lane.
+//!
+//! # Example
+//!
+//! ```rust
+//! let script = script_of(&rt, rt.alloc(), FORK_SCRIPT);
+//! let gate = ReadMeeting {
+//!     parent: AtomicU64::new(0),
+//!     child: AtomicU64::new(0),
+//!     late: AtomicU64::new(0),
+//! };
+//! let transcript = run_on_new_table(&rt, rt.alloc(), &script, &gate)?;
+//! assert_eq!(rt; gate.late.load(Ordering::SeqCst), 0);
+//! let sink = text_of(&rt, rt.alloc(), &transcript)?;
+//! let text = sink.held();
+//! assert!(rt; text.starts_with(IN_THREADS), "caller 0");
+//! ```
+//!
+//! From `crates/test_core/src/run_tests.rt`.
+//!
+//! # Proved
+//!
+//! However the callers' calls interleave:
+//!
+//! - [`run_on_new_table`] and [`run_new`]: the lines are a lawful transcript of the script, with the book of the lanes'
+//!   lists.
+//! - [`run_all`]: the same, if the pass has the whole share and has made no visit.
+//! - [`LoneRun::end`]: the lines that were made are a lawful transcript.
+//! - [`laws::callers_are_lawful`]: the calls of all callers of a script make a lawful transcript.
+//!
+//! This holds of each run that ends. Not promised: that a run ends, and that two callers ever run at once.
+//!
+//! # Tested only
+//!
+//! A child that [`run_here`] runs makes its visits between the two of its parent: `run_tests` of `test_core`. Two
+//! callers are inside their reads at once: the tests of `rng_tool`.
 #![tactic(auto)]
 
-mod acts;
 mod alone;
-mod caller;
-mod calls;
-mod children;
-mod here;
+mod forking;
 pub mod laws;
-mod lines;
-mod logs;
+mod making;
 mod new_table;
-mod plans;
-mod reply;
-mod rooms;
+mod output;
 mod run;
-mod settings;
-mod shared;
-mod states;
-mod told;
-mod vreads;
-mod ways;
 
 pub use alone::LoneRun;
-pub use children::Children;
-pub use here::run_here;
+pub use forking::children::Children;
+pub use forking::here::run_here;
+pub use forking::plans::Plan;
+pub use forking::rooms::Room;
+pub use forking::shared::Shared;
 pub use new_table::{run_new, run_on_new_table};
-pub use plans::Plan;
-pub use rooms::Room;
 pub use run::{run_all, run_caller};
-pub use shared::Shared;

@@ -4,10 +4,10 @@ ghost use Rattle.key_names.specs.Texts.ScriptGrammar.{WellFormed};
 ghost use Rattle.lane_table.specs.declared.view.View.{View};
 ghost use Rattle.caller_run.specs.Laws.{LawfulRuns};
 
-use crate::children::{Children, stack_for};
-use crate::plans::Plan;
+use crate::forking::children::{Children, stack_for};
+use crate::forking::plans::Plan;
+use crate::forking::shared::Shared;
 use crate::run::run_plan;
-use crate::shared::Shared;
 use event_script::Script;
 use io_edges::Gate;
 use lane_table::Lanes;
@@ -33,7 +33,7 @@ pub fn run_on_new_table<R: Threads + Wait + Sync, G: Gate>(
     run_new(rt, alloc, script, gate, Children::InThreads)
 }
 
-/// The bytes that a thread's start takes apart from the thread's stack, and those by which the stack may be rounded up.
+/// The bytes that starting a thread takes besides its stack, and those by which the stack may be rounded up.
 const THREAD_BYTES: usize = 256 * 1024;
 
 // Fails if there is no memory for the first caller's stack (tested). A stack that cannot grow ends the program by a

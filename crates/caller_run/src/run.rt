@@ -6,15 +6,15 @@ ghost use Rattle.lane_table.specs.Calls.{view};
 ghost use Rattle.lane_table.specs.Hands.{HoldsLanes};
 ghost use Rattle.caller_run.specs.Families.{SameShare};
 ghost use Rattle.caller_run.specs.Plans.{IsPlanFor, IsNewRoom};
-ghost use Rattle.caller_run.specs.Plots.{plot};
-ghost use Rattle.caller_run.specs.Ways.{CanAdvanceOn, CanPart, CanRun, IsFirst, Returned, WentBeside, WentOn, WholeRan, start_of};
+ghost use Rattle.caller_run.specs.Layouts.{layout};
+ghost use Rattle.caller_run.specs.RunningCallers.{CanAdvanceOn, CanPart, CanRun, IsFirst, Returned, WentBeside, WentOn, WholeRan, start_of};
 
-use crate::children::{Child, Children, stack_for};
-use crate::here::run_here;
-use crate::plans::{Plan, gather};
-use crate::rooms::Room;
-use crate::shared::Shared;
-use crate::ways::Way;
+use crate::forking::children::{Child, Children, stack_for};
+use crate::forking::here::run_here;
+use crate::forking::plans::{Plan, gather};
+use crate::forking::rooms::Room;
+use crate::forking::running_callers::RunningCaller;
+use crate::forking::shared::Shared;
 use event_script::Script;
 use io_edges::Gate;
 use key_names::{Event, Trace};
@@ -41,11 +41,11 @@ pub fn run_caller<R: Threads + Wait + Sync, G: Gate>(
     requires set { (set.cpu < shared.now.lanes.now.cpus) × (set.now < 2 ^ 40) }
     requires well { WellFormed shared.now.script.now }
     requires cpus { shared.now.lanes.now.cpus ≡ shared.now.script.now.cpus }
-    requires room { IsNewRoom shared.now.script.now.callers set.caller (plot room) }
+    requires room { IsNewRoom shared.now.script.now.callers set.caller (layout room) }
     ensures has { HoldsLanes shared.now.lanes.now set.caller [] result.0 }
     ensures share { SameShare (view pass) (view result.0) }
-    ensures ran { Returned shared.now.lanes.now shared.now.script.now (start_of set pass) (plot room) result.0
-        (plot result.1) }
+    ensures ran { Returned shared.now.lanes.now shared.now.script.now (start_of set pass) (layout room) result.0
+        (layout result.1) }
 {
     run_family(shared, pass, Setting { event: 0, ..set }, room)
 }
@@ -58,48 +58,48 @@ fn run_family<R: Threads + Wait + Sync, G: Gate>(
     set: Setting,
     room: Room,
 ) -> (Pass, Room)
-    requires { CanRun shared.now.lanes.now shared.now.script.now set pass (plot room) }
-    ensures { Returned shared.now.lanes.now shared.now.script.now (start_of set pass) (plot room) result.0
-        (plot result.1) }
+    requires { CanRun shared.now.lanes.now shared.now.script.now set pass (layout room) }
+    ensures { Returned shared.now.lanes.now shared.now.script.now (start_of set pass) (layout room) result.0
+        (layout result.1) }
 {
-    let (caller, sheet, kids, states) = room.open();
+    let (caller, buffers, kids, states) = room.open();
     let events = shared.script.events(caller);
-    let way = Way::starting(pass, set, sheet, kids, states);
-    let way = run_from(shared, events, way);
-    let Way {
+    let running = RunningCaller::starting(pass, set, buffers, kids, states);
+    let running = run_from(shared, events, running);
+    let RunningCaller {
         caller: at,
-        sheet,
+        buffers,
         kids,
-    } = way;
-    (at.pass, Room::with(caller, sheet, kids, at.states))
+    } = running;
+    (at.pass, Room::with(caller, buffers, kids, at.states))
 }
 
 // Runs a caller on to its end, and every caller that it forks. It is one function because forks nest: if it were split,
-// each part would hold another `Way` on the stack.
+// each part would hold another `RunningCaller` on the stack.
 #[cycle(callers)]
 fn run_from<R: Threads + Wait + Sync, G: Gate>(
     shared: &Shared<'_, R, G>,
     events: &[Event],
-    mut way: Way,
-) -> Way
-    requires { CanAdvanceOn shared.now.lanes.now shared.now.script.now events.now way }
-    ensures { WentOn shared.now.lanes.now shared.now.script.now events.now way result }
+    mut running: RunningCaller,
+) -> RunningCaller
+    requires { CanAdvanceOn shared.now.lanes.now shared.now.script.now events.now running }
+    ensures { WentOn shared.now.lanes.now shared.now.script.now events.now running result }
 {
     let (rt, lanes, script) = (shared.rt, shared.lanes, shared.script);
     let (gate, children) = (shared.gate, shared.children);
-    let Some((child, rest)) = way.run_plain(shared, events) else {
-        way.caller.finish(rt, lanes, &mut way.sheet.log);
-        return way;
+    let Some((child, rest)) = running.run_plain(shared, events) else {
+        running.caller.finish(rt, lanes, &mut running.buffers.log);
+        return running;
     };
     let mut trace = Trace::empty();
-    let (theirs, kid) = way.begin_fork(rt, lanes, &mut trace, child);
-    let (mut way, theirs, kid) = thread::scope(
+    let (theirs, kid) = running.begin_fork(rt, lanes, &mut trace, child);
+    let (mut running, theirs, kid) = thread::scope(
         thread::scope_env(),
         rt,
-        move |scope| -> (Way, Pass, Room)
-            requires { IsSync R.row × CanPart lanes.now script.now child rest.now way trace theirs (plot kid) }
-            ensures { WentBeside lanes.entry.now script.entry.now child rest.entry.now way trace theirs (plot kid) result.0
-                result.1 (plot result.2) }
+        move |scope| -> (RunningCaller, Pass, Room)
+            requires { IsSync R.row × CanPart lanes.now script.now child rest.now running trace theirs (layout kid) }
+            ensures { WentBeside lanes.entry.now script.entry.now child rest.entry.now running trace theirs (layout kid) result.0
+                result.1 (layout result.2) }
         {
             let shared = Shared {
                 rt,
@@ -111,7 +111,7 @@ fn run_from<R: Threads + Wait + Sync, G: Gate>(
             let set = Setting {
                 caller: child,
                 event: 0,
-                ..way.caller.set
+                ..running.caller.set
             };
             let promise = Child {
                 lanes,
@@ -125,9 +125,9 @@ fn run_from<R: Threads + Wait + Sync, G: Gate>(
                 stack_for(script, child),
                 promise,
                 move || -> (Pass, Room)
-                    requires { IsSync R.row × CanRun lanes.now script.now set theirs (plot kid) }
-                    ensures { Returned lanes.entry.now script.entry.now (start_of set theirs) (plot kid) result.0
-                        (plot result.1) }
+                    requires { IsSync R.row × CanRun lanes.now script.now set theirs (layout kid) }
+                    ensures { Returned lanes.entry.now script.entry.now (start_of set theirs) (layout kid) result.0
+                        (layout result.1) }
                 {
                     let shared = Shared {
                         rt,
@@ -140,13 +140,13 @@ fn run_from<R: Threads + Wait + Sync, G: Gate>(
                 },
             ) {
                 Ok(handle) => {
-                    way.tell_fork(&trace, child);
-                    let way = run_from(&shared, rest, way);
+                    running.tell_fork(&trace, child);
+                    let running = run_from(&shared, rest, running);
                     let (theirs, kid) = handle.join(rt);
-                    (way, theirs, kid)
+                    (running, theirs, kid)
                 }
                 Err(refused) => {
-                    let at = &mut way.caller;
+                    let at = &mut running.caller;
                     let (theirs, kid) = run_here(
                         rt,
                         lanes,
@@ -155,16 +155,16 @@ fn run_from<R: Threads + Wait + Sync, G: Gate>(
                         &mut trace,
                         refused.value,
                     );
-                    way.tell_fork(&trace, child);
-                    let way = run_from(&shared, rest, way);
-                    (way, theirs, kid)
+                    running.tell_fork(&trace, child);
+                    let running = run_from(&shared, rest, running);
+                    (running, theirs, kid)
                 }
             }
         },
     );
-    lanes.join(&mut way.caller.pass, theirs);
-    way.kids.push_reserved(kid);
-    way
+    lanes.join(&mut running.caller.pass, theirs);
+    running.kids.push_reserved(kid);
+    running
 }
 
 // Runs a script's first caller, and all that it forks, in a further thread. The stack of that thread has the size that
@@ -176,9 +176,9 @@ fn run_first<R: Threads + Wait + Sync, G: Gate>(
     set: Setting,
     room: Room,
 ) -> (Pass, Room)
-    requires { CanRun shared.now.lanes.now shared.now.script.now set pass (plot room) }
-    ensures { Returned shared.now.lanes.now shared.now.script.now (start_of set pass) (plot room) result.0
-        (plot result.1) }
+    requires { CanRun shared.now.lanes.now shared.now.script.now set pass (layout room) }
+    ensures { Returned shared.now.lanes.now shared.now.script.now (start_of set pass) (layout room) result.0
+        (layout result.1) }
 {
     let (rt, lanes, script) = (shared.rt, shared.lanes, shared.script);
     let (gate, children) = (shared.gate, shared.children);
@@ -186,9 +186,9 @@ fn run_first<R: Threads + Wait + Sync, G: Gate>(
         thread::scope_env(),
         rt,
         move |scope| -> (Pass, Room)
-            requires { IsSync R.row × CanRun lanes.now script.now set pass (plot room) }
-            ensures { Returned lanes.entry.now script.entry.now (start_of set pass) (plot room) result.0
-                (plot result.1) }
+            requires { IsSync R.row × CanRun lanes.now script.now set pass (layout room) }
+            ensures { Returned lanes.entry.now script.entry.now (start_of set pass) (layout room) result.0
+                (layout result.1) }
         {
             let promise = Child {
                 lanes,
@@ -202,9 +202,9 @@ fn run_first<R: Threads + Wait + Sync, G: Gate>(
                 stack_for(script, set.caller),
                 promise,
                 move || -> (Pass, Room)
-                    requires { IsSync R.row × CanRun lanes.now script.now set pass (plot room) }
-                    ensures { Returned lanes.entry.now script.entry.now (start_of set pass) (plot room) result.0
-                        (plot result.1) }
+                    requires { IsSync R.row × CanRun lanes.now script.now set pass (layout room) }
+                    ensures { Returned lanes.entry.now script.entry.now (start_of set pass) (layout room) result.0
+                        (layout result.1) }
                 {
                     let shared = Shared {
                         rt,

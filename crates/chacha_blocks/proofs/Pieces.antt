@@ -1,10 +1,10 @@
--- Pieces of the keystream.
+-- A part of a piece of keystream is a piece of keystream.
 use Rattle.std.proofs.Common.{◌≡◌, ℕ, ◌+◌, ◌-◌, ◌≤◌, List, ap, ap₂, ◌∙◌, arith}
 use Rattle.std.specs.Prelude.{slice_range}
 use Rattle.key_names.specs.Kernel.Keystream.{keystream}
 use Rattle.key_names.proofs.Standards.Keystreams.{slice_range-keystream}
 
--- n bytes of a piece, from its byte i on, are a piece
+-- n bytes of a piece, from byte i of it on, are a piece of the same keystream
 pub part_of : (key piece part : List ℕ) (at len i n from : ℕ) → piece ≡ keystream key at len
     → part ≡ slice_range piece i (i + n) → i + n ≤ len → at + i ≡ from → part ≡ keystream key from n
 part_of key piece part at len i n from made cut fits start =

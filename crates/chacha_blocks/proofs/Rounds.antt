@@ -1,24 +1,24 @@
--- Rounds on a state that is kept as rows.
+-- The rounds of the code, which works on rows, are the rounds of the standard's definition.
 use Rattle.std.proofs.Common.{◌≡◌, ℕ, ◌+◌, ◌<◌, List, [], ◌∷◌, length, slice_index, refl, ap, ◌∙◌, add-one, arith}
 use Rattle.rand_chacha.specs.Block.{add32, xor_rotate, quarter_round, column_round, diagonal_round, double_rounds}
 use Rattle.rand_chacha.proofs.LaneLemmas.{four_lanes}
 use Rattle.chacha_blocks.specs.Rows.{word, state_of, turned, turned_back}
 
--- a row is its four words
+-- a row of four words is the list of these words
 pub row_is : (xs : List ℕ) → length xs ≡ 4
     → xs ≡ slice_index xs 0 ∷ slice_index xs 1 ∷ slice_index xs 2 ∷ slice_index xs 3 ∷ []
 row_is =
     four_lanes (λ xs. xs ≡ slice_index xs 0 ∷ slice_index xs 1 ∷ slice_index xs 2 ∷ slice_index xs 3 ∷ [])
     (λ a b c d. refl)
 
--- the quarter round, step by step
+-- the eight steps of the quarter round, made one after another, give the quarter round
 pub quarter_round_is : (a b c d a1 d1 c1 b1 a2 d2 c2 b2 : ℕ) → a1 ≡ add32 a b → d1 ≡ xor_rotate d a1 16
     → c1 ≡ add32 c d1 → b1 ≡ xor_rotate b c1 12 → a2 ≡ add32 a1 b1 → d2 ≡ xor_rotate d1 a2 8
     → c2 ≡ add32 c1 d2 → b2 ≡ xor_rotate b1 c2 7 → (a2, b2, c2, d2) ≡ quarter_round a b c d
 unfolding quarter_round
 quarter_round_is a b c d a1 d1 c1 b1 a2 d2 c2 b2 s1 s2 s3 s4 s5 s6 s7 s8 = rw (s8, s7, s6, s5, s4, s3, s2, s1) refl
 
--- the quarter round on each column is a round
+-- a column round is the quarter round on each column
 pub column_round_is : (x y : List (List ℕ))
     → ((j : ℕ) → j < 4 → (word y 0 j, word y 1 j, word y 2 j, word y 3 j)
     ≡ quarter_round (word x 0 j) (word x 1 j) (word x 2 j) (word x 3 j))
@@ -27,7 +27,7 @@ unfolding column_round
 column_round_is x y columns =
     rw (← columns 0 (omega arith), ← columns 1 (omega arith), ← columns 2 (omega arith), ← columns 3 (omega arith)) refl
 
--- a round on the diagonals is one on the columns of the turned state
+-- a diagonal round is a column round on the turned state, turned back
 pub diagonal_round_is : (x : List ℕ) → turned_back (column_round (turned x)) ≡ diagonal_round x
 unfolding column_round diagonal_round
 diagonal_round_is x = refl

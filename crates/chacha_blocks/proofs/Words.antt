@@ -1,4 +1,4 @@
--- The generator writes the keystream.
+-- The bytes that `rand_chacha`'s generator and the block function write are those of `keystream`.
 use Rattle.std.proofs.Common.{zero, suc, ◌+◌, ◌*◌, ◌/◌, ◌%◌, ◌^◌, ◌<◌, ◌≤◌, ◌++◌, ap, ap₂, sym, ◌∙◌, arith, ◌≡◌, ℕ, List, length, map, refl, w32}
 use Rattle.std.specs.List.{flat_map, range_with_len}
 use Rattle.std.specs.Int.{to_le_bytes}
@@ -15,7 +15,7 @@ use Rattle.key_names.proofs.Standards.Keystreams.{keystream-add, take-keystream}
 use Rattle.chacha_blocks.specs.Place.{generator_at}
 use Rattle.chacha_blocks.specs.Rows.{state_of}
 
--- a keystream byte is byte i of word w, if its position is 4 w + i
+-- the byte at position 4 w + i of the keystream is byte i of word w
 keystream_byte-in_word : (key : List ℕ) (w i q : ℕ) → i < 4 → q ≡ 4 * w + i → keystream_byte key q ≡
     slice_index (to_le_bytes w32 (word_at 10 (key_of key) 0 w)) i
 unfolding keystream_byte
@@ -23,7 +23,7 @@ keystream_byte-in_word key w i q below at =
     let word : q / 4 ≡ w = omega arith in let byte : q % 4 ≡ i = omega arith in
     rw (word, byte) refl
 
--- four bytes of keystream are one word
+-- the four bytes of keystream from 4 w on are word w
 keystream-word : (key : List ℕ) (w : ℕ) → keystream key (4 * w) 4 ≡ to_le_bytes w32 (word_at 10 (key_of key) 0 w)
 keystream-word key w =
     let at = keystream_byte-in_word key w in
@@ -34,7 +34,7 @@ keystream-word key w =
       at 3 (4 * w + 1 + 1 + 1) (omega arith) (omega arith),
     ) refl
 
--- 4 k bytes of keystream are k words
+-- the 4 k bytes of keystream from 4 w on are the k words from w on
 keystream-words : (key : List ℕ) (w k : ℕ)
     → keystream key (4 * w) (4 * k) ≡ flat_map (to_le_bytes w32) (map (word_at 10 (key_of key) 0) (range_with_len w k))
 keystream-words key w zero = refl
@@ -44,7 +44,7 @@ keystream-words key w (suc k) =
     ap (keystream key (4 * w)) more ∙ keystream-add key (4 * w) 4 (4 * k)
     ∙ ap₂ ◌++◌ (keystream-word key w) (ap (λ q. keystream key q (4 * k)) next ∙ keystream-words key (w + 1) k)
 
--- the words of a block, by their numbers, are 64 bytes of keystream
+-- the 16 words of a block are 64 bytes of keystream
 words_of_block : (key words : List ℕ) (number : ℕ) → length words ≡ 16
     → ((k : ℕ) → k < 16 → slice_index words k ≡ block_word 10 (key_of key) number 0 k)
     → flat_map (to_le_bytes w32) words ≡ keystream key (64 * number) 64
@@ -60,7 +60,7 @@ words_of_block key words number len each =
     here ∙ sym (get_or-map-range_with_len word (16 * number) 16 k (16 * number + k) 0 within refl)) in
     rw (same, first) (sym (keystream-words key (16 * number) 16))
 
--- the rows after ten double rounds, added to those before
+-- the rows after ten double rounds, added to the rows before the rounds, are a block of keystream
 pub block_bytes : (key : List ℕ) (rows start : List (List ℕ)) (number : ℕ) (words : List ℕ)
     → words ≡ zip2 add32 (state_of rows) (state_of start) → state_of start ≡ initial_state (key_of key) number 0
     → state_of rows ≡ double_rounds 10 (state_of start)
@@ -72,7 +72,7 @@ block_bytes key rows start number words summed begun mixed =
     ap at summed ∙ get_or-zip2 add32 (state_of rows) (state_of start) k 0 0 0 below below
     ∙ ap₂ add32 (ap at (mixed ∙ ap (double_rounds 10) begun)) (ap at begun))
 
--- the generator's next k words are keystream from its place on
+-- the generator's next k words are keystream from the generator's place on
 word_bytes-generator_at : (key : List ℕ) (w k : ℕ) → w + k < 2 ^ 68 →
     word_bytes (to_le_bytes w32) (next_word 10) k (generator_at key w) ≡
     (keystream key (4 * w) (4 * k), generator_at key (w + k))
@@ -91,7 +91,7 @@ word_bytes-generator_at key w (suc k) within =
     ∙ sym (keystream-add key (4 * w) (4 * k) 4) ∙ ap (keystream key (4 * w)) longer in
     rw (word_bytes-generator_at key w k before, bytes, next) refl
 
--- the generator's next n bytes are keystream from its place on
+-- the generator's next n bytes are keystream from the generator's place on
 pub fill_via_u32-generator_at : (key : List ℕ) (w n : ℕ) → w + n < 2 ^ 67 →
     fill_via_u32 (next_word 10) n (generator_at key w) ≡ (keystream key (4 * w) n, generator_at key (w + (n + 3) / 4))
 fill_via_u32-generator_at key w n within =
@@ -99,7 +99,7 @@ fill_via_u32-generator_at key w n within =
     let enough : n ≤ 4 * ((n + 3) / 4) = omega arith in
     rw (word_bytes-generator_at key w ((n + 3) / 4) words, take-keystream key (4 * w) (4 * ((n + 3) / 4)) n enough) refl
 
--- a fill wrote keystream, and left the generator at the next whole word
+-- the bytes that a fill wrote are keystream from the generator's place on
 pub bytes_of_fill : (key : List ℕ) (w n : ℕ) (rng rest : ChaCha) (bytes : List ℕ) → rng ≡ generator_at key w →
     (bytes, rest) ≡ fill_via_u32 (next_word 10) n rng → w + n < 2 ^ 67 → bytes ≡ keystream key (4 * w) n
 bytes_of_fill key w n rng rest bytes begins wrote within =

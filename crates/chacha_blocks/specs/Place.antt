@@ -1,4 +1,4 @@
--- A place in a key's stream, and the generator at that place.
+-- A place in a key's keystream, and `rand_chacha`'s generator at that place.
 use Rattle.std.specs.Prelude.{ℕ, List}
 use Rattle.rand_chacha.specs.ChaCha.{ChaCha, of_seed}
 
@@ -7,6 +7,6 @@ pub record Place : Type 0 where
   pub key : List ℕ
   pub word : ℕ
 
--- stream 0 of the key, with the word of this number next
+-- the generator of the key, with stream 0, whose next word has this number
 abbrev pub generator_at : List ℕ → ℕ → ChaCha
 generator_at key word = record (of_seed key) { word_pos = word }

@@ -9,11 +9,11 @@ word rows i j = slice_index (slice_index_or rows i []) j
 abbrev pub row : List (List ℕ) → ℕ → List ℕ
 row rows i = word rows i 0 ∷ word rows i 1 ∷ word rows i 2 ∷ word rows i 3 ∷ []
 
--- the state as the standard numbers its words, row by row
+-- the words of the state in the order of the standard: row by row
 abbrev pub state_of : List (List ℕ) → List ℕ
 state_of rows = row rows 0 ++ row rows 1 ++ row rows 2 ++ row rows 3
 
--- row i of a state turned to the left by i words, so that each diagonal is a column
+-- the state with row i turned to the left by i words, so that each diagonal is a column
 abbrev pub turned : List ℕ → List ℕ
 turned x = map (slice_index x) (
     0 ∷ 1 ∷ 2 ∷ 3
@@ -21,7 +21,7 @@ turned x = map (slice_index x) (
     ∷ 10 ∷ 11 ∷ 8 ∷ 9
     ∷ 15 ∷ 12 ∷ 13 ∷ 14 ∷ [])
 
--- row i of a turned state turned back to the right by i words
+-- the state with row i turned back to the right by i words
 abbrev pub turned_back : List ℕ → List ℕ
 turned_back x = map (slice_index x) (
     0 ∷ 1 ∷ 2 ∷ 3

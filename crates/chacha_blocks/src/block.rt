@@ -12,7 +12,7 @@ use byteorder::{ByteOrder, LittleEndian};
 use rand_core::utils::read_u32;
 use std::simd::u32x4;
 
-/// Bytes of a block.
+/// The number of bytes in a block.
 pub(crate) const BLOCK_BYTES: usize = 64;
 
 // "expand 32-byte k", low byte first.
@@ -20,7 +20,7 @@ const CONSTANTS: [u32; 4] = [0x6170_7865, 0x3320_646e, 0x7962_2d32, 0x6b20_6574]
 
 const DOUBLE_ROUNDS: u32 = 10;
 
-// The state's 16 words as four rows of four, so that one operation works on a word of each column.
+// The 16 words of the state as four rows, so that one vector operation works on all four columns.
 type Rows = [u32x4; 4];
 
 #[inline(always)]
@@ -39,7 +39,7 @@ fn xor_rotate(a: u32x4, b: u32x4, k: u32) -> u32x4
     (x << u32x4::splat(k)) | (x >> u32x4::splat(32 - k))
 }
 
-// A round on the columns: the quarter round, on one word of each column at a time.
+// A round on the columns: the quarter round on all four columns at once.
 #[inline(always)]
 fn column_round(rows: Rows) -> Rows
     ensures { state_of result ≡ column_round (state_of rows) }
@@ -64,7 +64,7 @@ fn turned_once(row: u32x4) -> u32x4
     row.rotate_elements_left::<1>()
 }
 
-// The rows turned to the left by none, one, two and three words, so that each diagonal is a column.
+// Turns row i to the left by i words, so that each diagonal becomes a column.
 #[inline(always)]
 fn turned(rows: Rows) -> Rows
     ensures { state_of result ≡ turned (state_of rows) }
@@ -78,7 +78,7 @@ fn turned(rows: Rows) -> Rows
     ]
 }
 
-// The rows turned back: four turns leave a row as it was.
+// Turns the rows back. Four turns leave a row as it was.
 #[inline(always)]
 fn turned_back(rows: Rows) -> Rows
     ensures { state_of result ≡ turned_back (state_of rows) }
@@ -131,7 +131,7 @@ fn start_rows(key: &[u8; 32], number: u64) -> Rows
     ]
 }
 
-// Each word added to the word that it began as, row by row.
+// Each word of the rows, plus the word that was at its place before the rounds.
 #[inline(always)]
 fn summed(rows: Rows, start: Rows) -> [u32; 16]
     ensures { result ≡ zip2 add32 (state_of rows) (state_of start) }

@@ -1,5 +1,5 @@
-//! Fast key erasure: a key that makes bytes is first replaced by the front of its own keystream, as in the kernel's
-//! `crng_fast_key_erasure`.
+//! Fast key erasure, as in the kernel's `crng_fast_key_erasure`: the first bytes of a key's keystream replace the key,
+//! and only later bytes are handed out.
 
 ghost use Rattle.std.specs.Prelude.{◌≡◌, ◌+◌, ◌*◌, ◌/◌, ◌^◌, ◌<◌, ◌≤◌, length};
 ghost use Rattle.key_names.specs.Kernel.Keystream.{keystream};
@@ -9,13 +9,13 @@ use crate::stream::fill_from_block;
 
 const KEY_BYTES: usize = 32;
 
-/// The bytes left beside the new key in the block of an erasure, and in that block and the next together.
+/// The number of bytes left after the new key: in the block of an erasure, and in that block and the next together.
 pub(crate) const REST_OF_BLOCK: usize = BLOCK_BYTES - KEY_BYTES;
 
 const REST_OF_PAIR: usize = 2 * BLOCK_BYTES - KEY_BYTES;
 
-/// A key and the number of the block that its next bytes come from. A long read continues from it after the stored key
-/// was erased, as from the kernel's `chacha_state` on the stack.
+/// A key, and the number of the block from which its next bytes come. A long read goes on with this key after the
+/// stored key was erased, like the kernel with the `chacha_state` on its stack.
 #[derive(Drop)]
 pub struct Detached {
     pub key: [u8; 32],
@@ -23,7 +23,7 @@ pub struct Detached {
 }
 
 impl Detached {
-    /// The key, with this block next.
+    /// This key, with `next_block` as the next block.
     pub fn of(key: [u8; 32], next_block: u64) -> Detached
         ensures key { result.key ≡ key }
         ensures next_block { result.next_block ≡ next_block }
@@ -31,8 +31,9 @@ impl Detached {
         Detached { key, next_block }
     }
 
-    /// Writes the keystream over all of `buf` from the start of the next block, and moves past each block that it
-    /// began. The unused bytes of the last block are lost. The block's number and the length together are below 2^40.
+    /// Fills `buf` with keystream from the start of the next block, and moves on to the first block that it did not
+    /// use. Unused bytes of the last block are lost. The block's number and the length of `buf` add up to less than
+    /// 2^40.
     pub fn more(&mut self, buf: &mut [u8])
         requires { self.old.next_block + length buf.old < 2 ^ 40 }
         ensures bytes { buf.new ≡ keystream self.old.key (64 * self.old.next_block) (length buf.old) }
@@ -44,9 +45,8 @@ impl Detached {
     }
 }
 
-/// Replaces the key by bytes 0 to 32 of its own keystream, fills `out` with the bytes from 32 on, and returns the
-/// replaced key at block 1. This is the kernel's `crng_fast_key_erasure`. `out` is the caller's part of the rest of
-/// block 0, at most 32 bytes.
+/// Replaces the key by bytes 0 to 32 of its own keystream, and fills `out`, at most 32 bytes, with the bytes from 32
+/// on. Returns the replaced key, with block 1 next. This is the kernel's `crng_fast_key_erasure`.
 pub fn erase(key: &mut [u8; 32], out: &mut [u8]) -> Detached
     requires { length out.old ≤ 32 }
     ensures erased { key.new ≡ keystream key.old 0 32 }
@@ -62,8 +62,8 @@ pub fn erase(key: &mut [u8; 32], out: &mut [u8]) -> Detached
 }
 
 /// Replaces the key by bytes 0 to 32 of its own keystream, and fills `buf`, of fewer than 2^40 - 32 bytes, with the
-/// bytes from 32 on. It is a whole kernel read (`_get_random_bytes`): [`erase`] writes the first 32 bytes, and
-/// [`Detached::more`] the rest. For no bytes the key is still erased, while the kernel's function does nothing.
+/// bytes from 32 on. This is a whole kernel read (`_get_random_bytes`): [`erase`] makes the first 32 bytes, and
+/// [`Detached::more`] the rest. If `buf` is empty, the key is still erased, unlike in the kernel's function.
 pub fn erase_and_fill(key: &mut [u8; 32], buf: &mut [u8])
     requires { 32 + length buf.old < 2 ^ 40 }
     ensures erased { key.new ≡ keystream key.old 0 32 }
@@ -81,8 +81,8 @@ pub fn erase_and_fill(key: &mut [u8; 32], buf: &mut [u8])
     }
 }
 
-/// Replaces the key by bytes 0 to 32 of its own keystream, and returns bytes 32 to 64 as another key: a CPU's new key
-/// from the base key, or the key of one read that is longer than the rest of a block.
+/// Replaces the key by bytes 0 to 32 of its own keystream, and returns bytes 32 to 64 as another key: that of a CPU, if
+/// the key is the base key, or that of one user's read of more than 32 bytes.
 pub fn derive_key(key: &mut [u8; 32]) -> [u8; 32]
     ensures erased { key.new ≡ keystream key.old 0 32 }
     ensures derived { result ≡ keystream key.old 32 32 }

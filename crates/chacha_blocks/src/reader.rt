@@ -1,4 +1,4 @@
-//! A place in a key's stream, from which bytes are read.
+//! A place in a key's keystream, from which bytes are read.
 
 ghost use Rattle.std.specs.Prelude.{◌≡◌, ◌+◌, ◌*◌, ◌/◌, ◌^◌, ◌<◌, length};
 ghost use Rattle.key_names.specs.Kernel.Keystream.{keystream};
@@ -13,12 +13,12 @@ use std::marker::Model;
 /// The cipher makes four blocks at a time. A caller that needs several runs of one key's bytes, one after another,
 /// should read them all from one reader.
 #[derive(Drop)]
-pub(crate) struct Reader {
+pub(crate) struct KeystreamReader {
     key: [u8; 32],
     rng: ChaCha20Rng,
 }
 
-impl Model for Reader {
+impl Model for KeystreamReader {
     ghost use Rattle.std.specs.Prelude.{◌≡◌};
     ghost use Rattle.chacha_blocks.specs.Place.{Place, generator_at};
 
@@ -29,21 +29,21 @@ impl Model for Reader {
     ghost invariant = { λ r. r.rng ≡ generator_at r.key r.rng.word_pos };
 }
 
-impl Reader {
-    /// The key's stream from this word on. Nothing is computed before the first read, unless
-    /// the word is inside a block.
+impl KeystreamReader {
+    /// The key's keystream from this word on. Nothing is computed before the first read, unless the word is inside a
+    /// block.
     #[inline]
-    pub(crate) fn at(key: &[u8; 32], word: u64) -> Reader
+    pub(crate) fn at(key: &[u8; 32], word: u64) -> KeystreamReader
         ensures { result ≡ record { key = key.now; word = word } }
     {
         let mut rng = ChaCha20Rng::from_seed(*key);
         if word > 0 {
             rng.set_word_pos(u128::from(word));
         }
-        Reader { key: *key, rng }
+        KeystreamReader { key: *key, rng }
     }
 
-    /// Writes the next bytes of the stream over all of `buf`. The place is then the next whole word: the unused bytes
+    /// Fills `buf` with the next bytes of the keystream. The next read begins at the next whole word, so unused bytes
     /// of the last word are lost.
     #[inline]
     pub(crate) fn read(&mut self, buf: &mut [u8])

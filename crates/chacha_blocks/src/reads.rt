@@ -1,4 +1,4 @@
-//! A user's read from a key, which it erases.
+//! A user's read from a key, which the read erases.
 
 ghost use Rattle.std.specs.Prelude.{◌≡◌, ◌+◌, ◌^◌, ◌<◌, length};
 ghost use Rattle.key_names.specs.Kernel.Keystream.{keystream};
@@ -8,13 +8,13 @@ ghost use Rattle.key_names.specs.declared.entries.Taken.TheVariants.{User};
 use crate::erasure::{REST_OF_BLOCK, derive_key, erase};
 use crate::stream::fill_from_block;
 
-/// Erases `key` and fills `buf` for a user, as the kernel's `get_random_bytes_user`. Up to 32 bytes come from
-/// the rest of the erasure's block. For more, that rest is the key of this read alone, and the bytes are its
-/// stream from block 1 on. `buf` has fewer than 2^40 - 1 bytes. For no bytes the key is still erased, while the
-/// kernel's function does nothing.
+/// Erases `key` and fills `buf` for a user, like the kernel's `get_random_bytes_user`. Up to 32 bytes come from the
+/// rest of the erasure's block. For more, that rest is the key of this read alone, and the bytes are its keystream from
+/// block 1 on. `buf` has fewer than 2^40 - 1 bytes. If it is empty, the key is still erased, unlike in the kernel's
+/// function.
 ///
-/// It is for a caller with one key and no lanes. The core makes the same read in two parts, one while it holds
-/// a lane and one after it.
+/// This function is for a caller with one key and no lanes. The core makes the same read in two parts: one while it
+/// holds a lane, and one after that.
 pub fn user_read(key: &mut [u8; 32], buf: &mut [u8])
     requires { 1 + length buf.old < 2 ^ 40 }
     ensures erased { key.new ≡ keystream key.old 0 32 }

@@ -1,20 +1,20 @@
-//! Bytes of a key's stream from any position.
+//! Bytes of a key's keystream from any position.
 
 ghost use Rattle.std.specs.Prelude.{◌≡◌, ◌+◌, ◌*◌, ◌%◌, ◌^◌, ◌<◌, ◌≤◌, length};
 ghost use Rattle.key_names.specs.Kernel.Keystream.{keystream};
 
 use crate::block::{BLOCK_BYTES, block, two_blocks};
-use crate::reader::Reader;
+use crate::reader::KeystreamReader;
 
 const BLOCK_WORDS: u64 = 16;
 
-/// The bytes of two blocks, and of the four that a [`Reader`] makes at a time.
+/// The number of bytes in two blocks, and in the four that a [`KeystreamReader`] makes at a time.
 const PAIR_BYTES: usize = 2 * BLOCK_BYTES;
 
 const RUN_BYTES: usize = 4 * BLOCK_BYTES;
 
-/// Writes the keystream of `key` from byte position `from` over all of `buf`. The position and the length
-/// together are below 2^40.
+/// Fills `buf` with the keystream of `key` from byte position `from` on. The position and the length add up to less
+/// than 2^40.
 pub fn fill(key: &[u8; 32], from: u64, buf: &mut [u8])
     requires { from + length buf.old < 2 ^ 40 }
     ensures { buf.new ≡ keystream key.now from (length buf.old) }
@@ -26,7 +26,7 @@ pub fn fill(key: &[u8; 32], from: u64, buf: &mut [u8])
     fill_from_block(key, next, rest);
 }
 
-// Fills `buf` from any position, up to the end of its block.
+// Fills `buf` from any position on, at most to the end of that position's block.
 fn fill_in_block(key: &[u8; 32], from: u64, buf: &mut [u8])
     requires { from % 64 + length buf.old ≤ 64 }
     ensures { buf.new ≡ keystream key.now from (length buf.old) }
@@ -37,8 +37,8 @@ fn fill_in_block(key: &[u8; 32], from: u64, buf: &mut [u8])
     }
 }
 
-/// Writes the keystream of `key` from the start of block `first` over all of `buf`. A reader makes each full run of
-/// four blocks. Pairs of blocks make the rest, since a reader would compute four blocks even if fewer are needed.
+/// Fills `buf` with the keystream of `key` from the start of block `first` on. A reader makes each full run of four
+/// blocks. Pairs of blocks make the rest, since a reader always computes four.
 pub(crate) fn fill_from_block(key: &[u8; 32], first: u64, buf: &mut [u8])
     requires { first + length buf.old < 2 ^ 40 }
     ensures { buf.new ≡ keystream key.now (64 * first) (length buf.old) }
@@ -56,11 +56,11 @@ fn fill_by_runs(key: &[u8; 32], first: u64, buf: &mut [u8])
     ensures { buf.new ≡ keystream key.now (64 * first) (length buf.old) }
 {
     if !buf.is_empty() {
-        Reader::at(key, first * BLOCK_WORDS).read(buf);
+        KeystreamReader::at(key, first * BLOCK_WORDS).read(buf);
     }
 }
 
-/// Writes the keystream of `key` from the start of block `first` over all of `buf`, which is at most two blocks.
+/// Fills `buf`, at most two blocks, with the keystream of `key` from the start of block `first` on.
 fn fill_by_pair(key: &[u8; 32], first: u64, buf: &mut [u8])
     requires near { first < 2 ^ 41 }
     requires short { length buf.old ≤ 128 }

@@ -1,4 +1,4 @@
--- What contracts see of a CPU's generator, and how an entry of the CPU's list changes it.
+-- A CPU's generator in contracts, and how an entry of the CPU's list changes it.
 use Rattle.std.specs.Prelude.{ℕ, true, false, Option, Some, None, List}
 use Rattle.key_names.specs.declared.entries.CpuEntry.{CpuEntry}
 use Rattle.key_names.specs.declared.entries.CpuEntry.TheVariants.{Read, Int, Irq, Dump, Prepare, Online}
@@ -16,21 +16,20 @@ pub record CpuValue : Type 0 where
 abbrev pub start : CpuValue
 start = record { key = zero_key; generation = 0 }
 
--- the key was replaced by the front of its own keystream
+-- the generator after an erasure: the first 32 bytes of the key's own keystream replace the key
 abbrev pub erased : CpuValue → CpuValue
 erased c = record c { key = keystream c.key 0 32 }
 
--- the CPU is prepared: its key belongs to no generation
+-- the generator after the CPU was prepared: its key belongs to no generation
 abbrev pub prepared : CpuValue → CpuValue
 prepared c = record c { generation = 0 }
 
--- the key and generation that the base handed over in the named refill, or else the generator as it was
+-- the generator after the named refill: the key and generation that the base handed over, or no change without a refill
 abbrev pub refilled : Option ℕ → CpuValue → CpuValue → CpuValue
 refilled None handed c = c
 refilled (Some place) handed c = handed
 
--- the generator after an entry, given the key and generation that the base handed over in the
--- refill that the entry names
+-- the generator after an entry, given the key and generation that the base handed over in the named refill
 abbrev pub after_entry : CpuEntry → CpuValue → CpuValue → CpuValue
 after_entry (Read look refill taken) handed c = erased (refilled refill handed c)
 after_entry (Int look refill width true) handed c = erased (refilled refill handed c)
@@ -40,7 +39,7 @@ after_entry (Dump now) handed c = c
 after_entry Prepare handed c = prepared c
 after_entry Online handed c = c
 
--- the generator of a CPU after a list that leaves this state, with this value of its key
+-- the generator after a list, given the state after the list and the value of the key
 abbrev pub cpu_at : CpuState → List ℕ → CpuValue
 cpu_at s value = record { key = value; generation = s.generation }
 

@@ -11,7 +11,7 @@ use std::marker::Model;
 
 /// One CPU's generator (`struct crng`). Each read erases the key.
 ///
-/// Generation 0 is no generation of the base: the CPU was never given a key, or it was prepared since.
+/// Generation 0 means that the CPU was never given a key, or was prepared since. A ready base has a higher generation.
 #[derive(Drop)]
 pub struct Cpu {
     key: [u8; 32],
@@ -48,8 +48,8 @@ impl Cpu {
         self.generation
     }
 
-    /// Whether the key is not of generation `g`, so that a read at `g` has to refill first. It is for callers that use
-    /// this crate without the lanes: the core compares [`Cpu::generation`], which its entries record.
+    /// Whether the CPU's generation is not `g`, so that a read at `g` has to refill first. This is for users of the
+    /// crate without lanes; the core compares [`Cpu::generation`], which its entries record.
     pub fn needs(&self, g: u64) -> bool
         ensures { MatchBool result (self.now.generation ≢ g) (self.now.generation ≡ g) }
     {
@@ -63,7 +63,8 @@ impl Cpu {
         *self = Cpu::with(key, g);
     }
 
-    /// Erases the key, and returns the key of one user's read of more than 32 bytes (`get_random_bytes_user`).
+    /// Erases the key, and returns bytes 32 to 64 of its keystream as the key of one user's read of more than 32 bytes
+    /// (`get_random_bytes_user`).
     pub fn call_key(&mut self) -> [u8; 32]
         ensures state { self.new ≡ erased self.old }
         ensures key { result ≡ keystream self.old.key 32 32 }
@@ -71,8 +72,8 @@ impl Cpu {
         derive_key(&mut self.key)
     }
 
-    /// Erases the key (`crng_fast_key_erasure`). Fills `out`, at most 32 bytes, from the rest of the erased block, and
-    /// returns the old key from block 1 on.
+    /// Erases the key (`crng_fast_key_erasure`). Fills `out`, at most 32 bytes, from the rest of the erasure's block,
+    /// and returns the old key with block 1 next.
     pub fn front(&mut self, out: &mut [u8]) -> Detached
         requires { length out.old ≤ 32 }
         ensures state { self.new ≡ erased self.old }
@@ -83,8 +84,8 @@ impl Cpu {
         erase(&mut self.key, out)
     }
 
-    /// Fills `buf`, of fewer than 2^40 - 32 bytes, for the kernel (`_get_random_bytes`), and erases the key unless
-    /// `buf` is empty. It is [`Cpu::front`] and [`Detached::more`] in one.
+    /// Fills `buf`, of fewer than 2^40 - 32 bytes, for the kernel (`_get_random_bytes`). The key is erased unless `buf`
+    /// is empty. This is [`Cpu::front`] and [`Detached::more`] in one.
     pub fn kernel_read(&mut self, buf: &mut [u8])
         requires { 32 + length buf.old < 2 ^ 40 }
         ensures none { length buf.old ≡ 0 → self.new ≡ self.old }
@@ -96,7 +97,7 @@ impl Cpu {
         }
     }
 
-    /// The CPU is about to come online (`random_prepare_cpu`): generation 0, the kernel's `ULONG_MAX`, marks its key as
+    /// The CPU is about to come online (`random_prepare_cpu`). Generation 0, the kernel's `ULONG_MAX`, marks the key as
     /// old. The key stays until it is replaced.
     pub fn prepare(&mut self)
         ensures { self.new ≡ prepared self.old }

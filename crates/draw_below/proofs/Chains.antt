@@ -1,4 +1,4 @@
--- One more word after a chain of words, or after some rejected ones.
+-- The lists of words that were taken, and of words that a draw rejected, grow by one word when one more word is taken.
 use Rattle.std.proofs.Common.{◌≡◌, ◌≢◌, ◌<◌, ◌+◌, ◌*◌, ◌/◌, ◌%◌, ℕ, List, [], ◌∷◌, ◌++◌, length, refl, subst, sym, ap, ◌∙◌, nat_le, true, false, length-append}
 use Rattle.std.specs.List.{AllByRecursion}
 use Rattle.std.proofs.lemmas.Bool.{ne_eqb}

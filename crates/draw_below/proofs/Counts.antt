@@ -1,14 +1,14 @@
 -- Each value has the same number of accepted words.
 --
--- A word r is accepted with the value v if c * r is at least v * 2^32 + 2^32 % c and below (v + 1) * 2^32. That is a
--- range of c * (2^32 / c) numbers, with 2^32 / c multiples of c.
+-- A word `r` is accepted and has the value `v` if `c * r` is at least `v * 2^32 + 2^32 % c` and below `(v + 1) * 2^32`.
+-- This range has `c * (2^32 / c)` numbers, and `2^32 / c` of these are multiples of `c`.
 use Rattle.std.proofs.Common.{◌≡◌, ◌≢◌, ◌<◌, ◌≤◌, ◌+◌, ◌-◌, ◌*◌, ◌/◌, ◌%◌, ℕ, zero, suc, Bool, true, false, cond, refl, ap, ◌∙◌, arith, eq-eqb, nat_eq, nat_le, ⊎_elim}
 use Rattle.std.proofs.lemmas.Bool.{cases_lt, le-leb, lt-leb, ne_eqb}
 use Rattle.std.proofs.lemmas.Nat.{mod_below}
 use Rattle.std.proofs.Math.Nat.{le-div_iff_mul-le, add-mul-div_right, div-add-mod}
 use Rattle.draw_below.specs.Draws.{gives_value, count, EachValueIsAsLikely}
 
--- the least number n with c * n at least x
+-- the least number `n` for which `c * n` is at least `x`
 abbrev ceiling : ℕ → ℕ → ℕ
 ceiling c x = (x + (c - 1)) / c
 
@@ -53,7 +53,7 @@ over t x v high = other_value t x v (omega arith)
 passes_is : (c v r : ℕ) → 0 < c → gives_value c v r ≡ passes (4294967296 % c) (c * r) v
 passes_is c v r pos = let some : c ≢ 0 = omega arith in simp (ne_eqb c 0 some) refl
 
--- a is the first word with this value, and b the first one after them
+-- `a` is the first accepted word with the value `v`, and `b` the first word after all such words
 counted : (c v n a b : ℕ) → 0 < c → 4294967296 % c < 4294967296 →
     a ≡ ceiling c (v * 4294967296 + 4294967296 % c) → b ≡ ceiling c (v * 4294967296 + 4294967296) →
     count c v n ≡ (n - a) - (n - b)
@@ -79,9 +79,9 @@ counted c v (suc n) a b pos small from to =
     let more = one true (passes_is c v n pos ∙ within (4294967296 % c) (c * n) v long short) in
     omega arith)
     (λ past.
-    let behind : v * 4294967296 + 4294967296 ≤ c * n =
+    let following : v * 4294967296 + 4294967296 ≤ c * n =
     ceiling_below c (v * 4294967296 + 4294967296) n pos (omega arith) in
-    let more = one false (passes_is c v n pos ∙ over (4294967296 % c) (c * n) v behind) in
+    let more = one false (passes_is c v n pos ∙ over (4294967296 % c) (c * n) v following) in
     omega arith)
     (cases_lt n b))
     (cases_lt n a)

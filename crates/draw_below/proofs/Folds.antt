@@ -1,4 +1,4 @@
--- The answers of successive draws from the words that they took.
+-- Successive draws have the answers that `draws_in` gives for the words that they took.
 use Rattle.std.proofs.Common.{◌≡◌, ◌≢◌, ◌<◌, ◌+◌, ◌-◌, lit<, ℕ, suc, List, [], ◌∷◌, ◌++◌, length, refl, ap, sym, ◌∙◌, arith, append_assoc, append-nil, map, option_map, Option, Some, None, true, false, cond, nat_eq, ⊎_elim, length-append}
 use Rattle.std.specs.List.{AllByRecursion}
 use Rattle.std.proofs.lemmas.Bool.{ne_eqb, cases_eq}
@@ -55,30 +55,30 @@ no_draw : (c : ℕ) → draws_in c 0 0 [] ≡ Some []
 unfolding draws_in
 no_draw c = refl
 
--- these answers, and then the results of other draws
-pub behind : List ℕ → Option (List (Option ℕ)) → Option (List (Option ℕ))
-behind answers draws = option_map (λ more. map Some answers ++ more) draws
+-- these answers, followed by the results of other draws
+pub following : List ℕ → Option (List (Option ℕ)) → Option (List (Option ℕ))
+following answers draws = option_map (λ more. map Some answers ++ more) draws
 
-behind_none : (draws : Option (List (Option ℕ))) → behind [] draws ≡ draws
-unfolding behind
-behind_none None = refl
-behind_none (Some draws) = refl
+after_none : (draws : Option (List (Option ℕ))) → following [] draws ≡ draws
+unfolding following
+after_none None = refl
+after_none (Some draws) = refl
 
-behind_one_more : (answers : List ℕ) (answer : ℕ) (draws : Option (List (Option ℕ))) →
-    behind answers (option_map (λ more. Some answer ∷ more) draws) ≡ behind (answers ++ answer ∷ []) draws
-unfolding behind
-behind_one_more answers answer None = refl
-behind_one_more answers answer (Some draws) =
+after_one_more : (answers : List ℕ) (answer : ℕ) (draws : Option (List (Option ℕ))) →
+    following answers (option_map (λ more. Some answer ∷ more) draws) ≡ following (answers ++ answer ∷ []) draws
+unfolding following
+after_one_more answers answer None = refl
+after_one_more answers answer (Some draws) =
     ap Some
     (sym (append_assoc (map Some answers) (Some answer ∷ []) draws)
     ∙ ap (λ l. l ++ draws) (sym (map-append Some answers (answer ∷ []))))
 
--- m draws gave these answers from these words, whatever words follow
+-- whatever words follow, the first `m` draws from these words have these answers
 abbrev pub Answered : ℕ → ℕ → List ℕ → List ℕ → Type 0
 Answered c m words answers =
-    (n : ℕ) (rest : List ℕ) → draws_in c (m + n) 0 (words ++ rest) ≡ behind answers (draws_in c n 0 rest)
+    (n : ℕ) (rest : List ℕ) → draws_in c (m + n) 0 (words ++ rest) ≡ following answers (draws_in c n 0 rest)
 
--- the words that a source gave for m answered draws
+-- from `w` to `u` the source gave words from which `m` draws have these answers
 abbrev pub IsAnswered : {W : Type 0} → (W → ℕ → W → Type 0) → ℕ → W → W → ℕ → List ℕ → Type 0
 IsAnswered gives c w u m answers =
     (words : List ℕ) × Takes gives w words u × (length answers ≡ m) × Answered c m words answers
@@ -88,7 +88,7 @@ none_answered gives c w = (
   [],
   refl,
   refl,
-  λ n rest. ap (λ k. draws_in c k 0 rest) (omega arith) ∙ sym (behind_none (draws_in c n 0 rest)),
+  λ n rest. ap (λ k. draws_in c k 0 rest) (omega arith) ∙ sym (after_none (draws_in c n 0 rest)),
 )
 
 pub one_answered : {W : Type 0} (gives : W → ℕ → W → Type 0) (c : ℕ) (w u v : W) (m : ℕ) (answers : List ℕ)
@@ -104,36 +104,37 @@ one_answered gives c w u v m answers rejected answer more had draw is =
           ap (λ k. draws_in c k 0 ((words ++ here) ++ rest)) (omega arith)
           ∙ ap (λ l. draws_in c (m + suc n) 0 l) (append_assoc words here rest)
           ∙ had.3 (suc n) (here ++ rest)
-          ∙ ap (behind answers)
+          ∙ ap (following answers)
           (one_draw c n 0 rejected draw.word rest (let few = draw.few in omega arith) draw.rejects draw.accepted
           ∙ ap (λ a. option_map (λ draws. Some a ∷ draws) (draws_in c n 0 rest)) (sym draw.answers))
-          ∙ behind_one_more answers answer (draws_in c n 0 rest)
-          ∙ ap (λ l. behind l (draws_in c n 0 rest)) (sym is),
+          ∙ after_one_more answers answer (draws_in c n 0 rest)
+          ∙ ap (λ l. following l (draws_in c n 0 rest)) (sym is),
     )
 
 -- if all draws were answered, the words that they took give exactly these answers
 pub all_answered : {W : Type 0} (gives : W → ℕ → W → Type 0) (c : ℕ) (w u : W) (m count : ℕ) (answers : List ℕ) →
     m ≡ count → IsAnswered gives c w u m answers →
     (taken : List ℕ) × Takes gives w taken u × (draws_in c count 0 taken ≡ Some (map Some answers ++ []))
-unfolding behind
+unfolding following
 all_answered gives c w u m count answers all had = (
   had.0,
   had.1,
   ap (λ k. draws_in c k 0 had.0) (let e : count ≡ m + 0 = omega arith in e)
-      ∙ ap (λ l. draws_in c (m + 0) 0 l) (sym (append-nil had.0)) ∙ had.3 0 [] ∙ ap (behind answers) (no_draw c),
+      ∙ ap (λ l. draws_in c (m + 0) 0 l) (sym (append-nil had.0)) ∙ had.3 0 [] ∙ ap (following answers) (no_draw c),
 )
 
--- if the draw after the answers was spent, the words that were taken give the answers and that spent draw
+-- if `m` draws were answered and the next draw was spent, the results of all words taken are these answers, and then
+-- `None`
 pub then_spent : {W : Type 0} (gives : W → ℕ → W → Type 0) (c : ℕ) (w u v : W) (m count : ℕ) (answers : List ℕ)
     (rejected : List ℕ) → m < count → IsAnswered gives c w u m answers → Spends gives c u rejected v →
     (taken : List ℕ) × Takes gives w taken v × (draws_in c count 0 taken ≡ Some (map Some answers ++ None ∷ []))
-unfolding behind
+unfolding following
 then_spent gives c w u v m count answers rejected low had spent =
     let left : ℕ = count - suc m in (
       had.0 ++ rejected,
       takes_append gives w had.0 u rejected v had.1 spent.takes,
       ap (λ k. draws_in c k 0 (had.0 ++ rejected)) (let e : count ≡ m + suc left = omega arith in e)
           ∙ had.3 (suc left) rejected
-          ∙ ap (behind answers)
+          ∙ ap (following answers)
           (spent_draw c left 0 rejected (lit< tt) (let n = spent.all in omega arith) spent.rejects),
     )

@@ -1,4 +1,5 @@
--- Words out of the lanes: the source keeps its pass, and each word comes from a call of that pass.
+-- If words come out of the lanes, the source keeps its lanes, pass and setting, and each word comes from a call of
+-- that pass.
 use Rattle.std.proofs.Common.{ℕ, List, [], ◌∷◌, refl, ap, ◌∙◌, subst}
 use Rattle.lane_table.specs.Calls.{view}
 use Rattle.rng_core.specs.declared.setting.Setting.{Setting}

@@ -1,7 +1,7 @@
 pub mod Bound
 pub mod Chains
 pub mod Counts
-pub mod Courses
+pub mod Paths
 pub mod Folds
 pub mod LaneChains
 pub mod Moved

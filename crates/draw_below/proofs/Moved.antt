@@ -4,7 +4,8 @@ use Rattle.std.proofs.lemmas.Bool.{cases_eq, ne_eqb}
 use Rattle.std.proofs.lemmas.List.Edits.{swapped_from_swap}
 use Rattle.std.specs.List.{swap}
 
--- the place after an exchange of two places: each of the two gives the other, and any other place gives itself
+-- the place of an item after the items at `a` and `b` were exchanged: `b` for `a`, `a` for `b`, any other place
+-- unchanged
 abbrev pub moved : ℕ → ℕ → ℕ → ℕ
 moved a b i = cond (nat_eq i a) b (cond (nat_eq i b) a i)
 
@@ -19,7 +20,7 @@ moved_second a b =
 pub moved_other : (a b i : ℕ) → i ≢ a → i ≢ b → moved a b i ≡ i
 moved_other a b i n m = rw (ne_eqb i a n) (rw (ne_eqb i b m) refl)
 
--- a property that holds for both places and for each other place holds for every place
+-- a property that holds for `a`, for `b` and for each other place holds for every place
 by_place : (a b i : ℕ) (P : ℕ → Type 0) → P a → P b → (i ≢ a → i ≢ b → P i) → P i
 by_place a b i P first second other =
     ⊎_elim (λ e. subst P (sym e) first) (λ n. ⊎_elim (λ e. subst P (sym e) second) (λ m. other n m) (cases_eq i b))

@@ -1,4 +1,4 @@
--- Two lists of draws lead to two orders, and each order of different items has a list of draws.
+-- Different lists of draws lead to different orders of different items, and each such order has a list of draws.
 use Rattle.std.proofs.Common.{◌≡◌, ◌<◌, ◌≤◌, ◌-◌, ℕ, zero, suc, List, [], ◌∷◌, length, get_or, refl, ap, sym, ◌∙◌, subst, arith, ⊎_elim}
 use Rattle.std.specs.List.{swap}
 use Rattle.std.specs.List.Sorted.{IsPermutation}
@@ -30,7 +30,7 @@ untouched last (d ∷ ds) xs k above low drawn =
     ∙ get_moved xs last d k (omega arith) (omega (arith, drawn.0))
     ∙ ap (λ m. get_or xs m 0) (moved_other last d k (omega arith) (omega (arith, drawn.0)))
 
--- the first draw decides which item comes to the last place
+-- the first draw decides which item comes to the place `last`
 last_item : (last d : ℕ) (ds xs : List ℕ) → 0 < last → last < length xs → AreDraws last (d ∷ ds) →
     get_or (exchanged last (d ∷ ds) xs) last 0 ≡ get_or xs d 0
 last_item last d ds xs some low drawn =
@@ -59,28 +59,28 @@ one_list last xs (d ∷ ds) (e ∷ es) apart low short n p q same =
     (one_list (last - 1) (swap xs last d) ds es (different_swap xs last d low d_low apart) (omega arith) (omega arith)
     (omega arith) p.1 q.1 again)
 
--- each item of ys is in xs
+-- each item of `ys` is in `xs`
 abbrev Covers : List ℕ → List ℕ → Type 0
 Covers xs ys = (k : ℕ) → k < length ys → (p : ℕ) × (p < length xs) × (get_or xs p 0 ≡ get_or ys k 0)
 
--- the two lists agree above a place
-abbrev AgreeBehind : ℕ → List ℕ → List ℕ → Type 0
-AgreeBehind last xs ys = (k : ℕ) → last < k → k < length xs → get_or xs k 0 ≡ get_or ys k 0
+-- the two lists have the same items above the place `last`
+abbrev AgreeAfter : ℕ → List ℕ → List ℕ → Type 0
+AgreeAfter last xs ys = (k : ℕ) → last < k → k < length xs → get_or xs k 0 ≡ get_or ys k 0
 
--- if the lists agree above a place, the item of ys at the place is in xs, at that place or below it
+-- if the lists have the same items above `last`, the item of `ys` at `last` is in `xs`, at `last` or at a lower place
 place_of : (last : ℕ) (xs ys : List ℕ) → last < length xs → length xs ≡ length ys → AreDifferent ys → Covers xs ys →
-    AgreeBehind last xs ys → (p : ℕ) × (p ≤ last) × (get_or xs p 0 ≡ get_or ys last 0)
+    AgreeAfter last xs ys → (p : ℕ) × (p ≤ last) × (get_or xs p 0 ≡ get_or ys last 0)
 place_of last xs ys low n apart covers agree =
     let found = covers last (omega arith) in
     let near : found.0 < length xs = found.1 in
     ⊎_elim
-    (λ behind.
-    let same = apart found.0 last (omega arith) (omega arith) (sym (agree found.0 behind near) ∙ found.2) in
+    (λ following.
+    let same = apart found.0 last (omega arith) (omega arith) (sym (agree found.0 following near) ∙ found.2) in
     absurd (omega arith))
     (λ h. (found.0, h, found.2)) (cases_lt last found.0)
 
 some_draws : (last : ℕ) (xs ys : List ℕ) → last < length xs → length xs ≡ length ys → AreDifferent ys →
-    Covers xs ys → AgreeBehind last xs ys →
+    Covers xs ys → AgreeAfter last xs ys →
     (ds : List ℕ) × (length ds ≡ last) × AreDraws last ds × (exchanged last ds xs ≡ ys)
 some_draws zero xs ys low n apart covers agree =
     let top = place_of 0 xs ys low n apart covers agree in

@@ -1,4 +1,4 @@
--- The invariant of a shuffle from one draw to the next.
+-- The state of a shuffle from one draw to the next, as the loop's invariant describes it.
 use Rattle.std.proofs.Common.{◌≡◌, ◌<◌, ◌≤◌, ◌+◌, ◌-◌, ◌*◌, ◌%◌, ℕ, List, [], ◌∷◌, ◌++◌, length, refl, ap, sym, ◌∙◌, subst, arith, length-append, true≢false}
 use Rattle.std.specs.List.{AllByRecursion, swap}
 use Rattle.std.specs.List.Sorted.{IsPermutation}
@@ -36,8 +36,8 @@ none_rejected : (rs : List ℕ) → AllByRecursion (IsRejected 2) rs → rs ≡ 
 none_rejected [] all = refl
 none_rejected (r ∷ rs) all = absurd (true≢false (sym (leb-zero (2 * r % 4294967296)) ∙ all.0))
 
--- the invariant of a shuffle: the draws so far are one fewer than `done`, and `rejected` has the words that the last
--- one rejected
+-- the invariant of a shuffle: `done` is one more than the number of draws so far, and `rejected` has the words that the
+-- last draw rejected
 abbrev pub IsSoFar : {W : Type 0} → (W → ℕ → W → Type 0) → List ℕ → W → List ℕ → W → List ℕ → ℕ → Type 0
 IsSoFar gives before w now u rejected done =
     (ds : List ℕ) × (length ds + 1 ≡ done) × (length ds ≤ length before - 1) × Shuffles gives before w ds now u

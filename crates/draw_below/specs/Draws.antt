@@ -1,21 +1,21 @@
--- The words that a draw accepts, its answer, and how often each answer comes.
+-- The words that a draw accepts, the draw's answer, and how often each answer comes.
 use Rattle.std.specs.Prelude.{◌≡◌, ◌<◌, ◌≤◌, ◌==◌, ◌+◌, ◌-◌, ◌*◌, ◌/◌, ◌%◌, ◌^◌, ℕ, zero, suc, Bool, true, false, List, [], ◌∷◌, ◌++◌, if◌then◌else◌, nat_le, length, Result, Ok, Err}
 use Rattle.std.specs.List.{AllByRecursion}
 use Rattle.draw_below.specs.declared.draws.DrawSpent.{DrawSpent}
 
--- whether the word r is accepted for the bound c
+-- whether the word `r` is accepted for the bound `c`
 abbrev pub accepts : ℕ → ℕ → Bool
 accepts c r = if c == 0 then true else nat_le (2 ^ 32 % c) (c * r % 2 ^ 32)
 
--- the value of the word r for the bound c
+-- the value of the word `r` for the bound `c`
 abbrev pub value_of : ℕ → ℕ → ℕ
 value_of c r = if c == 0 then r else c * r / 2 ^ 32
 
--- whether the word r is accepted for the bound c, with the value v
+-- whether the word `r` is accepted for the bound `c` and has the value `v`
 abbrev pub gives_value : ℕ → ℕ → ℕ → Bool
 gives_value c v r = if accepts c r then value_of c r == v else false
 
--- how many of the words 0, 1, .. below n are accepted for the bound c with the value v
+-- how many words below `n` are accepted for the bound `c` and have the value `v`
 unfoldable pub count : ℕ → ℕ → ℕ → ℕ
 count c v zero = 0
 count c v (suc r) = count c v r + (if gives_value c v r then 1 else 0)
@@ -27,12 +27,12 @@ EachValueIsAsLikely = (c v : ℕ) → v < c → c < 2 ^ 32 → count c v (2 ^ 32
 abbrev pub IsRejected : ℕ → ℕ → Type 0
 IsRejected c r = accepts c r ≡ false
 
--- from w to u exactly these words were taken, in order
+-- from `w` to `u` exactly these words were taken, in order
 abbrev pub Takes : {W : Type 0} → (W → ℕ → W → Type 0) → W → List ℕ → W → Type 0
 Takes gives w [] u = w ≡ u
 Takes {W} gives w (r ∷ rs) u = (v : W) × gives w r v × Takes gives v rs u
 
--- a draw took fewer than 128 words that it rejected, then the first that it accepts, and returned that word's value
+-- a draw took fewer than 128 words and rejected them, then took a word that it accepts, and returned that word's value
 pub record Draws {W : Type 0} (gives : W → ℕ → W → Type 0) (c : ℕ) (w : W) (rejected : List ℕ) (answer : ℕ) (u : W)
     : Type 0 where
   pub few : length rejected < 128
@@ -49,12 +49,12 @@ pub record Spends {W : Type 0} (gives : W → ℕ → W → Type 0) (c : ℕ) (w
   pub rejects : AllByRecursion (IsRejected c) rejected
   pub takes : Takes gives w rejected u
 
--- the end of a draw below c
+-- a draw below `c` ended with this result
 abbrev pub IsDraw : {W : Type 0} → (W → ℕ → W → Type 0) → ℕ → W → List ℕ → Result ℕ DrawSpent → W → Type 0
 IsDraw gives c w rejected (Ok answer) u = Draws gives c w rejected answer u
 IsDraw gives c w rejected (Err spent) u = Spends gives c w rejected u
 
--- the end of a draw among n numbers from lo on; c is n, or 0 if n is 2^32
+-- a draw among the `n` numbers from `lo` on ended with this result; the draw's bound is `n`, or 0 if `n` is 2^32
 abbrev pub IsDrawFrom : {W : Type 0} → (W → ℕ → W → Type 0) → ℕ → ℕ → W → List ℕ → Result ℕ DrawSpent → W → Type 0
 IsDrawFrom gives lo n w rejected (Ok answer) u =
     (lo ≤ answer) × (answer < lo + n) × Draws gives (n % 2 ^ 32) w rejected (answer - lo) u

@@ -1,4 +1,4 @@
--- Integers of the core as words.
+-- Integers of the core as a source of words.
 use Rattle.std.specs.Prelude.{◌≡◌, ℕ, List, []}
 use Rattle.std.specs.Int.{from_le_bytes, w32}
 use Rattle.key_names.specs.declared.names.Step.{Step}
@@ -12,7 +12,7 @@ use Rattle.rng_core.specs.Traces.{knowing}
 use Rattle.rng_core.specs.Makes.{Makes, IsOutcomeOf, setting_of}
 use Rattle.draw_below.specs.declared.lane_words.LaneWords.{LaneWords}
 
--- a call with its own trace read an integer of 4 bytes, and the word is its bytes, the lowest first
+-- a call with its own trace read an integer of 4 bytes, and the word is the integer's bytes, the lowest first
 pub record ReadsWord (set : Setting) (before : View) (word : ℕ) (after : View) : Type 0 where
   pub bytes : List ℕ
   pub steps : List Step
@@ -20,13 +20,13 @@ pub record ReadsWord (set : Setting) (before : View) (word : ℕ) (after : View)
       (knowing before []) (knowing after steps)
   pub word_is : word ≡ from_le_bytes w32 bytes
 
--- the source has the same lanes, pass and setting
+-- the source has the same lanes, pass and setting before and after
 pub record SameSource (before after : LaneWords) : Type 0 where
   pub lanes : after.lanes.now ≡ before.lanes.now
   pub pass : after.pass.ghost_name ≡ before.pass.ghost_name
   pub set : after.set ≡ before.set
 
--- the source over the lanes gives a word
+-- from `before` to `after` the source read this word from the core, and stayed the same source
 abbrev pub GivesInt : LaneWords → ℕ → LaneWords → Type 0
 GivesInt before word after =
     ReadsWord before.set (view before.pass.now) word (view after.pass.now) × SameSource before after

@@ -5,32 +5,33 @@ use Rattle.std.specs.List.Sorted.{IsPermutation}
 use Rattle.draw_below.specs.declared.draws.DrawSpent.{DrawSpent}
 use Rattle.draw_below.specs.Draws.{Draws, Spends}
 
--- the item at `last` was exchanged with the item at the first number, the item before it with that at the next
--- number, and so on
+-- the list after exchanges: the item at `last` is exchanged with the item at the first drawn place, then the item at
+-- `last - 1` with the item at the second drawn place, and so on
 abbrev pub exchanged : ℕ → List ℕ → List ℕ → List ℕ
 exchanged last [] items = items
 exchanged last (d ∷ ds) items = exchanged (last - 1) ds (swap items last d)
 
--- numbers that can be drawn for the places last, last - 1, ..: each is at most its place
+-- the numbers can be drawn for the places `last`, `last - 1` and so on: each number is at most its place
 abbrev pub AreDraws : ℕ → List ℕ → Type 0
 AreDraws last [] = Unit {0}
 AreDraws last (d ∷ ds) = (d ≤ last) × AreDraws (last - 1) ds
 
--- from w to u these numbers were drawn for the places last, last - 1, ..
+-- from `w` to `u` these numbers were drawn for the places `last`, `last - 1` and so on
 abbrev pub DrawsEach : {W : Type 0} → (W → ℕ → W → Type 0) → ℕ → W → List ℕ → W → Type 0
 DrawsEach gives last w [] u = w ≡ u
 DrawsEach {W} gives last w (d ∷ ds) u =
     (v : W) × (rejected : List ℕ) × Draws gives (last + 1) w rejected d v × DrawsEach gives (last - 1) v ds u
 
--- a shuffle up to some place: numbers were drawn for the last places, and their items exchanged
+-- a shuffle so far: a number was drawn for each of the last places, and the item there was exchanged with the one at
+-- that number
 pub record Shuffles {W : Type 0} (gives : W → ℕ → W → Type 0) (before : List ℕ) (w : W) (draws : List ℕ)
     (after : List ℕ) (u : W) : Type 0 where
   pub drawn : DrawsEach gives (length before - 1) w draws u
   pub none_above : AreDraws (length before - 1) draws
   pub exchanges : after ≡ exchanged (length before - 1) draws before
 
--- the end of a shuffle: each place but the first had a draw, and the last draw rejected no word; or a draw was spent
--- after some draws
+-- the end of a shuffle: each place but the first had a draw, and `rejected` is empty; or fewer places had one, and the
+-- next draw was spent: `rejected` is the words that it rejected
 abbrev pub IsShuffle : {W : Type 0} → (W → ℕ → W → Type 0) → List ℕ → W → List ℕ → Result (Unit {0}) DrawSpent →
     List ℕ → W → Type 0
 IsShuffle gives before w rejected (Ok done) after u =
@@ -44,7 +45,7 @@ abbrev pub AreDifferent : List ℕ → Type 0
 AreDifferent items =
     (i j : ℕ) → i < length items → j < length items → slice_index items i ≡ slice_index items j → i ≡ j
 
--- these draws turn the first list into the other
+-- a shuffle with exactly these draws turns `before` into `after`
 abbrev pub Makes : List ℕ → List ℕ → List ℕ → Type 0
 Makes before draws after = (length draws ≡ length before - 1) × AreDraws (length before - 1) draws
     × (exchanged (length before - 1) draws before ≡ after)

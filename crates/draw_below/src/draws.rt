@@ -1,4 +1,4 @@
-//! A number below a bound, each with the same probability.
+//! Numbers below a bound. Each number is as likely as any other if each word is.
 ghost use Rattle.std.specs.Prelude.{◌≡◌, ◌<◌, ◌≤◌, ◌+◌, ◌-◌, ◌%◌, ◌^◌, nat_le, IfOk};
 ghost use Rattle.draw_below.specs.Draws.{IsDraw, IsDrawFrom};
 
@@ -13,7 +13,8 @@ const WORDS: u64 = 1 << 32;
 #[derive(Clone, Copy, Debug, PartialEq, Eq)]
 pub struct DrawSpent;
 
-// Whether the word with this product is accepted. It divides only if the low bits are below the bound.
+// Whether a word is accepted, if `low` is the low half of the word's product with `c`. The check divides only if `low`
+// is below `c`.
 fn is_accepted(c: u32, low: u32) -> bool
     requires { 0 < c }
     ensures { result ≡ nat_le (2 ^ 32 % c) low }
@@ -24,8 +25,8 @@ fn is_accepted(c: u32, low: u32) -> bool
 /// A number below `c`, as `__get_random_u32_below` of the kernel's drivers/char/random.c makes it. Each number is as
 /// likely as any other if each word is. For `c` 0 the result is the next word itself.
 ///
-/// A word times `c` has 64 bits. The high half is the result. The word is accepted if and only if the low half is at
-/// least 2^32 mod `c`. After success `rejected` holds the words that were taken before the accepted one.
+/// The product of a word and `c` has 64 bits, and its high half is the result. The word is accepted if and only if the
+/// low half is at least 2^32 mod `c`. After success `rejected` holds the words that were taken before the accepted one.
 ///
 /// # Errors
 ///

@@ -6,8 +6,8 @@ ghost use Rattle.rng_core.specs.Hosted.{IsFree, free_props};
 use lane_table::{Lanes, Pass};
 use rng_core::Setting;
 
-/// The integers of 4 bytes that a caller reads from the core, as words with the lowest byte first. Each read is a
-/// call with its own trace.
+/// The integers of 4 bytes that a caller reads from the core, each as a word with the lowest byte first. Each read is
+/// a call of the core with its own trace.
 #[derive(Drop)]
 pub struct LaneWords<'a> {
     pub(crate) lanes: &'a Lanes,

@@ -24,7 +24,7 @@ impl Model for Rejected {
 }
 
 impl Rejected {
-    /// No words.
+    /// The empty list of words.
     pub fn empty() -> Rejected
         ensures { result ≡ [] }
     {

@@ -1,4 +1,4 @@
-//! Lists in an order that is as likely as any other.
+//! Shuffles a list. Each order is as likely as any other if each word is.
 ghost use Rattle.std.specs.Prelude.{◌≡◌, ◌≤◌, ◌^◌, length};
 ghost use Rattle.std.specs.List.Sorted.{IsPermutation};
 ghost use Rattle.draw_below.specs.Orders.{IsShuffle};
@@ -8,15 +8,15 @@ use crate::rejected::Rejected;
 use crate::words::Words;
 use std::sync::Wait;
 
-/// Puts a list of at most 65,536 items into an order. Each order is as likely as any other if each word is.
+/// Shuffles a list of at most 65,536 items. Each order of different items is as likely as any other if each word is.
 ///
-/// For each place from the last down to the second, it draws a number up to the place, and exchanges the place's
-/// item with the item at that number. `rejected` is empty after success, since the last of these draws has the bound
-/// 2 and rejects no word.
+/// For each place from the last down to the second, the function draws one of the places up to this place, and
+/// exchanges the items at the two places. `rejected` is empty after success: the last of these draws has the bound 2,
+/// and rejects no word.
 ///
 /// # Errors
 ///
-/// A draw was spent: `rejected` then holds its 128 words. The exchanges made before it stay.
+/// A draw rejected its first 128 words. `rejected` then holds them, and the exchanges made before this draw stay.
 pub fn shuffle<W: Words, R: Wait>(
     rt: &R,
     words: &mut W,

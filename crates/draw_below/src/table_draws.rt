@@ -1,4 +1,4 @@
-//! Successive draws below one bound, and those of a caller on a new table.
+//! Successive draws below one bound, from any source of words and from a new table.
 ghost use Rattle.std.specs.Prelude.{◌≡◌, ◌^◌, ◌<◌, ◌≤◌, ℕ, [], List, Some, IfOk};
 ghost use Rattle.lane_table.specs.Calls.{view};
 ghost use Rattle.lane_table.specs.Hands.{HoldsLanes};
@@ -19,15 +19,15 @@ use std::sync::Wait;
 /// The most draws of one [`draw_each`].
 pub const MOST_DRAWS: usize = 1000;
 
-/// The answers of some draws in order, and whether the draw after the last of them was spent.
+/// The answers of successive draws, in order, and whether the next draw after them was spent (`DrawSpent`).
 #[derive(Drop)]
 pub struct Drawn {
     pub answers: ArrayVec<u32, MOST_DRAWS>,
     pub spent: bool,
 }
 
-/// Draws `count` numbers below `c`, at most 1,000; for `c` 0 the words themselves are the numbers. It stops at a
-/// spent draw.
+/// Draws `count` numbers below `c`; `count` is at most 1,000. If `c` is 0, the words themselves are the numbers. A draw
+/// that is spent is the last one.
 pub fn draw_each<W: Words, R: Wait>(rt: &R, words: &mut W, c: u32, count: u32) -> Drawn
     requires { count ≤ 1000 }
     ensures { (taken : List ℕ) × Takes W.gives words.old taken words.new
@@ -82,10 +82,10 @@ fn draw_by_pass<R: Wait>(
     draw_from(rt, &mut words, c, count)
 }
 
-/// Makes a core with one CPU ready by a first sample, 32 bytes that count up from 0 with a credit of 256 bits. Then it
-/// draws `count` numbers below `c`, at most 1,000, from the integers of 4 bytes that caller 0 reads; for `c` 0 the
-/// integers themselves are the numbers. It stops at a spent draw. All calls have CPU 0, the moment 0 and hardware words
-/// 0.
+/// Makes a core with one CPU ready by a first sample: 32 bytes that count up from 0, with a credit of 256 bits. Then it
+/// draws `count` numbers below `c`; `count` is at most 1,000. The words are the integers of 4 bytes that caller 0
+/// reads. If `c` is 0, the integers themselves are the numbers. A draw that is spent is the last one. All calls have
+/// CPU 0, the moment 0 and hardware words 0.
 ///
 /// # Errors
 ///

@@ -6,7 +6,7 @@ use std::sync::Wait;
 
 /// A source of 32-bit words.
 pub trait Words {
-    /// The relation of a call of `next`: the source before it, the word, and the source after it.
+    /// How a call of `next` relates the source before it, the word, and the source after it.
     ghost gives: { Self → ℕ → Self → Type 0 };
 
     /// The next word.

@@ -1,4 +1,4 @@
--- These lemmas cut a text at the first byte of some value.
+-- Cutting a text at the first byte of a given value, and the faults of lines with too many fields.
 use Rattle.std.proofs.Common.{◌≡◌, Err, ℕ, ◌+◌, ◌-◌, ◌<◌, Some, None, List, [], ◌∷◌, ◌++◌, get_or, length, take, drop, refl, sym, ap, ◌∙◌, arith, add-one, drop-cons}
 use Rattle.std.proofs.lemmas.Bool.{false_from_ne_true, eqb-true}
 use Rattle.std.proofs.lemmas.List.{take-append-drop, get_or-take, get_or_default, length-take}
@@ -30,7 +30,7 @@ at_place byte place text h =
     ap (parts byte) (sym (split_there byte place text h.0.high (eqb-true _ _ h.1)))
     ∙ parts_at byte (take place text) (drop (place + 1) text) front
 
--- taking as many bytes as remain after the first n gives all of them
+-- the first `length text - n` bytes after the first `n` bytes are the whole rest of the text
 pub rest_of : {A : Type 0} (n : ℕ) (text : List A) → take (length text - n) (drop n text) ≡ drop n text
 rest_of n text = grind (arith, common_steps)
 
@@ -45,7 +45,7 @@ more_than_one a text = rw (first_part 32 text).is refl
 pub more_than_two : (a b text : List ℕ) → two_fields (a ∷ b ∷ parts 32 text) ≡ Err UnknownWord
 more_than_two a b text = rw (first_part 32 text).is refl
 
--- if the fields after an act are not one field, the `inside` line has their fault
+-- if reading one field after the act fails, the `inside` line has the same fault
 pub act_fault : (point act last : List ℕ) (kind : FaultKind) → one_field (parts 32 last) ≡ Err kind
     → inside_of (point ∷ act ∷ parts 32 last) ≡ Err kind
 act_fault point act last kind e = let p = first_part 32 last in rw (p.is, rw p.is at e) refl

@@ -1,28 +1,29 @@
--- A text that is read piece by piece.
+-- `IsAfter` and `HasFed` stay true of a reader that is fed piece by piece.
 use Rattle.std.proofs.Common.{◌≡◌, ℕ, ◌+◌, ◌<◌, ◌≤◌, true, false, ltb, length, arith, ◌==◌, List, [], ◌∷◌, ◌++◌, append_assoc, append-nil, refl, sym, ap, subst, ◌∙◌, inl, inr, Err}
 use Rattle.std.proofs.lemmas.Bool.{cases_lt, le-ltb, lt-ltb}
 use Rattle.std.proofs.lemmas.List.{length-append}
 use Rattle.std.proofs.lemmas.List.Elements.{All-append, All-head, All-nil, All-tail}
 use Rattle.key_names.specs.declared.faults.FaultKind.TheVariants.{TooLong}
-use Rattle.key_names.specs.Texts.ScriptFaults.{behind, parts, script_of, script_of_lines}
+use Rattle.key_names.specs.Texts.ScriptFaults.{following, parts, script_of, script_of_lines}
 use Rattle.key_names.proofs.Script.Parts.{Lacks}
-use Rattle.event_script.specs.Feeding.{HasFed, IsBehind, IsWhole, LeadsTo, goes, number_of}
-use Rattle.event_script.specs.declared.reader.Reader.{Reader}
-use Rattle.event_script.specs.declared.stage.Stage.{Stage}
+use Rattle.event_script.specs.Feeding.{HasFed, IsAfter, IsWhole, LeadsTo, goes, number_of}
+use Rattle.event_script.specs.declared.reader.ScriptReader.{ScriptReader}
+use Rattle.event_script.specs.declared.whole.stage.ScriptStage.{ScriptStage}
 use Rattle.event_script.proofs.WholeLines.{cut_joins, no_lines, rest_is_whole}
 
 -- ---- whole lines
 
-pub none_read : (text lines more : List ℕ) (r : Reader) → IsWhole lines → parts 10 lines ≡ lines ∷ []
-    → IsBehind text r (lines ++ more) → IsBehind text r more
-none_read text lines more r whole one at = subst (λ x. IsBehind text r (x ++ more)) (no_lines lines whole one) at
+pub none_read : (text lines more : List ℕ) (r : ScriptReader) → IsWhole lines → parts 10 lines ≡ lines ∷ []
+    → IsAfter text r (lines ++ more) → IsAfter text r more
+none_read text lines more r whole one at = subst (λ x. IsAfter text r (x ++ more)) (no_lines lines whole one) at
 
-pub behind_is_whole : (lines end b : List ℕ) → IsWhole lines → parts 10 lines ≡ end ∷ parts 10 b → IsWhole b
-behind_is_whole lines end b whole cut =
+pub after_is_whole : (lines end b : List ℕ) → IsWhole lines → parts 10 lines ≡ end ∷ parts 10 b → IsWhole b
+after_is_whole lines end b whole cut =
     rest_is_whole lines whole (omega (arith, ap length (cut_joins lines end b cut), length-append end (10 ∷ b))) b
-    (sym (ap behind cut))
+    (sym (ap following cut))
 
--- the rest and the end of a line make a whole line, and the other bytes follow it
+-- if `lines` is `end`, a line feed and `b`, then `rest` and `end` make a whole line, and `b` and `more` follow this
+-- line
 regroup : (rest lines end b more : List ℕ) → lines ≡ end ++ 10 ∷ b
     → rest ++ (lines ++ more) ≡ ((rest ++ end) ++ 10 ∷ []) ++ (b ++ more)
 regroup rest lines end b more is =
@@ -31,11 +32,11 @@ regroup rest lines end b more is =
     ∙ sym (append_assoc rest end (10 ∷ (b ++ more)))
     ∙ sym (append_assoc (rest ++ end) (10 ∷ []) (b ++ more))
 
--- the reader had the start of the first line; it reads the rest of that line, and whole lines after it
-pub lines_read : (text lines end b more line : List ℕ) (r next : Reader) (mid : Stage)
+-- the reader kept the start of a line; after it reads the end of that line, and whole lines, only `more` is unread
+pub lines_read : (text lines end b more line : List ℕ) (r next : ScriptReader) (mid : ScriptStage)
     → parts 10 lines ≡ end ∷ parts 10 b → line ≡ (r.rest.items ++ end) ++ 10 ∷ [] → next.rest.items ≡ []
     → LeadsTo r.stage line mid [] → LeadsTo mid b next.stage []
-    → IsBehind text r (lines ++ more) → IsBehind text next more
+    → IsAfter text r (lines ++ more) → IsAfter text next more
 lines_read text lines end b more line r next mid cut is empty first second at =
     let joined = cut_joins lines end b cut in
     record {
@@ -79,7 +80,7 @@ no_front (b ∷ front) (x ∷ more) is clean =
     no_front front more (let rest : front ≡ more ++ 10 ∷ [] = cc in rest)
     (All-tail (λ x. (x == 10) ≡ false) b front clean)
 
--- its last line is whole
+-- if the piece ends with a line feed, no incomplete line is left after its whole lines
 pub ends_line : (lines front more : List ℕ) → lines ++ front ≡ more ++ 10 ∷ [] → Lacks 10 front
     → (front ≡ []) × (0 < length lines)
 ends_line [] front more is clean = absurd (no_front front more is clean)
@@ -92,18 +93,18 @@ ends_line (b ∷ lines) front (x ∷ more) is clean =
 
 -- ---- how long the text is
 
-pub not_too_long : (text : List ℕ) (r : Reader) → HasFed text r → r.len ≤ 16777216 → length text ≤ 16777216
+pub not_too_long : (text : List ℕ) (r : ScriptReader) → HasFed text r → r.len ≤ 16777216 → length text ≤ 16777216
 not_too_long text r fed few = elim (cases_lt 16777216 (length text)) [
   | inl many ↦ absurd (omega (arith, few, fed.long many))
   | inr short ↦ omega (arith, short)
 ]
 
-pub fits_still : (text piece : List ℕ) (r : Reader) → HasFed text r → r.len + length piece ≤ 16777216
+pub fits_still : (text piece : List ℕ) (r : ScriptReader) → HasFed text r → r.len + length piece ≤ 16777216
     → length text + length piece ≤ 16777216
 fits_still text piece r fed few =
     omega (arith, few, fed.len (not_too_long text r fed (omega arith)))
 
-pub is_over : (text piece : List ℕ) (r : Reader) → HasFed text r → 16777216 < r.len + length piece
+pub is_over : (text piece : List ℕ) (r : ScriptReader) → HasFed text r → 16777216 < r.len + length piece
     → 16777216 < length text + length piece
 is_over text piece r fed many = elim (cases_lt 16777216 (length text)) [
   | inl long ↦ omega (arith, long)
@@ -112,17 +113,17 @@ is_over text piece r fed many = elim (cases_lt 16777216 (length text)) [
 
 -- ---- one piece
 
--- a piece is added to the text, and the reader has read none of it yet
-piece_begins : (text piece : List ℕ) (r : Reader) → IsBehind text r [] → IsBehind (text ++ piece) r piece
+-- after a piece is added to the text, exactly this piece is unread
+piece_begins : (text piece : List ℕ) (r : ScriptReader) → IsAfter text r [] → IsAfter (text ++ piece) r piece
 piece_begins text piece r at = record {
   same = λ later. ap (λ x. script_of_lines (parts 10 x)) (append_assoc text piece later) ∙ at.same (piece ++ later);
   clean = at.clean;
   number = omega (arith, at.number, length-append text piece);
 }
 
--- the reader keeps the start of a line as its rest
-front_kept : (text front : List ℕ) (r next : Reader) → IsBehind text r front → Lacks 10 front → next.stage ≡ r.stage
-    → next.rest.items ≡ r.rest.items ++ front → IsBehind text next []
+-- if the unread bytes have no line feed, and the reader appends them to its rest, no byte is unread after that
+front_kept : (text front : List ℕ) (r next : ScriptReader) → IsAfter text r front → Lacks 10 front → next.stage ≡ r.stage
+    → next.rest.items ≡ r.rest.items ++ front → IsAfter text next []
 front_kept text front r next at clean same rest = record {
   same = λ later.
       at.same later
@@ -133,20 +134,20 @@ front_kept text front r next at clean same rest = record {
   number = omega (arith, at.number, ap number_of same, ap length rest, length-append r.rest.items front);
 }
 
--- IsBehind depends on the stage and the rest alone
-same_place : (text unread : List ℕ) (r next : Reader) → next.stage ≡ r.stage → next.rest.items ≡ r.rest.items
-    → IsBehind text r unread → IsBehind text next unread
+-- `IsAfter` depends only on the reader's stage and rest
+same_place : (text unread : List ℕ) (r next : ScriptReader) → next.stage ≡ r.stage → next.rest.items ≡ r.rest.items
+    → IsAfter text r unread → IsAfter text next unread
 same_place text unread r next stage rest at = record {
   same = λ later. rw (stage, rest) (at.same later);
   clean = rw rest at.clean;
   number = rw (stage, rest) at.number;
 }
 
--- a reader that reads a piece has been fed the longer text, if that text is not too long
-pub piece_read : (text piece lines front : List ℕ) (r begun read next : Reader) → HasFed text r
+-- a reader that reads a further piece has been fed the longer text, if that text is not too long
+pub piece_read : (text piece lines front : List ℕ) (r begun read next : ScriptReader) → HasFed text r
     → length text + length piece ≤ 16777216 → piece ≡ lines ++ front → Lacks 10 front
     → begun.stage ≡ r.stage → begun.rest.items ≡ r.rest.items
-    → ((all more : List ℕ) → IsBehind all begun (lines ++ more) → IsBehind all read more)
+    → ((all more : List ℕ) → IsAfter all begun (lines ++ more) → IsAfter all read more)
     → next.stage ≡ read.stage → next.rest.items ≡ read.rest.items ++ front → next.len ≡ r.len + length piece
     → HasFed (text ++ piece) next
 piece_read text piece lines front r begun read next fed short is clean stage rest reads same kept len =
@@ -157,13 +158,13 @@ piece_read text piece lines front r begun read next fed short is clean stage res
       long = λ many. absurd (omega (arith, many, all));
       read = λ _.
           front_kept (text ++ piece) front read next
-          (reads (text ++ piece) front (subst (IsBehind (text ++ piece) begun) is
+          (reads (text ++ piece) front (subst (IsAfter (text ++ piece) begun) is
           (same_place (text ++ piece) piece r begun stage rest (piece_begins text piece r (fed.read few)))))
           clean same kept;
     }
 
 -- if a text is too long, HasFed only requires that the reader counted too many bytes
-pub too_long_now : (text piece : List ℕ) (r next : Reader) → HasFed text r → 16777216 < length text + length piece
+pub too_long_now : (text piece : List ℕ) (r next : ScriptReader) → HasFed text r → 16777216 < length text + length piece
     → 16777216 < next.len → HasFed (text ++ piece) next
 too_long_now text piece r next fed many long =
     let all = length-append text piece in
@@ -175,7 +176,7 @@ too_long_now text piece r next fed many long =
 
 -- ---- the whole text
 
-pub too_long : (text : List ℕ) (r : Reader) → HasFed text r → 16777216 < r.len
+pub too_long : (text : List ℕ) (r : ScriptReader) → HasFed text r → 16777216 < r.len
     → script_of text ≡ Err (record { line = 0; kind = TooLong })
 unfolding script_of
 too_long text r fed many = elim (cases_lt 16777216 (length text)) [
@@ -183,7 +184,7 @@ too_long text r fed many = elim (cases_lt 16777216 (length text)) [
   | inr few ↦ absurd (omega (arith, many, fed.len (omega arith)))
 ]
 
-pub whole_text : (text : List ℕ) (r : Reader) → HasFed text r → r.len ≤ 16777216
+pub whole_text : (text : List ℕ) (r : ScriptReader) → HasFed text r → r.len ≤ 16777216
     → script_of text ≡ goes r.stage (parts 10 r.rest.items)
 unfolding script_of
 whole_text text r fed few =

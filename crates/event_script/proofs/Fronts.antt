@@ -1,4 +1,4 @@
--- The lines of a text up to the line `end`.
+-- The front of a text: the lines up to and including the first line `end`.
 use Rattle.std.proofs.Common.{◌≡◌, ℕ, ◌-◌, Bool, true, false, cond, List, [], ◌∷◌, ◌++◌, length, take, refl, sym, ap, ◌∙◌, append_assoc, arith}
 use Rattle.std.specs.List.{join_with_byte}
 use Rattle.std.specs.Prelude.{codes}
@@ -8,7 +8,7 @@ use Rattle.std.proofs.lemmas.List.Splits.{join_with_byte-slice_split}
 use Rattle.key_names.specs.Texts.ScriptFaults.{front, front_lines, parts}
 use Rattle.key_names.proofs.Script.Parts.{HasFirst, first_part}
 
--- the text is `before` and then left; its front is `before` and then the front of left
+-- the text is `before` and then `left`; the text's front is `before` and then the front of `left`
 pub record HasFront (text left : List ℕ) : Type 0 where
   pub before : List ℕ
   pub whole : text ≡ before ++ left
@@ -48,7 +48,7 @@ front_end (next ∷ more) line some end = rw end refl
 regroup : (before line rest : List ℕ) → before ++ (line ++ 10 ∷ rest) ≡ (before ++ (line ++ 10 ∷ [])) ++ rest
 regroup before line rest = simp append_assoc
 
--- if the first line of left is not `end`, it moves to the bytes before left
+-- if the first line of `left` is not `end`, HasFront also holds for the rest after this line
 pub goes_past : (text left line rest : List ℕ) → HasFront text left → parts 10 left ≡ line ∷ parts 10 rest
     → bytes_eq line (codes "end") ≡ false → HasFront text rest
 goes_past text left line rest h cut not =
@@ -62,7 +62,7 @@ goes_past text left line rest h cut not =
       front_is = h.front_is ∙ ap (λ (x : List ℕ). h.before ++ x) left_front ∙ regroup h.before line (front rest);
     }
 
--- the front ends with the line `end`
+-- if the first line of `left` is `end`, the text's front ends after this line
 pub ends_there : (text left line rest : List ℕ) → HasFront text left → parts 10 left ≡ line ∷ parts 10 rest
     → bytes_eq line (codes "end") ≡ true → take (length text - length rest) text ≡ front text
 ends_there text left line rest h cut end =

@@ -1,4 +1,4 @@
--- What more text can make of a draft: it can end at once if no event forks, and it never takes anything back.
+-- How more text changes a draft. If no event forks, the script can end at once. Later lines only add events and blocks.
 use Rattle.std.proofs.Common.{◌≡◌, ℕ, ◌+◌, ◌<◌, ◌≤◌, ◌==◌, ◌⊎◌, ltb, inl, inr, false, Some, None, Result, Ok, Err, List, [], ◌∷◌, ◌++◌, append_assoc, append-nil, length, refl, sym, ap, subst, ◌∙◌, arith}
 use Rattle.std.specs.List.{AllByRecursion, list_any}
 use Rattle.std.proofs.lemmas.Bool.{cases_Bool, le-ltb, ltb-false, ltb-true, or_from}
@@ -9,7 +9,7 @@ use Rattle.key_names.specs.declared.faults.FaultKind.{FaultKind}
 use Rattle.key_names.specs.declared.faults.FaultKind.TheVariants.{Unfinished}
 use Rattle.key_names.specs.declared.faults.ScriptFault.{ScriptFault}
 use Rattle.key_names.specs.Texts.ScriptGrammar.{IsScript, Script, WellFormed, times_forked}
-use Rattle.key_names.specs.Texts.ScriptFaults.{◌>>=◌, Draft, Next, GoesOn, Ends, Said, SaysEvent, SaysCaller, SaysEnd, after, at_line, behind_line, blocks_of, by_next, fault_in, first_fault, has_orphan, is_bad_fork, is_fork_from, is_past_limits, is_unprintable, line_of, nothing_behind, parts, said, script_from, script_of, script_of_draft, script_of_lines, with_block, with_event}
+use Rattle.key_names.specs.Texts.ScriptFaults.{◌>>=◌, Draft, Next, GoesOn, Ends, Said, SaysEvent, SaysCaller, SaysEnd, after, at_line, after_line, blocks_of, by_next, fault_in, first_fault, has_orphan, is_bad_fork, is_fork_from, is_past_limits, is_unprintable, line_of, nothing_after, parts, said, script_from, script_of, script_of_draft, script_of_lines, with_block, with_event}
 use Rattle.key_names.proofs.Lists.Each.{each_left}
 use Rattle.key_names.proofs.Script.Drafts.{Whole, forked_low, no_orphan}
 use Rattle.key_names.proofs.Script.FieldReaders.{same_ok, step_ok}
@@ -46,11 +46,11 @@ end_step d n none = rw none refl
 
 module _ (text : List ℕ) (d : Draft) (n : ℕ) (goes : GoesOnFrom text d n)
     (none : AllByRecursion ForkNone (blocks_of d)) where
-  -- the text can end here
+  -- the text and the line `end` after it are the script of the draft
   pub closes : script_of_lines (parts 10 (text ++ end_line)) ≡ Ok (script_of_draft d)
   closes = goes end_line ∙ end_step d n (no_block_from _ (blocks_of d) none)
 
-  -- all conditions of a well-formed script, except the length of its text
+  -- the draft meets all conditions of a well-formed script, except the one on the text's length
   pub is_whole : Whole d.version d.cpus (blocks_of d)
   is_whole = (lines_take (parts 10 (text ++ end_line)) (script_of_draft d) closes).whole
 
@@ -61,7 +61,7 @@ module _ (text : List ℕ) (d : Draft) (n : ℕ) (goes : GoesOnFrom text d n)
       let never = no_orphan 0 1 (blocks_of d) (omega arith) (no_block_from 0 (blocks_of d) none) in
       absurd (omega (arith, once, never))
 
-  -- without a fork there is one block
+  -- if no event forks, no block is finished: the draft has only one block
   pub one_block : d.done ≡ []
   one_block = by_done d.done refl
     where
@@ -123,7 +123,7 @@ none_done (events ∷ done) is = absurd (omega (arith, is))
 pub no_blocks : (view : DraftView) (d : Draft) → IsViewOf view d → view.blocks ≡ 0 → d.done ≡ []
 no_blocks view d seen none = none_done d.done (sym none ∙ seen.blocks)
 
--- the view of one caller without a fork
+-- a draft meets IsLone if its view has no finished block and no event that forks
 pub lone_view : (view : DraftView) (d : Draft) → IsViewOf view d → view.blocks ≡ 0 → ForkNone view.events.now → IsLone d
 lone_view view d seen none forks = record {
   first = no_blocks view d seen none;
@@ -132,13 +132,13 @@ lone_view view d seen none forks = record {
 
 -- ---- later lines add to the blocks of a draft
 
--- the first blocks of the script are those of the draft, the last of which may have more events
+-- The script begins with the blocks of the draft. The last of these may have more events, and more blocks may follow.
 pub record Begins (d : Draft) (s : Script) : Type 0 where
   pub es : List Event
   pub later : List (List Event)
   pub script : s ≡ script_with d es later
 
--- the draft has one more event, or begins the next block, or has ended
+-- the next state: the draft with one more event, the draft with a new block, or the end
 abbrev pub Follows : Draft → Next → Type 0
 Follows d next = ((e : Event) × (GoesOn (with_event d e) ≡ next)) ⊎ ((GoesOn (with_block d) ≡ next) ⊎ (Ends ≡ next))
 
@@ -196,14 +196,14 @@ end_begins d s is = record { es = []; later = []; script = rw (append-nil d.even
 
 by_next_begins : (d : Draft) (n : ℕ) (more : List (List ℕ)) (s : Script) (next : Next) → Follows d next
     → by_next (λ later. script_from later (n + 1) more)
-    (nothing_behind (n + 1) more >>= λ none. Ok (script_of_draft d)) next ≡ Ok s
+    (nothing_after (n + 1) more >>= λ none. Ok (script_of_draft d)) next ≡ Ok s
     → ((later : Draft) → script_from later (n + 1) more ≡ Ok s → Begins later s) → Begins d s
-by_next_begins d n more s next (inl event) is behind =
-    event_begins d event.0 s (behind (with_event d event.0) (rw (← event.1) at is))
-by_next_begins d n more s next (inr (inl block)) is behind =
-    block_begins d s (behind (with_block d) (rw (← block) at is))
-by_next_begins d n more s next (inr (inr ends)) is behind =
-    let step = step_ok (nothing_behind (n + 1) more) (λ none. Ok (script_of_draft d)) s (rw (← ends) at is) in
+by_next_begins d n more s next (inl event) is following =
+    event_begins d event.0 s (following (with_event d event.0) (rw (← event.1) at is))
+by_next_begins d n more s next (inr (inl block)) is following =
+    block_begins d s (following (with_block d) (rw (← block) at is))
+by_next_begins d n more s next (inr (inr ends)) is following =
+    let step = step_ok (nothing_after (n + 1) more) (λ none. Ok (script_of_draft d)) s (rw (← ends) at is) in
     end_begins d s (same_ok {E = ScriptFault} (script_of_draft d) s step.2)
 
 from_begins : (d : Draft) (n : ℕ) (lines : List (List ℕ)) (s : Script) → script_from d n lines ≡ Ok s → Begins d s
@@ -217,7 +217,7 @@ from_begins d n (line ∷ more) s e =
     by_next_begins d n more s next.0 (follows d what.0 next.0 what.2) next.2
     (λ later e'. from_begins later (n + 1) more s e')
 
--- whatever script the text becomes, it begins with the draft
+-- if the text with `more` after it is a script, the script begins with the draft
 pub begins : (text more : List ℕ) (d : Draft) (n : ℕ) (s : Script) → GoesOnFrom text d n
     → script_of_lines (parts 10 (text ++ more)) ≡ Ok s → Begins d s
 begins text more d n s goes is = from_begins d n (parts 10 more) s (sym (goes more) ∙ is)
@@ -250,7 +250,7 @@ extended d later begun one =
       events = both.1;
     }
 
--- more text adds events to a draft
+-- if the draft after `more` is that of one caller without forks, that draft adds only events to the draft before
 pub extends : (text more : List ℕ) (d later : Draft) (n m : ℕ) → GoesOnFrom text d n
     → GoesOnFrom (text ++ more) later m → IsLone later → Extends d later
 extends text more d later n m goes goes_later lone =
@@ -259,13 +259,13 @@ extends text more d later n m goes goes_later lone =
     (begins text (more ++ end_line) d n (script_of_draft later) goes
     (ap (λ x. script_of_lines (parts 10 x)) (sym (append_assoc text more end_line)) ∙ is)) lone.first
 
--- and so does the text of an ended script
+-- if the added text ends the script, and the script has one block, the text adds nothing but events to the draft
 pub extends_ended : (text more : List ℕ) (d later : Draft) (n m : ℕ) → GoesOnFrom text d n
     → EndsWith (text ++ more) later m → later.done ≡ [] → Extends d later
 extends_ended text more d later n m goes ends one =
     extended d later (begins text more d n (script_of_draft later) goes (ended_lines (text ++ more) later m ends)) one
 
--- the earlier draft forks no caller either
+-- if the later draft forks no caller, the earlier draft forks none either
 pub was_lone : (d later : Draft) → Extends d later → IsLone later → IsLone d
 was_lone d later e lone = record {
   first = e.done;
@@ -320,7 +320,7 @@ same_script d other is =
     let both = same_last d.done other.done d.events other.events (ap (λ (s : Script). s.callers) is) in
     same_parts d other (ap (λ (s : Script). s.version) is) (ap (λ (s : Script). s.cpus) is) both.0 both.1
 
--- if the script can end here
+-- a text has only one draft, if the script can end with that draft
 pub same_open : (text : List ℕ) (d other : Draft) (n m : ℕ) → GoesOnFrom text d n → GoesOnFrom text other m
     → has_orphan d ≡ false → other ≡ d
 same_open text d other n m goes goes_other none =

@@ -1,4 +1,4 @@
--- The lines of a script's head: events can follow the third at the earliest, and then there are none so far.
+-- If a script goes on from a draft right after a line of the head, that line is line 3, and the draft has no event.
 use Rattle.std.proofs.Common.{◌≡◌, ℕ, zero, suc, inl, inr, Result, Ok, Err, List, [], ◌∷◌, ◌++◌, append_assoc, refl, sym, ap, ◌∙◌}
 use Rattle.std.specs.List.{list_any}
 use Rattle.std.specs.Prelude.{codes, if◌then◌else◌}
@@ -7,14 +7,14 @@ use Rattle.key_names.specs.declared.faults.FaultKind.{FaultKind}
 use Rattle.key_names.specs.declared.faults.FaultKind.TheVariants.{BadByte, BadCaller, BadCpus, Unforked, UnknownWord}
 use Rattle.key_names.specs.declared.faults.ScriptFault.{ScriptFault}
 use Rattle.key_names.specs.Texts.ScriptGrammar.{Script}
-use Rattle.key_names.specs.Texts.ScriptFaults.{◌>>=◌, Draft, Said, SaysEvent, SaysCaller, SaysEnd, at_line, behind, cpus_by, first_block, has_orphan, is_unprintable, parts, said, script_from, script_of_lines, start_in, version_of}
+use Rattle.key_names.specs.Texts.ScriptFaults.{◌>>=◌, Draft, Said, SaysEvent, SaysCaller, SaysEnd, at_line, following, cpus_by, first_block, has_orphan, is_unprintable, parts, said, script_from, script_of_lines, start_in, version_of}
 use Rattle.key_names.proofs.Script.FieldReaders.{same_ok, step_ok}
 use Rattle.key_names.proofs.Script.Parts.{Lacks, first_part, parts_at}
 use Rattle.event_script.specs.Feeding.{goes}
 use Rattle.event_script.specs.Progress.{GoesOnFrom, IsLone, end_line}
-use Rattle.event_script.specs.declared.head.Head.{Head}
-use Rattle.event_script.specs.declared.stage.Stage.{Stage}
-use Rattle.event_script.specs.declared.stage.Stage.TheVariants.{Version, Cpus, Start}
+use Rattle.event_script.specs.declared.statements.head.Head.{Head}
+use Rattle.event_script.specs.declared.whole.stage.ScriptStage.{ScriptStage}
+use Rattle.event_script.specs.declared.whole.stage.ScriptStage.TheVariants.{Version, Cpus, Start}
 use Rattle.event_script.proofs.GoingOn.{same_draft, same_fault, same_number, unfinished}
 use Rattle.event_script.proofs.NextLine.{unknown}
 
@@ -24,9 +24,10 @@ abbrev fine : List ℕ → Result (List ℕ) FaultKind
 fine line = if list_any is_unprintable line then Err BadByte else Ok line
 
 abbrev with_cpus : ℕ → ℕ → List (List ℕ) → Result Script ScriptFault
-with_cpus version cpus lines = at_line 3 (start_in version cpus lines) >>= λ start. script_from start 4 (behind lines)
+with_cpus version cpus lines = at_line 3 (start_in version cpus lines) >>= λ start. script_from start 4 (following lines)
 
--- no draft has two faults
+-- After a draft, an incomplete line and an unknown word have different faults. `f` gives the two the same fault, so `f`
+-- does not read on from a draft.
 two_faults : {A : Type 0} (n : ℕ) (kind : FaultKind) (d : Draft) (m : ℕ) (f : List (List ℕ) → Result Script ScriptFault)
     → f ([] ∷ []) ≡ Err (record { line = n; kind = kind }) → f (codes "x" ∷ [] ∷ []) ≡ Err (record { line = n; kind = kind })
     → f ([] ∷ []) ≡ script_from d m ([] ∷ []) → f (codes "x" ∷ [] ∷ []) ≡ script_from d m (codes "x" ∷ [] ∷ []) → A
@@ -96,7 +97,7 @@ start_is version cpus r start is =
     let what = step_ok (said version cpus line.0) (first_block version cpus) start line.2 in
     start_takes version cpus what.0 start what.2
 
--- the first of these lines
+-- each function reads one line of the head, and then later lines
 
 version_by : (line later : List ℕ) → (at_line 1 (fine line >>= version_of) >>= λ version. goes (Cpus version)
     (parts 10 later)) ≡ goes Version (line ∷ parts 10 later)
@@ -114,14 +115,14 @@ start_by head line later = rw (first_part 10 later).is refl
 
 -- ---- events can follow
 
--- the draft has no event yet
+-- the draft has no event, and the next line is line 4
 pub record IsFirst (version cpus : ℕ) (d : Draft) (n : ℕ) : Type 0 where
   pub draft : d ≡ record { version = version; cpus = cpus; done = []; events = [] }
   pub number : n ≡ 4
 
 module _ (text line : List ℕ) (clean : Lacks 10 line) (d : Draft) (n : ℕ)
     (follows : GoesOnFrom (text ++ (line ++ 10 ∷ [])) d n) where
-  read : (stage : Stage) → ((later : List ℕ) → script_of_lines (parts 10 (text ++ later)) ≡ goes stage (parts 10 later))
+  read : (stage : ScriptStage) → ((later : List ℕ) → script_of_lines (parts 10 (text ++ later)) ≡ goes stage (parts 10 later))
       → (later : List ℕ) → goes stage (line ∷ parts 10 later) ≡ script_from d n (parts 10 later)
   read stage before later =
       ap (goes stage) (sym (parts_at 10 line later clean))
@@ -130,18 +131,18 @@ module _ (text line : List ℕ) (clean : Lacks 10 line) (d : Draft) (n : ℕ)
       ∙ ap (λ x. text ++ x) (append_assoc line (10 ∷ []) later)))
       ∙ follows later
 
-  -- not after line 1
+  -- line 1 does not complete the head
   pub version_line : ((later : List ℕ) → script_of_lines (parts 10 (text ++ later)) ≡ goes Version (parts 10 later)) → ⊥
   version_line before = version_result d n (fine line >>= version_of)
       (λ later. version_by line later ∙ read Version before later)
 
-  -- not after line 2
+  -- line 2 does not complete the head
   pub cpus_line : (version : ℕ)
       → ((later : List ℕ) → script_of_lines (parts 10 (text ++ later)) ≡ goes (Cpus version) (parts 10 later)) → ⊥
   cpus_line version before = cpus_result d n version (fine line >>= λ line. cpus_by version (parts 32 line))
       (λ later. cpus_by_line version line later ∙ read (Cpus version) before later)
 
-  -- after line 3, with the empty block of caller 0
+  -- line 3 completes the head; the draft after line 3 has only the empty block of caller 0
   pub start_line : (head : Head)
       → ((later : List ℕ) → script_of_lines (parts 10 (text ++ later)) ≡ goes (Start head) (parts 10 later))
       → IsFirst head.version head.cpus d n

@@ -1,4 +1,4 @@
--- The script of a load, with one fork, call or caller more.
+-- How a load's script grows by one fork, one call or one caller.
 use Rattle.std.proofs.Common.{◌≡◌, ℕ, ◌+◌, ◌-◌, ◌≤◌, List, [], ◌∷◌, ◌++◌, map, sym, ap, ◌∙◌, append_assoc, arith}
 use Rattle.std.specs.List.{range_with_len}
 use Rattle.std.proofs.lemmas.List.FromFn.{map-range_with_len_more}
@@ -21,7 +21,7 @@ one_more_call start callers count caller =
     (map-range_with_len_more (call start caller) 0 count count (omega arith))
     ∙ sym (append_assoc (opening callers caller) (On caller ∷ calls) (call start caller count ∷ []))
 
--- if the next call is pushed on a caller's events, the result is its events with one more call
+-- a caller's events with `count` calls, and then the next call, are the caller's events with one more call
 pub pushed_call : (start callers count caller : ℕ) (items new : List Event) (event : Event) →
     new ≡ items ++ event ∷ [] →
     items ≡ load_events start callers count caller → event ≡ call start caller count →

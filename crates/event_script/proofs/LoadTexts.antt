@@ -11,7 +11,7 @@ use Rattle.key_names.specs.Texts.ScriptGrammar.{Script, block_lines, event_field
 use Rattle.key_names.specs.Texts.Spelling.{lined, spaced}
 use Rattle.key_names.proofs.Lists.Each.{each_append}
 
--- the length of fields on a line, each with one byte after it
+-- the length of the fields of a line, with one more byte after each field
 abbrev pub fields_len : List (List ℕ) → ℕ
 fields_len [] = 0
 fields_len (field ∷ fields) = length field + suc (fields_len fields)

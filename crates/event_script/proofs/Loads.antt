@@ -44,7 +44,8 @@ sum_at_most f most (x ∷ xs) all =
 
 -- ---- one event
 
--- a script with this many CPUs may have this event, and the event adds little to it
+-- a script with this many CPUs may have this event; the event reads little, its line is short, and it adds no waiting
+-- act
 pub record Light (cpus : ℕ) (event : Event) : Type 0 where
   pub range : InRange 1 cpus event
   pub acts : (waiting : ℕ) → acts_after waiting event ≤ waiting
@@ -216,7 +217,7 @@ forks_among number from (suc n) low high =
           split ∙ rw (ne_eqb from number other) (omega arith)
     ]
 
--- the events of a caller after its opening fork no caller
+-- after its opening, a caller has no event that forks
 calls_fork_none : (start caller count : ℕ) →
     AllByRecursion ForksNone (On caller ∷ map (call start caller) (range_with_len 0 count))
 calls_fork_none start caller count = (
@@ -224,16 +225,16 @@ calls_fork_none start caller count = (
   each_from ForksNone (call start caller) 0 count (λ k low high. call_forks_none start caller k),
 )
 
--- a caller forks a number as often as its opening does
+-- a caller's events fork a number as often as the caller's opening does
 opening_forks : (start callers count caller number : ℕ) →
     count_by (is_fork_of number) (load_events start callers count caller) ≡ count_by (is_fork_of number)
     (opening callers caller)
 opening_forks start callers count caller number =
-    let behind = On caller ∷ map (call start caller) (range_with_len 0 count) in
+    let following = On caller ∷ map (call start caller) (range_with_len 0 count) in
     omega (
       arith,
-      sum_by-append (λ e. cond (is_fork_of number e) 1 0) (opening callers caller) behind,
-      forks_none number behind (calls_fork_none start caller count),
+      sum_by-append (λ e. cond (is_fork_of number e) 1 0) (opening callers caller) following,
+      forks_none number following (calls_fork_none start caller count),
     )
 
 opening_above : (callers caller : ℕ) → AllByRecursion (IsForkAbove caller) (opening callers caller)
@@ -243,16 +244,16 @@ opening_above callers (suc caller) = tt
 events_above : (start callers count caller : ℕ) →
     AllByRecursion (IsForkAbove caller) (load_events start callers count caller)
 events_above start callers count caller =
-    let behind = On caller ∷ map (call start caller) (range_with_len 0 count) in
-    each_append (IsForkAbove caller) (opening callers caller) behind (opening_above callers caller)
-    (each_weaker ForksNone (IsForkAbove caller) behind (λ e none. none.above caller)
+    let following = On caller ∷ map (call start caller) (range_with_len 0 count) in
+    each_append (IsForkAbove caller) (opening callers caller) following (opening_above callers caller)
+    (each_weaker ForksNone (IsForkAbove caller) following (λ e none. none.above caller)
     (calls_fork_none start caller count))
 
 length-load_events : (start callers count caller : ℕ) →
     length (load_events start callers count caller) ≡ length (opening callers caller) + (1 + count)
 length-load_events start callers count caller =
-    let behind = On caller ∷ map (call start caller) (range_with_len 0 count) in
-    omega (arith, length-append (opening callers caller) behind, length-map-range_with_len (call start caller) 0 count)
+    let following = On caller ∷ map (call start caller) (range_with_len 0 count) in
+    omega (arith, length-append (opening callers caller) following, length-map-range_with_len (call start caller) 0 count)
 
 -- ---- all callers
 
@@ -278,7 +279,7 @@ later_fork_none start callers count from n number later =
 forked_first : (number n : ℕ) → number ≡ 0 → ◌≡◌ {A = ℕ} (if nat_lt 0 number && nat_lt number n then 1 else 0) 0
 forked_first number n first = rw first refl
 
--- caller 0 forks each number from 1 to the last caller's once
+-- the opening of caller 0 forks each other caller's number once, and no other number
 opening_count : (number others : ℕ) →
     count_by (is_fork_of number) (opening (suc others) 0) ≡
     (if nat_lt 0 number && nat_lt number (suc others) then 1 else 0)

@@ -1,4 +1,4 @@
--- No other field follows a number.
+-- A text that spells a number is one field, so no other field follows the number.
 use Rattle.std.proofs.Common.{◌≡◌, ℕ, ◌≤◌, ◌^◌, Some, Ok, Err, List, [], ◌∷◌, refl, sym, arith}
 use Rattle.key_names.specs.declared.events.Event.{Event}
 use Rattle.key_names.specs.declared.faults.FaultKind.TheVariants.{UnknownWord}

@@ -1,4 +1,4 @@
--- One more whole line of a script: an event, the end or a fault.
+-- One more whole line after a draft without forks adds an event to the draft, ends the script, or has a fault.
 use Rattle.std.proofs.Common.{◌≡◌, ℕ, ◌+◌, inl, inr, false, None, Result, Ok, Err, List, [], ◌∷◌, ◌++◌, append_assoc, length, refl, sym, ap, subst, ◌∙◌, arith}
 use Rattle.std.specs.List.{list_any}
 use Rattle.std.specs.Prelude.{codes, if◌then◌else◌}
@@ -8,7 +8,7 @@ use Rattle.key_names.specs.declared.faults.FaultKind.{FaultKind}
 use Rattle.key_names.specs.declared.faults.FaultKind.TheVariants.{BadByte, UnknownWord}
 use Rattle.key_names.specs.declared.faults.ScriptFault.{ScriptFault}
 use Rattle.key_names.specs.Texts.ScriptGrammar.{Script}
-use Rattle.key_names.specs.Texts.ScriptFaults.{◌>>=◌, Draft, Next, GoesOn, Ends, at_line, behind_line, blocks_of, by_next, has_orphan, is_unprintable, nothing_behind, parts, said, after, script_from, script_of_draft, script_of_lines, with_block, with_event}
+use Rattle.key_names.specs.Texts.ScriptFaults.{◌>>=◌, Draft, Next, GoesOn, Ends, at_line, after_line, blocks_of, by_next, has_orphan, is_unprintable, nothing_after, parts, said, after, script_from, script_of_draft, script_of_lines, with_block, with_event}
 use Rattle.key_names.proofs.Lists.Each.{each_append, each_more}
 use Rattle.key_names.proofs.Script.FieldReaders.{same_ok, step_ok}
 use Rattle.key_names.proofs.Script.Parts.{Lacks, first_part, parts_at}
@@ -23,11 +23,11 @@ unfolding script_from
 unknown d n = refl
 
 abbrev line_result : Draft → List ℕ → Result Next FaultKind
-line_result d line = (if list_any is_unprintable line then Err BadByte else Ok line) >>= behind_line d
+line_result d line = (if list_any is_unprintable line then Err BadByte else Ok line) >>= after_line d
 
 abbrev goes_after : Draft → ℕ → Result Next FaultKind → List ℕ → Result Script ScriptFault
 goes_after d n r later = at_line n r >>= by_next (λ next. script_from next (n + 1) (parts 10 later))
-    (nothing_behind (n + 1) (parts 10 later) >>= λ none. Ok (script_of_draft d))
+    (nothing_after (n + 1) (parts 10 later) >>= λ none. Ok (script_of_draft d))
 
 line_goes : (d : Draft) (n : ℕ) (line later : List ℕ) → script_from d n (line ∷ parts 10 later)
     ≡ goes_after d n (line_result d line) later
@@ -36,7 +36,7 @@ line_goes d n line later = rw (first_part 10 later).is refl
 
 result_follows : (d : Draft) (line : List ℕ) (next : Next) → line_result d line ≡ Ok next → Follows d next
 result_follows d line next is =
-    let whole = step_ok (if list_any is_unprintable line then Err BadByte else Ok line) (behind_line d) next is in
+    let whole = step_ok (if list_any is_unprintable line then Err BadByte else Ok line) (after_line d) next is in
     let what = step_ok (said d.version d.cpus whole.0) (after d) next whole.2 in
     follows d what.0 next what.2
 
@@ -51,7 +51,7 @@ faulty_result d n fault (Ok (GoesOn next)) fails =
     let kinds = ap (λ (f : ScriptFault). f.kind) (same_fault _ _ (one ∙ sym other)) in
     absurd cc
 
--- the draft after a line that is neither a fault nor the end
+-- the line leads to a draft that more lines may follow
 pub record Continues (d : Draft) (r : Result Next FaultKind) : Type 0 where
   pub next : Draft
   pub is : r ≡ Ok (GoesOn next)
@@ -68,7 +68,7 @@ open_result d later n m (Ok (GoesOn next)) goes = record { next = next; is = ref
 
 ended_result : (d later : Draft) (n m : ℕ) (r : Result Next FaultKind)
     → ((more : List ℕ) → goes_after d n r more
-    ≡ (nothing_behind m (parts 10 more) >>= λ none. Ok (script_of_draft later)))
+    ≡ (nothing_after m (parts 10 more) >>= λ none. Ok (script_of_draft later)))
     → (script_of_draft d ≡ script_of_draft later) × (n + 1 ≡ m)
 ended_result d later n m (Err kind) ends = let none = ends [] in absurd cc
 ended_result d later n m (Ok Ends) ends = (

@@ -38,20 +38,20 @@ module _ (text : List ℕ) (value len : ℕ) (so_far : BeginsDigits text value l
   pub digits_end : len < length text → (digit_value (get_or text len 0) < 10 → ⊥) → IsDigits text value len
   digits_end lt not = record { begins = so_far; ends = rw (drop_more text len 0 lt) not }
 
-  -- the value of few digits is small
+  -- up to 18 digits have a value below 10 ^ 18
   pub few_digits : len ≤ 18 → value < 10 ^ 18
   few_digits few =
       let small = digits_value_short (numerals_by_value (AllDigits 10) tells_digits) (take len text) 18 so_far.digits
       (omega (arith, length-take len text)) in
       omega (arith, small, so_far.value_is)
 
-  -- a number at the start of the text is at least len digits long
+  -- a number at the start of the text has at least `len` digits
   digits_within : (n : ℕ) (other : List ℕ) → EndsNumber other → text ≡ decimal n ++ other → len ≤ length (decimal n)
   digits_within n other ends e =
       all_within len (decimal n) other (subst (λ (t : List ℕ). AllDigits 10 (take len t)) e so_far.digits)
       (omega (arith, ap length e, so_far.within)) ends
 
-  -- a `u64` has at most twenty digits, so no digit follows if len is twenty or more
+  -- if the text begins with a number below 2 ^ 64, and `len` is at least twenty, no digit follows the first `len` bytes
   pub twenty_digits : 20 ≤ len → (n : ℕ) (other : List ℕ) → n < 2 ^ 64 → EndsNumber other → text ≡ decimal n ++ other
       → EndsNumber (drop len text)
   twenty_digits many n other small ends e =

@@ -7,19 +7,19 @@ use Rattle.key_names.specs.declared.events.Word.TheVariants as words
 use Rattle.key_names.specs.Texts.Spelling.{spaced, word_text}
 use Rattle.key_names.specs.Texts.ScriptGrammar.{InRange, event_fields}
 use Rattle.key_names.specs.declared.faults.FaultKind.{FaultKind}
-use Rattle.key_names.specs.Texts.ScriptFaults.{◌>>=◌, Draft, SaysEvent, after, behind, behind_first, is_unprintable, line_of, parts, said}
+use Rattle.key_names.specs.Texts.ScriptFaults.{◌>>=◌, Draft, SaysEvent, after, following, after_first, is_unprintable, line_of, parts, said}
 use Rattle.key_names.proofs.Script.LinedTexts.{none_unprintable, not_feed}
 use Rattle.key_names.proofs.Script.Parts.{Lacks, parts_at}
 use Rattle.key_names.proofs.Script.SaidLines.{printable_said, said_again}
 use Rattle.event_script.specs.Says.{said_first}
-use Rattle.event_script.specs.ShortLines.{IsShort, behind_word}
-use Rattle.event_script.specs.declared.short.Numbers.TheVariants.{Two}
+use Rattle.event_script.specs.ShortLines.{IsShort, after_word}
+use Rattle.event_script.specs.declared.statements.short.NumberFields.TheVariants.{Two}
 use Rattle.event_script.proofs.FirstOfLines.{whole_line}
 
--- the first line of a text is this event, and the rest is the lines after it
+-- the first line of `text` spells this event, and `rest` is the lines after that line
 pub record FrontSays (version cpus : ℕ) (event : Event) (text rest : List ℕ) : Type 0 where
   pub says : said_first version cpus (parts 10 text) ≡ Ok (SaysEvent event)
-  pub rest_is : parts 10 rest ≡ behind (parts 10 text)
+  pub rest_is : parts 10 rest ≡ following (parts 10 text)
 
 pub front_says : (version cpus : ℕ) (event : Event) (word more text rest : List ℕ) → cpus ≤ 256
     → InRange version cpus event → spaced (event_fields event) ≡ word ++ more → text ≡ word ++ (more ++ 10 ∷ rest)
@@ -39,17 +39,17 @@ front_says version cpus event word more text rest few range spelt there =
       rest_is = rw cut refl;
     }
 
--- if f makes y of what was found, then f and g in sequence make g y of it
+-- if `f` gives `y` for what was found, then `f` and `g` in sequence give `g y`
 then_more : {X Y Z : Type 0} (found : Result X FaultKind) (f : X → Result Y FaultKind) (g : Y → Result Z FaultKind) (y : Y)
     → (found >>= f) ≡ Ok y → (found >>= λ x. f x >>= g) ≡ g y
 then_more (Ok x) f g y says = rw says refl
 then_more (Err kind) f g y says = absurd cc
 
--- if the first line is an interrupt, the draft gains its event
+-- if the first line is an interrupt, the draft gains the interrupt's event
 pub irq_adds : (d : Draft) (v1 v2 : ℕ) (text rest : List ℕ) → d.cpus ≤ 256 → IsShort words.Irq (Two v1 v2)
-    → text ≡ word_text words.Irq ++ (behind_word (Two v1 v2) ++ 10 ∷ rest)
-    → (behind_first d (parts 10 text) ≡ after d (SaysEvent (Irq v1 v2))) × (parts 10 rest ≡ behind (parts 10 text))
+    → text ≡ word_text words.Irq ++ (after_word (Two v1 v2) ++ 10 ∷ rest)
+    → (after_first d (parts 10 text) ≡ after d (SaysEvent (Irq v1 v2))) × (parts 10 rest ≡ following (parts 10 text))
 irq_adds d v1 v2 text rest few short there =
-    let front = front_says d.version d.cpus (Irq v1 v2) (word_text words.Irq) (behind_word (Two v1 v2)) text rest few short
+    let front = front_says d.version d.cpus (Irq v1 v2) (word_text words.Irq) (after_word (Two v1 v2)) text rest few short
     refl there in
     (then_more (line_of (parts 10 text)) (said d.version d.cpus) (after d) (SaysEvent (Irq v1 v2)) front.says, front.rest_is)

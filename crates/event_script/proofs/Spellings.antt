@@ -1,4 +1,4 @@
--- A field that spells no word of its own length is no word.
+-- A field spells a word if and only if it spells one of the words of its own length.
 use Rattle.std.proofs.Common.{◌≡◌, ℕ, ◌≤◌, ◌==◌, leb, Bool, true, false, inl, inr, None, Some, Option, List, [], ◌∷◌, length, refl, sym, ap, ◌∙◌, arith}
 use Rattle.std.specs.List.{AllByRecursion, find, list_all}
 use Rattle.std.specs.Prelude.{◌&&◌, codes}
@@ -39,13 +39,13 @@ no_word : (n : ℕ) (field : List ℕ) → length field ≡ n → AllByRecursion
     → None ≡ word_of field
 no_word n field is none = sym (word_of_length n field is ∙ none_of field (of_length n all_words) none)
 
--- a search among the words of its own length finds the word that a field spells
+-- a search among the words of the field's length finds the word that the field spells, or none if it spells no word
 pub among : (n : ℕ) (field : List ℕ) (found : Option Word) → length field ≡ n → IsAmong n field found →
     found ≡ word_of field
 among n field None is none = no_word n field is none
 among n field (Some word) is spelt = rw spelt (sym (word_again word))
 
--- each word has from 2 to 7 bytes
+-- whether a word has from 2 to 7 bytes
 abbrev in_length : Word → Bool
 in_length w = leb 2 (length (word_text w)) && leb (length (word_text w)) 7
 

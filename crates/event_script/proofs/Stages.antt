@@ -3,26 +3,26 @@ use Rattle.std.proofs.Common.{◌≡◌, ℕ, ◌+◌, ◌<◌, length, arith, O
 use Rattle.std.proofs.lemmas.List.{length-append}
 use Rattle.key_names.specs.declared.faults.FaultKind.{FaultKind}
 use Rattle.key_names.specs.declared.faults.FaultKind.TheVariants.{UnknownWord, Unfinished}
-use Rattle.key_names.specs.Texts.ScriptFaults.{◌>>=◌, GoesOn, Ends, at_line, behind, behind_first, behind_line, cpus_in, line_of, nothing_behind, parts, script_of_draft, start_in, version_in}
+use Rattle.key_names.specs.Texts.ScriptFaults.{◌>>=◌, GoesOn, Ends, at_line, following, after_first, after_line, cpus_in, line_of, nothing_after, parts, script_of_draft, start_in, version_in}
 use Rattle.key_names.proofs.Script.Parts.{Lacks, parts_whole}
 use Rattle.event_script.specs.Drafts.{draft_as}
 use Rattle.event_script.specs.Feeding.{FailsFrom, IsWhole, LeadsTo, goes}
 use Rattle.event_script.specs.ScriptViews.{script_error}
 use Rattle.event_script.specs.Views.{Fails}
-use Rattle.event_script.specs.declared.draft.Draft.{Draft}
-use Rattle.event_script.specs.declared.error.LineError.{LineError}
-use Rattle.event_script.specs.declared.error.LineError.TheVariants.{Memory, Kind}
-use Rattle.event_script.specs.declared.head.Head.{Head}
+use Rattle.event_script.specs.declared.whole.draft.Draft.{Draft}
+use Rattle.event_script.specs.declared.whole.error.LineError.{LineError}
+use Rattle.event_script.specs.declared.whole.error.LineError.TheVariants.{Memory, Kind}
+use Rattle.event_script.specs.declared.statements.head.Head.{Head}
 use Rattle.event_script.specs.declared.script_error.ScriptError.{ScriptError}
 use Rattle.event_script.specs.declared.script_error.ScriptError.TheVariants.{Fault, NoMemory}
-use Rattle.event_script.specs.declared.stage.Stage.{Stage}
-use Rattle.event_script.specs.declared.stage.Stage.TheVariants.{Version, Cpus, Start, Lines, Ended}
-use Rattle.event_script.proofs.FirstOfLines.{faults, goes_on, more_behind, step_of}
+use Rattle.event_script.specs.declared.whole.stage.ScriptStage.{ScriptStage}
+use Rattle.event_script.specs.declared.whole.stage.ScriptStage.TheVariants.{Version, Cpus, Start, Lines, Ended}
+use Rattle.event_script.proofs.FirstOfLines.{faults, goes_on, more_after, step_of}
 use Rattle.event_script.proofs.WholeLines.{line_stays, rest_is_whole, rest_stays}
 
 -- ---- stages in sequence
 
-pub leads_on : (s t u : Stage) (text rest last : List ℕ) → LeadsTo s text t rest → LeadsTo t rest u last
+pub leads_on : (s t u : ScriptStage) (text rest last : List ℕ) → LeadsTo s text t rest → LeadsTo t rest u last
     → LeadsTo s text u last
 leads_on s t u text rest last a b = record {
   same = λ later. a.same later ∙ b.same later;
@@ -30,12 +30,12 @@ leads_on s t u text rest last a b = record {
   number = omega (arith, a.number, b.number);
 }
 
-pub fails_on : (s t : Stage) (text rest : List ℕ) (error : ScriptError) → LeadsTo s text t rest → FailsFrom t rest error
+pub fails_on : (s t : ScriptStage) (text rest : List ℕ) (error : ScriptError) → LeadsTo s text t rest → FailsFrom t rest error
     → FailsFrom s text error
 fails_on s t text rest (Fault fault) a b = λ later. a.same later ∙ b later
 fails_on s t text rest NoMemory a b = tt
 
-pub stays : (s : Stage) (text : List ℕ) → IsWhole text → LeadsTo s text s text
+pub stays : (s : ScriptStage) (text : List ℕ) → IsWhole text → LeadsTo s text s text
 stays s text whole = record { same = λ later. refl; whole = whole; number = omega arith }
 
 -- ---- the first line of a text
@@ -55,21 +55,21 @@ module _ (text : List ℕ) (whole : IsWhole text) (some : 0 < length text) where
   start_fails head Memory is = tt
 
   pub line_fails : (draft : Draft) (number : ℕ) (error : LineError)
-      → Fails error (behind_first (draft_as draft) (parts 10 text))
+      → Fails error (after_first (draft_as draft) (parts 10 text))
       → FailsFrom (Lines draft number) text (script_error number error)
   line_fails draft number (Kind kind) is = λ later.
       faults (draft_as draft) number (text ++ later) kind
-      (ap (λ r. r >>= behind_line (draft_as draft)) (line_stays text whole some later) ∙ is)
+      (ap (λ r. r >>= after_line (draft_as draft)) (line_stays text whole some later) ∙ is)
   line_fails draft number Memory is = tt
 
-  -- any text after the line `end` has a fault
-  pub end_fails : (number : ℕ) (later : List ℕ) → nothing_behind number (parts 10 (text ++ later))
+  -- if text follows the line `end`, the first line of that text has a fault
+  pub end_fails : (number : ℕ) (later : List ℕ) → nothing_after number (parts 10 (text ++ later))
       ≡ at_line number (line_of (parts 10 text) >>= λ line. Err UnknownWord)
   end_fails number later =
-      more_behind number (text ++ later) (omega (arith, some, length-append text later))
+      more_after number (text ++ later) (omega (arith, some, length-append text later))
       ∙ ap (λ r. at_line number (r >>= λ line. Err UnknownWord)) (line_stays text whole some later)
 
-  module _ (rest : List ℕ) (cut : parts 10 rest ≡ behind (parts 10 text)) (shorter : length rest < length text) where
+  module _ (rest : List ℕ) (cut : parts 10 rest ≡ following (parts 10 text)) (shorter : length rest < length text) where
     pub version_read : (version : ℕ) → version_in (parts 10 text) ≡ Ok version → LeadsTo Version text (Cpus version) rest
     version_read version is = record {
       same = λ later. rw (line_stays text whole some later, is, rest_stays text whole some rest cut later) refl;
@@ -95,22 +95,22 @@ module _ (text : List ℕ) (whole : IsWhole text) (some : 0 < length text) where
     }
 
     pub line_read : (draft next : Draft) (number : ℕ)
-        → behind_first (draft_as draft) (parts 10 text) ≡ Ok (GoesOn (draft_as next))
+        → after_first (draft_as draft) (parts 10 text) ≡ Ok (GoesOn (draft_as next))
         → LeadsTo (Lines draft number) text (Lines next (number + 1)) rest
     line_read draft next number is = record {
       same = λ later. goes_on (draft_as draft) (draft_as next) number (text ++ later) (rest ++ later)
-          (ap (λ r. r >>= behind_line (draft_as draft)) (line_stays text whole some later) ∙ is)
+          (ap (λ r. r >>= after_line (draft_as draft)) (line_stays text whole some later) ∙ is)
           (sym (rest_stays text whole some rest cut later));
       whole = rest_is_whole text whole some rest cut;
       number = omega (arith, shorter);
     }
 
-    pub end_read : (draft next : Draft) (number : ℕ) → behind_first (draft_as draft) (parts 10 text) ≡ Ok Ends
+    pub end_read : (draft next : Draft) (number : ℕ) → after_first (draft_as draft) (parts 10 text) ≡ Ok Ends
         → draft_as next ≡ draft_as draft → LeadsTo (Lines draft number) text (Ended next (number + 1)) rest
     end_read draft next number is kept = record {
       same = λ later. step_of (draft_as draft) number (text ++ later)
           ∙ rw (line_stays text whole some later, is, rest_stays text whole some rest cut later)
-          (ap (λ d. nothing_behind (number + 1) (parts 10 (rest ++ later)) >>= λ none. Ok (script_of_draft d)) (sym kept));
+          (ap (λ d. nothing_after (number + 1) (parts 10 (rest ++ later)) >>= λ none. Ok (script_of_draft d)) (sym kept));
       whole = rest_is_whole text whole some rest cut;
       number = omega (arith, shorter);
     }
@@ -136,4 +136,4 @@ module _ (front : List ℕ) (clean : Lacks 10 front) where
 
   pub past_end : (draft : Draft) (number : ℕ) → 0 < length front
       → goes (Ended draft number) (parts 10 front) ≡ Err (record { line = number; kind = Unfinished })
-  past_end draft number some = rw (more_behind number front some, cut_off) refl
+  past_end draft number some = rw (more_after number front some, cut_off) refl

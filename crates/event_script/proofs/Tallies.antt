@@ -16,7 +16,7 @@ use Rattle.key_names.specs.Texts.ScriptFaults.{Draft, blocks_of, has_orphan, is_
 use Rattle.key_names.proofs.Script.Drafts.{forks_of, lengths, no_orphan, orphanless, reads, times_with, total_block, total_split}
 use Rattle.event_script.specs.Tally.{IsLight, Tallied, fork_in, is_over}
 
--- the flags after an event
+-- the flags of the forked callers, after an event that forks this child or none
 abbrev pub marked : List Bool → Option ℕ → List Bool
 marked forked None = forked
 marked forked (Some child) = set forked child true

@@ -1,15 +1,16 @@
--- A text that waits, by the stage of its reader.
+-- If a reader waits at a line's end, the reader's stage shows that the head is incomplete, or that no room for `end` is
+-- left.
 use Rattle.std.proofs.Common.{◌≡◌, ℕ, ◌+◌, ◌<◌, ◌≤◌, List, [], arith}
 use Rattle.event_script.specs.Drafts.{draft_as}
 use Rattle.event_script.specs.Feeding.{HasFed}
 use Rattle.event_script.specs.Waiting.{IsBeforeEvents, IsFull, IsHead}
-use Rattle.event_script.specs.declared.draft.Draft.{Draft}
-use Rattle.event_script.specs.declared.reader.Reader.{Reader}
-use Rattle.event_script.specs.declared.stage.Stage.{Stage}
-use Rattle.event_script.specs.declared.stage.Stage.TheVariants.{Version, Cpus, Start, Lines, Ended, Faulty}
+use Rattle.event_script.specs.declared.whole.draft.Draft.{Draft}
+use Rattle.event_script.specs.declared.reader.ScriptReader.{ScriptReader}
+use Rattle.event_script.specs.declared.whole.stage.ScriptStage.{ScriptStage}
+use Rattle.event_script.specs.declared.whole.stage.ScriptStage.TheVariants.{Version, Cpus, Start, Lines, Ended, Faulty}
 use Rattle.event_script.proofs.Feeding.{not_too_long}
 
-module _ (text : List ℕ) (r : Reader) (fed : HasFed text r) (short : r.len ≤ 16777216) (rest : r.rest.items ≡ []) where
+module _ (text : List ℕ) (r : ScriptReader) (fed : HasFed text r) (short : r.len ≤ 16777216) (rest : r.rest.items ≡ []) where
   pub is_full : (draft : Draft) (number : ℕ) → r.stage ≡ Lines draft number → 16777216 < r.len + 4 → IsFull text
   is_full draft number is many =
       let few = not_too_long text r fed short in record {
@@ -19,7 +20,7 @@ module _ (text : List ℕ) (r : Reader) (fed : HasFed text r) (short : r.len ≤
         full = omega (arith, fed.len few, many);
       }
 
-  at_head : (stage : Stage) → IsHead stage → r.stage ≡ stage → IsBeforeEvents text
+  at_head : (stage : ScriptStage) → IsHead stage → r.stage ≡ stage → IsBeforeEvents text
   at_head stage head is =
       let few = not_too_long text r fed short in record {
         stage = stage;
@@ -27,7 +28,7 @@ module _ (text : List ℕ) (r : Reader) (fed : HasFed text r) (short : r.len ≤
         goes_on = λ later. rw (is, rest) at ((fed.read few).same later);
       }
 
-  pub is_before : (stage : Stage) → r.stage ≡ stage
+  pub is_before : (stage : ScriptStage) → r.stage ≡ stage
       → ((draft : Draft) (number : ℕ) → r.stage ≡ Lines draft number → ⊥)
       → ((draft : Draft) (number : ℕ) → r.stage ≡ Ended draft number → ⊥)
       → ((fault : _) (line : _) → r.stage ≡ Faulty fault line → ⊥) → IsBeforeEvents text

@@ -7,7 +7,7 @@ use Rattle.std.proofs.lemmas.List.{length-append}
 use Rattle.std.proofs.lemmas.List.Elements.{All-cons, All-nil}
 use Rattle.std.proofs.lemmas.List.Splits.{join_with_byte-slice_split}
 use Rattle.key_names.specs.declared.faults.FaultKind.TheVariants.{BadByte}
-use Rattle.key_names.specs.Texts.ScriptFaults.{behind, is_unprintable, line_of, parts}
+use Rattle.key_names.specs.Texts.ScriptFaults.{following, is_unprintable, line_of, parts}
 use Rattle.key_names.proofs.Script.Parts.{Lacks, first_part, parts_at}
 use Rattle.event_script.specs.Feeding.{IsWhole}
 
@@ -44,7 +44,7 @@ pub has_line : (text : List ℕ) → IsWhole text → 0 < length text → HasLin
 has_line text (inl none) some = absurd (omega (arith, ap length none))
 has_line text (inr front) some = subst HasLine (sym front.1) (first_whole front.0)
 
--- the parts of a text that begins with a line
+-- whatever follows, the parts of a text are its first line and then the parts of the rest
 parts_of : (text later : List ℕ) (h : HasLine text) → parts 10 (text ++ later) ≡ h.line ∷ parts 10 (h.rest ++ later)
 parts_of text later h =
     ap (λ x. parts 10 (x ++ later)) h.is
@@ -63,22 +63,22 @@ module _ (text : List ℕ) (whole : IsWhole text) (some : 0 < length text) where
       ap line_of (parts_of text later h) ∙ first_line h.line (h.rest ++ later) ∙ sym (first_line h.line (h.rest ++ []))
       ∙ sym (ap line_of (parts_of text [] h)) ∙ ap (λ x. line_of (parts 10 x)) (append-nil text)
 
-  module _ (rest : List ℕ) (cut : parts 10 rest ≡ behind (parts 10 text)) where
+  module _ (rest : List ℕ) (cut : parts 10 rest ≡ following (parts 10 text)) where
     rest_is : (h : HasLine text) → rest ≡ h.rest
     rest_is h =
         sym (join_with_byte-slice_split 10 rest)
-        ∙ ap (join_with_byte 10) (cut ∙ ap (λ x. behind (parts 10 x)) (sym (append-nil text))
-        ∙ ap behind (parts_of text [] h) ∙ ap (parts 10) (append-nil h.rest))
+        ∙ ap (join_with_byte 10) (cut ∙ ap (λ x. following (parts 10 x)) (sym (append-nil text))
+        ∙ ap following (parts_of text [] h) ∙ ap (parts 10) (append-nil h.rest))
         ∙ join_with_byte-slice_split 10 h.rest
 
     pub rest_is_whole : IsWhole rest
     rest_is_whole = let h = has_line text whole some in subst IsWhole (sym (rest_is h)) h.whole
 
     -- later text follows the rest after the first line
-    pub rest_stays : (later : List ℕ) → behind (parts 10 (text ++ later)) ≡ parts 10 (rest ++ later)
+    pub rest_stays : (later : List ℕ) → following (parts 10 (text ++ later)) ≡ parts 10 (rest ++ later)
     rest_stays later =
         let h = has_line text whole some in
-        ap behind (parts_of text later h) ∙ ap (λ x. parts 10 (x ++ later)) (sym (rest_is h))
+        ap following (parts_of text later h) ∙ ap (λ x. parts 10 (x ++ later)) (sym (rest_is h))
 
 -- a text of whole lines is empty if it has no line end
 pub no_lines : (text : List ℕ) → IsWhole text → parts 10 text ≡ text ∷ [] → text ≡ []

@@ -1,7 +1,7 @@
--- A draft in the terms of the definitions.
+-- The code's draft, as a draft of the definitions.
 use Rattle.std.specs.Prelude.{map}
 use Rattle.key_names.specs.Texts.ScriptFaults as faults
-use Rattle.event_script.specs.declared.draft.Draft.{Draft}
+use Rattle.event_script.specs.declared.whole.draft.Draft.{Draft}
 
 abbrev pub draft_as : Draft → faults.Draft
 draft_as d = record {

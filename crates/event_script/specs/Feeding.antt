@@ -1,36 +1,36 @@
--- How far a script's text was read, and which script it becomes with more lines.
+-- How far a script's text was read, and which script the text becomes with more lines.
 use Rattle.std.specs.Prelude.{ℕ, ◌≡◌, ◌⊎◌, ◌+◌, ◌<◌, ◌≤◌, ⊤, List, [], ◌∷◌, ◌++◌, All, Result, Ok, Err, ◌==◌, false, length}
 use Rattle.std.specs.Borrow.{Bor}
 use Rattle.key_names.specs.declared.faults.ScriptFault.{ScriptFault}
-use Rattle.key_names.specs.Texts.ScriptFaults.{◌>>=◌, at_line, behind, cpus_in, nothing_behind, parts, script_from, script_of_draft, script_of_lines, start_in}
+use Rattle.key_names.specs.Texts.ScriptFaults.{◌>>=◌, at_line, following, cpus_in, nothing_after, parts, script_from, script_of_draft, script_of_lines, start_in}
 use Rattle.key_names.specs.Texts.ScriptGrammar.{Script}
 use Rattle.event_script.specs.Drafts.{draft_as}
-use Rattle.event_script.specs.declared.reader.Reader.{Reader}
+use Rattle.event_script.specs.declared.reader.ScriptReader.{ScriptReader}
 use Rattle.event_script.specs.declared.script_error.ScriptError.{ScriptError}
 use Rattle.event_script.specs.declared.script_error.ScriptError.TheVariants.{Fault, NoMemory}
-use Rattle.event_script.specs.declared.stage.Stage.{Stage}
-use Rattle.event_script.specs.declared.stage.Stage.TheVariants.{Version, Cpus, Start, Lines, Ended, Faulty}
+use Rattle.event_script.specs.declared.whole.stage.ScriptStage.{ScriptStage}
+use Rattle.event_script.specs.declared.whole.stage.ScriptStage.TheVariants.{Version, Cpus, Start, Lines, Ended, Faulty}
 
 -- the text is empty or ends with a line end
 abbrev pub IsWhole : List ℕ → Type 0
 IsWhole text = (text ≡ []) ⊎ ((front : List ℕ) × (text ≡ front ++ 10 ∷ []))
 
--- the script, or the first fault, of what was read up to this stage and of these lines after it
-abbrev pub goes : Stage → List (List ℕ) → Result Script ScriptFault
+-- the script or the first fault of a text that was read up to this stage and goes on with these lines
+abbrev pub goes : ScriptStage → List (List ℕ) → Result Script ScriptFault
 goes Version lines = script_of_lines lines
 goes (Cpus version) lines = do
   cpus ← at_line 2 (cpus_in version lines)
-  start ← at_line 3 (start_in version cpus (behind lines))
-  script_from start 4 (behind (behind lines))
+  start ← at_line 3 (start_in version cpus (following lines))
+  script_from start 4 (following (following lines))
 goes (Start head) lines = do
   start ← at_line 3 (start_in head.version head.cpus lines)
-  script_from start 4 (behind lines)
+  script_from start 4 (following lines)
 goes (Lines draft number) lines = script_from (draft_as draft) number lines
-goes (Ended draft number) lines = nothing_behind number lines >>= λ none. Ok (script_of_draft (draft_as draft))
+goes (Ended draft number) lines = nothing_after number lines >>= λ none. Ok (script_of_draft (draft_as draft))
 goes (Faulty fault line) lines = Err fault
 
 -- the number of the next line
-abbrev pub number_of : Stage → ℕ
+abbrev pub number_of : ScriptStage → ℕ
 number_of Version = 1
 number_of (Cpus version) = 2
 number_of (Start head) = 3
@@ -38,31 +38,31 @@ number_of (Lines draft number) = number
 number_of (Ended draft number) = number
 number_of (Faulty fault line) = 0
 
--- whatever follows, the text read at the first stage gives the same script or fault as its rest read at the next stage
-pub record LeadsTo (stage : Stage) (text : List ℕ) (next : Stage) (rest : List ℕ) : Type 0 where
+-- whatever follows, reading `text` from `stage` gives the same result as reading `rest` from `next`
+pub record LeadsTo (stage : ScriptStage) (text : List ℕ) (next : ScriptStage) (rest : List ℕ) : Type 0 where
   pub same : (later : List ℕ) → goes stage (parts 10 (text ++ later)) ≡ goes next (parts 10 (rest ++ later))
   pub whole : IsWhole rest
   pub number : number_of next + length rest ≤ number_of stage + length text
 
--- the fault is the script's first, whatever follows
-abbrev pub FailsFrom : Stage → List ℕ → ScriptError → Type 0
+-- whatever follows, reading the text from this stage gives the fault; nothing is claimed if memory ran out
+abbrev pub FailsFrom : ScriptStage → List ℕ → ScriptError → Type 0
 FailsFrom stage text (Fault fault) = (later : List ℕ) → goes stage (parts 10 (text ++ later)) ≡ Err fault
 FailsFrom stage text NoMemory = ⊤
 
 -- the result of reading the first lines of a text: the next stage and the rest, or the first fault
-abbrev pub Leads : Stage → List ℕ → Result (Stage × Bor (List ℕ)) ScriptError → Type 0
+abbrev pub Leads : ScriptStage → List ℕ → Result (ScriptStage × Bor (List ℕ)) ScriptError → Type 0
 Leads stage text (Ok both) = LeadsTo stage text both.0 both.1.now × (length both.1.now < length text)
 Leads stage text (Err error) = FailsFrom stage text error
 
--- the reader has read the text up to the incomplete line that it keeps and the unread bytes
-pub record IsBehind (text : List ℕ) (reader : Reader) (unread : List ℕ) : Type 0 where
+-- the reader has read the text, except the incomplete line that it keeps and the unread bytes after that line
+pub record IsAfter (text : List ℕ) (reader : ScriptReader) (unread : List ℕ) : Type 0 where
   pub same : (later : List ℕ) → script_of_lines (parts 10 (text ++ later))
       ≡ goes reader.stage (parts 10 (reader.rest.items ++ (unread ++ later)))
   pub clean : All (λ b. (b == 10) ≡ false) reader.rest.items
   pub number : number_of reader.stage + length reader.rest.items + length unread ≤ length text + 1
 
 -- the reader was fed this text; if the text is too long, nothing more is claimed
-pub record HasFed (text : List ℕ) (reader : Reader) : Type 0 where
+pub record HasFed (text : List ℕ) (reader : ScriptReader) : Type 0 where
   pub len : length text ≤ 16777216 → reader.len ≡ length text
   pub long : 16777216 < length text → 16777216 < reader.len
-  pub read : length text ≤ 16777216 → IsBehind text reader []
+  pub read : length text ≤ 16777216 → IsAfter text reader []

@@ -4,26 +4,27 @@ use Rattle.std.specs.List.{AllByRecursion}
 use Rattle.key_names.specs.declared.events.Event.{Event}
 use Rattle.key_names.specs.declared.faults.FaultKind.TheVariants.{TooLong}
 use Rattle.key_names.specs.declared.faults.ScriptFault.{ScriptFault}
-use Rattle.key_names.specs.Texts.ScriptFaults.{◌>>=◌, Draft, has_orphan, nothing_behind, parts, script_from, script_of_draft, script_of_lines}
+use Rattle.key_names.specs.Texts.ScriptFaults.{◌>>=◌, Draft, has_orphan, nothing_after, parts, script_from, script_of_draft, script_of_lines}
 use Rattle.event_script.specs.Tally.{fork_in}
 use Rattle.event_script.specs.declared.progress.DraftView.{DraftView}
-use Rattle.event_script.specs.declared.progress.Progress.{Progress}
-use Rattle.event_script.specs.declared.progress.Progress.TheVariants.{Waits, Open, Ended, Faulty}
+use Rattle.event_script.specs.declared.progress.ScriptProgress.{ScriptProgress}
+use Rattle.event_script.specs.declared.progress.ScriptProgress.TheVariants.{Waits, Open, Ended, Faulty}
 
--- with more text after it, the text is the script that goes on from this draft; n is the number of the next line
+-- whatever follows the text, the script goes on from this draft; `n` is the number of the next line
 abbrev pub GoesOnFrom : List ℕ → Draft → ℕ → Type 0
 GoesOnFrom text d n = (later : List ℕ) → script_of_lines (parts 10 (text ++ later)) ≡ script_from d n (parts 10 later)
 
--- the text is the script of this draft if nothing follows, and otherwise has a fault in line n
+-- if nothing follows, the text is the script of this draft; if text follows, line `n` has a fault
 abbrev pub EndsWith : List ℕ → Draft → ℕ → Type 0
 EndsWith text d n = (later : List ℕ) → script_of_lines (parts 10 (text ++ later))
-    ≡ (nothing_behind n (parts 10 later) >>= λ none. Ok (script_of_draft d))
+    ≡ (nothing_after n (parts 10 later) >>= λ none. Ok (script_of_draft d))
 
--- the fault is the first of the lines, whatever follows
+-- this is the text's first fault, whatever follows
 abbrev pub FailsWith : List ℕ → ScriptFault → Type 0
 FailsWith text fault = (later : List ℕ) → script_of_lines (parts 10 (text ++ later)) ≡ Err fault
 
--- the view has the draft's version, CPUs and last events, counts its finished blocks, and finds its orphans
+-- The view has the draft's version, its number of CPUs, its number of finished blocks, and the events of its last
+-- block. `has_orphan` is whether a forked caller has no block.
 pub record IsViewOf (view : DraftView) (d : Draft) : Type 0 where
   pub version : view.version ≡ d.version
   pub cpus : view.cpus ≡ d.cpus
@@ -50,18 +51,18 @@ pub record IsFaulty (text : List ℕ) (fault : ScriptFault) : Type 0 where
   pub short : length text ≤ 16777216 → FailsWith text fault
   pub long : 16777216 < length text → fault ≡ record { line = 0; kind = TooLong }
 
--- the answer is right for a text that was read so far
-abbrev pub IsProgress : List ℕ → Progress → Type 0
+-- this progress is right for the text that was read so far
+abbrev pub IsProgress : List ℕ → ScriptProgress → Type 0
 IsProgress text Waits = ⊤
 IsProgress text (Open view) = IsOpen text view
 IsProgress text (Ended view) = IsEnded text view
 IsProgress text (Faulty fault) = IsFaulty text fault
 
--- no event forks
+-- no event of the list forks a caller
 abbrev pub ForkNone : List Event → Type 0
 ForkNone events = AllByRecursion (λ event. fork_in event ≡ None) events
 
--- the draft of one caller that forks no other
+-- the draft has only the block of one caller, and no event in this block forks
 pub record IsLone (d : Draft) : Type 0 where
   pub first : d.done ≡ []
   pub forks : ForkNone d.events
@@ -70,7 +71,7 @@ pub record IsLone (d : Draft) : Type 0 where
 abbrev pub end_line : List ℕ
 end_line = codes "end\n"
 
--- the later draft has more events in the same block
+-- the later draft adds events to the same block
 pub record Extends (d later : Draft) : Type 0 where
   pub version : later.version ≡ d.version
   pub cpus : later.cpus ≡ d.cpus

@@ -3,10 +3,10 @@ use Rattle.std.specs.Prelude.{ℕ, List, Result}
 use Rattle.key_names.specs.declared.faults.FaultKind.{FaultKind}
 use Rattle.key_names.specs.Texts.ScriptFaults as faults
 use Rattle.key_names.specs.Texts.ScriptFaults.{◌>>=◌, line_of, said}
-use Rattle.event_script.specs.declared.line.Said.{Said}
-use Rattle.event_script.specs.declared.line.Said.TheVariants.{Event, Caller, End}
+use Rattle.event_script.specs.declared.statements.line.ScriptLine.{ScriptLine}
+use Rattle.event_script.specs.declared.statements.line.ScriptLine.TheVariants.{Event, Caller, End}
 
-abbrev pub said_as : Said → faults.Said
+abbrev pub said_as : ScriptLine → faults.Said
 said_as (Event event) = faults.SaysEvent event
 said_as (Caller c) = faults.SaysCaller c
 said_as End = faults.SaysEnd

@@ -1,9 +1,9 @@
--- The answer of a reader of lines, compared with the definitions.
+-- The result of reading lines, compared with the definitions.
 use Rattle.std.specs.Prelude.{◌≡◌, ℕ, Bool, true, false, ⊤, List, Some, Result, Ok, Err}
 use Rattle.key_names.specs.declared.faults.ScriptFault.{ScriptFault}
 use Rattle.key_names.specs.Texts.ScriptFaults.{first_fault, Draft, Next, GoesOn, Ends}
-use Rattle.event_script.specs.declared.error.LineError.{LineError}
-use Rattle.event_script.specs.declared.error.LineError.TheVariants.{Memory, Kind}
+use Rattle.event_script.specs.declared.whole.error.LineError.{LineError}
+use Rattle.event_script.specs.declared.whole.error.LineError.TheVariants.{Memory, Kind}
 use Rattle.event_script.specs.declared.script_error.ScriptError.{ScriptError}
 use Rattle.event_script.specs.declared.script_error.ScriptError.TheVariants.{Fault, NoMemory}
 use Rattle.event_script.specs.declared.script_error.Unread.{Unread}
@@ -17,7 +17,7 @@ abbrev pub FailsAt : {Y : Type 0} → ScriptError → Result Y ScriptFault → T
 FailsAt (Fault fault) given = given ≡ Err fault
 FailsAt NoMemory given = ⊤
 
--- unless memory ran out, the answer seen through view is the given one
+-- `view` maps the answer to the given answer; an error is the given fault, unless memory ran out
 abbrev pub GivesScript : {X Y : Type 0} → (X → Y) → Result X ScriptError → Result Y ScriptFault → Type 0
 GivesScript view (Ok x) given = given ≡ Ok (view x)
 GivesScript view (Err e) given = FailsAt e given
@@ -27,7 +27,7 @@ abbrev pub GivesUnread : {X Y : Type 0} → (X → Y) → Result X Unread → Re
 GivesUnread view (Ok x) given = given ≡ Ok (view x)
 GivesUnread view (Err unread) given = FailsAt unread.error given
 
--- the next state: true if the draft goes on with more lines, false if the script has ended
+-- the next state: if the flag is true, the draft goes on with more lines; if it is false, the script has ended
 abbrev pub next_as : Bool → Draft → Next
 next_as true d = GoesOn d
 next_as false d = Ends

@@ -3,17 +3,17 @@ use Rattle.std.specs.Prelude.{ℕ, ◌^◌, ◌<◌, ◌≤◌, ⊤, List, [], �
 use Rattle.std.specs.Fmt.{decimal}
 use Rattle.key_names.specs.declared.events.Word.{Word}
 use Rattle.key_names.specs.declared.events.Word.TheVariants.{At, Credit, Bits, Irq, Read, Vread, Kread, Dread, Uread, Int8, Int16, Int32, Int64, Reseed, Tick, Drop}
-use Rattle.event_script.specs.declared.short.Numbers.{Numbers}
-use Rattle.event_script.specs.declared.short.Numbers.TheVariants.{None, One, Two}
+use Rattle.event_script.specs.declared.statements.short.NumberFields.{NumberFields}
+use Rattle.event_script.specs.declared.statements.short.NumberFields.TheVariants.{None, One, Two}
 
 -- the bytes between a word and the line end
-abbrev pub behind_word : Numbers → List ℕ
-behind_word None = []
-behind_word (One a) = 32 ∷ decimal a
-behind_word (Two a b) = 32 ∷ (decimal a ++ 32 ∷ decimal b)
+abbrev pub after_word : NumberFields → List ℕ
+after_word None = []
+after_word (One a) = 32 ∷ decimal a
+after_word (Two a b) = 32 ∷ (decimal a ++ 32 ∷ decimal b)
 
 -- in every version and with any number of CPUs, an event has this word and these numbers
-abbrev pub IsShort : Word → Numbers → Type 0
+abbrev pub IsShort : Word → NumberFields → Type 0
 IsShort Bits None = ⊤
 IsShort Int8 None = ⊤
 IsShort Int16 None = ⊤

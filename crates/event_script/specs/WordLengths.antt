@@ -13,7 +13,7 @@ of_length n ws = filter (λ w. length (word_text w) == n) ws
 abbrev pub Misspelt : List ℕ → Word → Type 0
 Misspelt field w = bytes_eq (word_text w) field ≡ false
 
--- the field spells the found word; if none was found, it spells no word of n bytes
+-- the field spells the found word; if no word was found, the field spells no word of `n` bytes
 abbrev pub IsAmong : ℕ → List ℕ → Option Word → Type 0
 IsAmong n field None = AllByRecursion (Misspelt field) (of_length n all_words)
 IsAmong n field (Some word) = field ≡ word_text word

@@ -31,7 +31,7 @@ fn turn(start: u32, caller: u32, number: u32) -> u8
     (turns % 8) as u8
 }
 
-/// The number in eight bytes, the lowest first.
+/// A number as eight bytes, least significant first.
 fn number_text(alloc: Global, number: u32) -> Result<Text, AllocError>
     ensures { IfOk result (λ text. text ≡ to_le_bytes w64 number) }
 {
@@ -60,7 +60,8 @@ fn call(alloc: Global, start: u32, caller: u32, number: u32) -> Result<Event, Al
     }
 }
 
-/// The first events of a caller: caller 0 makes the core ready and forks all others.
+/// The opening events of a caller. Caller 0 makes the core ready and forks all others; no other caller has opening
+/// events.
 fn opening(alloc: Global, callers: u32, caller: u32) -> Result<Vec<Event>, AllocError>
     ensures { IfOk result (λ events. events.items ≡ opening callers caller) }
 {
@@ -97,7 +98,7 @@ fn load_events(
     Ok(events)
 }
 
-/// The events of all callers, each with this many calls.
+/// The events of all callers, with `count` calls each.
 pub(crate) fn load_blocks(
     alloc: Global,
     start: u32,

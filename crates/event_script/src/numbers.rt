@@ -6,7 +6,7 @@ ghost use Rattle.event_script.specs.Views.{Tells, fields_of};
 ghost use Rattle.key_names.specs.declared.events.Event.{Event};
 ghost use Rattle.key_names.specs.Texts.ScriptFaults.{binary, number_below, number, number_in, unary};
 
-use crate::fields::cut;
+use crate::statements::fields::cut;
 use key_names::FaultKind;
 
 /// Any number of this many digits fits in a `u64`.
@@ -24,7 +24,7 @@ fn ends_number(text: &[u8]) -> bool
     }
 }
 
-/// The number that a text begins with, and the text after it. The text begins with exactly `len` digits, of this value.
+/// The number that a text begins with, and the text after it. Exactly `len` digits begin the text; they spell `value`.
 #[inline(always)]
 fn cut_number(most: u64, value: u64, len: usize, text: &[u8]) -> Option<(u64, &[u8])>
     requires { IsDigits text.now value len }
@@ -44,7 +44,8 @@ fn cut_number(most: u64, value: u64, len: usize, text: &[u8]) -> Option<(u64, &[
     Some((value, &text[len..]))
 }
 
-/// The number at the start of a longer text, of which the first 19 digits have this value. At most one more digit fits.
+/// The number at the start of a text longer than 19 bytes. Its first 19 bytes are digits, which spell `value`; at most
+/// one more digit fits in a `u64`.
 #[inline(never)]
 fn long_number(most: u64, value: u64, text: &[u8]) -> Option<(u64, &[u8])>
     requires digits { BeginsDigits text.now value 19 }
@@ -64,7 +65,7 @@ fn long_number(most: u64, value: u64, text: &[u8]) -> Option<(u64, &[u8])>
     cut_number(most, next, SAFE_DIGITS + 1, text)
 }
 
-/// The number at the start of a text. The first `seen` digits have this value, and the function reads on after them.
+/// The number at the start of a text. The first `seen` digits were read before and spell `value`.
 #[inline(never)]
 fn read_on(most: u64, value: u64, seen: usize, text: &[u8]) -> Option<(u64, &[u8])>
     requires digits { BeginsDigits text.now value seen }
@@ -86,9 +87,9 @@ fn read_on(most: u64, value: u64, seen: usize, text: &[u8]) -> Option<(u64, &[u8
     cut_number(most, value, text.len(), text)
 }
 
-/// Calls `read_on`, for numbers that mostly end before this call.
-// A function clears the room for its calls' results when it starts. `read_on` is called in this separate function, so
-// that a number that ended before clears no room.
+/// Calls `read_on`. Most numbers end before this call is reached.
+// A function clears the space for its calls' results when it starts. Since `read_on` is called from a function of its
+// own, a number that ends earlier clears no space.
 #[inline(always)]
 fn read_on_apart(most: u64, value: u64, seen: usize, text: &[u8]) -> Option<(u64, &[u8])>
     requires digits { BeginsDigits text.now value seen }

@@ -15,7 +15,7 @@ pub struct DraftView<'a> {
     pub events: &'a [Event],
     /// The number of the next line.
     pub number: u32,
-    /// Whether a number was forked and has no block, so that the script cannot end yet.
+    /// Whether a forked caller has no block yet, so that the script cannot end.
     pub has_orphan: bool,
     ghost some: { 0 < cpus },
     ghost few: { cpus ≤ 256 },
@@ -23,9 +23,8 @@ pub struct DraftView<'a> {
 
 /// How far the text of a script was read.
 #[derive(Clone, Copy)]
-pub enum Progress<'a> {
-    /// The text ends within a line, or before the first event. The same if the text is so long that it has no room for
-    /// the line `end`.
+pub enum ScriptProgress<'a> {
+    /// The text ends within a line, or before any event may follow, or is so long that the line `end` no longer fits.
     Waits,
     /// Events and blocks may follow, or the line `end`.
     Open(DraftView<'a>),

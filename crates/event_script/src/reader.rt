@@ -2,17 +2,17 @@
 ghost use Rattle.std.specs.Prelude.{◌≡◌, ◌+◌, ◌<◌, ◌≤◌, ◌^◌, ◌++◌, ◌∷◌, ◌==◌, ℕ, [], All, List, false, length, OnOk};
 ghost use Rattle.key_names.specs.Texts.ScriptFaults.{script_of, script_of_draft};
 ghost use Rattle.event_script.specs.Drafts.{draft_as};
-ghost use Rattle.event_script.specs.Feeding.{HasFed, IsBehind, IsWhole, number_of};
+ghost use Rattle.event_script.specs.Feeding.{HasFed, IsAfter, IsWhole, number_of};
 ghost use Rattle.event_script.specs.Progress.{IsProgress};
 ghost use Rattle.event_script.specs.ScriptViews.{GivesUnread};
 ghost use Rattle.event_script.specs.Waiting.{IsWaiting};
 
-use crate::draft::Draft;
-use crate::fields::cut;
-use crate::progress::Progress;
-use crate::reading::fault;
+use crate::progress::ScriptProgress;
 use crate::script_error::Unread;
-use crate::stage::Stage;
+use crate::statements::fields::cut;
+use crate::whole::draft::Draft;
+use crate::whole::reading::fault;
+use crate::whole::stage::ScriptStage;
 use key_names::FaultKind;
 use memchr::memrchr;
 use std::alloc::{AllocError, Global};
@@ -27,11 +27,11 @@ const END_BYTES: usize = 4;
 /// A reader for the text of a script, in pieces of any length. It buffers at most one incomplete line, or the faulty
 /// line.
 #[derive(Drop)]
-pub struct Reader {
-    stage: Stage,
+pub struct ScriptReader {
+    stage: ScriptStage,
     // The number of bytes so far.
     len: usize,
-    // The start of a line without its end.
+    // The start of a line whose end was not read yet.
     rest: Vec<u8>,
 }
 
@@ -47,36 +47,36 @@ fn whole_lines(text: &[u8]) -> (&[u8], &[u8])
     }
 }
 
-impl Reader {
+impl ScriptReader {
     /// A reader that has read nothing.
-    pub fn new(alloc: Global) -> Reader
+    pub fn new(alloc: Global) -> ScriptReader
         ensures { HasFed [] result }
     {
-        Reader {
-            stage: Stage::Version,
+        ScriptReader {
+            stage: ScriptStage::Version,
             len: 0,
             rest: Vec::new(alloc),
         }
     }
 
-    // Reads the end of the line whose start is kept, and the whole lines after it.
+    // Reads the end of the line whose start is kept, and the whole lines after that line.
     fn read_lines(&mut self, alloc: Global, lines: &[u8]) -> Result<(), AllocError>
         requires whole { IsWhole lines.now }
         requires short { number_of self.old.stage + length self.old.rest.items + length lines.now < 2 ^ 32 }
-        ensures read { OnOk result ((text behind : List ℕ) → IsBehind text self.old (lines.now ++ behind)
-            → IsBehind text self.new behind) }
+        ensures read { OnOk result ((text following : List ℕ) → IsAfter text self.old (lines.now ++ following)
+            → IsAfter text self.new following) }
         ensures rest { OnOk result (0 < length lines.now → self.new.rest.items ≡ []) }
         ensures len { self.new.len ≡ self.old.len }
     {
-        let Some((end, behind)) = cut(b'\n', lines) else {
+        let Some((end, following)) = cut(b'\n', lines) else {
             return Ok(());
         };
         self.rest.extend_from_slice(end)?;
         self.rest.push(b'\n')?;
-        let stage = mem::replace(&mut self.stage, Stage::Version);
+        let stage = mem::replace(&mut self.stage, ScriptStage::Version);
         let stage = stage.read(alloc, &self.rest)?;
         self.rest.clear();
-        self.stage = stage.read(alloc, behind)?;
+        self.stage = stage.read(alloc, following)?;
         Ok(())
     }
 
@@ -103,37 +103,37 @@ impl Reader {
     }
 
     /// How far the text was read.
-    pub fn progress(&self) -> Progress<'_>
+    pub fn progress(&self) -> ScriptProgress<'_>
         requires { (text : List ℕ) × HasFed text self.now }
         ensures shown { (text : List ℕ) → HasFed text self.now → IsProgress text result }
         ensures waits { (text : List ℕ) → HasFed text self.now
-            → (self.now.len ≤ 16777216 → self.now.rest.items ≡ []) → result ≡ Progress.Waits → IsWaiting text }
+            → (self.now.len ≤ 16777216 → self.now.rest.items ≡ []) → result ≡ ScriptProgress.Waits → IsWaiting text }
     {
         if self.len > MOST_BYTES {
-            return Progress::Faulty(fault(0, FaultKind::TooLong));
+            return ScriptProgress::Faulty(fault(0, FaultKind::TooLong));
         }
-        if let Stage::Faulty { fault, .. } = &self.stage {
-            return Progress::Faulty(*fault);
+        if let ScriptStage::Faulty { fault, .. } = &self.stage {
+            return ScriptProgress::Faulty(*fault);
         }
         if !self.rest.is_empty() {
-            return Progress::Waits;
+            return ScriptProgress::Waits;
         }
         match &self.stage {
-            Stage::Lines { draft, number } if self.len <= MOST_BYTES - END_BYTES => {
-                Progress::Open(draft.view(*number))
+            ScriptStage::Lines { draft, number } if self.len <= MOST_BYTES - END_BYTES => {
+                ScriptProgress::Open(draft.view(*number))
             }
-            Stage::Ended { draft, number } => Progress::Ended(draft.view(*number)),
-            _ => Progress::Waits,
+            ScriptStage::Ended { draft, number } => ScriptProgress::Ended(draft.view(*number)),
+            _ => ScriptProgress::Waits,
         }
     }
 
-    /// The script of the whole text. Its last block is still open.
+    /// The script of the whole text, as a draft: the last block is still separate from the finished ones.
     pub(crate) fn into_draft(self) -> Result<Draft, Unread>
         requires { (text : List ℕ) × HasFed text self }
         ensures { (text : List ℕ) → HasFed text self
             → GivesUnread (λ d. script_of_draft (draft_as d)) result (script_of text) }
     {
-        let Reader { stage, len, rest } = self;
+        let ScriptReader { stage, len, rest } = self;
         if len > MOST_BYTES {
             return Err(Unread::at(fault(0, FaultKind::TooLong), None));
         }

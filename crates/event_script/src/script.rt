@@ -6,10 +6,10 @@ ghost use Rattle.key_names.specs.Texts.ScriptFaults.{first_fault, front};
 ghost use Rattle.event_script.specs.Feeding.{HasFed};
 ghost use Rattle.event_script.specs.ScriptViews.{GivesScript, GivesUnread, IsFirstFault};
 
-use crate::front::front_len;
 use crate::load::load_blocks;
-use crate::reader::Reader;
+use crate::reader::ScriptReader;
 use crate::script_error::{ScriptError, Unread};
+use crate::whole::front::front_len;
 use key_names::Event;
 use std::alloc::{AllocError, Global};
 use std::marker::Model;
@@ -96,13 +96,13 @@ impl Script {
     }
 }
 
-impl Reader {
+impl ScriptReader {
     /// The script of the text that was fed.
     ///
     /// # Errors
     ///
-    /// `Fault` with the text's first fault if it is no script, and with the faulty line. `NoMemory` if there is no
-    /// memory for the script.
+    /// `Fault` if the text is no script, with the text's first fault; the faulty line is returned too, if it was kept.
+    /// `NoMemory` if there is no memory for the script.
     pub fn finish(self) -> Result<Script, Unread>
         requires { (text : List ℕ) × HasFed text self }
         ensures found { (text : List ℕ) → HasFed text self → IfOk result (λ script. IsScript script text) }
@@ -128,7 +128,7 @@ impl Reader {
 ///
 /// # Errors
 ///
-/// `Fault` with the text's first fault if it is no script. `NoMemory` if there is no memory for the script.
+/// `Fault` with the text's first fault if the text is no script. `NoMemory` if there is no memory for the script.
 pub fn read(alloc: Global, text: &[u8]) -> Result<Script, ScriptError>
     // The text is the spelling of the script.
     ensures found { IfOk result (λ script. IsScript script text.now) }
@@ -139,7 +139,7 @@ pub fn read(alloc: Global, text: &[u8]) -> Result<Script, ScriptError>
     // A text with a fault is no script, so it is not read.
     ensures faulted { (fault : ScriptFault) → first_fault text.now ≡ Some fault → IsErr result }
 {
-    let mut reader = Reader::new(alloc);
+    let mut reader = ScriptReader::new(alloc);
     reader.feed(alloc, text)?;
     match reader.finish() {
         Ok(script) => Ok(script),
@@ -152,7 +152,7 @@ pub fn read(alloc: Global, text: &[u8]) -> Result<Script, ScriptError>
 ///
 /// # Errors
 ///
-/// `Fault` with the first fault of the script's bytes if they are no script. `NoMemory` if there is no memory for the
+/// `Fault` with the first fault of these bytes if the bytes are no script. `NoMemory` if there is no memory for the
 /// script.
 pub fn read_front(alloc: Global, text: &[u8]) -> Result<(Script, u64), ScriptError>
     ensures found { IfOk result (λ both. IsScript both.0 (front text.now)) }

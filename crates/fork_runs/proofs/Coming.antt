@@ -1,22 +1,23 @@
--- A call that is run to a point of an attempt cannot miss the point.
+-- If a call on a ready core runs to a point of its first attempt, or after a reseed to one of a second attempt, then
+-- it stops there: it cannot end without coming to the point.
 use Rattle.std.proofs.Common.{◌≡◌, ℕ, zero, suc, ◌<◌, ◌≤◌, false, List, [], ◌∷◌, ◌++◌, Some, None, refl, sym, subst, ap, ◌∙◌, arith}
 use Rattle.std.proofs.lemmas.Bool.{ne_eqb}
 use Rattle.key_names.specs.declared.names.Step.{Step}
 use Rattle.key_names.specs.declared.point.Point.{Point}
 use Rattle.key_names.specs.declared.point.Point.TheVariants.{Start, Written, Serve, End}
-use Rattle.key_names.specs.Kernel.Vgetrandom.{SystemAnswer, HostStep, publishes, system_call, at_point, AfterBoth, IsCall, Outcome, outcome_behind}
+use Rattle.key_names.specs.Kernel.Vgetrandom.{SystemAnswer, HostStep, publishes, system_call, at_point, AfterBoth, IsCall, Outcome, prefix_outcome}
 use Rattle.key_names.specs.Kernel.VgetrandomState.{VgetrandomState, wiped_state}
 use Rattle.key_names.specs.Callers.VreadSteps.{points_of, published_by}
 use Rattle.lane_table.specs.declared.view.View.{View}
 use Rattle.lane_table.specs.Advances.{floor}
 use Rattle.vdso_state.specs.declared.place.Turn.{Turn}
 use Rattle.vdso_state.specs.declared.place.Turn.TheVariants.{First, Second}
-use Rattle.vdso_state.specs.Places.{BehindPlace, Climbs}
+use Rattle.vdso_state.specs.Places.{AfterPlace, Climbs}
 use Rattle.vdso_state.specs.Turns.{turn_number}
 use Rattle.vdso_state.proofs.Leading.{climbs_append}
 use Rattle.vcall_fork.specs.declared.stage.Stage.{Stage}
 use Rattle.vcall_fork.specs.declared.stage.Stage.TheVariants.{New}
-use Rattle.vcall_fork.specs.Forks.{ForksAreTold}
+use Rattle.vcall_fork.specs.Forks.{ForksAreRecorded}
 use Rattle.vcall_fork.specs.Stages.{turns_begun}
 use Rattle.vcall_fork.specs.Stops.{Misses, RestOfCall, passes_by}
 use Rattle.rng_core.specs.declared.setting.Setting.{Setting}
@@ -64,7 +65,7 @@ first_attempt_comes n point steps outcome low high some ready call core =
 record Cut (looked published : ℕ) (answer : SystemAnswer) (before later more : List HostStep) : Type 0 where
   front : before ≡ publishes looked ∷ publishes published ∷ at_point Start false ∷ at_point Written false
       ∷ system_call 32 0 answer ∷ []
-  behind : later ≡ more
+  following : later ≡ more
 
 module _ (looked published : ℕ) (answer : SystemAnswer) (later more : List HostStep) where
   abbrev whole : List HostStep
@@ -78,16 +79,16 @@ module _ (looked published : ℕ) (answer : SystemAnswer) (later more : List Hos
   cut (x ∷ y ∷ []) b misses is = absurd (cc is)
   cut (x ∷ y ∷ z ∷ []) b misses is = absurd (cc is)
   cut (x ∷ y ∷ z ∷ u ∷ []) b misses is = absurd (cc is)
-  cut (x ∷ y ∷ z ∷ u ∷ v ∷ []) b misses is = record { front = cc; behind = cc }
+  cut (x ∷ y ∷ z ∷ u ∷ v ∷ []) b misses is = record { front = cc; following = cc }
   cut (x ∷ y ∷ z ∷ u ∷ v ∷ w ∷ rest) b misses is =
       let same : x ∷ y ∷ z ∷ u ∷ v ∷ w ∷ rest ≡ publishes looked ∷ publishes published ∷ at_point Start false
       ∷ at_point Written false ∷ system_call 32 0 answer ∷ at_point Serve false ∷ rest = cc in
       absurd (never b (subst (λ (l : List HostStep). passes_by First Serve 0 (points_of l) ≡ Some b) same misses))
 
-module _ (law : ForksAreTold) (n : ℕ) (point : Point) (stop : Stop (IsCall n 0 wiped_state) n 0 First Serve) (steps : List HostStep)
+module _ (law : ForksAreRecorded) (n : ℕ) (point : Point) (stop : Stop (IsCall n 0 wiped_state) n 0 First Serve) (steps : List HostStep)
     (outcome : Outcome) (low mid next high : ℕ) (some : 1 ≤ n) (ready : 1 ≤ low)
     (misses : Misses First Serve 0 stop.before) (before : OnReadyCore low mid stop.before) (rises : mid < next)
-    (rest : BehindPlace n 0 stop.place stop.held stop.state steps outcome) (after : OnReadyCore next high steps) where
+    (rest : AfterPlace n 0 stop.place stop.held stop.state steps outcome) (after : OnReadyCore next high steps) where
   abbrev total : List HostStep
   total = stop.before ++ at_point Serve false ∷ steps
 
@@ -95,7 +96,7 @@ module _ (law : ForksAreTold) (n : ℕ) (point : Point) (stop : Stop (IsCall n 0
   later = climbs_append mid next high [] steps (omega arith) after.climbs
 
   path : FirstTried n total
-  path = first_tried n some low high ready total (outcome_behind stop.entries outcome)
+  path = first_tried n some low high ready total (prefix_outcome stop.entries outcome)
       (climbs_append low mid high stop.before (at_point Serve false ∷ steps) before.climbs later)
       (smooth_then stop.before (at_point Serve false ∷ steps) (smooth_of stop.before before.unwiped before.served)
       (refl, smooth_of steps after.unwiped after.served))
@@ -104,15 +105,16 @@ module _ (law : ForksAreTold) (n : ℕ) (point : Point) (stop : Stop (IsCall n 0
   parts : Cut path.looked path.tried.published path.tried.answer stop.before steps
       (at_point End false ∷ publishes path.tried.found ∷ path.tried.more)
   parts = cut path.looked path.tried.published path.tried.answer steps
-      (at_point End false ∷ publishes path.tried.found ∷ path.tried.more) stop.before misses.behind misses.passes
+      (at_point End false ∷ publishes path.tried.found ∷ path.tried.more) stop.before misses.following misses.passes
       (path.looks ∙ ap (λ (l : List HostStep). publishes path.looked ∷ l) path.tried.steps_are)
 
-  -- the first attempt began with at most the generation published before the stop, and finds a higher one at its end
+  -- at its start the first attempt found at most `mid`, as all looks before the stop did; at its end it finds at least
+  -- `next`
   known : path.tried.published ≤ mid
   known = (subst (Climbs low mid) parts.front before.climbs).1.1
 
   found_on : (next ≤ path.tried.found) × Climbs path.tried.found high path.tried.more
-  found_on = subst (Climbs next high) parts.behind after.climbs
+  found_on = subst (Climbs next high) parts.following after.climbs
 
   differs : path.tried.published < path.tried.found
   differs = let a = known in let b = found_on.0 in omega arith
@@ -121,16 +123,16 @@ module _ (law : ForksAreTold) (n : ℕ) (point : Point) (stop : Stop (IsCall n 0
   second_comes =
       let second = path.tried.goes_on (ne_eqb path.tried.published path.tried.found
       (λ same. let a = differs in omega arith)) in
-      let smooth = subst Smooth parts.behind (smooth_of steps after.unwiped after.served) in
+      let smooth = subst Smooth parts.following (smooth_of steps after.unwiped after.served) in
       let again = tries n second.0 second.1 (AfterBoth n 0) path.tried.more second.2 path.tried.found high
       (let a = differs in let b = second.3 in omega arith) found_on.1 smooth.1 second.4 in
       comes_by Second point 1 steps (at_point End false ∷ publishes path.tried.found
       ∷ attempt_steps again.published again.answer again.found again.more)
-      (parts.behind
+      (parts.following
       ∙ ap (λ (l : List HostStep). at_point End false ∷ publishes path.tried.found ∷ l) again.steps_are)
       (in_second point path.tried.found again.published again.found again.answer again.more)
 
-pub second_attempt_comes : ForksAreTold → SecondAttemptComes
+pub second_attempt_comes : ForksAreRecorded → SecondAttemptComes
 second_attempt_comes law n point stop steps outcome low mid next high some ready misses before rises rest after =
     second_comes law n point stop steps outcome low mid next high some ready misses before rises rest after
 
@@ -153,9 +155,9 @@ never_misses_first n flags stage held s point v w new plain wiped some ready mis
     let comes = first_attempt_comes n point k.steps k.outcome (published_by (floor v)) (published_by (floor w)) some
     (publishes_some (floor v) ready) k.rest
     (record { climbs = k.climbs; unwiped = k.unwiped; served = k.served }) in
-    never k.misses.behind (sym comes ∙ k.misses.passes)
+    never k.misses.following (sym comes ∙ k.misses.passes)
 
-module _ (law : ForksAreTold) (set : Setting) (n flags : ℕ) (stage mid : Stage) (held half : List ℕ) (s u : VgetrandomState) (point : Point)
+module _ (law : ForksAreRecorded) (set : Setting) (n flags : ℕ) (stage mid : Stage) (held half : List ℕ) (s u : VgetrandomState) (point : Point)
     (v x y w : View) (new : stage ≡ New) (plain : flags ≡ 0) (wiped : s ≡ wiped_state) (some : 1 ≤ n)
     (ready : 1 ≤ floor v)
     (earlier : (own : List Step)
@@ -172,9 +174,9 @@ module _ (law : ForksAreTold) (set : Setting) (n flags : ℕ) (stage mid : Stage
       earlier.1))
 
   rests : (k : MissedOver n 0 mid half u Second point y w) →
-      BehindPlace n 0 e.stop.place e.stop.held e.stop.state k.steps k.outcome
-  rests k = subst (λ (z : VgetrandomState). BehindPlace n 0 e.stop.place e.stop.held z k.steps k.outcome) e.state_is
-      (subst (λ (l : List ℕ). BehindPlace n 0 e.stop.place l u k.steps k.outcome) e.held_is
+      AfterPlace n 0 e.stop.place e.stop.held e.stop.state k.steps k.outcome
+  rests k = subst (λ (z : VgetrandomState). AfterPlace n 0 e.stop.place e.stop.held z k.steps k.outcome) e.state_is
+      (subst (λ (l : List ℕ). AfterPlace n 0 e.stop.place l u k.steps k.outcome) e.held_is
       (subst (λ (z : Stage). RestOfCall z n 0 half u k.steps k.outcome) e.stage_is k.rest))
 
   comes : (k : MissedOver n 0 mid half u Second point y w) → ComesTo Second point 1 k.steps
@@ -192,6 +194,6 @@ module _ (law : ForksAreTold) (set : Setting) (n flags : ℕ) (stage mid : Stage
   never_misses_second n_again flags_again same_n same_flags missed =
       let k = subst (λ (m : ℕ). MissedOver m 0 mid half u Second point y w) same_n
       (subst (λ (f : ℕ). MissedOver n_again f mid half u Second point y w) (same_flags ∙ plain) missed) in
-      let passes : passes_by Second point 1 (points_of k.steps) ≡ Some k.misses.behind =
-      subst (λ (m : ℕ). passes_by Second point m (points_of k.steps) ≡ Some k.misses.behind) begun k.misses.passes in
-      never k.misses.behind (sym (comes k) ∙ passes)
+      let passes : passes_by Second point 1 (points_of k.steps) ≡ Some k.misses.following =
+      subst (λ (m : ℕ). passes_by Second point m (points_of k.steps) ≡ Some k.misses.following) begun k.misses.passes in
+      never k.misses.following (sym (comes k) ∙ passes)

@@ -1,4 +1,5 @@
--- A fork on a new table, in its book.
+-- The facts of `AreForkedBytes`, about the table's book and the bytes of parent and child, follow from what the code
+-- did on a new table.
 use Rattle.std.proofs.Common.{◌≡◌, ℕ, ◌+◌, ◌-◌, ◌^◌, ◌<◌, ◌≤◌, false, true, List, [], ◌∷◌, ◌++◌, length, refl, sym, ap, ◌∙◌, subst, arith}
 use Rattle.std.proofs.lemmas.List.{length-map, map-append}
 use Rattle.std.proofs.lemmas.List.FromFn.{length-range_with_len}
@@ -13,25 +14,25 @@ use Rattle.key_names.specs.declared.names.Step.{Step}
 use Rattle.key_names.specs.declared.point.Point.{Point}
 use Rattle.key_names.specs.declared.point.Point.TheVariants.{Serve}
 use Rattle.key_names.specs.Lanes.Book.{Book, LawfulBook, LawfulLanes, Lists, cpu_list}
-use Rattle.key_names.specs.Callers.Deeds.{Deed, deeds_of}
+use Rattle.key_names.specs.Callers.Effects.{Effect, effects_of}
 use Rattle.key_names.specs.Transcripts.IsTranscript.{MarkBy, VisitsAre, stamped_at}
 use Rattle.key_names.specs.Transcripts.SeenLine.{no_data}
 use Rattle.key_names.specs.Keys.ServedNamed.{VisitsServeNamed}
 use Rattle.key_names.specs.Lanes.StateList.{OrderedStateList, TakesRead, state_start}
 use Rattle.key_names.specs.Keys.Uses.{is_rekeyed}
-use Rattle.key_names.specs.Kernel.Vgetrandom.{HostStep, IsCall, Outcome, at_point, outcome_behind}
+use Rattle.key_names.specs.Kernel.Vgetrandom.{HostStep, IsCall, Outcome, at_point, prefix_outcome}
 use Rattle.key_names.specs.Kernel.VgetrandomState.{VgetrandomState, wiped_state}
 use Rattle.key_names.specs.Callers.VreadSteps.{Shows, published_by}
 use Rattle.key_names.proofs.Lists.Each.{each_append, each_right, each_weaker}
 use Rattle.key_names.proofs.Transcripts.KeyVisits.{all_there, key_reads}
-use Rattle.key_names.proofs.Transcripts.TakenMarks.{deeds_within, mark_takes}
+use Rattle.key_names.proofs.Transcripts.TakenMarks.{effects_within, mark_takes}
 use Rattle.key_names.proofs.Uses.BookUses.{lawful_is_disjoint}
 use Rattle.key_names.proofs.Values.BatchNamed as batch
 use Rattle.key_names.proofs.Values.ServedNamed.{lawful_serves_named}
 use Rattle.key_names.proofs.Vgetrandom.CallsKeep.{call_keeps}
 use Rattle.key_names.proofs.Vgetrandom.KeyReads.{KeyReads, call_names}
 use Rattle.key_names.proofs.Vgetrandom.KeyTakes.{call_bounded, ending_takes, shown_takes, step_append, step_takes, takes}
-use Rattle.key_names.proofs.Vgetrandom.StatesReplay.{Good, GoodBehind}
+use Rattle.key_names.proofs.Vgetrandom.StatesReplay.{Good, GoodAfter}
 use Rattle.lane_table.specs.declared.view.LaneView.{LaneView}
 use Rattle.lane_table.specs.declared.view.View.{View}
 use Rattle.lane_table.specs.declared.view.Visit.{Visit}
@@ -39,7 +40,7 @@ use Rattle.lane_table.specs.Advances.{Climbs, floor}
 use Rattle.lane_table.specs.BookLaws.{Continues}
 use Rattle.lane_table.specs.BookLists.{StateLists, book_lists, book_of}
 use Rattle.lane_table.specs.Calls.{Ended}
-use Rattle.lane_table.specs.Steps.{Grows, both_of, halved, merged, told}
+use Rattle.lane_table.specs.Steps.{Grows, both_of, halved, merged, recorded}
 use Rattle.lane_table.specs.Steps as steps
 use Rattle.lane_table.specs.WorldRule.{AllBegin, at, known_of}
 use Rattle.lane_table.proofs.Book.BookEnds.{continues_before, ended_lanes, ended_lawful}
@@ -49,24 +50,24 @@ use Rattle.lane_table.proofs.Lists.VisitLists.{begins_refl, with_both}
 use Rattle.vdso_state.specs.declared.place.Place.{Place}
 use Rattle.vdso_state.specs.declared.place.Turn.{Turn}
 use Rattle.vdso_state.specs.declared.place.Turn.TheVariants.{First, Second}
-use Rattle.vdso_state.specs.Places.{BehindPlace, Climbs as HostClimbs}
+use Rattle.vdso_state.specs.Places.{AfterPlace, Climbs as HostClimbs}
 use Rattle.vdso_state.proofs.Leading.{climbs_append as host_climbs_append}
 use Rattle.vcall_fork.specs.declared.stage.Stage.{Stage}
 use Rattle.vcall_fork.specs.declared.stage.Stage.TheVariants.{At}
 use Rattle.vcall_fork.specs.Stops.{RestOfCall}
-use Rattle.vcall_fork.specs.Forks.{ForksAreTold, ChildTakesKey}
+use Rattle.vcall_fork.specs.Forks.{ForksAreRecorded, ChildTakesKey}
 use Rattle.vcall_fork.proofs.Rests.{child_ordered, rest_asked, rest_bounded, rest_named}
 use Rattle.rng_core.specs.declared.setting.Setting.{Setting}
 use Rattle.rng_core.specs.Makes.{IsOutcomeOf, setting_of}
 use Rattle.rng_core.specs.Settings.{first_setting}
 use Rattle.rng_core.proofs.Makings.{did_floor}
-use Rattle.rng_core.proofs.Courses.{Course, IsKnown, known_grown, marks_both, marks_in, none_made, start, three_visits}
+use Rattle.rng_core.proofs.Paths.{Path, IsKnown, known_grown, marks_both, marks_in, none_made, start, three_visits}
 use Rattle.rng_core.proofs.Hosting.{published_more}
 use Rattle.rng_core.specs.Traces.{knowing}
 use Rattle.fork_runs.specs.Stretches.{FinishedOver}
 use Rattle.fork_runs.specs.Runs.{DidAll, RanBy, ReachedStop, ForkedOver}
 use Rattle.fork_runs.specs.TableForks.{AreForkedBytes, IsEnd, ShowsNamed, Way, call_entries, marks_of, stamps_of, two_states}
-use Rattle.fork_runs.proofs.Courses.{course_did, course_calls}
+use Rattle.fork_runs.proofs.HostPaths.{path_did, path_calls}
 use Rattle.fork_runs.proofs.Joining.{child_at, floor_child, joined_floor, whole_again}
 use Rattle.fork_runs.proofs.Lines.{apart, begun, fronts, lawful, line_named, rekeyed_counts, start_holds}
 use Rattle.fork_runs.proofs.Looks.{found_some, good_first, good_here, good_parts, reads_both}
@@ -88,46 +89,46 @@ module _ (book : Book) (callers : StateLists) where
 
   with_callers : (marks : List MarkBy) → VisitsAre book marks → VisitsAre (record book { callers = callers }) marks
   with_callers marks k = record {
-    stand = each_weaker (IsAt book) (IsAt (record book { callers = callers })) marks
-        (λ by is. sym (same_at by.mark.lane by.mark.place) ∙ is) k.stand;
+    conform = each_weaker (IsAt book) (IsAt (record book { callers = callers })) marks
+        (λ by is. sym (same_at by.mark.lane by.mark.place) ∙ is) k.conform;
     no_others = k.no_others;
   }
 
 -- The calls to the stop
 
-ran_course : (n : ℕ) (s : VgetrandomState) (turn : Turn) (point : Point) (before : List HostStep) (v w : View)
+ran_path : (n : ℕ) (s : VgetrandomState) (turn : Turn) (point : Point) (before : List HostStep) (v w : View)
     (calls : List (List Step)) → RanBy (first_setting 0) n 0 s turn point before v calls w →
-    Course v w (marks_of 0 calls)
-ran_course n s First point before v w calls k =
-    subst (λ (l : List (List Step)). Course v w (marks_of 0 l)) (sym k.1) (course_did 0 v w k.0 k.2)
-ran_course n s Second point before v w calls k =
-    subst (λ (l : List (List Step)). Course v w (marks_of 0 l)) (sym k.calls_are)
-    (course_calls 0 v k.at_serve w (k.own ∷ []) (k.reseeded ∷ k.more ∷ [])
-    (course_did 0 v k.at_serve k.own k.shown)
-    (course_calls 0 k.at_serve k.behind w (k.reseeded ∷ []) (k.more ∷ [])
-    (course_did 0 k.at_serve k.behind k.reseeded k.reseeds) (course_did 0 k.behind w k.more k.shown_more)))
+    Path v w (marks_of 0 calls)
+ran_path n s First point before v w calls k =
+    subst (λ (l : List (List Step)). Path v w (marks_of 0 l)) (sym k.1) (path_did 0 v w k.0 k.2)
+ran_path n s Second point before v w calls k =
+    subst (λ (l : List (List Step)). Path v w (marks_of 0 l)) (sym k.calls_are)
+    (path_calls 0 v k.at_serve w (k.own ∷ []) (k.reseeded ∷ k.more ∷ [])
+    (path_did 0 v k.at_serve k.own k.shown)
+    (path_calls 0 k.at_serve k.following w (k.reseeded ∷ []) (k.more ∷ [])
+    (path_did 0 k.at_serve k.following k.reseeded k.reseeds) (path_did 0 k.following w k.more k.shown_more)))
 
 module _ (lanes : ℕ) (visits : ℕ → List Visit) (callers : StateLists) where
   abbrev book : Lists
   book = book_lists lanes visits callers
 
-  -- a call's effect is given by the deeds of its steps
-  shown_in : {P : List Deed → Type 0} (set : Setting) (v w : View) (own : List Step) → DidAll P set v own w →
-      Continues lanes w visits → P (deeds_of book own)
-  shown_in {P} set v w own k c = subst (λ (l : List Step). P (deeds_of book l)) (sym k.told.trace)
-      (k.stands lanes visits callers c)
+  -- if P holds for what a call did, P holds for the effects of the call's steps in the final book
+  shown_in : {P : List Effect → Type 0} (set : Setting) (v w : View) (own : List Step) → DidAll P set v own w →
+      Continues lanes w visits → P (effects_of book own)
+  shown_in {P} set v w own k c = subst (λ (l : List Step). P (effects_of book l)) (sym k.recorded.trace)
+      (k.conforms lanes visits callers c)
 
-  before_call : {P : List Deed → Type 0} (set : Setting) (v w : View) (own : List Step) → DidAll P set v own w →
+  before_call : {P : List Effect → Type 0} (set : Setting) (v w : View) (own : List Step) → DidAll P set v own w →
       Continues lanes w visits → Continues lanes v visits
-  before_call set v w own k c = continues_before lanes v w visits k.told.went.same.sized k.told.went.grows c
+  before_call set v w own k c = continues_before lanes v w visits k.recorded.went.same.sized k.recorded.went.grows c
 
   way_in : (n : ℕ) (turn : Turn) (point : Point) (before : List HostStep) (v w : View) (calls : List (List Step)) →
       RanBy (first_setting 0) n 0 wiped_state turn point before v calls w → Continues lanes w visits →
       Way book n turn point before calls
   way_in n First point before v w calls k c = (k.0, k.1, shown_in (first_setting 0) v w k.0 k.2 c)
   way_in n Second point before v w calls k c =
-      let behind = before_call (first_setting 0) k.behind w k.more k.shown_more c in
-      let serve = before_call (first_setting 0) k.at_serve k.behind k.reseeded k.reseeds behind in record {
+      let following = before_call (first_setting 0) k.following w k.more k.shown_more c in
+      let serve = before_call (first_setting 0) k.at_serve k.following k.reseeded k.reseeds following in record {
         earlier = k.earlier;
         later = k.later;
         before_is = k.before_is;
@@ -136,26 +137,26 @@ module _ (lanes : ℕ) (visits : ℕ → List Visit) (callers : StateLists) wher
         more = k.more;
         calls_are = k.calls_are;
         shown = shown_in (first_setting 0) v k.at_serve k.own k.shown serve;
-        reseeds = shown_in (first_setting 0) k.at_serve k.behind k.reseeded k.reseeds behind;
-        shown_more = shown_in (first_setting 0) k.behind w k.more k.shown_more c;
+        reseeds = shown_in (first_setting 0) k.at_serve k.following k.reseeded k.reseeds following;
+        shown_more = shown_in (first_setting 0) k.following w k.more k.shown_more c;
       }
 
   ran_good : (n : ℕ) (turn : Turn) (point : Point) (before : List HostStep) (v w : View) (calls : List (List Step)) →
       RanBy (first_setting 0) n 0 wiped_state turn point before v calls w → Continues lanes w visits →
-      GoodBehind book 0 0 before
+      GoodAfter book 0 0 before
   ran_good n First point before v w calls k c =
       good_first lanes visits callers (first_setting 0) v w k.0 before k.2 c 0 0
   ran_good n Second point before v w calls k c =
-      let behind = before_call (first_setting 0) k.behind w k.more k.shown_more c in
-      let serve = before_call (first_setting 0) k.at_serve k.behind k.reseeded k.reseeds behind in
-      let more = published_more (floor k.at_serve) (floor k.behind)
-      (did_floor (first_setting 0) (knowing k.at_serve []) (knowing k.behind k.reseeded) k.reseeds) in
-      let ready : 1 ≤ published_by (floor k.behind) =
+      let following = before_call (first_setting 0) k.following w k.more k.shown_more c in
+      let serve = before_call (first_setting 0) k.at_serve k.following k.reseeded k.reseeds following in
+      let more = published_more (floor k.at_serve) (floor k.following)
+      (did_floor (first_setting 0) (knowing k.at_serve []) (knowing k.following k.reseeded) k.reseeds) in
+      let ready : 1 ≤ published_by (floor k.following) =
       (let a = k.earlier.ready in let b = k.known in omega arith) in
-      subst (GoodBehind book 0 0) (sym k.before_is) (good_parts book 0 0 k.earlier.before k.later.before Serve false
+      subst (GoodAfter book 0 0) (sym k.before_is) (good_parts book 0 0 k.earlier.before k.later.before Serve false
       (good_first lanes visits callers (first_setting 0) v k.at_serve k.own k.earlier.before k.shown serve 0 0)
-      (good_here lanes visits callers (first_setting 0) k.behind w k.more k.later.before k.shown_more c
-      (found_some (floor k.behind) ready)))
+      (good_here lanes visits callers (first_setting 0) k.following w k.more k.later.before k.shown_more c
+      (found_some (floor k.following) ready)))
 
   abbrev end_in : (caller n : ℕ) (place : Place) (left : Stage) (out held : List ℕ) (t s : VgetrandomState) (bytes : List ℕ)
       (v w : View) (own : List Step) → left ≡ At place → out ≡ held → t ≡ s →
@@ -164,8 +165,8 @@ module _ (lanes : ℕ) (visits : ℕ → List Visit) (callers : StateLists) wher
   end_in caller n place left out held t s bytes v w own stage_is held_is state_is k c = record {
     steps = k.steps;
     outcome = k.outcome;
-    rest = subst (λ (z : VgetrandomState). BehindPlace n 0 place held z k.steps k.outcome) state_is
-        (subst (λ (l : List ℕ). BehindPlace n 0 place l t k.steps k.outcome) held_is
+    rest = subst (λ (z : VgetrandomState). AfterPlace n 0 place held z k.steps k.outcome) state_is
+        (subst (λ (l : List ℕ). AfterPlace n 0 place l t k.steps k.outcome) held_is
         (subst (λ (x : Stage). RestOfCall x n 0 out t k.steps k.outcome) stage_is k.rest));
     unwiped = k.unwiped;
     gives = k.gives;
@@ -177,11 +178,11 @@ module _ (lanes : ℕ) (visits : ℕ → List Visit) (callers : StateLists) wher
 
 module _ (lists : Lists) (n : ℕ) where
   abbrev shown_by : List HostStep → List Step → Type 0
-  shown_by steps own = Shows (setting_of (first_setting 0)) steps (deeds_of lists own)
+  shown_by steps own = Shows (setting_of (first_setting 0)) steps (effects_of lists own)
 
   own_reads : (steps : List HostStep) (own : List Step) → shown_by steps own → KeyReads (cpu_list lists) steps
   own_reads steps own shows =
-      key_reads lists (setting_of (first_setting 0)) steps (deeds_of lists own) (all_there lists own) shows
+      key_reads lists (setting_of (first_setting 0)) steps (effects_of lists own) (all_there lists own) shows
 
   reads_on_way : (turn : Turn) (point : Point) (before : List HostStep) (calls : List (List Step)) →
       Way lists n turn point before calls → KeyReads (cpu_list lists) before
@@ -196,8 +197,8 @@ module _ (lists : Lists) (n : ℕ) where
     own_takes steps own shows =
         omega (
           arith,
-          shown_takes c p (setting_of (first_setting 0)) steps (deeds_of lists own) shows,
-          deeds_within c p lists own,
+          shown_takes c p (setting_of (first_setting 0)) steps (effects_of lists own) shows,
+          effects_within c p lists own,
         )
 
     takes_on_way : (turn : Turn) (point : Point) (before : List HostStep) (calls : List (List Step)) →
@@ -239,19 +240,19 @@ module _ (turn : Turn) (point : Point) (n : ℕ) (p q w x : View) (left : Stage)
   abbrev child_marks : List MarkBy
   child_marks = marks_of 1 (over.childs ∷ [])
 
-  to_stop : Course q w (marks_of 0 reached.calls)
-  to_stop = ran_course n wiped_state turn point reached.stop.before q w reached.calls reached.ran
+  to_stop : Path q w (marks_of 0 reached.calls)
+  to_stop = ran_path n wiped_state turn point reached.stop.before q w reached.calls reached.ran
 
-  forking : Course w mid (marks_of 0 (over.forked ∷ []))
-  forking = course_did 0 w mid over.forked over.forks
+  forking : Path w mid (marks_of 0 (over.forked ∷ []))
+  forking = path_did 0 w mid over.forked over.forks
 
-  fork_course : Course start mid parents_marks
-  fork_course = subst (λ (z : View). Course z mid parents_marks) new
-      (course_calls 0 p q mid (sampled.0 ∷ []) (reached.calls ++ over.forked ∷ []) (course_did 0 p q sampled.0 sampled.1)
-      (course_calls 0 q w mid reached.calls (over.forked ∷ []) to_stop forking))
+  fork_path : Path start mid parents_marks
+  fork_path = subst (λ (z : View). Path z mid parents_marks) new
+      (path_calls 0 p q mid (sampled.0 ∷ []) (reached.calls ++ over.forked ∷ []) (path_did 0 p q sampled.0 sampled.1)
+      (path_calls 0 q w mid reached.calls (over.forked ∷ []) to_stop forking))
 
-  parent_course : Course (halved mid) over.parent_end rest_marks
-  parent_course = course_did 0 (halved mid) over.parent_end over.parents over.parent_ends.did
+  parent_path : Path (halved mid) over.parent_end rest_marks
+  parent_path = path_did 0 (halved mid) over.parent_end over.parents over.parent_ends.did
 
   abbrev half : View
   half = steps.child mid
@@ -260,14 +261,14 @@ module _ (turn : Turn) (point : Point) (n : ℕ) (p q w x : View) (left : Stage)
   abbrev pub both : View
   both = both_of half over.parent_end
 
-  child_course : Course both x child_marks
-  child_course = course_did 1 both x over.childs over.child_ends.did
+  child_path : Path both x child_marks
+  child_path = path_did 1 both x over.childs over.child_ends.did
 
   half_wide : length half.lanes ≡ 3
-  half_wide = length-map mid.lanes told ∙ fork_course.same.sized
+  half_wide = length-map mid.lanes recorded ∙ fork_path.same.sized
 
   parent_wide : length over.parent_end.lanes ≡ 3
-  parent_wide = parent_course.same.sized ∙ fork_course.same.sized
+  parent_wide = parent_path.same.sized ∙ fork_path.same.sized
 
   long : length half.lanes ≡ length over.parent_end.lanes
   long = half_wide ∙ sym parent_wide
@@ -279,18 +280,18 @@ module _ (turn : Turn) (point : Point) (n : ℕ) (p q w x : View) (left : Stage)
   share_is =
       let whole : both.share ≡ 2 ^ both.halvings =
       whole_again half.share over.parent_end.share half.halvings over.parent_end.halvings
-      fork_course.same.share (parent_course.same.share ∙ fork_course.same.share)
-      (ap (λ (k : ℕ). k + 1) fork_course.same.halvings)
-      (parent_course.same.halvings ∙ ap (λ (k : ℕ). k + 1) fork_course.same.halvings) in
-      child_course.same.share ∙ whole ∙ ap (λ (k : ℕ). 2 ^ k) (sym child_course.same.halvings)
+      fork_path.same.share (parent_path.same.share ∙ fork_path.same.share)
+      (ap (λ (k : ℕ). k + 1) fork_path.same.halvings)
+      (parent_path.same.halvings ∙ ap (λ (k : ℕ). k + 1) fork_path.same.halvings) in
+      child_path.same.share ∙ whole ∙ ap (λ (k : ℕ). 2 ^ k) (sym child_path.same.halvings)
 
   wide : length x.lanes ≡ 3
-  wide = child_course.same.sized ∙ both_wide
+  wide = child_path.same.sized ∙ both_wide
 
   both_at : (lane : ℕ) → at lane both ≡ merged (at lane half) (at lane over.parent_end)
   both_at lane = merged_at half.lanes over.parent_end.lanes lane long
 
-  module _ (some : 1 ≤ n) (at_end : Ended 3 x) (fork_law : ForksAreTold) (key_law : ChildTakesKey) where
+  module _ (some : 1 ≤ n) (at_end : Ended 3 x) (fork_law : ForksAreRecorded) (key_law : ChildTakesKey) where
     ended : Ended (length x.lanes) x
     ended = subst (λ (k : ℕ). Ended k x) (sym wide) at_end
 
@@ -300,7 +301,7 @@ module _ (turn : Turn) (point : Point) (n : ℕ) (p q w x : View) (left : Stage)
     parent_grows : Grows over.parent_end x
     parent_grows lane near =
         let below : lane < 3 = (let e = parent_wide in omega arith) in
-        let here : (at lane x).heard ≡ (at lane both).heard = over.child_ends.did.told.went.heard lane
+        let here : (at lane x).heard ≡ (at lane both).heard = over.child_ends.did.recorded.went.heard lane
         (let e = both_wide in omega arith) in
         let all : AllBegin (at lane both).heard (known_of x lane) =
         subst (λ (l : List (List Visit)). AllBegin l (known_of x lane)) here (at_end.heard lane below) in
@@ -321,8 +322,8 @@ module _ (turn : Turn) (point : Point) (n : ℕ) (p q w x : View) (left : Stage)
         goes_on
 
     fork_goes : Continues (length x.lanes) mid (known_of x)
-    fork_goes = continues_before (length x.lanes) mid over.parent_end (known_of x) parent_course.same.sized
-        parent_course.grows parent_goes
+    fork_goes = continues_before (length x.lanes) mid over.parent_end (known_of x) parent_path.same.sized
+        parent_path.grows parent_goes
 
     stop_goes : Continues (length x.lanes) w (known_of x)
     stop_goes = continues_before (length x.lanes) w mid (known_of x) forking.same.sized forking.grows fork_goes
@@ -338,19 +339,19 @@ module _ (turn : Turn) (point : Point) (n : ℕ) (p q w x : View) (left : Stage)
     known : AllByRecursion (IsKnown x) marks
     known =
         let fork_known =
-        known_grown mid over.parent_end parents_marks parent_course.same.sized parent_course.grows fork_course.known in
+        known_grown mid over.parent_end parents_marks parent_path.same.sized parent_path.grows fork_path.known in
         each_append (IsKnown x) (parents_marks ++ rest_marks) child_marks
         (known_grown over.parent_end x (parents_marks ++ rest_marks) (wide ∙ sym parent_wide) parent_grows
-        (each_append (IsKnown over.parent_end) parents_marks rest_marks fork_known parent_course.known))
-        child_course.known
+        (each_append (IsKnown over.parent_end) parents_marks rest_marks fork_known parent_path.known))
+        child_path.known
 
     made_at : (lane : ℕ) → lane < 3 → (at lane x).made ≡ marks_in lane marks
     made_at lane near =
-        let all = child_course.made lane (let e = both_wide in omega arith) in
+        let all = child_path.made lane (let e = both_wide in omega arith) in
         let both_made = ap (λ (a : LaneView). a.made) (both_at lane) in
-        let a = fork_course.made lane near in
+        let a = fork_path.made lane near in
         let start_made = none_made lane near in
-        let b = parent_course.made lane (let e = fork_course.same.sized in omega arith) in
+        let b = parent_path.made lane (let e = fork_path.same.sized in omega arith) in
         let d = ap (λ (z : LaneView). z.made) (child_at mid lane) in
         let e = marks_both lane (parents_marks ++ rest_marks) child_marks in
         let f = marks_both lane parents_marks rest_marks in
@@ -359,15 +360,15 @@ module _ (turn : Turn) (point : Point) (n : ℕ) (p q w x : View) (left : Stage)
     -- The stamps climb from each part to the next
 
     later : both.stamp ≡ over.parent_end.stamp
-    later = let up = stamps_up mid.stamp over.parent_end.stamp (stamps_of rest_marks) parent_course.climbs in omega arith
+    later = let up = stamps_up mid.stamp over.parent_end.stamp (stamps_of rest_marks) parent_path.climbs in omega arith
 
     child_later : Climbs over.parent_end.stamp (stamps_of child_marks) x.stamp
-    child_later = subst (λ (stamp : ℕ). Climbs stamp (stamps_of child_marks) x.stamp) later child_course.climbs
+    child_later = subst (λ (stamp : ℕ). Climbs stamp (stamps_of child_marks) x.stamp) later child_path.climbs
 
     climbing : Climbs 0 (stamps_of marks) x.stamp
     climbing =
         let one = climbs_append 0 mid.stamp over.parent_end.stamp (stamps_of parents_marks) (stamps_of rest_marks)
-        fork_course.climbs parent_course.climbs in
+        fork_path.climbs parent_path.climbs in
         let two = climbs_append 0 over.parent_end.stamp x.stamp (stamps_of parents_marks ++ stamps_of rest_marks)
         (stamps_of child_marks) one child_later in
         subst (λ (l : List ℕ). Climbs 0 l x.stamp)
@@ -411,11 +412,11 @@ module _ (turn : Turn) (point : Point) (n : ℕ) (p q w x : View) (left : Stage)
         wiped_state child both x over.childs reached.stage_is reached.held_is refl over.child_ends goes_on
 
     abbrev parent_call : IsCall n 0 wiped_state (reached.stop.before ++ at_point point false ∷ parent_is.steps)
-        (outcome_behind reached.stop.entries parent_is.outcome)
+        (prefix_outcome reached.stop.entries parent_is.outcome)
     parent_call = parents_call fork_law n 0 wiped_state turn point reached.stop parent_is.steps parent_is.outcome parent_is.rest
 
     abbrev child_call : IsCall n 0 wiped_state (reached.stop.before ++ at_point point true ∷ child_is.steps)
-        (outcome_behind reached.stop.entries (outcome_behind (Wipe ∷ []) child_is.outcome))
+        (prefix_outcome reached.stop.entries (prefix_outcome (Wipe ∷ []) child_is.outcome))
     child_call = childs_call fork_law n 0 wiped_state turn point reached.stop child_is.steps child_is.outcome child_is.rest
 
     fork_knows : reached.stop.place.published ≤ published_by (floor mid)
@@ -443,7 +444,7 @@ module _ (turn : Turn) (point : Point) (n : ℕ) (p q w x : View) (left : Stage)
     the_way = way_in (length x.lanes) (known_of x) callers n turn point reached.stop.before q w reached.calls reached.ran
         stop_goes
 
-    way_good : GoodBehind lists 0 0 reached.stop.before
+    way_good : GoodAfter lists 0 0 reached.stop.before
     way_good = ran_good (length x.lanes) (known_of x) callers n turn point reached.stop.before q w reached.calls
         reached.ran stop_goes
 
@@ -460,20 +461,20 @@ module _ (turn : Turn) (point : Point) (n : ℕ) (p q w x : View) (left : Stage)
         over.child_ends.did goes_on
         (found_some (floor both) (let a = reached.stop.ready in let b = both_knows in omega arith))
 
-    parents_behind : GoodBehind lists 0 0 (reached.stop.before ++ at_point point false ∷ parent_is.steps)
-    parents_behind = good_parts lists 0 0 reached.stop.before parent_is.steps point false way_good parent_good
+    parents_after : GoodAfter lists 0 0 (reached.stop.before ++ at_point point false ∷ parent_is.steps)
+    parents_after = good_parts lists 0 0 reached.stop.before parent_is.steps point false way_good parent_good
 
     parents_reads : AllByRecursion (TakesRead (cpu_list lists)) parents_entries
     parents_reads = call_names (cpu_list lists) n 0 wiped_state
         (reached.stop.before ++ at_point point false ∷ parent_is.steps)
-        (outcome_behind reached.stop.entries parent_is.outcome)
+        (prefix_outcome reached.stop.entries parent_is.outcome)
         (reads_both (cpu_list lists) reached.stop.before (at_point point false ∷ parent_is.steps) way_reads
         (own_reads lists n parent_is.steps parent_is.own parent_is.shown)) parent_call
 
     childs_reads : AllByRecursion (TakesRead (cpu_list lists)) childs_entries
     childs_reads = (each_right (TakesRead (cpu_list lists)) reached.stop.entries (Wipe ∷ childs_entries)
         (call_names (cpu_list lists) n 0 wiped_state (reached.stop.before ++ at_point point true ∷ child_is.steps)
-        (outcome_behind reached.stop.entries (outcome_behind (Wipe ∷ []) child_is.outcome))
+        (prefix_outcome reached.stop.entries (prefix_outcome (Wipe ∷ []) child_is.outcome))
         (reads_both (cpu_list lists) reached.stop.before (at_point point true ∷ child_is.steps) way_reads
         (own_reads lists n child_is.steps child_is.own child_is.shown)) child_call)).1
 
@@ -484,7 +485,7 @@ module _ (turn : Turn) (point : Point) (n : ℕ) (p q w x : View) (left : Stage)
     marked_once lane p =
         omega (
           arith,
-          at_most_once lane p whole 0 x.stamp marks climbing visits.stand,
+          at_most_once lane p whole 0 x.stamp marks climbing visits.conform,
           hits_append lane p (parents_marks ++ rest_marks) child_marks,
           hits_append lane p parents_marks rest_marks,
           hits_calls lane p 0 (sampled.0 ∷ reached.calls ++ over.forked ∷ []),
@@ -498,7 +499,7 @@ module _ (turn : Turn) (point : Point) (n : ℕ) (p q w x : View) (left : Stage)
         + (takes c p childs_entries + ending_takes c p child_is.outcome.ending) ≤ 1
     taken_once c p =
         let parents = (call_bounded c p n 0 wiped_state (reached.stop.before ++ at_point point false ∷ parent_is.steps)
-        (outcome_behind reached.stop.entries parent_is.outcome) parent_call).is in
+        (prefix_outcome reached.stop.entries parent_is.outcome) parent_call).is in
         let childs = (rest_bounded c p n 0 reached.stop.place reached.stop.held wiped_state child_is.steps child_is.outcome
         child_is.rest).is in
         omega (
@@ -530,10 +531,10 @@ module _ (turn : Turn) (point : Point) (n : ℕ) (p q w x : View) (left : Stage)
     lawful_book = lawful lists parents_entries childs_entries refl
         (λ c p. let le = taken_once c p in omega arith) lanes
         (ordered (reached.stop.before ++ at_point point false ∷ parent_is.steps)
-        (outcome_behind reached.stop.entries parent_is.outcome) parent_call)
+        (prefix_outcome reached.stop.entries parent_is.outcome) parent_call)
         (child_ordered 0 0 1 reached.stop.entries childs_entries
         (ordered (reached.stop.before ++ at_point point true ∷ child_is.steps)
-        (outcome_behind reached.stop.entries (outcome_behind (Wipe ∷ []) child_is.outcome)) child_call))
+        (prefix_outcome reached.stop.entries (prefix_outcome (Wipe ∷ []) child_is.outcome)) child_call))
         parents_reads childs_reads
 
     -- The lines
@@ -546,7 +547,7 @@ module _ (turn : Turn) (point : Point) (n : ℕ) (p q w x : View) (left : Stage)
         parent_is.steps parent_is.shown parent_is.outcome.ending parent_is.gives
         (λ bytes is. batch.call_named lists 0 0 n 0 (begun lists serves 0 parents_entries refl) wiped_state
         (reached.stop.before ++ at_point point false ∷ parent_is.steps)
-        (outcome_behind reached.stop.entries parent_is.outcome) parents_behind parent_call
+        (prefix_outcome reached.stop.entries parent_is.outcome) parents_after parent_call
         (start_holds lists serves 0 parents_entries refl)
         (fronts lists serves 0 parents_entries refl (lawful_book.states.states 0 0)) bytes is)
         (λ answer is. rest_asked answer n 0 reached.stop.place reached.stop.held reached.stop.state parent_is.steps
@@ -595,12 +596,12 @@ module _ (turn : Turn) (point : Point) (n : ℕ) (p q w x : View) (left : Stage)
       at_fork = mid.stamp;
       parents_last = over.parent_end.stamp;
       childs_last = x.stamp;
-      to_fork = fork_course.climbs;
-      parents_rest = parent_course.climbs;
+      to_fork = fork_path.climbs;
+      parents_rest = parent_path.climbs;
       childs_rest = child_later;
     }
 
--- the calls' arguments are plain, so the facts hold for the calls
+-- the code's arguments equal those of the facts above, so the facts hold for what the code did
 module _ (set : Setting) (n m k f g : ℕ) (s : VgetrandomState) (plain : set ≡ first_setting 0) (same : m ≡ n)
     (again : k ≡ m) (none : f ≡ 0) (none_again : g ≡ f) (wiped : s ≡ wiped_state) where
   pub plain_sample : (p q : View) → ((own : List Step)

@@ -1,4 +1,4 @@
--- The knowledge of a child's pass after it took in its parent's.
+-- What a child's pass knows after it took in its parent's pass.
 use Rattle.std.proofs.Common.{◌≡◌, ℕ, ◌+◌, ◌*◌, ◌-◌, ◌^◌, ◌≤◌, ◌⊎◌, inl, inr, Bool, true, false, max, List, length, refl, sym, ap, ◌∙◌, arith}
 use Rattle.std.specs.Prelude.{if◌then◌else◌, nat_lt}
 use Rattle.std.proofs.Math.ListN.{get_or-map}
@@ -8,7 +8,7 @@ use Rattle.lane_table.specs.declared.view.View.{View}
 use Rattle.lane_table.specs.declared.view.Visit.{Visit}
 use Rattle.lane_table.specs.Advances.{floor}
 use Rattle.lane_table.specs.Meaning.{replay}
-use Rattle.lane_table.specs.Steps.{both_of, longer, merged, told}
+use Rattle.lane_table.specs.Steps.{both_of, longer, merged, recorded}
 use Rattle.lane_table.specs.Steps as steps
 use Rattle.lane_table.specs.WorldRule.{at, blank, known_of}
 use Rattle.lane_table.proofs.Rule.Shares.{merged_at}
@@ -20,8 +20,8 @@ pub whole_again : (a b c d : ℕ) → a ≡ 1 → b ≡ 1 → c ≡ 1 → d ≡ 
 whole_again a b c d p q r s =
     (λ i. p i * 2 ^ (max (r i) (s i) - r i) + q i * 2 ^ (max (r i) (s i) - s i)) ∙ sym (λ i. 2 ^ max (r i) (s i))
 
-pub child_at : (v : View) (lane : ℕ) → at lane (steps.child v) ≡ told (at lane v)
-child_at v lane = get_or-map told v.lanes lane blank
+pub child_at : (v : View) (lane : ℕ) → at lane (steps.child v) ≡ recorded (at lane v)
+child_at v lane = get_or-map recorded v.lanes lane blank
 
 pub floor_child : (v : View) → floor (steps.child v) ≡ floor v
 floor_child v = ap (λ (a : LaneView). max v.seen (replay a.known).base.generation) (child_at v 1)
@@ -33,7 +33,7 @@ one_of_them xs ys = go (nat_lt (length xs) (length ys))
     go true = inr refl
     go false = inl refl
 
--- if both views have seen a generation published, so has the joined view
+-- if both views have seen the generation `low` as published, the joined view has seen it too
 pub joined_floor : (low : ℕ) (v w : View) → length v.lanes ≡ length w.lanes → low ≤ published_by (floor v) →
     low ≤ published_by (floor w) → low ≤ published_by (floor (both_of v w))
 joined_floor low v w long first second =

@@ -1,5 +1,5 @@
 pub mod Coming
-pub mod Courses
+pub mod HostPaths
 pub mod Ends
 pub mod Joining
 pub mod Lines

@@ -1,4 +1,4 @@
--- The two lines of a fork show named bytes, in a book with the states of the parent and the child.
+-- The lines of parent and child show named bytes, in a book that has the states of both.
 use Rattle.std.proofs.Common.{◌≡◌, ℕ, zero, suc, ◌+◌, ◌≤◌, ◌⊎◌, inl, inr, Bool, true, false, List, [], ◌∷◌, ◌++◌, Some, refl, sym, subst, ap, ◌∙◌, arith, append-nil, length}
 use Rattle.std.specs.Prelude.{◌||◌}
 use Rattle.std.specs.List.{AllByRecursion, list_any}
@@ -9,7 +9,7 @@ use Rattle.key_names.specs.declared.events.Word.TheVariants.{Vread}
 use Rattle.key_names.specs.declared.names.LaneId.{LaneId}
 use Rattle.key_names.specs.declared.names.Step.{Step}
 use Rattle.key_names.specs.Lanes.Book.{Lists, LawfulBook, LawfulLanes, StatePlace, cpu_list, list_at, rekey_in, state_list}
-use Rattle.key_names.specs.Callers.Deeds.{deeds_of}
+use Rattle.key_names.specs.Callers.Effects.{effects_of}
 use Rattle.key_names.specs.Transcripts.PrintedBytes.{Origin, origins_uses, StateEntries, LinePrints}
 use Rattle.key_names.specs.Transcripts.SeenLine.{SeenLine, bytes_in, bytes_or_none}
 use Rattle.key_names.specs.Keys.ServedNamed.{served_in, VisitsServeNamed}
@@ -43,11 +43,11 @@ module _ (lists : Lists) (ps cs : List VEntry) (callers_are : lists.callers ≡ 
   pub childs_list : state_list lists 1 0 ≡ cs
   childs_list = ap (λ (callers : List (List (List VEntry))). list_at (list_at callers 1) 0) callers_are
 
-  -- a read that is taken as a key is taken by one of the two states
   or_false : (b : Bool) → (b || false) ≡ true → b ≡ true
   or_false true is = refl
   or_false false is = is
 
+  -- a read that is taken as a key is taken by one of the two states
   pub rekeyed_counts : (c p : ℕ) → is_rekeyed lists c p ≡ true → 1 ≤ takes c p ps + takes c p cs
   rekeyed_counts c p is =
       let any : List VEntry → Bool = λ es. list_any (rekeys_place c p) es in
@@ -60,7 +60,7 @@ module _ (lists : Lists) (ps cs : List VEntry) (callers_are : lists.callers ≡ 
             let one = any_entry c p cs (or_false (any cs) (or_false (any cs || false) second)) in omega arith
       ]
 
-  -- if an entry takes a read, it is in one of the two lists
+  -- `es` is the list of state 0 of caller `number`, and its entry at `place` takes the read at place `p` of CPU `c`
   record TakenIn (caller state place c p : ℕ) (number : ℕ) (es : List VEntry) : Type 0 where
     caller_is : caller ≡ number
     state_is : state ≡ 0
@@ -166,18 +166,18 @@ module _ (lists : Lists) (named : VisitsServeNamed lists) (caller : ℕ) (es : L
   own_entries = call_entries caller es
 
   module _ (own : List Step) (out : List ℕ) (set : Setting) (steps : List HostStep)
-      (shows : Shows set steps (deeds_of lists own)) where
+      (shows : Shows set steps (effects_of lists own)) where
     by_last : batch.LastServes lists caller 0 begun es out → Prints lists own_entries (line_of caller own out)
     by_last k =
         let whole : length es ≡ length k.earlier + length k.last =
         ap (λ (xs : List VEntry). length xs) k.entries_are ∙ length-append k.earlier k.last in
         let there : state_list lists caller 0 ≡ (k.earlier ++ k.last) ++ [] =
         list_is ∙ k.entries_are ∙ sym (append-nil (k.earlier ++ k.last)) in
-        let told : (replay.after lists caller 0 begun k.earlier).named ≡ state_after caller 0 k.earlier =
+        let recorded : (replay.after lists caller 0 begun k.earlier).named ≡ state_after caller 0 k.earlier =
         walk.named_is lists caller 0 (omega arith) begun k.earlier in
         prints_entries lists own_entries (line_of caller own out) k.earlier k.last [] out there (omega arith) (omega arith)
         refl
-        (k.bytes_are ∙ ap (λ (t : NamedState). served_in lists (uses_from state_uses_at (state_step caller 0) t k.last)) told)
+        (k.bytes_are ∙ ap (λ (t : NamedState). served_in lists (uses_from state_uses_at (state_step caller 0) t k.last)) recorded)
 
     line_prints : (ending : Ending) → GivesBytes ending out →
         ((bytes : List ℕ) → ending ≡ by_batch bytes → batch.LastServes lists caller 0 begun es bytes) →
@@ -191,9 +191,9 @@ module _ (lists : Lists) (named : VisitsServeNamed lists) (caller : ℕ) (es : L
     line_prints (by_system (read bytes visit)) gives served asked free =
         let answer : SystemAnswer = read bytes visit in
         let same : bytes_or_none out ≡ bytes_or_none bytes = ap bytes_or_none gives in
-        elim (steps_shown answer set steps (deeds_of lists own) (asked answer refl) shows) [
+        elim (steps_shown answer set steps (effects_of lists own) (asked answer refl) shows) [
           | inl none ↦ prints_none lists own_entries (line_of caller own out) (ap bytes_in (same ∙ none))
-          | inr a ↦ prints_visit lists named own_entries (line_of caller own out) (deeds_of lists own) refl (same ∙ a.shown)
+          | inr a ↦ prints_visit lists named own_entries (line_of caller own out) (effects_of lists own) refl (same ∙ a.shown)
               (λ c p taken. a.place c p ∙ free c p taken)
         ]
 

@@ -1,17 +1,17 @@
--- The steps of calls after the look of a ready core: they published generations, and read keys that CPUs handed
--- over.
+-- After a look that found the core ready, each generation that a call publishes is at least 1. Each key that the call
+-- reads is one that a CPU handed over.
 use Rattle.std.proofs.Common.{◌≡◌, ℕ, zero, suc, ◌≤◌, Bool, true, List, [], ◌∷◌, ◌++◌, map, refl, sym, subst, ap, arith}
 use Rattle.key_names.specs.declared.names.Step.{Step}
 use Rattle.key_names.specs.declared.point.Point.{Point}
 use Rattle.key_names.specs.declared.entries.CpuEntry.{CpuEntry}
 use Rattle.key_names.specs.Lanes.Book.{Lists}
-use Rattle.key_names.specs.Callers.Deeds.{Deed, looked, deeds_of}
+use Rattle.key_names.specs.Callers.Effects.{Effect, looked, effects_of}
 use Rattle.key_names.specs.Kernel.Vgetrandom.{HostStep, publishes, system_call, at_point}
 use Rattle.key_names.specs.Callers.VreadSteps.{Shows, looks_of, published_by}
-use Rattle.key_names.proofs.Transcripts.GoodSteps.{good_behind}
+use Rattle.key_names.proofs.Transcripts.GoodSteps.{good_after}
 use Rattle.key_names.proofs.Transcripts.KeyVisits.{AllThere, all_there}
 use Rattle.key_names.proofs.Vgetrandom.KeyReads.{KeyReads}
-use Rattle.key_names.proofs.Vgetrandom.StatesReplay.{Good, GoodBehind}
+use Rattle.key_names.proofs.Vgetrandom.StatesReplay.{Good, GoodAfter}
 use Rattle.lane_table.specs.declared.view.View.{View}
 use Rattle.lane_table.specs.declared.view.Visit.{Visit}
 use Rattle.lane_table.specs.Advances.{floor, step_of}
@@ -35,12 +35,12 @@ pub publishes_some : (g : ℕ) → 1 ≤ g → 1 ≤ published_by g
 publishes_some zero h = absurd (omega arith)
 publishes_some (suc g) h = omega arith
 
--- if a caller has seen the generation of a stopped call, it has seen the core ready
+-- a caller that has seen the generation of a stopped call has seen the core ready
 pub seen_ready : (seen : ℕ) (stage : Stage) → 1 ≤ published_or 1 stage → is_stopped stage ≡ true →
     published_or 0 stage ≤ published_by seen → 1 ≤ seen
-seen_ready seen New ready stands known = absurd (cc stands)
-seen_ready seen (At place) ready stands known = found_some seen (omega arith)
-seen_ready seen Over ready stands known = absurd (cc stands)
+seen_ready seen New ready conforms known = absurd (cc conforms)
+seen_ready seen (At place) ready conforms known = found_some seen (omega arith)
+seen_ready seen Over ready conforms known = absurd (cc conforms)
 
 pub good_both : (lists : Lists) (xs ys : List HostStep) → Good lists xs → Good lists ys → Good lists (xs ++ ys)
 good_both lists [] ys a b = b
@@ -56,9 +56,10 @@ reads_both cpus (system_call n flags answer ∷ xs) ys a b = (a.0, reads_both cp
 reads_both cpus (at_point point wiped ∷ xs) ys a b = reads_both cpus xs ys a b
 
 module _ (lists : Lists) (caller k : ℕ) where
-  -- two parts of a call are good together, if the first look is in the first part
-  pub good_parts : (before after : List HostStep) (point : Point) (wiped : Bool) → GoodBehind lists caller k before →
-      Good lists after → GoodBehind lists caller k (before ++ at_point point wiped ∷ after)
+  -- if the part before a point is good after its first look, and the part after the point is good, the whole is good
+  -- after its first look
+  pub good_parts : (before after : List HostStep) (point : Point) (wiped : Bool) → GoodAfter lists caller k before →
+      Good lists after → GoodAfter lists caller k (before ++ at_point point wiped ∷ after)
   good_parts [] after point wiped good rest g steps is some = cc
   good_parts (x ∷ xs) after point wiped good rest g steps is some =
       let first : x ≡ publishes g = cc in
@@ -72,28 +73,28 @@ module _ (lanes : ℕ) (visits : ℕ → List Visit) (callers : StateLists) wher
 
   module _ (set : Setting) (v w : View) (own : List Step) (steps : List HostStep)
       (did : DidAll (Shows (setting_of set) steps) set v own w) (c : Continues lanes w visits) where
-    abbrev deeds : List Deed
-    deeds = deeds_of book (map step_of did.made_steps)
+    abbrev effects : List Effect
+    effects = effects_of book (map step_of did.made_steps)
 
-    abbrev there : AllThere book deeds
+    abbrev there : AllThere book effects
     there = all_there book (map step_of did.made_steps)
 
-    shows : Shows (setting_of set) steps deeds
-    shows = did.stands lanes visits callers c
+    shows : Shows (setting_of set) steps effects
+    shows = did.conforms lanes visits callers c
 
-    rises : Risen (floor v) (looks_of deeds) (floor w)
+    rises : Risen (floor v) (looks_of effects) (floor w)
     rises = subst (λ (l : List ℕ). Risen (floor v) l (floor w)) (sym (same_looks book did.made_steps))
-        (sees_risen w (floor v) (floor w) did.made_steps did.told.went.sees)
+        (sees_risen w (floor v) (floor w) did.made_steps did.recorded.went.sees)
 
     -- the steps are good if the core was found ready before
     pub good_here : 1 ≤ floor v → Good book steps
     good_here some =
         let g = published_by (floor v) in
-        good_behind book (setting_of set) (publishes g ∷ steps) (looked (floor v) ∷ deeds) (tt, there)
-        (never_fall (floor v) (floor v ∷ looks_of deeds) (floor w) (omega arith, rises))
-        (floor v, deeds, refl, (refl, shows)) g steps refl (publishes_some (floor v) some)
+        good_after book (setting_of set) (publishes g ∷ steps) (looked (floor v) ∷ effects) (tt, there)
+        (never_fall (floor v) (floor v ∷ looks_of effects) (floor w) (omega arith, rises))
+        (floor v, effects, refl, (refl, shows)) g steps refl (publishes_some (floor v) some)
 
     -- the steps are good if the call's own first look found the core ready
-    pub good_first : (caller k : ℕ) → GoodBehind book caller k steps
-    good_first caller k = good_behind book (setting_of set) steps deeds there
-        (never_fall (floor v) (looks_of deeds) (floor w) rises) shows
+    pub good_first : (caller k : ℕ) → GoodAfter book caller k steps
+    good_first caller k = good_after book (setting_of set) steps effects there
+        (never_fall (floor v) (looks_of effects) (floor w) rises) shows

@@ -14,11 +14,11 @@ use Rattle.key_names.proofs.Transcripts.TakenMarks.{hit, lane_takes, mark_takes}
 use Rattle.lane_table.specs.Advances.{Climbs}
 use Rattle.fork_runs.specs.TableForks.{marks_of, stamps_of}
 
--- a mark's place in a book
+-- the book has a visit at the mark's lane and place, with the mark's stamp and maker
 abbrev pub IsAt : Book → MarkBy → Type 0
 IsAt book by = stamped_at book by.mark.lane by.mark.place ≡ Some (by.mark.stamp, by.who)
 
--- lane and p are a place of a lane
+-- `p` is a place of the lane `lane`
 module _ (lane : LaneId) (p : ℕ) where
   -- how many marks have this place
   abbrev pub hits : List MarkBy → ℕ
@@ -72,7 +72,7 @@ module _ (lane : LaneId) (p : ℕ) where
     abbrev stamp_of : Option (ℕ × Who) → ℕ
     stamp_of o = option_map_or (λ (x : ℕ × Who). x.0) o 0
 
-    -- after a mark of the place no later mark has it
+    -- after a mark with this place, no later mark has the place
     no_more : (stamp low high : ℕ) (who : Who) (marks : List MarkBy) → stamped_at book lane p ≡ Some (stamp, who) →
         stamp ≤ low → Climbs low (stamps_of marks) high → AllByRecursion (IsAt book) marks → hits marks ≡ 0
     no_more stamp low high who [] is below climbs all = refl

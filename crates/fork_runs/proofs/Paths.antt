@@ -1,5 +1,5 @@
--- The steps of a call without flags on a state that is never wiped, with system calls that do not fail: it reaches
--- each point of an attempt that finds another generation than the state's.
+-- Take a call without flags whose state is never wiped, and whose system calls do not fail. The call reaches each point
+-- of an attempt that finds another generation than the state's.
 use Rattle.std.proofs.Common.{◌≡◌, ℕ, ◌<◌, ◌≤◌, Bool, true, false, List, [], ◌∷◌, ◌++◌, refl, subst, ap, ◌∙◌, arith, eqb-true}
 use Rattle.std.specs.Bool.{⊤}
 use Rattle.std.proofs.lemmas.Bool.{ne_eqb}
@@ -44,7 +44,7 @@ smooth_then (publishes g ∷ xs) ys a b = smooth_then xs ys a b
 smooth_then (system_call n flags answer ∷ xs) ys a b = (a.0, smooth_then xs ys a.1 b)
 smooth_then (at_point point wiped ∷ xs) ys a b = (a.0, smooth_then xs ys a.1 b)
 
--- the steps after a point that did not change the state
+-- the point did not wipe the state, so the steps `rest` after the point go on from the same state
 record Passed (point : Point) (GoesOn : VgetrandomState → List HostStep → Attempt → Type 0) (s : VgetrandomState)
     (steps : List HostStep) (attempt : Attempt) : Type 0 where
   rest : List HostStep
@@ -69,11 +69,11 @@ passed point GoesOn s steps attempt k smooth =
       end_is = ap (λ (a : Attempt). a.end) k.attempt_is;
     }
 
--- the end of an attempt that found this generation last
+-- the end of an attempt on a state of `generation`, if the attempt's last look found `found`
 abbrev end_by : ℕ → ℕ → AttemptEnd
 end_by generation found = if generation == found then holds else outdated
 
--- the rest of an attempt from some point on, with these steps before its last look
+-- the rest of an attempt from some point on: the steps `front`, and then a last look
 record Left (front : List HostStep) (s : VgetrandomState) (steps : List HostStep) (attempt : Attempt) : Type 0 where
   found : ℕ
   steps_are : steps ≡ front ++ publishes found ∷ []
@@ -153,7 +153,7 @@ whole_attempt n c s steps attempt k other smooth =
       end_is = start.end_is ∙ p.end_is ∙ last.end_is;
     }
 
--- an attempt that takes a new key, and the steps after it if it found another generation at its end
+-- an attempt that takes a new key; if the attempt found another generation at its end, further steps follow
 pub record Tried (Outdated : ℕ → VgetrandomState → List HostStep → Outcome → Type 0) (steps : List HostStep)
     : Type 0 where
   pub published : ℕ
@@ -189,7 +189,8 @@ tries n c s Outdated steps outcome low high below climbs smooth k =
           );
     }
 
--- a call for one byte or more on a wiped state, on a ready core: a look, and a first attempt that takes a new key
+-- a call for one byte or more on a wiped state, on a ready core, begins with a look and a first attempt that takes a
+-- new key
 pub record FirstTried (n : ℕ) (steps : List HostStep) : Type 0 where
   pub looked : ℕ
   pub rest : List HostStep

@@ -1,11 +1,11 @@
--- A new call that reached its stop.
+-- If the code ran a new call to a stop, in the first or the second attempt, the record `ReachedStop` holds.
 use Rattle.std.proofs.Common.{◌≡◌, ℕ, ◌≤◌, List, [], ◌∷◌, refl, sym, subst, ap, ◌∙◌, arith, length}
 use Rattle.key_names.specs.declared.events.Answer.TheVariants.{Ok as Done}
 use Rattle.key_names.specs.declared.events.Event.TheVariants.{Reseed}
 use Rattle.key_names.specs.declared.names.Step.{Step}
 use Rattle.key_names.specs.declared.point.Point.{Point}
 use Rattle.key_names.specs.declared.point.Point.TheVariants.{Serve}
-use Rattle.key_names.specs.Callers.Deeds.{Deed}
+use Rattle.key_names.specs.Callers.Effects.{Effect}
 use Rattle.key_names.specs.Transcripts.SeenLine.{no_data}
 use Rattle.key_names.specs.Kernel.VgetrandomState.{VgetrandomState}
 use Rattle.key_names.specs.Callers.VreadSteps.{published_by}
@@ -17,7 +17,7 @@ use Rattle.vdso_state.specs.declared.place.Turn.{Turn}
 use Rattle.vdso_state.specs.declared.place.Turn.TheVariants.{First, Second}
 use Rattle.vcall_fork.specs.declared.stage.Stage.{Stage}
 use Rattle.vcall_fork.specs.declared.stage.Stage.TheVariants.{New, At}
-use Rattle.vcall_fork.specs.Forks.{ForksAreTold}
+use Rattle.vcall_fork.specs.Forks.{ForksAreRecorded}
 use Rattle.vcall_fork.specs.Stages.{published_or}
 use Rattle.rng_core.specs.declared.setting.Setting.{Setting}
 use Rattle.rng_core.specs.Makes.{IsOutcomeOf, setting_of}
@@ -29,14 +29,14 @@ use Rattle.fork_runs.specs.Runs.{DidAll, ReachedStop}
 use Rattle.fork_runs.proofs.Joining.{floor_child, joined_floor}
 use Rattle.fork_runs.proofs.TwoStops.{stop_then}
 
--- published generations stay known
-pub known_on : {P : List Deed → Type 0} (set : Setting) (left : Stage) (v w : View) (own : List Step) →
+-- a caller that has seen a generation as published has still seen it so after a call
+pub known_on : {P : List Effect → Type 0} (set : Setting) (left : Stage) (v w : View) (own : List Step) →
     published_or 0 left ≤ published_by (floor v) → DidAll P set v own w →
     published_or 0 left ≤ published_by (floor w)
 known_on set left v w own low did =
     let a = published_more (floor v) (floor w) (did_floor set (knowing v []) (knowing w own) did) in omega arith
 
--- published generations stay known to both passes after a fork
+-- after a fork both passes have seen as published each generation that the caller had seen as published before it
 pub parent_known : (stage : Stage) (v before w : View) → published_or 0 stage ≤ published_by (floor v) →
     floor v ≤ floor before → w ≡ halved before → published_or 0 stage ≤ published_by (floor w)
 parent_known stage v before w low up is =
@@ -56,7 +56,7 @@ child_known stage again v before half parents both low up half_is same long pare
     (subst (λ (x : Stage). published_or 0 x ≤ published_by (floor (both_of half parents))) (sym same)
     (joined_floor (published_or 0 stage) half parents long own parents_low))
 
--- from v to w a caller ran a call to a stop, with its own trace
+-- from `v` to `w` a caller ran a call to a stop, and the call has its own trace
 abbrev pub Stopping : Setting → ℕ → ℕ → Stage → List ℕ → VgetrandomState → Turn → Point → Stage → List ℕ →
     VgetrandomState → View → View → Type 0
 Stopping set n flags stage held s turn point left out t v w =
@@ -83,7 +83,7 @@ by_first set n flags stage held s point left out t v w new k =
       ran = (k.0, refl, a.did);
     }
 
-module _ (law : ForksAreTold) (set : Setting) (n flags : ℕ) (s : VgetrandomState) (point : Point) (stage mid left : Stage)
+module _ (law : ForksAreRecorded) (set : Setting) (n flags : ℕ) (s : VgetrandomState) (point : Point) (stage mid left : Stage)
     (held half out : List ℕ) (u t : VgetrandomState) (v x y w : View) (new : stage ≡ New)
     (first : Stopping set n flags stage held s First Serve mid half u v x)
     (reseeded : (own : List Step) × DidAll (IsOutcomeOf (setting_of set) Reseed Done no_data) set x own y) where
@@ -110,7 +110,7 @@ module _ (law : ForksAreTold) (set : Setting) (n flags : ℕ) (s : VgetrandomSta
       calls_are = refl;
       at_serve = x;
       known = earlier.known;
-      behind = y;
+      following = y;
       shown = earlier.did;
       reseeds = reseeded.1;
       shown_more = later.did;

@@ -1,5 +1,5 @@
--- The first sample makes the core of a new table ready: no other caller visited the pool, so its credit crosses 256
--- bits.
+-- The first sample makes the core of a new table ready. No other caller visited the pool, so the sample's credit
+-- reaches 256 bits.
 use Rattle.std.proofs.Common.{◌≡◌, ℕ, suc, ◌+◌, ◌^◌, ◌<◌, ◌≤◌, min, Bool, true, false, Option, Some, None, List, [], ◌∷◌, length, map, take, refl, sym, subst, ap, ◌∙◌, arith, nat_lt, slice_get}
 use Rattle.std.specs.Prelude.{◌==◌, ◌&&◌, if◌then◌else◌}
 use Rattle.std.specs.List.{range_with_len}
@@ -21,7 +21,7 @@ use Rattle.key_names.specs.declared.names.LaneId.TheVariants.{Pool as PoolLane, 
 use Rattle.key_names.specs.declared.names.Step.{Step}
 use Rattle.key_names.specs.Lanes.Book.{Lists, cpu_list}
 use Rattle.key_names.specs.Callers.Calls.{Setting as CallSetting}
-use Rattle.key_names.specs.Callers.Deeds.{BaseVisit, PoolVisit, at_base, at_cpu, at_pool, base_visit, cpu_visit, deed_at, deed_of, deed_or, deeds_of, pool_visit}
+use Rattle.key_names.specs.Callers.Effects.{BaseVisit, PoolVisit, at_base, at_cpu, at_pool, base_visit, cpu_visit, effect_at, effect_of, effect_or, effects_of, pool_visit}
 use Rattle.key_names.specs.Callers.Forms.{CreditForm, Cross, Rooted}
 use Rattle.key_names.specs.Lanes.PoolList.{Crossing, PoolState, crossing, early, none, pool_after, pool_step, ready}
 use Rattle.key_names.specs.Transcripts.SeenLine.{no_data}
@@ -29,7 +29,7 @@ use Rattle.lane_table.specs.declared.lanes.Lanes.{Lanes}
 use Rattle.lane_table.specs.declared.lanes.Pass.{Pass}
 use Rattle.lane_table.specs.declared.view.LaneEntry.TheVariants.{Base}
 use Rattle.lane_table.specs.declared.view.View.{View}
-use Rattle.lane_table.specs.Advances.{AllStand, MadeStep, Sees, floor, looked, places_in, step_of, visited}
+use Rattle.lane_table.specs.Advances.{AllConform, MadeStep, Sees, floor, looked, places_in, step_of, visited}
 use Rattle.lane_table.specs.BookLaws.{Continues}
 use Rattle.lane_table.specs.BookLists.{book_lists}
 use Rattle.lane_table.specs.Calls.{Ended, IsSamePass}
@@ -40,13 +40,13 @@ use Rattle.lane_table.specs.Steps.{Seated}
 use Rattle.lane_table.specs.WorldRule.{at, known_of}
 use Rattle.lane_table.proofs.Book.BookEnds.{ended_lanes}
 use Rattle.lane_table.proofs.Book.BookEntries.{base_kind, lane_at}
-use Rattle.lane_table.proofs.Lists.Places.{stands_at}
+use Rattle.lane_table.proofs.Lists.Places.{conforms_at}
 use Rattle.lane_table.proofs.Lists.VisitLists.{begins_refl}
 use Rattle.lane_table.proofs.Rule.Sights.{sees_up}
 use Rattle.rng_core.specs.declared.setting.Setting.{Setting}
 use Rattle.rng_core.specs.Makes.{IsOutcomeOf, setting_of}
 use Rattle.rng_core.specs.Settings.{first_setting}
-use Rattle.rng_core.proofs.Courses.{none_made, start}
+use Rattle.rng_core.proofs.Paths.{none_made, start}
 use Rattle.rng_core.proofs.Rising.{reseeded_at}
 use Rattle.fork_runs.specs.Runs.{DidAll}
 
@@ -72,17 +72,17 @@ crosses_ready bits open_yet = go (nat_lt bits 256) refl
     go true low = refl
     go false low = let above = ltb-false bits 256 low in absurd (omega arith)
 
--- The deed at a mark
+-- The effect at a mark
 
 module _ (lists : Lists) where
   record PoolMark (lane : LaneId) (place : ℕ) (x : PoolVisit) : Type 0 where
     lane_is : lane ≡ PoolLane
     visit_is : x ≡ pool_visit lists place x.entry
 
-  pool_mark : (lane : LaneId) (place : ℕ) (x : PoolVisit) → deed_at lists lane place ≡ at_pool x → PoolMark lane place x
+  pool_mark : (lane : LaneId) (place : ℕ) (x : PoolVisit) → effect_at lists lane place ≡ at_pool x → PoolMark lane place x
   pool_mark PoolLane place x is = go (slice_get lists.pool place) is
     where
-      go : (o : Option PoolEntry) → deed_or (λ e. at_pool (pool_visit lists place e)) o ≡ at_pool x →
+      go : (o : Option PoolEntry) → effect_or (λ e. at_pool (pool_visit lists place e)) o ≡ at_pool x →
           PoolMark PoolLane place x
       go None is = absurd (cc is)
       go (Some e) is =
@@ -91,36 +91,36 @@ module _ (lists : Lists) where
           record { lane_is = refl; visit_is = sym same ∙ ap (pool_visit lists place) entry }
   pool_mark BaseLane place x is = absurd (go (slice_get lists.base place) is)
     where
-      go : (o : Option BaseEntry) → deed_or (λ e. at_base (base_visit lists place e)) o ≡ at_pool x → ⊥
+      go : (o : Option BaseEntry) → effect_or (λ e. at_base (base_visit lists place e)) o ≡ at_pool x → ⊥
       go None is = cc
       go (Some e) is = cc
   pool_mark (CpuLane c) place x is = absurd (go (slice_get (cpu_list lists c) place) is)
     where
-      go : (o : Option CpuEntry) → deed_or (λ e. at_cpu (cpu_visit lists c place e)) o ≡ at_pool x → ⊥
+      go : (o : Option CpuEntry) → effect_or (λ e. at_cpu (cpu_visit lists c place e)) o ≡ at_pool x → ⊥
       go None is = cc
       go (Some e) is = cc
 
   record BaseMark (lane : LaneId) (place : ℕ) (x : BaseVisit) : Type 0 where
     lane_is : lane ≡ BaseLane
-    stands : slice_get lists.base place ≡ Some x.entry
+    conforms : slice_get lists.base place ≡ Some x.entry
 
-  base_mark : (lane : LaneId) (place : ℕ) (x : BaseVisit) → deed_at lists lane place ≡ at_base x → BaseMark lane place x
+  base_mark : (lane : LaneId) (place : ℕ) (x : BaseVisit) → effect_at lists lane place ≡ at_base x → BaseMark lane place x
   base_mark BaseLane place x is = go (slice_get lists.base place) refl is
     where
       go : (o : Option BaseEntry) → slice_get lists.base place ≡ o →
-          deed_or (λ e. at_base (base_visit lists place e)) o ≡ at_base x → BaseMark BaseLane place x
+          effect_or (λ e. at_base (base_visit lists place e)) o ≡ at_base x → BaseMark BaseLane place x
       go None there is = absurd (cc is)
       go (Some e) there is =
           let same : base_visit lists place e ≡ x = cc in
-          record { lane_is = refl; stands = there ∙ ap (λ (v : BaseVisit). Some v.entry) same }
+          record { lane_is = refl; conforms = there ∙ ap (λ (v : BaseVisit). Some v.entry) same }
   base_mark PoolLane place x is = absurd (go (slice_get lists.pool place) is)
     where
-      go : (o : Option PoolEntry) → deed_or (λ e. at_pool (pool_visit lists place e)) o ≡ at_base x → ⊥
+      go : (o : Option PoolEntry) → effect_or (λ e. at_pool (pool_visit lists place e)) o ≡ at_base x → ⊥
       go None is = cc
       go (Some e) is = cc
   base_mark (CpuLane c) place x is = absurd (go (slice_get (cpu_list lists c) place) is)
     where
-      go : (o : Option CpuEntry) → deed_or (λ e. at_cpu (cpu_visit lists c place e)) o ≡ at_base x → ⊥
+      go : (o : Option CpuEntry) → effect_or (λ e. at_cpu (cpu_visit lists c place e)) o ≡ at_base x → ⊥
       go None is = cc
       go (Some e) is = cc
 
@@ -140,27 +140,27 @@ module _ (q : View) (wide : length q.lanes ≡ 3) (at_end : Ended 3 q) where
     closed = ended_lanes q [] (let e = wide in omega arith) ended;
   }
 
-  -- a pass that extracted the root of a reseed has seen the reseed
+  -- if the effects of some steps are an extraction and then a reseed, the generation seen after the steps is at least 1
   rooted_seen : (caller event step low high root now : ℕ) (pool : PoolVisit) (base : BaseVisit)
-      (made_steps : List MadeStep) → AllStand q caller event step made_steps → Sees q low made_steps high →
-      base.entry ≡ Reseed root now → deeds_of lists (map step_of made_steps) ≡ at_pool pool ∷ at_base base ∷ [] →
+      (made_steps : List MadeStep) → AllConform q caller event step made_steps → Sees q low made_steps high →
+      base.entry ≡ Reseed root now → effects_of lists (map step_of made_steps) ≡ at_pool pool ∷ at_base base ∷ [] →
       1 ≤ high
-  rooted_seen caller event step low high root now pool base [] stand sees names is = absurd (cc is)
-  rooted_seen caller event step low high root now pool base (one ∷ []) stand sees names is = absurd (cc is)
-  rooted_seen caller event step low high root now pool base (looked g ∷ two ∷ more) stand sees names is = absurd (cc is)
-  rooted_seen caller event step low high root now pool base (visited mark e ∷ looked g ∷ more) stand sees names is =
+  rooted_seen caller event step low high root now pool base [] conform sees names is = absurd (cc is)
+  rooted_seen caller event step low high root now pool base (one ∷ []) conform sees names is = absurd (cc is)
+  rooted_seen caller event step low high root now pool base (looked g ∷ two ∷ more) conform sees names is = absurd (cc is)
+  rooted_seen caller event step low high root now pool base (visited mark e ∷ looked g ∷ more) conform sees names is =
       absurd (cc is)
-  rooted_seen caller event step low high root now pool base (visited mark e ∷ visited next f ∷ more) stand sees names is =
-      let deeds : deed_at lists mark.lane mark.place ∷ deed_at lists next.lane next.place ∷ deeds_of lists (map step_of more)
+  rooted_seen caller event step low high root now pool base (visited mark e ∷ visited next f ∷ more) conform sees names is =
+      let effects : effect_at lists mark.lane mark.place ∷ effect_at lists next.lane next.place ∷ effects_of lists (map step_of more)
       ≡ at_pool pool ∷ at_base base ∷ [] = is in
-      let there : deed_at lists next.lane next.place ≡ at_base base = cc in
+      let there : effect_at lists next.lane next.place ≡ at_base base = cc in
       let k = base_mark lists next.lane next.place base there in
-      let m = stand.1.0 in
+      let m = conform.1.0 in
       let visit : get_elem? (known_of q 1) next.place ≡ some m.visit =
       subst (λ (lane : LaneId). get_elem? (known_of q (index_of lane)) next.place ≡ some m.visit) k.lane_is m.there in
       let entry = lane_at base_kind (length q.lanes) (known_of q 1) (ended.lawful 1 (let e = wide in omega arith))
-      next.place m.visit (stands_at (known_of q 1) next.place m.visit visit) in
-      let both : Some entry.entry ≡ Some base.entry = sym entry.stands ∙ k.stands in
+      next.place m.visit (conforms_at (known_of q 1) next.place m.visit visit) in
+      let both : Some entry.entry ≡ Some base.entry = sym entry.conforms ∙ k.conforms in
       let same : entry.entry ≡ base.entry = cc in
       let raised = reseeded_at (known_of q 1) next.place root now m.visit visit
       (entry.is ∙ ap Base (same ∙ names)) in
@@ -170,24 +170,24 @@ module _ (q : View) (wide : length q.lanes ≡ 3) (at_end : Ended 3 q) where
       k.lane_is (let a = seen.2 in omega arith) in
       let up = sees_up q seen.0 high more seen.3 in omega arith
 
-  no_steps : (made_steps : List MadeStep) → deeds_of lists (map step_of made_steps) ≡ [] → made_steps ≡ []
+  no_steps : (made_steps : List MadeStep) → effects_of lists (map step_of made_steps) ≡ [] → made_steps ≡ []
   no_steps [] is = refl
   no_steps (one ∷ more) is = absurd (cc is)
 
   credit_seen : (caller event step low high : ℕ) (set : CallSetting) (text : List ℕ) (made_steps : List MadeStep) →
-      AllStand q caller event step made_steps → Sees q low made_steps high →
+      AllConform q caller event step made_steps → Sees q low made_steps high →
       length (places_in 0 made_steps) ≡ length (known_of q 0) →
-      CreditForm set (Mix text 256) (deeds_of lists (map step_of made_steps)) → 1 ≤ high
-  credit_seen caller event step low high set text [] stand sees many f =
-      let is : [] ≡ at_pool f.pool ∷ f.rest = f.deeds_are in absurd (cc is)
-  credit_seen caller event step low high set text (looked g ∷ more) stand sees many f =
-      let is : deed_of lists (step_of (looked g)) ∷ deeds_of lists (map step_of more) ≡ at_pool f.pool ∷ f.rest =
-      f.deeds_are in absurd (cc is)
-  credit_seen caller event step low high set text (visited mark e ∷ more) stand sees many f =
-      let deeds : deed_at lists mark.lane mark.place ∷ deeds_of lists (map step_of more) ≡ at_pool f.pool ∷ f.rest =
-      f.deeds_are in
-      let here : deed_at lists mark.lane mark.place ≡ at_pool f.pool = cc in
-      let rest : deeds_of lists (map step_of more) ≡ f.rest = cc in
+      CreditForm set (Mix text 256) (effects_of lists (map step_of made_steps)) → 1 ≤ high
+  credit_seen caller event step low high set text [] conform sees many f =
+      let is : [] ≡ at_pool f.pool ∷ f.rest = f.effects_are in absurd (cc is)
+  credit_seen caller event step low high set text (looked g ∷ more) conform sees many f =
+      let is : effect_of lists (step_of (looked g)) ∷ effects_of lists (map step_of more) ≡ at_pool f.pool ∷ f.rest =
+      f.effects_are in absurd (cc is)
+  credit_seen caller event step low high set text (visited mark e ∷ more) conform sees many f =
+      let effects : effect_at lists mark.lane mark.place ∷ effects_of lists (map step_of more) ≡ at_pool f.pool ∷ f.rest =
+      f.effects_are in
+      let here : effect_at lists mark.lane mark.place ≡ at_pool f.pool = cc in
+      let rest : effects_of lists (map step_of more) ≡ f.rest = cc in
       let k = pool_mark lists mark.lane mark.place f.pool here in
       let bits = f.pool.before.bits in
       let full : f.pool.after.bits ≡ 256 =
@@ -202,11 +202,11 @@ module _ (q : View) (wide : length q.lanes ≡ 3) (at_end : Ended 3 q) where
       let one : length (known_of q 0) ≡ 1 =
       sym many ∙ ap (λ (l : List MadeStep). length (places_in 0 (visited mark e ∷ l))) no_more
       ∙ ap (λ (lane : LaneId). length (if index_of lane == 0 then mark.place ∷ [] else [])) k.lane_is in
-      let m = stand.0 in
+      let m = conform.0 in
       let visit : get_elem? (known_of q 0) mark.place ≡ some m.visit =
       subst (λ (lane : LaneId). get_elem? (known_of q (index_of lane)) mark.place ≡ some m.visit) k.lane_is m.there in
       let within = slice_get_within (known_of q 0) mark.place m.visit
-      (stands_at (known_of q 0) mark.place m.visit visit) in
+      (conforms_at (known_of q 0) mark.place m.visit visit) in
       let first : mark.place ≡ 0 = omega arith in
       let empty : bits ≡ 0 =
       ap (λ (v : PoolVisit). v.before.bits) k.visit_is
@@ -215,8 +215,8 @@ module _ (q : View) (wide : length q.lanes ≡ 3) (at_end : Ended 3 q) where
       (λ short.
       let root : Rooted set (λ r. Reseed r set.now) f.rest =
       subst (λ (z : Crossing). Cross set z f.rest) (ap (crossing bits) full ∙ crosses_ready bits (omega arith)) f.crosses in
-      rooted_seen caller event (suc step) sees.0 high root.pool.place set.now root.pool root.base more stand.1 sees.3
-      root.names (rest ∙ root.deeds_are))
+      rooted_seen caller event (suc step) sees.0 high root.pool.place set.now root.pool root.base more conform.1 sees.3
+      root.names (rest ∙ root.effects_are))
 
   -- a sample on a new table makes the core ready
   pub sample_readies : (own : List Step)
@@ -224,18 +224,18 @@ module _ (q : View) (wide : length q.lanes ≡ 3) (at_end : Ended 3 q) where
       start own q → 1 ≤ floor q
   sample_readies did =
       let k = did.1 in
-      let made = k.told.went.made 0 (omega arith) in
+      let made = k.recorded.went.made 0 (omega arith) in
       let none_yet = none_made 0 (omega arith) in
       let all = at_end.made 0 (omega arith) in
       credit_seen 0 0 0 (floor start) (floor q) (setting_of (first_setting 0)) (range_with_len 0 32) k.made_steps
-      k.told.went.stand k.told.went.sees (omega arith) (k.stands (length q.lanes) (known_of q) [] goes_on).form
+      k.recorded.went.conform k.recorded.went.sees (omega arith) (k.conforms (length q.lanes) (known_of q) [] goes_on).form
 
--- the sample makes the core ready also with the call's own arguments
+-- `sample_readies` with the arguments of the code
 pub readied : (set : Setting) (p q : View) (lanes : ℕ) → set ≡ first_setting 0 → p ≡ start → lanes ≡ 3 →
     length q.lanes ≡ lanes → (q.share ≡ 2 ^ q.halvings → Ended lanes q) → ((own : List Step)
     × DidAll (IsOutcomeOf (setting_of set) (Add (range_with_len 0 32) 256) Done no_data) set p own q) → 1 ≤ floor q
 readied set p q lanes first new three wide ends did =
-    let same = did.1.told.went.same in
+    let same = did.1.recorded.went.same in
     let share : q.share ≡ 1 = same.share ∙ ap (λ (v : View). v.share) new in
     let halvings : q.halvings ≡ 0 = same.halvings ∙ ap (λ (v : View). v.halvings) new in
     let whole : q.share ≡ 2 ^ q.halvings = share ∙ sym (ap (λ (h : ℕ). 2 ^ h) halvings) in

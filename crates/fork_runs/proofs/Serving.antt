@@ -11,22 +11,22 @@ use Rattle.vdso_state.specs.declared.place.Place.{Place}
 use Rattle.vdso_state.specs.declared.place.Turn.{Turn}
 use Rattle.vdso_state.specs.declared.place.Turn.TheVariants.{First, Second}
 use Rattle.vdso_state.specs.Host.{Does, DoesAll}
-use Rattle.vdso_state.specs.Places.{IfOutdated, BehindPlace, FromPoint}
+use Rattle.vdso_state.specs.Places.{IfOutdated, AfterPlace, FromPoint}
 use Rattle.vcall_fork.specs.declared.stage.Stage.{Stage}
 use Rattle.vcall_fork.specs.declared.stage.Stage.TheVariants.{New, At, Over}
 use Rattle.vcall_fork.specs.Stages.{is_stopped}
 use Rattle.vcall_fork.specs.Stops.{RestOfCall}
-use Rattle.rng_core.specs.Acting.{ActStand, acting}
+use Rattle.rng_core.specs.Acting.{ActConform, acting}
 use Rattle.rng_core.proofs.Acting.{acted_onward}
 use Rattle.fork_runs.specs.Coming.{EndsGiveBytes, IsGiven}
 use Rattle.fork_runs.specs.Stretches.{AreServed, IsServed}
 
 -- a core that was seen to be ready stays ready
-stays_ready : (s t : ActStand) (step : HostStep) → 1 ≤ floor s.core.moment.view → Does acting s step t →
+stays_ready : (s t : ActConform) (step : HostStep) → 1 ≤ floor s.core.moment.view → Does acting s step t →
     1 ≤ floor t.core.moment.view
 stays_ready s t step ready does = let a = (acted_onward (step ∷ []) s t (t, does, refl)).floors in omega arith
 
-pub all_served : (steps : List HostStep) (s t : ActStand) → 1 ≤ floor s.core.moment.view → DoesAll acting s steps t →
+pub all_served : (steps : List HostStep) (s t : ActConform) → 1 ≤ floor s.core.moment.view → DoesAll acting s steps t →
     AreServed steps
 all_served [] s t ready does = tt
 all_served (publishes g ∷ steps) s t ready does =
@@ -70,17 +70,17 @@ module _ (n flags : ℕ) (good : is_bad flags ≡ false) where
   outdated_gives Second c s steps outcome served k = system_gives _ steps outcome served k
 
   place_gives : (place : Place) (out : List ℕ) (s : VgetrandomState) (steps : List HostStep) (outcome : Outcome) →
-      AreServed steps → BehindPlace n flags place out s steps outcome → IsGiven outcome.ending
+      AreServed steps → AfterPlace n flags place out s steps outcome → IsGiven outcome.ending
   place_gives place out s steps outcome served k = tried_gives (IfOutdated place.turn n flags)
       (FromPoint place.point n place.next_block place.published out s) steps outcome
       (λ c t rest after rests. outdated_gives place.turn c t rest after rests) served k
 
-  -- the rest of a stopped call with good flags gives bytes
+  -- the rest of a stopped call with good flags gives bytes, if its system calls read their bytes
   pub rest_gives : (stage : Stage) (out : List ℕ) (s : VgetrandomState) (steps : List HostStep) (outcome : Outcome) →
       is_stopped stage ≡ true → AreServed steps → RestOfCall stage n flags out s steps outcome → IsGiven outcome.ending
-  rest_gives New out s steps outcome stands served k = absurd (cc stands)
-  rest_gives (At place) out s steps outcome stands served k = place_gives place out s steps outcome served k
-  rest_gives Over out s steps outcome stands served k = absurd (cc stands)
+  rest_gives New out s steps outcome conforms served k = absurd (cc conforms)
+  rest_gives (At place) out s steps outcome conforms served k = place_gives place out s steps outcome served k
+  rest_gives Over out s steps outcome conforms served k = absurd (cc conforms)
 
 pub ends_give_bytes : EndsGiveBytes
 ends_give_bytes n flags place out s steps outcome good served rest =

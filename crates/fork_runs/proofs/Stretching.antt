@@ -1,4 +1,4 @@
--- The work of a host over the lanes in a part of a call, as steps of the caller.
+-- In a part of a call, the steps of a host over the lanes are steps of the caller itself.
 use Rattle.std.proofs.Common.{◌≡◌, ℕ, ◌<◌, ◌≤◌, arith, Bool, true, false, List, [], ◌∷◌, length, refl, ap, ◌∙◌, subst}
 use Rattle.std.specs.Prelude.{◌&&◌, Result}
 use Rattle.key_names.specs.declared.errno.Errno.{Errno}
@@ -24,7 +24,7 @@ use Rattle.rng_core.specs.declared.vdso.lane_host.LaneHost.{LaneHost}
 use Rattle.rng_core.specs.Traces.{moment}
 use Rattle.rng_core.specs.Makes.{Makes, setting_of}
 use Rattle.rng_core.specs.Acts.{Ask, asks_of, wipes_at}
-use Rattle.rng_core.specs.Acting.{ActStand, acting, is_first}
+use Rattle.rng_core.specs.Acting.{ActConform, acting, is_first}
 use Rattle.rng_core.specs.Hosting.{standing, SameLoans, hosting}
 use Rattle.rng_core.proofs.ActRuns.{Own}
 use Rattle.rng_core.proofs.Acting.{acted_own, host_acts}
@@ -44,7 +44,7 @@ never_both true = refl
 never_both false = refl
 
 -- without acts no point wipes the state
-unwiped : (steps : List HostStep) (s t : ActStand) → s.asks ≡ [] → DoesAll acting s steps t → AreUnwiped steps
+unwiped : (steps : List HostStep) (s t : ActConform) → s.asks ≡ [] → DoesAll acting s steps t → AreUnwiped steps
 unwiped [] s t none does = tt
 unwiped (publishes g ∷ steps) s t none does = unwiped steps does.0 t (does.1.acts.asks ∙ none) does.2
 unwiped (system_call n flags answer ∷ steps) s t none does = unwiped steps does.0 t (does.1.acts.asks ∙ none) does.2
@@ -77,12 +77,12 @@ module _ {R : Type 0} (h last : LaneHost R) (steps : List HostStep) (does : Does
 
     pub did_own : Makes (Shows (setting_of h.site.set) steps) h.site.set (moment h.site.pass.now h.site.trace.now)
         (moment last.site.pass.now last.site.trace.now)
-    did_own = record { made_steps = own.made_steps; told = own.alone none; stands = own.stands }
+    did_own = record { made_steps = own.made_steps; recorded = own.alone none; conforms = own.conforms }
 
     pub stays_unwiped : AreUnwiped steps
     stays_unwiped = unwiped steps (standing h) (standing last) none acted
 
-  -- if the core was seen to be ready, each system call serves
+  -- if the core was seen to be ready, each system call with good flags reads its bytes
   pub serves : 1 ≤ floor (view h.site.pass.now) → AreServed steps
   serves ready = all_served steps (standing h) (standing last) ready acted
 
@@ -148,14 +148,14 @@ module _ {R : Type 0} (h last : LaneHost R) (idle : length h.acts.now ≡ 0) (tw
       (record { state = t; result = result; buf = out }) →
       FinishedOver h.site.set n flags stage held s out (moment h.site.pass.now h.site.trace.now)
       (moment last.site.pass.now last.site.trace.now)
-  finished_over t result out stands plain ready k = record {
+  finished_over t result out conforms plain ready k = record {
     steps = k.runs.steps;
     outcome = k.runs.outcome;
     rest = k.runs.relates;
     unwiped = stays_unwiped h last k.runs.steps k.runs.does idle two;
     climbs = k.climbs;
     gives = gives_bytes k.runs.outcome.ending result out k.runs.ends
-        (rest_gives n flags (ap is_bad plain) stage held s k.runs.steps k.runs.outcome stands
+        (rest_gives n flags (ap is_bad plain) stage held s k.runs.steps k.runs.outcome conforms
         (serves h last k.runs.steps k.runs.does ready) k.runs.relates);
     did = did_own h last k.runs.steps k.runs.does idle two;
   }

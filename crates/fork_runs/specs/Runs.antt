@@ -1,4 +1,4 @@
--- The work of a caller over the lanes before a stop, and after the fork there.
+-- What a caller does over the lanes up to a stop, and after the fork there.
 use Rattle.std.specs.Prelude.{ℕ, ◌≡◌, ◌≤◌, false, List, [], ◌∷◌, ◌++◌}
 use Rattle.key_names.specs.declared.entries.BaseEntry.TheVariants.{Fork}
 use Rattle.key_names.specs.declared.events.Answer.TheVariants.{Ok as Done}
@@ -6,7 +6,7 @@ use Rattle.key_names.specs.declared.events.Event.TheVariants.{Reseed}
 use Rattle.key_names.specs.declared.names.Step.{Step}
 use Rattle.key_names.specs.declared.point.Point.{Point}
 use Rattle.key_names.specs.declared.point.Point.TheVariants.{Serve}
-use Rattle.key_names.specs.Callers.Deeds.{Deed}
+use Rattle.key_names.specs.Callers.Effects.{Effect}
 use Rattle.key_names.specs.Callers.Forms.{BaseOnly}
 use Rattle.key_names.specs.Transcripts.SeenLine.{no_data}
 use Rattle.key_names.specs.Kernel.Vgetrandom.{at_point, HostStep, IsCall}
@@ -18,7 +18,7 @@ use Rattle.lane_table.specs.Steps as steps
 use Rattle.lane_table.specs.Advances.{floor}
 use Rattle.vdso_state.specs.declared.place.Turn.{Turn}
 use Rattle.vdso_state.specs.declared.place.Turn.TheVariants.{First, Second}
-use Rattle.vdso_state.specs.Places.{BehindPlace}
+use Rattle.vdso_state.specs.Places.{AfterPlace}
 use Rattle.vcall_fork.specs.declared.stage.Stage.{Stage}
 use Rattle.vcall_fork.specs.declared.stage.Stage.TheVariants.{At}
 use Rattle.rng_core.specs.declared.setting.Setting.{Setting}
@@ -27,14 +27,14 @@ use Rattle.rng_core.specs.Makes.{Makes, IsOutcomeOf, setting_of}
 use Rattle.rng_core.specs.Settings.{first_setting}
 use Rattle.fork_runs.specs.Stretches.{Stop, FinishedOver}
 
--- one call, with its own trace
-abbrev pub DidAll : (List Deed → Type 0) → Setting → View → List Step → View → Type 0
+-- the caller made one call, with its own trace, and P holds for the call's effects
+abbrev pub DidAll : (List Effect → Type 0) → Setting → View → List Step → View → Type 0
 DidAll P set v steps w = Makes P set (knowing v []) (knowing w steps)
 
 pub record RanBySecond (set : Setting) (n flags : ℕ) (s : VgetrandomState) (point : Point) (before : List HostStep)
     (v : View) (calls : List (List Step)) (w : View) : Type 0 where
   pub earlier : Stop (IsCall n flags s) n flags First Serve
-  pub later : Stop (BehindPlace n flags earlier.place earlier.held earlier.state) n flags Second point
+  pub later : Stop (AfterPlace n flags earlier.place earlier.held earlier.state) n flags Second point
   pub before_is : before ≡ earlier.before ++ at_point Serve false ∷ later.before
   pub own : List Step
   pub reseeded : List Step
@@ -42,10 +42,10 @@ pub record RanBySecond (set : Setting) (n flags : ℕ) (s : VgetrandomState) (po
   pub calls_are : calls ≡ own ∷ reseeded ∷ more ∷ []
   pub at_serve : View
   pub known : earlier.place.published ≤ published_by (floor at_serve)
-  pub behind : View
+  pub following : View
   pub shown : DidAll (Shows (setting_of set) earlier.before) set v own at_serve
-  pub reseeds : DidAll (IsOutcomeOf (setting_of set) Reseed Done no_data) set at_serve reseeded behind
-  pub shown_more : DidAll (Shows (setting_of set) later.before) set behind more w
+  pub reseeds : DidAll (IsOutcomeOf (setting_of set) Reseed Done no_data) set at_serve reseeded following
+  pub shown_more : DidAll (Shows (setting_of set) later.before) set following more w
 
 abbrev pub RanBy : Setting → ℕ → ℕ → VgetrandomState → Turn → Point → List HostStep → View → List (List Step) → View →
     Type 0
@@ -53,7 +53,7 @@ RanBy set n flags s First point before v calls w =
     (own : List Step) × (calls ≡ own ∷ []) × DidAll (Shows (setting_of set) before) set v own w
 RanBy set n flags s Second point before v calls w = RanBySecond set n flags s point before v calls w
 
--- from v to w a caller ran a new call to a stop, with this result
+-- from `v` to `w` a caller ran a new call to a stop, with this result
 pub record ReachedStop (set : Setting) (n flags : ℕ) (s : VgetrandomState) (turn : Turn) (point : Point)
     (left : Stage) (out : List ℕ) (t : VgetrandomState) (v w : View) : Type 0 where
   pub stop : Stop (IsCall n flags s) n flags turn point
@@ -64,8 +64,8 @@ pub record ReachedStop (set : Setting) (n flags : ℕ) (s : VgetrandomState) (tu
   pub calls : List (List Step)
   pub ran : RanBy set n flags s turn point stop.before v calls w
 
--- from v to w a caller forked caller 1 in a stopped call, and ended the call; then the child's pass took in the
--- caller's, and ended its own call
+-- from `v` to `w` a caller forked caller 1 in a stopped call, and ended its own call; then the child's pass took in the
+-- caller's pass, and the child ended its call
 pub record ForkedOver (set : Setting) (n flags : ℕ) (stage : Stage) (held : List ℕ) (s : VgetrandomState)
     (parent child : List ℕ) (v w : View) : Type 0 where
   pub forked : List Step

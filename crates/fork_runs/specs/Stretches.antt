@@ -1,10 +1,10 @@
--- A vgetrandom call with a caller over the lanes as its host: to a point where it stops, and from there to its end.
+-- A vgetrandom call whose host is a caller over the lanes: the part up to a stop, and the part from there to the end.
 use Rattle.std.specs.Prelude.{ℕ, ◌≡◌, ◌≤◌, ⊤, false, List, ◌++◌}
 use Rattle.std.specs.List.{AllByRecursion}
 use Rattle.key_names.specs.declared.entries.VEntry.{VEntry}
 use Rattle.key_names.specs.declared.point.Point.{Point}
 use Rattle.key_names.specs.Kernel.Flags.{is_bad}
-use Rattle.key_names.specs.Kernel.Vgetrandom.{read, failed, HostStep, publishes, system_call, at_point, Ending, no_bytes, by_batch, by_system, Outcome, outcome_behind}
+use Rattle.key_names.specs.Kernel.Vgetrandom.{read, failed, HostStep, publishes, system_call, at_point, Ending, no_bytes, by_batch, by_system, Outcome, prefix_outcome}
 use Rattle.key_names.specs.Kernel.VgetrandomState.{VgetrandomState}
 use Rattle.key_names.specs.Callers.VreadSteps.{Shows, points_of, published_by}
 use Rattle.lane_table.specs.declared.view.View.{View}
@@ -34,8 +34,8 @@ IsServed (at_point point wiped) = ⊤
 abbrev pub AreServed : List HostStep → Type 0
 AreServed steps = AllByRecursion IsServed steps
 
--- a call for n bytes, with rest `From`, reached a point of an attempt: the steps before the point, and the call's
--- buffer and state there
+-- a call for `n` bytes came to a point of an attempt: the steps before the point, and the call's buffer and state
+-- there. `From` relates the call's steps, before the point and after it, to the call's outcome
 pub record Stop (From : List HostStep → Outcome → Type 0) (n flags : ℕ) (turn : Turn) (point : Point) : Type 0 where
   pub place : Place
   pub turn_is : place.turn ≡ turn
@@ -47,10 +47,10 @@ pub record Stop (From : List HostStep → Outcome → Type 0) (n flags : ℕ) (t
   pub unwiped : AreUnwiped before
   pub entries : List VEntry
   pub leads : (rest : List HostStep) (outcome : Outcome) → AtPlace n flags place held state rest outcome →
-      From (before ++ rest) (outcome_behind entries outcome)
+      From (before ++ rest) (prefix_outcome entries outcome)
 
--- from l to m a caller ran a call to a stop; the call's stage, buffer and state went from `stage`, `held` and s to
--- `left`, `out` and t
+-- from `l` to `m` a caller ran a call to a stop; the call's stage, buffer and state went from `stage`, `held` and `s`
+-- to `left`, `out` and `t`
 pub record StoppedOver (set : Setting) (n flags : ℕ) (stage : Stage) (held : List ℕ) (s : VgetrandomState)
     (turn : Turn) (point : Point) (left : Stage) (out : List ℕ) (t : VgetrandomState) (l m : Moment) : Type 0 where
   pub stop : Stop (RestOfCall stage n flags held s) n flags turn point
@@ -63,7 +63,7 @@ pub record StoppedOver (set : Setting) (n flags : ℕ) (stage : Stage) (held : L
   pub climbs : Climbs (published_by (floor l.view)) (published_by (floor m.view)) stop.before
   pub did : Makes (Shows (setting_of set) stop.before) set l m
 
--- from v to w a caller ran a call to its end, and the call never reached this point of this attempt
+-- from `v` to `w` a caller ran a call to its end, and the call never reached this point of this attempt
 pub record MissedOver (n flags : ℕ) (stage : Stage) (held : List ℕ) (s : VgetrandomState) (turn : Turn) (point : Point)
     (v w : View) : Type 0 where
   pub steps : List HostStep
@@ -81,7 +81,7 @@ GivesBytes (by_batch bytes) out = out ≡ bytes
 GivesBytes (by_system (read bytes visit)) out = out ≡ bytes
 GivesBytes (by_system (failed errno)) out = ⊥
 
--- from l to m a caller ran the rest of a call to its end, and it gave these bytes
+-- from `l` to `m` a caller ran the rest of a call to its end, and the call gave these bytes
 pub record FinishedOver (set : Setting) (n flags : ℕ) (stage : Stage) (held : List ℕ) (s : VgetrandomState)
     (out : List ℕ) (l m : Moment) : Type 0 where
   pub steps : List HostStep

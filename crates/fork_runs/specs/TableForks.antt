@@ -1,5 +1,4 @@
--- A vgetrandom call of caller 0 on a new table that forks at a point, and its two ends in the parent and in the
--- child.
+-- A vgetrandom call of caller 0 on a new table: it forks at a point, and ends once in the parent and once in the child.
 use Rattle.std.specs.Prelude.{ℕ, ◌≡◌, true, false, List, [], ◌∷◌, ◌++◌, length, map}
 use Rattle.std.specs.List.{flat_map, range_with_len}
 use Rattle.key_names.specs.declared.entries.BaseEntry.TheVariants.{Fork}
@@ -11,57 +10,57 @@ use Rattle.key_names.specs.declared.names.Step.{Step}
 use Rattle.key_names.specs.declared.point.Point.{Point}
 use Rattle.key_names.specs.declared.point.Point.TheVariants.{Serve}
 use Rattle.key_names.specs.Lanes.Book.{Book, Lists, LawfulBook, lists_of}
-use Rattle.key_names.specs.Callers.Deeds.{deeds_of}
+use Rattle.key_names.specs.Callers.Effects.{effects_of}
 use Rattle.key_names.specs.Callers.Forms.{BaseOnly}
 use Rattle.key_names.specs.Transcripts.IsTranscript.{MarkBy, VisitsAre, marks_from}
 use Rattle.key_names.specs.Transcripts.PrintedBytes.{Origin, origins_uses, StateEntries, PrintsBy}
 use Rattle.key_names.specs.Transcripts.SeenLine.{no_data}
 use Rattle.key_names.specs.Keys.ServedNamed.{served_in}
 use Rattle.key_names.specs.Keys.Uses.{Disjoint, IsDisjoint}
-use Rattle.key_names.specs.Kernel.Vgetrandom.{HostStep, at_point, Outcome, outcome_behind, by_batch, IsCall}
+use Rattle.key_names.specs.Kernel.Vgetrandom.{HostStep, at_point, Outcome, prefix_outcome, by_batch, IsCall}
 use Rattle.key_names.specs.Kernel.VgetrandomState.{VgetrandomState, wiped_state}
 use Rattle.key_names.specs.Callers.VreadSteps.{Shows}
 use Rattle.lane_table.specs.Advances.{Climbs}
 use Rattle.vdso_state.specs.declared.place.Turn.{Turn}
 use Rattle.vdso_state.specs.declared.place.Turn.TheVariants.{First, Second}
 use Rattle.vdso_state.specs.declared.place.Place.{Place}
-use Rattle.vdso_state.specs.Places.{BehindPlace}
+use Rattle.vdso_state.specs.Places.{AfterPlace}
 use Rattle.vcall_fork.specs.Forks.{takes_key}
 use Rattle.rng_core.specs.Makes.{IsOutcomeOf, setting_of}
 use Rattle.rng_core.specs.Settings.{first_setting}
 use Rattle.fork_runs.specs.Stretches.{AreUnwiped, Stop, GivesBytes}
 
--- the steps of the caller's calls are those of the call's host
+-- the caller's own steps show these steps of its call's host (`Shows`)
 abbrev pub IsShown : Lists → ℕ → List HostStep → List Step → Type 0
-IsShown lists caller steps own = Shows (setting_of (first_setting caller)) steps (deeds_of lists own)
+IsShown lists caller steps own = Shows (setting_of (first_setting caller)) steps (effects_of lists own)
 
 -- a stop in the second attempt: the call was also stopped at the point Serve of the first one, the core was reseeded
 -- there, and the call went on
 pub record WayBySecond (lists : Lists) (n : ℕ) (point : Point) (before : List HostStep) (calls : List (List Step))
     : Type 0 where
   pub earlier : Stop (IsCall n 0 wiped_state) n 0 First Serve
-  pub later : Stop (BehindPlace n 0 earlier.place earlier.held earlier.state) n 0 Second point
+  pub later : Stop (AfterPlace n 0 earlier.place earlier.held earlier.state) n 0 Second point
   pub before_is : before ≡ earlier.before ++ at_point Serve false ∷ later.before
   pub own : List Step
   pub reseeded : List Step
   pub more : List Step
   pub calls_are : calls ≡ own ∷ reseeded ∷ more ∷ []
   pub shown : IsShown lists 0 earlier.before own
-  pub reseeds : IsOutcomeOf (setting_of (first_setting 0)) Reseed Done no_data (deeds_of lists reseeded)
+  pub reseeds : IsOutcomeOf (setting_of (first_setting 0)) Reseed Done no_data (effects_of lists reseeded)
   pub shown_more : IsShown lists 0 later.before more
 
--- the steps before a stop, in the parent's calls
+-- the calls that the parent made up to a stop; `before` has the steps of the vgetrandom call's host before the stop
 abbrev pub Way : Lists → ℕ → Turn → Point → List HostStep → List (List Step) → Type 0
 Way lists n First point before calls = (own : List Step) × (calls ≡ own ∷ []) × IsShown lists 0 before own
 Way lists n Second point before calls = WayBySecond lists n point before calls
 
--- one end of the call: from its point on, with this buffer and this state, a caller ran it to its end by its own
--- steps, and it gave these bytes
+-- one end of the call: from the stop on, with this buffer and this state, a caller ran the call to its end by the
+-- caller's own steps, and the call gave these bytes
 pub record IsEnd (lists : Lists) (caller n : ℕ) (place : Place) (held : List ℕ) (s : VgetrandomState) (out : List ℕ)
     : Type 0 where
   pub steps : List HostStep
   pub outcome : Outcome
-  pub rest : BehindPlace n 0 place held s steps outcome
+  pub rest : AfterPlace n 0 place held s steps outcome
   pub unwiped : AreUnwiped steps
   pub gives : GivesBytes outcome.ending out
   pub own : List Step
@@ -71,15 +70,16 @@ pub record IsEnd (lists : Lists) (caller n : ℕ) (place : Place) (held : List �
 abbrev pub call_entries : ℕ → List VEntry → StateEntries
 call_entries caller entries = record { caller = caller; state = 0; from = 0; count = length entries }
 
--- a line shows these bytes as a transcript's line does: they are the bytes that these origins serve, each span by
--- the name of its key. The origins are none, the last visit of the line's steps, or some of the entries of its call
+-- a line shows these bytes as a line of a transcript does: the origins serve the bytes, each as a named span. There is
+-- no origin, or the origin is the last visit of the line's steps, or the origins are some entries of the line's own
+-- call
 pub record ShowsNamed (lists : Lists) (own : StateEntries) (steps : List Step) (out : List ℕ) : Type 0 where
   pub origins : List Origin
   pub by : PrintsBy own steps origins
   pub shown : out ≡ served_in lists (origins_uses lists origins)
 
--- one vgetrandom state of the parent, with the entries of the parent's whole call, and one of the child, which starts
--- wiped, with the entries of the child's end of the call
+-- the parent's vgetrandom state has the entries of the parent's whole call. The child's state starts wiped, and has
+-- the entries of the child's end of the call
 abbrev pub two_states : List VEntry → List VEntry → List (List (List VEntry))
 two_states parents childs = (parents ∷ []) ∷ (childs ∷ []) ∷ []
 
@@ -90,10 +90,10 @@ marks_of caller calls = flat_map (marks_from caller 0 0) calls
 abbrev pub stamps_of : List MarkBy → List ℕ
 stamps_of marks = map (λ by. by.mark.stamp) marks
 
--- a lawful and disjoint book of one CPU has exactly these visits: those of one `add`, which makes the core ready, of
--- the parent's vgetrandom call up to its stop, of the fork, of the rest of the parent's call, and of the child's.
--- Its states are the parent's and the child's. The bytes of the parent and the child are those that end the two
--- calls. They are bytes of named spans, and no byte of a key is in both
+-- a book of one CPU, lawful and disjoint, has exactly the visits of these calls: one `add`, which makes the core
+-- ready; the parent's vgetrandom call up to its stop, with a reseed for a second attempt; the fork; the rest of the
+-- parent's call; and the child's. The book's states are the parent's and the child's. The parent's and the child's
+-- bytes are those with which their calls end. They are bytes of named spans, and no byte of a key is in both
 pub record AreForkedBytes (turn : Turn) (point : Point) (n : ℕ) (parent child : List ℕ) : Type 0 where
   pub book : Book
   pub cpus : length book.cpus ≡ 1
@@ -101,26 +101,27 @@ pub record AreForkedBytes (turn : Turn) (point : Point) (n : ℕ) (parent child 
   pub disjoint : IsDisjoint (lists_of book)
   pub added : List Step
   pub adds : IsOutcomeOf (setting_of (first_setting 0)) (Add (range_with_len 0 32) 256) Done no_data
-      (deeds_of (lists_of book) added)
+      (effects_of (lists_of book) added)
   pub stop : Stop (IsCall n 0 wiped_state) n 0 turn point
   pub calls : List (List Step)
   pub way : Way (lists_of book) n turn point stop.before calls
   pub forked : List Step
-  pub forks : BaseOnly (Fork 1) (deeds_of (lists_of book) forked)
+  pub forks : BaseOnly (Fork 1) (effects_of (lists_of book) forked)
   pub parent_end : IsEnd (lists_of book) 0 n stop.place stop.held stop.state parent
   pub child_end : IsEnd (lists_of book) 1 n stop.place stop.held wiped_state child
   pub callers_are : book.callers ≡ two_states (stop.entries ++ parent_end.outcome.entries) child_end.outcome.entries
-  -- the parent's call is one without a stop
+  -- the two parts of the parent's call are one call, whose state was not wiped at the point
   pub parent_call : IsCall n 0 wiped_state (stop.before ++ at_point point false ∷ parent_end.steps)
-      (outcome_behind stop.entries parent_end.outcome)
-  -- the child's call is one that was wiped at the point, with the parent's steps before it
+      (prefix_outcome stop.entries parent_end.outcome)
+  -- the child's call is one whose state was wiped at the point, with the parent's steps before the point
   pub child_call : IsCall n 0 wiped_state (stop.before ++ at_point point true ∷ child_end.steps)
-      (outcome_behind stop.entries (outcome_behind (Wipe ∷ []) child_end.outcome))
-  -- if a child gives bytes of its state, it read a key after the fork, in the attempt that gave them
+      (prefix_outcome stop.entries (prefix_outcome (Wipe ∷ []) child_end.outcome))
+  -- if the batch of the child's state gives the bytes, the child read a key after the fork, in the attempt that gave
+  -- them
   pub child_keyed : (bytes : List ℕ) → child_end.outcome.ending ≡ by_batch bytes →
       takes_key false child_end.steps ≡ true
-  -- both lines show named bytes, each from entries of its own call. No two of all these entries use the same byte of
-  -- a key, so no byte is shown twice, by one line or by both
+  -- the parent's line and the child's line show named bytes, each line from entries of its own call. No two of these
+  -- entries use the same byte of a key, so no byte is shown twice, by one line or by both lines
   pub parent_line : ShowsNamed (lists_of book) (call_entries 0 (stop.entries ++ parent_end.outcome.entries))
       parent_end.own parent
   pub child_line : ShowsNamed (lists_of book) (call_entries 1 child_end.outcome.entries) child_end.own child

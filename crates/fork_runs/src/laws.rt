@@ -1,21 +1,21 @@
-//! The laws by which a fork on a new table always reaches its stop and gives bytes, each as the contract of a
+//! The laws by which a fork on a new table always reaches its stop and gives bytes. Each law is the contract of a
 //! function without code.
 ghost use Rattle.fork_runs.specs.Coming.{FirstAttemptComes, SecondAttemptComes, EndsGiveBytes};
 
-use vcall_fork::laws::forks_are_told;
+use vcall_fork::laws::forks_are_recorded;
 
-/// On a ready core, a call for one byte or more without flags reaches each point of its first attempt, if its state
-/// was wiped before and is not wiped again. It takes a new key, since a wiped state has the generation 0.
+/// On a ready core, take a call for one byte or more, without flags, on a wiped state that is not wiped again. The
+/// call reaches each point of its first attempt: a wiped state has the generation 0, so the attempt takes a new key.
 pub fn first_attempt_comes()
     ensures { FirstAttemptComes }
 {}
 
-/// If a call as in `first_attempt_comes` was stopped at the point Serve of its first attempt, and only higher
-/// generations are published from then on, it reaches each point of a second attempt.
+/// Suppose that a call as in `first_attempt_comes` was stopped at the point Serve of its first attempt. If each
+/// generation published from then on is higher than those before, the call reaches each point of a second attempt.
 pub fn second_attempt_comes()
     ensures { SecondAttemptComes }
 {
-    forks_are_told();
+    forks_are_recorded();
 }
 
 /// The rest of a stopped call ends with bytes if its flags are good and each system call reads.

@@ -1,16 +1,37 @@
 //! A vgetrandom call that forks at one of its points, over the lanes of a new table, and the bytes of the parent and
-//! the child.
+//! the child. [`fork_on_new_table`] runs the call to a point of an attempt and splits off the child there. Then the
+//! parent and the child each run it to its end, the child with its own pass.
 //!
-//! The call is that of `vcall_fork`, with the caller itself as its host. [`fork_on_new_table`] runs it to a point of
-//! an attempt and splits off the child there. Then the parent and the child each run it to its end, the child with
-//! its own pass.
+//! The call comes from `vcall_fork`, with the caller itself as its host (`rng_core`), and the book from `lane_table`.
 //!
-//! The crate promises that the call reaches the stop, and that the bytes are those that end the two calls. One
-//! lawful book has exactly the visits of the sample, of the calls and of the fork, with the child's after the
-//! parent's. Both results are bytes of named spans, and no byte of a key is in both. Not promised: that a lane's
-//! turn comes.
+//! # Example
 //!
-//! The call comes from `vcall_fork`, its host from `rng_core`, and the book from `lane_table`.
+//! ```rust
+//! for i in 0..4 {
+//!     let (parent, child) = rows[i];
+//!     let forked = fork_on_new_table(rt, alloc, attempt, POINTS[i], 8)?;
+//!     assert_eq!(rt; forked.parent.as_slice(), parent.to_be_bytes().as_slice());
+//!     assert_eq!(rt; forked.child.as_slice(), child.to_be_bytes().as_slice());
+//! }
+//! ```
+//!
+//! From `crates/test_core/src/fork_runs_tests.rt`.
+//!
+//! # Proved
+//!
+//! - [`fork_on_new_table`]: the call reaches the stop, and the bytes are those that end the two calls. One lawful book
+//!   has exactly the visits of the sample, of the calls and of the fork, with the child's after the parent's. Both
+//!   results are bytes of named spans, and no byte of a key is in both.
+//! - [`laws::first_attempt_comes`] and [`laws::second_attempt_comes`]: conditions for a call to reach each point of an
+//!   attempt.
+//! - [`laws::ends_give_bytes`]: conditions for the rest of a stopped call to end with bytes.
+//!
+//! Not promised: that a lane's turn comes.
+//!
+//! # Tested only
+//!
+//! Nothing beyond what is proved. `fork_runs_tests` of `test_core` compares bytes with those of another implementation
+//! (`tools/forked_vreads.py`).
 #![tactic(auto)]
 
 pub mod laws;

@@ -1,4 +1,4 @@
-//! The parts of a call over the lanes: to a point, and to the end.
+//! Runs a vgetrandom call over the lanes in parts: up to a point, and from there to its end.
 ghost use Rattle.std.specs.Prelude.{◌≡◌, ◌<◌, ◌≤◌, true, false, [], List, length};
 ghost use Rattle.key_names.specs.declared.names.Step.{Step};
 ghost use Rattle.key_names.specs.Callers.VreadSteps.{published_by};
@@ -19,7 +19,7 @@ use vdso_state::VState;
 
 /// A caller on a table, and its setting.
 #[derive(Drop)]
-pub(crate) struct Caller<'a> {
+pub(crate) struct TableCaller<'a> {
     pub(crate) lanes: &'a Lanes,
     pub(crate) set: Setting,
 }
@@ -31,14 +31,14 @@ pub(crate) struct HeldCall {
     pub(crate) st: VState,
 }
 
-/// The stop of a call: a point of an attempt.
+/// The place where a call is to stop: a point of an attempt.
 #[derive(Clone, Copy)]
 pub(crate) struct StopAt {
     pub(crate) attempt: Turn,
     pub(crate) point: Point,
 }
 
-// Runs to a point of an attempt.
+// Runs the call on its host up to a point of an attempt.
 fn run_on_host<R: Wait>(
     host: &mut LaneHost<'_, R>,
     call: &mut VCall,
@@ -74,7 +74,7 @@ fn run_on_host<R: Wait>(
 /// stopped there; if not, the call is over and never reached the point.
 pub(crate) fn run_to<'x, R: Wait>(
     rt: &'x R,
-    caller: &Caller<'x>,
+    caller: &TableCaller<'x>,
     pass: &mut Pass,
     held: &mut HeldCall,
     buf: &mut [u8],
@@ -113,7 +113,7 @@ pub(crate) fn run_to<'x, R: Wait>(
     )
 }
 
-// Runs to the end.
+// Runs the stopped call on its host to its end.
 fn finish_on_host<R: Wait>(host: &mut LaneHost<'_, R>, call: VCall, st: &mut VState, buf: &mut [u8])
     requires looks { 5 ≤ host.old.looks }
     requires calls { 3 ≤ host.old.calls }
@@ -131,10 +131,10 @@ fn finish_on_host<R: Wait>(host: &mut LaneHost<'_, R>, call: VCall, st: &mut VSt
     let _ended = call.finish(host, st, buf);
 }
 
-/// Runs a stopped call without flags to its end, where it gives bytes.
+/// Runs a stopped call without flags to its end. The call then has given bytes.
 pub(crate) fn finish<'x, R: Wait>(
     rt: &'x R,
-    caller: &Caller<'x>,
+    caller: &TableCaller<'x>,
     pass: &mut Pass,
     held: &mut HeldCall,
     buf: &mut [u8],

@@ -20,25 +20,24 @@ ghost use Rattle.fork_runs.specs.Runs.{ReachedStop, ForkedOver};
 ghost use Rattle.fork_runs.specs.Stretches.{StoppedOver};
 ghost use Rattle.fork_runs.specs.TableForks.{AreForkedBytes};
 
-use crate::stretches::{Caller, HeldCall, StopAt, finish, run_to};
+use crate::stretches::{HeldCall, StopAt, TableCaller, finish, run_to};
 use key_names::Trace;
 use lane_table::{Lanes, Pass};
 use rng_core::{Setting, Site, add_first_sample, fork, reseed};
 use std::alloc::{AllocError, Global};
 use std::sync::Wait;
-use vcall_fork::laws::{child_takes_key, forks_are_told};
+use vcall_fork::laws::{child_takes_key, forks_are_recorded};
 use vcall_fork::{Point, Turn, VCall};
 use vdso_state::VState;
 
-/// The bytes of the two ends of a forked call.
+/// The bytes with which a forked call ended in the parent, and those with which it ended in the child.
 #[derive(Drop)]
 pub struct ForkedBytes {
     pub parent: Vec<u8>,
     pub child: Vec<u8>,
 }
 
-// Adds the first sample to a new table of one CPU. After that the core is ready, since no other caller visits the
-// lanes.
+// Adds the first sample to a new table of one CPU. No other caller visits the lanes, so the core is ready after that.
 fn make_ready<R: Wait>(rt: &R, lanes: &Lanes, pass: &mut Pass, set: Setting)
     requires has { HoldsLanes lanes.now set.caller [] pass.old }
     requires first { set ≡ first_setting 0 }
@@ -53,9 +52,9 @@ fn make_ready<R: Wait>(rt: &R, lanes: &Lanes, pass: &mut Pass, set: Setting)
     lanes.settle(pass);
 }
 
-// Reseeds the core, which its caller has seen to be ready. So the generation rises above each one that the caller
+// Reseeds the core, which the caller has seen to be ready. This raises the generation above each one that the caller
 // had seen.
-fn reseed_once<R: Wait>(rt: &R, caller: &Caller, pass: &mut Pass)
+fn reseed_once<R: Wait>(rt: &R, caller: &TableCaller, pass: &mut Pass)
     requires has { HoldsLanes caller.now.lanes.now caller.now.set.caller [] pass.old }
     requires moment { caller.now.set.now < 2 ^ 40 }
     requires ready { 1 ≤ floor (view pass.old) }
@@ -77,10 +76,10 @@ fn reseed_once<R: Wait>(rt: &R, caller: &Caller, pass: &mut Pass)
     }
 }
 
-// Runs a new call to a stop in its first attempt. Its state is wiped, so the attempt has each point.
+// Runs a new call to a stop in its first attempt. The call's state is wiped, so the attempt reaches each of its points.
 fn reach_first<R: Wait>(
     rt: &R,
-    caller: &Caller,
+    caller: &TableCaller,
     pass: &mut Pass,
     held: &mut HeldCall,
     buf: &mut [u8],
@@ -110,10 +109,11 @@ fn reach_first<R: Wait>(
     }
 }
 
-// Runs a new call to a stop in its second attempt. A reseed at the point Serve of the first one causes the second.
+// Runs a new call to a stop in its second attempt. For that the call first stops at the point Serve of its first
+// attempt, and the core is reseeded there.
 fn reach_second<R: Wait>(
     rt: &R,
-    caller: &Caller,
+    caller: &TableCaller,
     pass: &mut Pass,
     held: &mut HeldCall,
     buf: &mut [u8],
@@ -136,7 +136,7 @@ fn reach_second<R: Wait>(
 {
     reach_first(rt, caller, pass, held, buf, Point::Serve);
     reseed_once(rt, caller, pass);
-    forks_are_told();
+    forks_are_recorded();
     let stop = StopAt {
         attempt: Turn::Second,
         point,
@@ -146,10 +146,10 @@ fn reach_second<R: Wait>(
     }
 }
 
-// Runs a new call on a wiped state to a stop.
+// Runs a new call on a wiped state to a stop in either attempt.
 fn reach_stop<R: Wait>(
     rt: &R,
-    caller: &Caller,
+    caller: &TableCaller,
     pass: &mut Pass,
     held: &mut HeldCall,
     buf: &mut [u8],
@@ -176,11 +176,11 @@ fn reach_stop<R: Wait>(
     }
 }
 
-// Forks the call at its stop, and ends it in the parent and then in the child. The child's pass first takes in the
-// parent's, and is returned.
+// Forks the call at its stop. The parent ends its call; then the child's pass takes in the parent's pass, and the child
+// ends its own call. Returns the child's pass.
 fn fork_at_stop<R: Wait>(
     rt: &R,
-    caller: &Caller,
+    caller: &TableCaller,
     mut pass: Pass,
     held: &mut HeldCall,
     buf: &mut [u8],
@@ -208,7 +208,7 @@ fn fork_at_stop<R: Wait>(
     let (call, st) = held.call.fork_call(buf, child_buf);
     finish(rt, caller, &mut pass, held, buf);
     caller.lanes.join(&mut child_pass, pass);
-    let child = Caller {
+    let child = TableCaller {
         lanes: caller.lanes,
         set: Setting::first(1),
     };
@@ -217,7 +217,7 @@ fn fork_at_stop<R: Wait>(
     child_pass
 }
 
-// The fork on a new table.
+// Makes a table, and a fork on it, for `fork_on_new_table`.
 fn fork_at<R: Wait>(
     rt: &R,
     alloc: Global,
@@ -231,7 +231,7 @@ fn fork_at<R: Wait>(
     ensures { IfOk result (λ done. AreForkedBytes stop.attempt stop.point (length parent.old) parent.new child.new) }
 {
     let (lanes, mut pass) = Lanes::start(alloc, 1, 0)?;
-    let caller = Caller {
+    let caller = TableCaller {
         lanes: &lanes,
         set: Setting::first(0),
     };
@@ -243,17 +243,17 @@ fn fork_at<R: Wait>(
     reach_stop(rt, &caller, &mut pass, &mut held, parent, stop);
     let pass = fork_at_stop(rt, &caller, pass, &mut held, parent, child);
     let _visits = lanes.close(pass);
-    forks_are_told();
+    forks_are_recorded();
     child_takes_key();
     Ok(())
 }
 
-/// Makes a core with one CPU ready by a first sample, 32 bytes that count up from 0 with a credit of 256 bits. Then
-/// caller 0, with a wiped state, calls vgetrandom for `len` bytes, 1 to 2^20, without flags. The call is stopped at
-/// the point of the attempt, and forks caller 1 there. For a second attempt, the core is reseeded while the first
-/// one is stopped at Serve. The parent ends its call first. Then the child's pass takes in the parent's and ends the
-/// child's call, so that its visits come after. All of this runs on CPU 0, at moment 0, with zeros as hardware
-/// words.
+/// Makes a core with one CPU, and adds a first sample that makes the core ready: 32 bytes that count up from 0, with a
+/// credit of 256 bits. Then caller 0, with a wiped state, calls vgetrandom for `len` bytes, 1 to 2^20, without flags.
+/// The call stops at this point of this attempt, and forks caller 1 there. For a second attempt, the core is reseeded
+/// while the first attempt is stopped at Serve. The parent ends its call first. Then the child's pass takes in the
+/// parent's pass, and the child ends its call. So the child's visits come after the parent's. All of this runs on CPU
+/// 0, at moment 0, with zeros as hardware words.
 ///
 /// Both results are the bytes of named spans of keystream, and no byte of a key is in both.
 ///

@@ -1,13 +1,13 @@
--- For callers: the entry of the list that a mix makes, alone or with a credit after it.
+-- For callers: a mix, or a mix and a credit after it, changes the pool as one entry of the pool's list does.
 use Rattle.std.proofs.Common.{◌≡◌, ◌≢◌, ℕ, ◌<◌, ◌≤◌, List, ◌++◌, arith, append_assoc, refl, ◌∙◌, w32, w64}
 use Rattle.std.proofs.lemmas.Bool.{lt-ltb, le-ltb, ne_eqb}
 use Rattle.std.specs.Int.{to_le_bytes}
 use Rattle.key_names.specs.declared.entries.PoolEntry.TheVariants.{Mix, Input}
 use Rattle.key_names.specs.Kernel.InputTimer.{input_number, input_timer_after, timer_bits}
 use Rattle.key_names.specs.Lanes.PoolList.{PoolState, credit, crossing, pool_step}
-use Rattle.input_pool.specs.PoolStands.{PoolParts, PoolStands}
+use Rattle.input_pool.specs.PoolConforms.{PoolParts, PoolConforms}
 
--- the state after bytes were mixed, and after they were also credited
+-- `mixed` is the state after bytes are mixed; `mixed_and_credited` is the state after these bytes are also credited
 abbrev pub mixed : PoolState → List ℕ → PoolState
 mixed s text = pool_step s (Mix text 0)
 
@@ -25,18 +25,18 @@ credit-after_none bits more = omega arith
 pub mixed-mixed : (s : PoolState) (front rest : List ℕ) → mixed (mixed s front) rest ≡ mixed s (front ++ rest)
 mixed-mixed s front rest = rw (append_assoc s.text front rest, credit-after_none s.bits 0) refl
 
--- a mix and a credit are one entry
-pub PoolStands-mix : (pool : PoolParts) (s : PoolState) (text : List ℕ) (bits : ℕ)
-    → PoolStands pool (mixed_and_credited s text bits) → PoolStands pool (pool_step s (Mix text bits))
-PoolStands-mix pool s text bits stands = record {
-  hashed = stands.hashed;
-  credited = stands.credited ∙ credit-after_none s.bits bits;
+-- a mix and then a credit change the pool as one Mix entry does
+pub PoolConforms-mix : (pool : PoolParts) (s : PoolState) (text : List ℕ) (bits : ℕ)
+    → PoolConforms pool (mixed_and_credited s text bits) → PoolConforms pool (pool_step s (Mix text bits))
+PoolConforms-mix pool s text bits conforms = record {
+  hashed = conforms.hashed;
+  credited = conforms.credited ∙ credit-after_none s.bits bits;
   capped = omega arith;
 }
 
--- a mix and the credit after it together cross the bound that their entry crosses
-pub crossing-mix : (before between after : PoolParts) (s : PoolState) (text : List ℕ) (bits : ℕ) → PoolStands before s
-    → PoolStands between (mixed s text) → PoolStands after (mixed_and_credited s text bits)
+-- a mix and then a credit cross the threshold that the Mix entry crosses
+pub crossing-mix : (before between after : PoolParts) (s : PoolState) (text : List ℕ) (bits : ℕ) → PoolConforms before s
+    → PoolConforms between (mixed s text) → PoolConforms after (mixed_and_credited s text bits)
     → crossing between.bits after.bits ≡ crossing s.bits (pool_step s (Mix text bits)).bits
 crossing-mix before between after s text bits first second third =
     let uncredited = second.credited ∙ credit-none s.bits first.capped in
@@ -47,8 +47,8 @@ crossing-mix before between after s text bits first second third =
 abbrev pub input_bytes : ℕ → ℕ → ℕ → ℕ → List ℕ
 input_bytes word kind code value = to_le_bytes w64 word ++ to_le_bytes w32 (input_number kind code value)
 
--- an input event with another value, while the bits are below 256, is a mix, and a credit of the
--- bits that the timer gives
+-- while the bits are below 256, an input event with a new value mixes its bytes and credits the bits that the timer
+-- gives
 pub pool_step-timed : (s : PoolState) (word kind code value now : ℕ) → value ≢ s.value → s.bits < 256
     → pool_step s (Input word kind code value now) ≡ record s {
       text = s.text ++ input_bytes word kind code value;
@@ -60,19 +60,19 @@ pool_step-timed s word kind code value now fresh room =
     let number = to_le_bytes w32 (input_number kind code value) in
     rw (ne_eqb value s.value fresh, lt-ltb s.bits 256 room, append_assoc s.text (to_le_bytes w64 word) number) refl
 
-pub PoolStands-timed : (pool : PoolParts) (s : PoolState) (word kind code value now : ℕ) → value ≢ s.value
+pub PoolConforms-timed : (pool : PoolParts) (s : PoolState) (word kind code value now : ℕ) → value ≢ s.value
     → s.bits < 256
-    → PoolStands pool (mixed_and_credited s (input_bytes word kind code value) (timer_bits s.timer now))
-    → PoolStands pool (pool_step s (Input word kind code value now))
-PoolStands-timed pool s word kind code value now fresh room stands =
-    let entry = PoolStands-mix pool s (input_bytes word kind code value) (timer_bits s.timer now) stands in
+    → PoolConforms pool (mixed_and_credited s (input_bytes word kind code value) (timer_bits s.timer now))
+    → PoolConforms pool (pool_step s (Input word kind code value now))
+PoolConforms-timed pool s word kind code value now fresh room conforms =
+    let entry = PoolConforms-mix pool s (input_bytes word kind code value) (timer_bits s.timer now) conforms in
     rw (pool_step-timed s word kind code value now fresh room) (record {
       hashed = entry.hashed;
       credited = entry.credited;
       capped = entry.capped;
     })
 
--- once 256 bits are credited, an input event with another value than the last only mixes
+-- once 256 bits are credited, an input event with a new value only mixes its bytes
 pub pool_step-untimed : (s : PoolState) (word kind code value now : ℕ) → value ≢ s.value → 256 ≤ s.bits
     → pool_step s (Input word kind code value now)
     ≡ record s { text = s.text ++ input_bytes word kind code value; value = value }
@@ -80,13 +80,13 @@ pool_step-untimed s word kind code value now fresh full =
     let number = to_le_bytes w32 (input_number kind code value) in
     rw (ne_eqb value s.value fresh, le-ltb s.bits 256 full, append_assoc s.text (to_le_bytes w64 word) number) refl
 
-pub PoolStands-untimed : (before pool : PoolParts) (s : PoolState) (word kind code value now : ℕ)
-    → value ≢ s.value → PoolStands before s → 256 ≤ s.bits
-    → PoolStands pool (mixed s (input_bytes word kind code value))
-    → PoolStands pool (pool_step s (Input word kind code value now))
-PoolStands-untimed before pool s word kind code value now fresh stood full stands =
+pub PoolConforms-untimed : (before pool : PoolParts) (s : PoolState) (word kind code value now : ℕ)
+    → value ≢ s.value → PoolConforms before s → 256 ≤ s.bits
+    → PoolConforms pool (mixed s (input_bytes word kind code value))
+    → PoolConforms pool (pool_step s (Input word kind code value now))
+PoolConforms-untimed before pool s word kind code value now fresh stood full conforms =
     rw (pool_step-untimed s word kind code value now fresh full) (record {
-      hashed = stands.hashed;
-      credited = stands.credited ∙ credit-none s.bits stood.capped;
+      hashed = conforms.hashed;
+      credited = conforms.credited ∙ credit-none s.bits stood.capped;
       capped = stood.capped;
     })

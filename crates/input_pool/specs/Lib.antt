@@ -1,1 +1,1 @@
-pub mod PoolStands
+pub mod PoolConforms

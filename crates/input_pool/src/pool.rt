@@ -1,25 +1,25 @@
-//! The hash that samples are mixed into, with the bits that they were credited with.
+//! The hash into which samples are mixed, and the bits credited for them.
 
 ghost use Rattle.std.specs.Prelude.{◌≡◌, ℕ};
 ghost use Rattle.key_names.specs.Kernel.Blake2s.{blake2s};
 ghost use Rattle.key_names.specs.Lanes.PoolList.{PoolState, credit, crossing, pool_start, pool_step, root_of_extraction, seed_block};
 ghost use Rattle.key_names.specs.declared.entries.PoolEntry.TheVariants.{Mix, Extract};
-ghost use Rattle.input_pool.specs.PoolStands.{PoolStands};
+ghost use Rattle.input_pool.specs.PoolConforms.{PoolConforms};
 
 use blake2s_core::Blake2s;
 use std::marker::Model;
 use std::mem;
 
-/// The credit at which the pool is full and the core becomes ready (`POOL_READY_BITS`). Nothing is credited above it.
+/// The bits at which the core becomes ready (`POOL_READY_BITS`). The pool never has more.
 const READY_BITS: u32 = 256;
 
-/// The credit at which the core is seeded early (`POOL_EARLY_BITS`).
+/// The bits at which the core gets an early key (`POOL_EARLY_BITS`).
 const EARLY_BITS: u32 = 128;
 
-/// The bound that a credit crossed, as `_credit_init_bits` acts on it. If it crossed both, it is `Ready`.
+/// The threshold that a credit crossed, as `_credit_init_bits` acts on it. A credit that crossed both is `Ready`.
 #[derive(Clone, Copy, Debug, PartialEq, Eq)]
 pub enum Crossing {
-    /// Neither bound was crossed.
+    /// No threshold was crossed.
     None,
     /// The bits were below 128, and are now 128 to 255: a base key may be made before the core is ready.
     Early,
@@ -27,10 +27,10 @@ pub enum Crossing {
     Ready,
 }
 
-/// The kernel's `input_pool`: a BLAKE2s hash that every sample is mixed into, and the bits of credit, 0 to 256.
+/// The kernel's `input_pool`: a BLAKE2s hash that every sample is mixed into, and the credited bits, 0 to 256.
 ///
-/// Contracts see it as the parts of a pool of specs/. `PoolStands pool s` means that these match the key, the text and
-/// the bits of a state `s` of the pool's list. A call's clause holds for every state that the pool matched before.
+/// In contracts a pool is a `PoolParts` of specs/. `PoolConforms pool s` means that the hash and the bits match a state
+/// `s` of the pool's list. The clause of a call holds for each state that the pool matched before the call.
 #[derive(Drop)]
 pub struct Pool {
     hash: Blake2s,
@@ -39,7 +39,7 @@ pub struct Pool {
 
 impl Model for Pool {
     ghost use Rattle.std.specs.Prelude.{◌≤◌};
-    ghost use Rattle.input_pool.specs.PoolStands.{PoolParts};
+    ghost use Rattle.input_pool.specs.PoolConforms.{PoolParts};
 
     ghost Value = { PoolParts };
 
@@ -48,7 +48,7 @@ impl Model for Pool {
     ghost invariant = { λ p. p.bits ≤ 256 };
 }
 
-// The hash, under the seed, of the hardware's bytes and a counter.
+// The hash, under the seed, of the hardware's bytes and then a counter.
 fn counted(seed: &[u8; 32], hw: &[u8; 32], counter: u64) -> [u8; 32]
     ensures { result ≡ blake2s (Some seed.now) (seed_block hw.now counter) }
 {
@@ -59,11 +59,11 @@ fn counted(seed: &[u8; 32], hw: &[u8; 32], counter: u64) -> [u8; 32]
 }
 
 impl Pool {
-    ghost use Rattle.input_pool.specs.PoolStands.{crossing_of};
+    ghost use Rattle.input_pool.specs.PoolConforms.{crossing_of};
 
     /// A pool without samples: a hash of no bytes, without a key, and no bits.
     pub fn start() -> Pool
-        ensures { PoolStands result pool_start }
+        ensures { PoolConforms result pool_start }
     {
         Pool {
             hash: Blake2s::plain(),
@@ -71,18 +71,18 @@ impl Pool {
         }
     }
 
-    /// Mixes bytes into the pool, and credits nothing for them (`mix_pool_bytes`).
+    /// Mixes bytes into the pool, without credit (`mix_pool_bytes`).
     pub fn mix(&mut self, text: &[u8])
-        ensures { (s : PoolState) → PoolStands self.old s → PoolStands self.new (pool_step s (Mix text.now 0)) }
+        ensures { (s : PoolState) → PoolConforms self.old s → PoolConforms self.new (pool_step s (Mix text.now 0)) }
     {
         self.hash.update(text);
     }
 
-    /// Credits bits for the bytes that were mixed, up to 256 in all, and returns the bound that they
-    /// crossed (`_credit_init_bits`).
+    /// Credits bits for the bytes that were mixed, up to 256 in all, and returns the threshold that they crossed
+    /// (`_credit_init_bits`).
     pub fn credit(&mut self, bits: u32) -> Crossing
-        ensures credited { (s : PoolState) → PoolStands self.old s
-            → PoolStands self.new (record s { bits = credit s.bits bits }) }
+        ensures credited { (s : PoolState) → PoolConforms self.old s
+            → PoolConforms self.new (record s { bits = credit s.bits bits }) }
         ensures crossed { crossing_of result ≡ crossing self.old.bits self.new.bits }
     {
         let before = self.bits;
@@ -104,12 +104,12 @@ impl Pool {
     }
 
     /// Returns a root of 32 bytes, and starts a hash of no bytes under the next key (`extract_entropy`). The hash of
-    /// the pool is the seed. Under the seed, the next key is the hash of the hardware's bytes and a counter of 0, and
-    /// the root is the hash of those bytes and a counter of 1. The bits of credit stay.
+    /// the pool so far is the seed. The next key is the hash, under the seed, of the hardware's bytes and a counter of
+    /// 0. The root is the hash, under the seed, of the same bytes and a counter of 1. The credited bits stay.
     pub fn extract(&mut self, hw: &[u8; 32]) -> [u8; 32]
-        ensures root { (s : PoolState) → PoolStands self.old s → result ≡ root_of_extraction s hw.now }
-        ensures rekeyed { (s : PoolState) (place : ℕ) → PoolStands self.old s
-            → PoolStands self.new (pool_step s (Extract hw.now place)) }
+        ensures root { (s : PoolState) → PoolConforms self.old s → result ≡ root_of_extraction s hw.now }
+        ensures rekeyed { (s : PoolState) (place : ℕ) → PoolConforms self.old s
+            → PoolConforms self.new (pool_step s (Extract hw.now place)) }
     {
         let seed = mem::replace(&mut self.hash, Blake2s::plain()).finish();
         let next_key = counted(&seed, hw, 0);

@@ -1,4 +1,4 @@
--- For callers: a batch that is filled from a key and served entry by entry matches the CPU's list.
+-- For callers: a batch that is filled from a key, and then serves integer by integer, matches the CPU's list.
 use Rattle.std.proofs.Common.{◌≡◌, ℕ, suc, ◌+◌, ◌-◌, ◌*◌, ◌/◌, ◌<◌, ◌≤◌, Bool, None, List, ◌++◌, refl, ap, sym, ◌∙◌, arith, length, take, drop, replicate, length-append, length-drop, drop-drop}
 use Rattle.std.specs.Prelude.{◌==◌, not, ◌||◌, slice_range}
 use Rattle.std.proofs.lemmas.Bool.{le-leb}
@@ -8,11 +8,11 @@ use Rattle.key_names.specs.Kernel.Batches.{Fill, must_fill, batched_int, with_ze
 use Rattle.key_names.proofs.Standards.Keystreams.{length-keystream, slice_range-keystream}
 use Rattle.int_batch.specs.BatchValue.{BatchValue, start, wants, filled, next_bytes, after_serving, IsBatchOf}
 
--- a new batch has to be filled, as a batch without a fill has
+-- a batch at its start has to be filled if and only if a width without a fill has to be
 pub wants-start : (look width : ℕ) → wants look width (start width) ≡ must_fill look width None
 wants-start look width = ap (λ (b : Bool). b || not (look == 0)) (le-leb (96 / width) (96 / width) (omega arith))
 
--- a batch filled from the key's stream is one of that key
+-- IsBatchOf holds for a batch right after a fill from the key
 pub IsBatchOf-filled : (width : ℕ) (key : List ℕ) (fill : Fill) → fill.count ≡ 0 →
     IsBatchOf width key fill (filled (keystream key 32 96) fill.look)
 IsBatchOf-filled width key fill none = record {
@@ -26,7 +26,7 @@ IsBatchOf-filled width key fill none = record {
 room : (width position : ℕ) → position < 96 / width → width * position + width ≤ 96
 room width position below = grind arith
 
--- the batch serves the integer that the list gives
+-- the batch serves the integer that the definition of the CPU's list gives
 pub next_bytes-batched_int : (width : ℕ) (key : List ℕ) (fill : Fill) (b : BatchValue) → IsBatchOf width key fill b →
     fill.count < 96 / width → next_bytes width b ≡ batched_int key width fill.count
 next_bytes-batched_int width key fill b is below =
@@ -38,7 +38,8 @@ next_bytes-batched_int width key fill b is below =
     ∙ slice_range-keystream key 32 96 from (from + width) (omega arith) fits
     ∙ ap (keystream key (32 + from)) len
 
--- the batch that is left has bytes of the same key
+-- the first `from` bytes of a batch, followed by an integer that was set to 0, are `from + width` bytes (for
+-- IsBatchOf-after_serving)
 length_front : (from width : ℕ) (bytes : List ℕ) → from ≤ length bytes →
     length (take from bytes ++ replicate width 0) ≡ from + width
 length_front from width bytes within =
@@ -56,7 +57,7 @@ length-with_zeros : (from width : ℕ) (bytes : List ℕ) → from + width ≤ l
     length (with_zeros from width bytes) ≡ length bytes
 length-with_zeros from width bytes within =
     let front = length_front from width bytes (omega arith) in
-    let behind : length (drop (from + width) bytes) ≡ length bytes - (from + width) =
+    let following : length (drop (from + width) bytes) ≡ length bytes - (from + width) =
     length-drop (from + width) bytes in
     let both : length (with_zeros from width bytes) ≡ length (take from bytes ++ replicate width 0) + length
     (drop (from + width) bytes) =

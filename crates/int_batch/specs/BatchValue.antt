@@ -1,4 +1,4 @@
--- What contracts see of a batch, and how its calls change it.
+-- A batch in contracts, and how its calls change it.
 use Rattle.std.specs.Prelude.{ℕ, ◌≡◌, ◌+◌, ◌*◌, ◌/◌, Bool, Some, None, MatchBool, List, length, drop, replicate, slice_range}
 use Rattle.key_names.specs.Kernel.Keystream.{keystream}
 use Rattle.key_names.specs.Kernel.Batches.{Fill, must_fill, with_zeros}
@@ -15,7 +15,7 @@ pub record BatchValue : Type 0 where
 abbrev pub start : ℕ → BatchValue
 start width = record { bytes = replicate 96 0; position = 96 / width; generation = 0 }
 
--- the part of its last fill that a batch keeps: the count and the generation, without the key and the place
+-- the last fill of a batch, as far as the batch keeps it: the count and the generation, but no key and no place
 abbrev pub last_fill : BatchValue → Fill
 last_fill b = record { key = None; place = 0; count = b.position; look = b.generation }
 
@@ -38,18 +38,18 @@ after_serving width b = record b {
   position = b.position + 1;
 }
 
--- this integer was served, and this batch is left
+-- the batch b serves this integer, and then is `after`
 abbrev pub Serves : ℕ → BatchValue → List ℕ → BatchValue → Type 0
 Serves width b entry after = (entry ≡ next_bytes width b) × (after ≡ after_serving width b)
 
--- an integer was served at generation g. If the batch had to be filled, it was served from bytes that Fills allows
+-- the batch serves this integer at generation g. If it has to be filled, it serves from bytes that Fills allows
 abbrev pub ServesAt : ℕ → ℕ → (List ℕ → Type 0) → BatchValue → List ℕ → BatchValue → Type 0
 ServesAt width g Fills b entry after =
     MatchBool (wants g width b) ((bytes : List ℕ) × Fills bytes × Serves width (filled bytes g) entry after)
     (Serves width b entry after)
 
--- the batch has 96 bytes; those not served yet come from the key of this fill, and the count and the
--- generation are the fill's
+-- the batch has the count and the generation of this fill, and 96 bytes. The bytes that were not served yet come from
+-- this key
 pub record IsBatchOf (width : ℕ) (key : List ℕ) (fill : Fill) (b : BatchValue) : Type 0 where
   pub position : b.position ≡ fill.count
   pub generation : b.generation ≡ fill.look

@@ -9,8 +9,8 @@ use std::marker::Model;
 /// The bytes of a batch: one and a half blocks (`CHACHA_BLOCK_SIZE * 3 / 2`).
 const BATCH_BYTES: usize = 96;
 
-/// A batch of integers of `W` bytes (`struct batch_u8` to `batch_u64`): bytes that a key made at some generation, and
-/// the number of integers served from them. The bytes of a served integer are zeros.
+/// A batch of integers of `W` bytes (`struct batch_u8` to `batch_u64`): bytes of a key at one generation, and the
+/// number of integers served from them. The bytes of a served integer are 0.
 #[derive(Drop)]
 pub struct Batch<const W: usize> {
     bytes: [u8; 96],
@@ -43,7 +43,7 @@ impl<const W: usize> Batch<W> {
         }
     }
 
-    /// Whether the batch has to be filled before an integer is served at generation `g`: it is used up, or it has
+    /// Whether the batch has to be filled before it serves an integer at generation `g`: it is used up, or is of
     /// another generation.
     pub fn wants(&self, g: u64) -> bool
         ensures { result ≡ wants g W self.now }
@@ -51,7 +51,7 @@ impl<const W: usize> Batch<W> {
         self.position >= BATCH_BYTES / W || g != self.generation
     }
 
-    /// Replaces the bytes by these, made at generation `g`.
+    /// Replaces the bytes of the batch by these, which were made at generation `g`.
     pub fn refill(&mut self, bytes: &[u8; 96], g: u64)
         ensures { self.new ≡ filled bytes.now g }
     {
@@ -74,10 +74,10 @@ impl<const W: usize> Batch<W> {
         entry
     }
 
-    /// Serves the next integer at generation `g`. If the batch has to be filled, `fill` makes new bytes first;
-    /// otherwise it is not called. This is [`Batch::wants`], [`Batch::refill`] and [`Batch::serve`] in one, for callers
-    /// that use this crate without the lanes. If a proof needs the state that `fill` left in its captures, the caller
-    /// calls the three instead, as the core does.
+    /// Serves the next integer at generation `g`. If the batch has to be filled, `fill` first makes new bytes;
+    /// otherwise `fill` is not called. This is [`Batch::wants`], [`Batch::refill`] and [`Batch::serve`] in one, for
+    /// users of the crate without lanes. A caller whose proof needs the captures of `fill` after the call uses those
+    /// three calls instead, as the core does.
     pub fn next<F: FnOnce(&mut [u8; 96])>(&mut self, g: u64, fill: F) -> [u8; W]
         requires { IsTrue (wants g W self.old) → F.IsAlwaysCallable fill }
         ensures { ServesAt W g (FnOnceReturnsAtMut F.FnOnce fill self.old.bytes tt) self.old result self.new }
@@ -90,8 +90,8 @@ impl<const W: usize> Batch<W> {
         self.serve()
     }
 
-    /// Empties the batch, as when its CPU is prepared (`random_prepare_cpu`): it is as at the start. The kernel leaves
-    /// the bytes, and only marks them as used up.
+    /// Empties the batch, as when its CPU is prepared (`random_prepare_cpu`): the batch is again as at the start. The
+    /// kernel only marks the bytes as used up, and leaves them.
     pub fn drop_rest(&mut self)
         ensures { self.new ≡ start W }
     {

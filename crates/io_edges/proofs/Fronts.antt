@@ -3,10 +3,10 @@ use Rattle.std.proofs.Common.{◌≡◌, ℕ, ◌+◌, List, ◌++◌, length, t
 use Rattle.std.proofs.lemmas.List.{take-append-drop, drop-drop}
 use Rattle.std.proofs.Math.Seq.{take-append_seam}
 
--- the bytes left before a call are those that it took, and then those left after it
-pub front_and_rest : (bytes front behind : List ℕ) (at n : ℕ) → length front ≡ n → front ≡ take n (drop at bytes)
-    → drop at bytes ≡ take n (front ++ behind) ++ drop (at + n) bytes
-front_and_rest bytes front behind at n len is =
-    let got : take n (front ++ behind) ≡ front =
-    subst (λ k. take k (front ++ behind) ≡ front) len (take-append_seam front behind) in
+-- the bytes left before a call are the bytes that the call took, followed by the bytes left after the call
+pub front_and_rest : (bytes front following : List ℕ) (at n : ℕ) → length front ≡ n → front ≡ take n (drop at bytes)
+    → drop at bytes ≡ take n (front ++ following) ++ drop (at + n) bytes
+front_and_rest bytes front following at n len is =
+    let got : take n (front ++ following) ≡ front =
+    subst (λ k. take k (front ++ following) ≡ front) len (take-append_seam front following) in
     sym (take-append-drop n (drop at bytes)) ∙ ap₂ (λ x y. x ++ y) (sym (got ∙ is)) (drop-drop n at bytes)

@@ -1,4 +1,4 @@
--- The effect of successive calls on a sink and on a source.
+-- Successive puts append a prefix of a text, and successive takes consume a prefix of an input.
 use Rattle.std.proofs.Common.{◌≡◌, ℕ, ◌+◌, List, ◌++◌, length, take, drop, Option, sym, ap, ◌∙◌, subst, le_refl, ◌≤◌, arith}
 use Rattle.std.proofs.Math.Seq.{take-add, take-length}
 use Rattle.std.specs.Io.KnownBytes.{Appends, Consumes, Keeps}
@@ -15,16 +15,16 @@ Appends-next a b c text rest n m first is next =
     ap (λ l. take n text ++ take m l) is ∙ sym (take-add n m text) in
     subst (Appends a c) joined (Appends-trans a b c (take n text) (take m rest) first next)
 
--- a text put whole is a prefix of itself
+-- appending a whole text appends a prefix of it
 pub AppendsPrefix-of_whole : (a b : Option (List ℕ)) (xs : List ℕ) → Appends a b xs → AppendsPrefix a b xs
 AppendsPrefix-of_whole a b xs h = (length xs, le_refl (length xs), subst (Appends a b) (sym (take-length xs)) h)
 
--- a call that took nothing does not change the bytes taken before
+-- if a call that took nothing follows, the bytes taken in all are those taken before the call
 pub ConsumesUpTo_kept : (most : ℕ) (a b c : Option (List ℕ)) (bs : List ℕ)
     → Consumes a b bs → Keeps b c → length bs ≤ most → ConsumesUpTo most a c
 ConsumesUpTo_kept most a b c bs first second few = (bs, few, Consumes-kept a b c bs first second)
 
--- the pieces taken are a prefix of the bytes that were left
+-- two pieces that were taken one after another make a prefix of the bytes that were left before the first was taken
 pub ConsumesUpTo_more : (most : ℕ) (a b c : Option (List ℕ)) (bs cs : List ℕ)
     → Consumes a b bs → Consumes b c cs → length bs + length cs ≤ most → ConsumesUpTo most a c
 ConsumesUpTo_more most a b c bs cs first second few =

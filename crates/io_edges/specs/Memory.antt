@@ -16,7 +16,7 @@ pub record SourceState : Type 0 where
   pub calls : ℕ
   pub faults : ℕ
 
--- its next call fails
+-- the source's next call fails
 abbrev pub TakeFails : SourceState → Type 0
 TakeFails s = IsTrue (is_listed (next_count s.calls) s.fails)
 
@@ -24,11 +24,11 @@ TakeFails s = IsTrue (is_listed (next_count s.calls) s.fails)
 abbrev pub count_given : SourceState → ℕ → ℕ
 count_given s len = min len (min s.step (length s.left))
 
--- after a call that gave n bytes
+-- the source after a call that gave n bytes
 abbrev pub after_take : SourceState → ℕ → SourceState
 after_take s n = record s { left = drop n s.left; calls = next_count s.calls }
 
--- after a call that failed
+-- the source after a call that failed
 abbrev pub after_failed_take : SourceState → SourceState
 after_failed_take s = record s { calls = next_count s.calls; faults = next_count s.faults }
 
@@ -43,7 +43,7 @@ pub record SinkState : Type 0 where
   pub calls : ℕ
   pub faults : ℕ
 
--- its next put fails: the number is listed, or there are bytes to put and no room
+-- the sink's next put fails: the number of the put is listed, or there are bytes to put and no room
 abbrev pub PutFails : SinkState → List ℕ → Type 0
 PutFails s piece = IsTrue (is_listed (next_count s.calls) s.fails) ⊎ ((0 < length piece) × (s.room ≡ length s.held))
 
@@ -51,14 +51,14 @@ PutFails s piece = IsTrue (is_listed (next_count s.calls) s.fails) ⊎ ((0 < len
 abbrev pub count_taken : SinkState → ℕ → ℕ
 count_taken s len = min len (min s.step (s.room - length s.held))
 
--- after a put that took n bytes of the piece
+-- the sink after a put that took n bytes of the piece
 abbrev pub after_put : SinkState → List ℕ → ℕ → SinkState
 after_put s piece n = record s { held = s.held ++ take n piece; calls = next_count s.calls }
 
--- after a put that failed
+-- the sink after a put that failed
 abbrev pub after_failed_put : SinkState → SinkState
 after_failed_put s = record s { calls = next_count s.calls; faults = next_count s.faults }
 
--- after a flush that failed
+-- the sink after a flush that failed
 abbrev pub after_failed_flush : SinkState → SinkState
 after_failed_flush s = record s { faults = next_count s.faults }

@@ -1,4 +1,4 @@
--- The parts of the adapters that clauses see.
+-- The parts of `StdSource` and `StdSink` that contracts refer to.
 use Rattle.std.specs.Prelude.{ℕ}
 use Rattle.std.specs.Global.{Global}
 use Rattle.std.specs.declared.io.buffered.BufWriter.{BufWriter}

@@ -13,12 +13,12 @@ pub trait Source {
     /// The bytes that are left, or `None` if the source does not expose them.
     ghost left: { Self → Option (List ℕ) };
 
-    /// How often it has failed. The count rises only with a failure, and stops at `u64::MAX`.
+    /// How often the source has failed. The count rises only with a failure, and stops at `u64::MAX`.
     ghost faults: { Self → ℕ };
 
     /// Takes bytes from the front of the input into the front of `buf`, and returns how many. If it returns 0 for a
-    /// buffer that is not empty, the input is at its end. The rest of `buf` is unspecified, and after a failure all of
-    /// `buf`.
+    /// buffer that is not empty, the input is at its end. The rest of `buf` is unspecified, and so is all of `buf`
+    /// after a failure.
     ///
     /// # Errors
     ///
@@ -34,17 +34,16 @@ pub trait Source {
 
 /// Takes bytes of an output. A sink may buffer bytes until it is flushed.
 pub trait Sink {
-    /// The bytes that it holds, or `None` if the sink does not expose them.
+    /// The bytes that the sink holds, or `None` if it does not expose them.
     ghost held: { Self → Option (List ℕ) };
 
-    /// The bytes that it buffers, as each sink defines them: no clause here connects them with `held`.
+    /// The bytes that the sink buffers, as each sink defines them: no clause here connects them with `held`.
     ghost kept_back: { Self → List ℕ };
 
-    /// How often it has failed. The count rises only with a failure, and stops at `u64::MAX`.
+    /// How often the sink has failed. The count rises only with a failure, and stops at `u64::MAX`.
     ghost faults: { Self → ℕ };
 
-    /// Appends the front of `piece`, and returns how many bytes. It appends at least one byte if the piece is not
-    /// empty.
+    /// Appends bytes from the front of `piece`, and returns how many: at least one if the piece is not empty.
     ///
     /// # Errors
     ///

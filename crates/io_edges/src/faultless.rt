@@ -4,8 +4,8 @@ ghost use Rattle.std.specs.Prelude.{◌≡◌, [], length, Some, None, IsOk};
 use crate::{Failed, Sink, Source};
 use std::marker::Model;
 
-/// A source over bytes in memory that never fails. Clauses see the bytes that are left. A program that calls a run as a
-/// function can use it: the clauses of `run` then exclude a fault.
+/// A source over bytes in memory that never fails. Contracts can refer to the bytes that are left. A program that calls
+/// a run as a function can pass this source: the clauses of `run` then exclude a fault.
 #[derive(Drop)]
 pub struct NoFaultSource {
     bytes: Vec<u8>,

@@ -5,7 +5,7 @@ use std::sync::Wait;
 /// The hook before each event of a caller.
 pub trait Gate: Sync {
     /// The run calls this before each event, with the caller and the event's place in the caller's list. It does not
-    /// call it before a caller's end (tested).
+    /// call this before a caller's end (tested).
     fn before<R: Wait>(&self, rt: &R, caller: u32, event: u32);
 }
 

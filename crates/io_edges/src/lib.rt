@@ -1,12 +1,34 @@
-//! Input and output: bytes in, bytes out, and how often either failed.
+//! Input and output: bytes in, bytes out, and how often either failed. The crate uses only std.
 //!
-//! The layers above take a `Source` and a `Sink` as type parameters. So one contract covers the standard streams,
-//! buffers in memory, and a test's planned failures. Each event of a caller comes after a call of a `Gate`, with
+//! The layers above take a [`Source`] and a [`Sink`] as type parameters. So one contract covers the standard streams,
+//! buffers in memory, and a test's planned failures. Each event of a caller comes after a call of a [`Gate`], with
 //! which a test can hold the caller back.
 //!
-//! The crate promises that a source gives its bytes in order and without gaps, and that a sink holds exactly the
-//! bytes put into it. A call reports a fault only if its source or sink counted one. The crate uses only std.
-//! Whether the standard streams are real files is outside its contracts.
+//! # Example
+//!
+//! ```rust
+//! let mut sink = MemSink::of(alloc, 4096, Vec::new(alloc), 10)?;
+//! assert_eq!(rt; sink.put(TEXT), Ok(10));
+//! assert_eq!(rt; sink.put(TEXT), Err(Failed));
+//! assert_eq!(rt; sink.put(&[]), Ok(0));
+//! assert_eq!(rt; sink.held(), b"rngtranscr".as_slice());
+//! ```
+//!
+//! From `crates/test_texts/src/io_edges_tests.rt`.
+//!
+//! # Proved
+//!
+//! - [`Source`]: a source gives its bytes in order and without gaps. [`read_to_limit`] reads them to a limit.
+//! - [`Sink`]: a sink holds exactly the bytes put into it. [`put_all`] puts a whole piece, or a prefix if the sink
+//!   counted a fault.
+//! - Every call reports a fault only if its source or sink counted one.
+//! - [`MemSource`] and [`MemSink`] fail exactly at the listed takes and puts, and a put also if its bytes find no room.
+//!
+//! Whether the standard streams are real files is outside the contracts.
+//!
+//! # Tested only
+//!
+//! [`StdSource`] and [`StdSink`] work over real readers and writers: `io_edges_tests` of `test_texts`.
 #![tactic(auto)]
 
 mod edges;

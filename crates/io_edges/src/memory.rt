@@ -193,7 +193,7 @@ impl MemSink {
         }
     }
 
-    /// The bytes that it holds, in the order of the puts.
+    /// The bytes that the sink holds, in the order of the puts.
     pub fn held(&self) -> &[u8]
         ensures { result.now ≡ self.now.held }
     {

@@ -9,7 +9,7 @@ ghost use Rattle.io_edges.specs.Standard.{source_reader, source_faults, sink_wri
 use crate::{Failed, Sink, Source};
 use std::io::{BufWriter, ErrorKind, Read, Write};
 
-/// A reader as a source. It exposes its remaining bytes as its reader does; standard input exposes none.
+/// A reader as a source. The source exposes its remaining bytes if the reader does; standard input exposes none.
 #[derive(Drop)]
 pub struct StdSource<I: Read + Drop> {
     reader: I,
@@ -31,9 +31,9 @@ impl<I: Read + Drop> Source for StdSource<I> {
 
     ghost faults = { λ s. s.faults };
 
-    // It retries a read that a signal interrupts. After 2^64 - 1 interrupted tries it counts a fault.
+    // A read that a signal interrupts is retried. After 2^64 - 1 interrupted tries the source counts a fault.
     fn take(&mut self, buf: &mut [u8]) -> Result<usize, Failed>
-        // It counts a fault if and only if the call fails.
+        // The source counts a fault if and only if the call fails.
         ensures not_counted { OnOk result (source_faults self.new ≡ source_faults self.old) }
         ensures counted { OnErr result (source_faults self.new ≡ next_count (source_faults self.old)) }
 
@@ -59,9 +59,9 @@ impl<I: Read + Drop> Source for StdSource<I> {
     }
 }
 
-/// A writer as a sink. It exposes its bytes as its writer does; standard output exposes none. The writer's buffer
-/// gathers the puts, and a put as long as the buffer bypasses it. Buffered bytes are the last of the bytes that the
-/// sink holds.
+/// A writer as a sink. The sink exposes its bytes if the writer does; standard output exposes none. The writer's buffer
+/// gathers the puts, and a put as long as the buffer bypasses it. The bytes that the sink holds end with the buffered
+/// bytes.
 #[derive(Drop)]
 pub struct StdSink<O: Write + Drop> {
     writer: BufWriter<O>,
@@ -85,10 +85,10 @@ impl<O: Write + Drop> Sink for StdSink<O> {
 
     ghost faults = { λ s. s.faults };
 
-    // It retries a write that a signal interrupts. A write that takes no byte is a fault unless the piece is empty: a
-    // caller that puts until all is written would never end.
+    // A write that a signal interrupts is retried. A write that takes no byte is a fault unless the piece is empty:
+    // otherwise a caller that puts until all is written would never end.
     fn put(&mut self, piece: &[u8]) -> Result<usize, Failed>
-        // It counts a fault if and only if the call fails.
+        // The sink counts a fault if and only if the call fails.
         ensures not_counted { OnOk result (sink_faults self.new ≡ sink_faults self.old) }
         ensures counted { OnErr result (sink_faults self.new ≡ next_count (sink_faults self.old)) }
 
@@ -113,7 +113,7 @@ impl<O: Write + Drop> Sink for StdSink<O> {
         Err(Failed)
     }
 
-    // It retries a flush that a signal interrupts, as a write.
+    // A flush that a signal interrupts is retried, as `put` retries a write.
     fn flush(&mut self) -> Result<(), Failed>
         ensures not_counted { OnOk result (sink_faults self.new ≡ sink_faults self.old) }
         ensures counted { OnErr result (sink_faults self.new ≡ next_count (sink_faults self.old)) }

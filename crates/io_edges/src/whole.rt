@@ -77,7 +77,7 @@ pub fn read_to_limit<S: Source>(
 /// # Errors
 ///
 /// `Failed` if the sink failed and counted a fault. Then the sink got a prefix of the piece in this call.
-// Inlined, it is little more than a copy into a buffer.
+// When inlined, a call is little more than a copy into a buffer.
 #[inline(always)]
 pub fn put_all<K: Sink>(sink: &mut K, piece: &[u8]) -> Result<(), Failed>
     ensures whole { OnOk result (Appends (K.held sink.old) (K.held sink.new) piece.now) }

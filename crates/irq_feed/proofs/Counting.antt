@@ -1,4 +1,4 @@
--- The number of samples, feeder by feeder.
+-- The length of a list of samples is the sum, over all feeders, of the numbers of their samples in the list.
 use Rattle.std.proofs.Common.{◌≡◌, ◌≢◌, ⊎_elim, ℕ, zero, suc, ◌+◌, ◌*◌, ◌<◌, ◌≤◌, ◌==◌, cond, Bool, true, false, List, [], ◌∷◌, ◌++◌, length, sym, refl, ap, ◌∙◌, subst, eq-eqb, ne_eqb, lt_of_not-le, arith, length-append, suc-mul, mul-le-mul_right}
 use Rattle.std.proofs.lemmas.Bool.Decides.{eqb_tells}
 use Rattle.std.proofs.lemmas.List.{append-nil}
@@ -20,7 +20,7 @@ sum_more zero g h e = omega arith
 sum_more (suc n) g h e =
     (let a = sum_more n g h (λ f low. e f (omega arith)) in let b = e n (omega arith) in omega arith)
 
--- if each term of one sum is at most that of the other, and the sums are equal, the terms are equal
+-- if each term of `g` is at most that of `h`, and the sums are equal, then the terms are equal
 pub sum_tight : (n : ℕ) (g h : ℕ → ℕ) → ((f : ℕ) → f < n → g f ≤ h f) → sum_below n g ≡ sum_below n h
     → (f : ℕ) → f < n → g f ≡ h f
 sum_tight zero g h e s f low = absurd (omega arith)
@@ -79,14 +79,14 @@ length_one x xs f = by (x.feeder == f)
 pub cons_not_nil : (x : Sample) (xs : List Sample) → (x ∷ xs) ≡ [] → ⊥
 cons_not_nil x xs e = (let l : suc (length xs) ≡ 0 = ap length e in omega arith)
 
-pub none_behind : (x : Sample) (xs : List Sample) (f : ℕ) → of_feeder f (x ∷ xs) ≡ [] → of_feeder f xs ≡ []
-none_behind x xs f e = ⊎_elim
+pub none_after : (x : Sample) (xs : List Sample) (f : ℕ) → of_feeder f (x ∷ xs) ≡ [] → of_feeder f xs ≡ []
+none_after x xs f e = ⊎_elim
     (λ (t : (x.feeder == f ≡ true) × (x.feeder ≡ f)).
     absurd (cons_not_nil x (of_feeder f xs) (sym (of_here x xs f t.1) ∙ e)))
     (λ (t : (x.feeder == f ≡ false) × (x.feeder ≢ f)). sym (of_else x xs f t.1) ∙ e)
     (eqb_tells x.feeder f)
 
--- if all samples are of feeders below n, their number is the sum over these feeders
+-- if all samples are of feeders below `n`, their number is the sum over these feeders
 pub counted : (n : ℕ) (xs : List Sample) → ((f : ℕ) → n ≤ f → of_feeder f xs ≡ [])
     → length xs ≡ sum_below n (λ f. length (of_feeder f xs))
 counted n [] none = sym (sum_none n)
@@ -94,7 +94,7 @@ counted n (x ∷ xs) none =
     let low : x.feeder < n =
     lt_of_not-le (λ high. cons_not_nil x (of_feeder x.feeder xs)
     (sym (of_here x xs x.feeder refl) ∙ none x.feeder high)) in
-    let a = counted n xs (λ f high. none_behind x xs f (none f high)) in
+    let a = counted n xs (λ f high. none_after x xs f (none f high)) in
     let b = sum_same n (λ f. length (of_feeder f (x ∷ xs))) (λ f. length (of_feeder f xs) + one_at x.feeder f)
     (λ f below. length_one x xs f) in
     let c = sum_plus n (λ f. length (of_feeder f xs)) (one_at x.feeder) in
@@ -107,7 +107,7 @@ first_length s f (suc n) =
     (let a = first_length s f n in
     length-append (first_samples s f n) (sample s f n ∷ []) ∙ (let b = a in omega arith))
 
--- the first samples of a feeder are all of that feeder
+-- each of a feeder's first samples is a sample of that feeder
 pub first_own : (s : Numbers) (f n : ℕ) → of_feeder f (first_samples s f n) ≡ first_samples s f n
 first_own s f zero = refl
 first_own s f (suc n) =

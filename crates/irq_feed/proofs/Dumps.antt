@@ -27,7 +27,8 @@ dumps_append : (xs ys : List CpuEntry) → dumps_in (xs ++ ys) ≡ dumps_in xs +
 dumps_append [] ys = omega arith
 dumps_append (x ∷ xs) ys = (let rest = dumps_append xs ys in omega arith)
 
--- the lists after the interrupts of these samples at moment 0: r samples since the last of q dumps
+-- the lists of the CPU and of the pool after the interrupts of these samples at moment 0. There were `q` dumps so far,
+-- and `r` samples since the last dump
 pub record Dumped (samples : List Sample) (cpu : List CpuEntry) (pool : List PoolEntry) : Type 0 where
   pub q : ℕ
   pub r : ℕ
@@ -118,7 +119,7 @@ module _ (samples : List Sample) (cpu : List CpuEntry) (pool : List PoolEntry) (
       ∙ ap (λ n. n + in_flight) (more_count f d.r d.count d.low ∙ last_one) in
       ap (λ c. max 1 (min 128 (c % 2 ^ 16 / 64))) count
 
-  -- after q dumps the pool has 16 q bits, capped at 256: the credit of one more dump adds 16 bits, up to that cap
+  -- after `q` dumps the pool has 16 `q` bits, capped at 256: the credit of one more dump adds 16 bits, up to that cap
   credit_more : (q : ℕ) → credit (min 256 (16 * q)) 16 ≡ min 256 (16 * (q + 1))
   credit_more q = elim (leb_tells (16 * q) 256) [
     | inl low ↦ (let under : 16 * q ≤ 256 = low.1 in

@@ -16,11 +16,11 @@ use Rattle.key_names.specs.declared.events.Answer.TheVariants.{Ok as Done}
 use Rattle.key_names.specs.Transcripts.SeenLine.{no_data}
 use Rattle.key_names.specs.Lanes.Book.{Book, Lists, LawfulLanes, lists_of, cpu_list}
 use Rattle.key_names.specs.Callers.Calls.{Setting as CallSetting}
-use Rattle.key_names.specs.Callers.Deeds.{Deed, PoolVisit, BaseVisit, CpuVisit, at_pool, at_base, at_cpu, deeds_of}
+use Rattle.key_names.specs.Callers.Effects.{Effect, PoolVisit, BaseVisit, CpuVisit, at_pool, at_base, at_cpu, effects_of}
 use Rattle.key_names.specs.Kernel.FastPool.{FastPool, fast_after, makes_due, dump_bits, dump_bytes}
 use Rattle.key_names.specs.Callers.Forms.{Rooted, BaseOnly, Cross, DumpForm, IrqForm}
 use Rattle.key_names.specs.Transcripts.IsTranscript.{MarkBy, VisitsAre, marks_from}
-use Rattle.key_names.specs.Callers.LineSamples.{SamplesStand, Dumps, IsQuiet, IsCrossing, EntryIsQuiet}
+use Rattle.key_names.specs.Callers.LineSamples.{SamplesConform, Dumps, IsQuiet, IsCrossing, EntryIsQuiet}
 use Rattle.key_names.specs.Lanes.PoolList.{Crossing, crossing, ready, early, none, PoolState, pool_step}
 use Rattle.key_names.specs.Lanes.Samples.{MakesDue}
 use Rattle.key_names.proofs.Uses.BookUses.{lawful_is_disjoint}
@@ -37,7 +37,7 @@ use Rattle.lane_table.proofs.Book.BookWhole.{cpu_listed}
 use Rattle.lane_table.proofs.Lists.VisitLists.{begins_refl}
 use Rattle.rng_core.specs.Makes.{IsOutcomeOf, setting_of}
 use Rattle.rng_core.specs.Settings.{first_setting}
-use Rattle.rng_core.specs.SampleDeeds.{Sampled, fast_in}
+use Rattle.rng_core.specs.SampleEffects.{Sampled, fast_in}
 use Rattle.irq_feed.specs.declared.samples.Sample.{Sample}
 use Rattle.irq_feed.specs.Mixing.{Mixes}
 use Rattle.irq_feed.specs.declared.mixed.Mixed.{Mixed}
@@ -47,8 +47,8 @@ use Rattle.irq_feed.specs.Feeds.{Numbers, numbers}
 use Rattle.irq_feed.specs.Fed.{AllMixed, mixed_in}
 use Rattle.irq_feed.specs.Samples.{first_samples, of_feeder}
 use Rattle.irq_feed.specs.TableFeed.{AreCalls, IsFed, IsFedBook, irq_entry, marks_of}
-use Rattle.rng_core.proofs.Courses.{Course, lane_append, lane_of, start}
-use Rattle.irq_feed.proofs.Courses.{all_here, calls_in, course_in, in_order, places_stand, share_is, visits_made, wide}
+use Rattle.rng_core.proofs.Paths.{Path, lane_append, lane_of, start}
+use Rattle.irq_feed.proofs.Paths.{all_here, calls_in, path_in, in_order, places_conform, share_is, visits_made, wide}
 use Rattle.irq_feed.proofs.Dumps.{Dumped, bits_at_dump, dumps_are, due_more, none_dumped, quiet_more}
 use Rattle.irq_feed.proofs.FedSamples.{lawful_samples}
 use Rattle.irq_feed.proofs.Entries.{AllThere, CountUp, Counts, count_up, cpu_here, cpu_seen, next_entry, parts_count, pool_here, pool_seen}
@@ -59,7 +59,7 @@ set = setting_of (first_setting 0)
 -- ---- the effect of one call
 
 -- the steps after a credit are no visits of the CPU, and do not change the bits
-record Crossed (rest : List Deed) : Type 0 where
+record Crossed (rest : List Effect) : Type 0 where
   there : AllThere rest
   no_cpu : cpu_seen rest ≡ []
   same_bits : (s : PoolState) → (fold pool_step s (map (λ (x : ℕ × PoolEntry). x.1) (pool_seen rest))).bits ≡ s.bits
@@ -70,32 +70,32 @@ crossed_none = record { there = tt; no_cpu = refl; same_bits = λ s. refl }
 crossed_base : (b : BaseVisit) → Crossed (at_base b ∷ [])
 crossed_base b = record { there = tt; no_cpu = refl; same_bits = λ s. refl }
 
-crossed_root : (entry : ℕ → BaseEntry) (rest : List Deed) → Rooted set entry rest → Crossed rest
-crossed_root entry rest r = subst Crossed (sym r.deeds_are) (record {
+crossed_root : (entry : ℕ → BaseEntry) (rest : List Effect) → Rooted set entry rest → Crossed rest
+crossed_root entry rest r = subst Crossed (sym r.effects_are) (record {
   there = tt;
   no_cpu = refl;
   same_bits = λ s. ap (λ e. (pool_step s e).bits) r.extracts;
 })
 
-crossed : (c : Crossing) (rest : List Deed) → Cross set c rest → Crossed rest
+crossed : (c : Crossing) (rest : List Effect) → Cross set c rest → Crossed rest
 crossed none rest x = subst Crossed (sym x) crossed_none
 crossed ready rest x = crossed_root (λ n. Reseeded n set.now) rest x
 crossed early rest x = ⊎_elim (λ r. crossed_root (λ n. Early (Some n)) rest r)
-    (λ (b : BaseOnly (Early None) rest). subst Crossed (sym b.deeds_are) (crossed_base b.base)) x
+    (λ (b : BaseOnly (Early None) rest). subst Crossed (sym b.effects_are) (crossed_base b.base)) x
 
-record QuietCall (fast : ℕ → ℕ → FastPool) (x : Sample) (deeds : List Deed) : Type 0 where
+record QuietCall (fast : ℕ → ℕ → FastPool) (x : Sample) (effects : List Effect) : Type 0 where
   sample : CpuVisit
-  deeds_are : deeds ≡ at_cpu sample ∷ []
+  effects_are : effects ≡ at_cpu sample ∷ []
   on : sample.cpu ≡ 0
   is : sample.entry ≡ irq_entry x
   quiet : makes_due (fast 0 sample.place) 0 ≡ false
 
-record DueCall (fast : ℕ → ℕ → FastPool) (x : Sample) (deeds : List Deed) : Type 0 where
+record DueCall (fast : ℕ → ℕ → FastPool) (x : Sample) (effects : List Effect) : Type 0 where
   sample : CpuVisit
   dump : CpuVisit
   mix : PoolVisit
-  rest : List Deed
-  deeds_are : deeds ≡ at_cpu sample ∷ at_cpu dump ∷ at_pool mix ∷ rest
+  rest : List Effect
+  effects_are : effects ≡ at_cpu sample ∷ at_cpu dump ∷ at_pool mix ∷ rest
   on : sample.cpu ≡ 0
   dump_on : dump.cpu ≡ 0
   is : sample.entry ≡ irq_entry x
@@ -109,41 +109,41 @@ true_of : (b : Bool) → IsTrue b → b ≡ true
 true_of true t = refl
 true_of false t = absurd cc
 
-module _ (fast : ℕ → ℕ → FastPool) (x : Sample) (deeds : List Deed) (form : IrqForm set x.v1 x.v2 deeds) where
-  -- if no dump is due, none is made
-  no_dump : AllByRecursion (IsQuiet fast) deeds → (form.rest ≡ []) ⊎ DumpForm set form.rest → QuietCall fast x deeds
+module _ (fast : ℕ → ℕ → FastPool) (x : Sample) (effects : List Effect) (form : IrqForm set x.v1 x.v2 effects) where
+  -- if no dump is due, no dump is made
+  no_dump : AllByRecursion (IsQuiet fast) effects → (form.rest ≡ []) ⊎ DumpForm set form.rest → QuietCall fast x effects
   no_dump quiet (inl bare) =
-      let whole : deeds ≡ at_cpu form.sample ∷ [] = form.deeds_are ∙ ap (λ l. at_cpu form.sample ∷ l) bare in
+      let whole : effects ≡ at_cpu form.sample ∷ [] = form.effects_are ∙ ap (λ l. at_cpu form.sample ∷ l) bare in
       let here : EntryIsQuiet (fast form.sample.cpu form.sample.place) form.sample.entry =
       (subst (AllByRecursion (IsQuiet fast)) whole quiet).0 in
       record {
         sample = form.sample;
-        deeds_are = whole;
+        effects_are = whole;
         on = form.on;
         is = form.samples;
         quiet = ap (λ c. makes_due (fast c form.sample.place) 0) (sym form.on)
             ∙ subst (EntryIsQuiet (fast form.sample.cpu form.sample.place)) form.samples here;
       }
   no_dump quiet (inr d) =
-      let whole : deeds ≡ at_cpu form.sample ∷ at_cpu d.dump ∷ d.rest =
-      form.deeds_are ∙ ap (λ l. at_cpu form.sample ∷ l) d.deeds_are in
+      let whole : effects ≡ at_cpu form.sample ∷ at_cpu d.dump ∷ d.rest =
+      form.effects_are ∙ ap (λ l. at_cpu form.sample ∷ l) d.effects_are in
       let here : EntryIsQuiet (fast d.dump.cpu d.dump.place) d.dump.entry =
       (subst (AllByRecursion (IsQuiet fast)) whole quiet).1.0 in
       absurd (subst (EntryIsQuiet (fast d.dump.cpu d.dump.place)) d.dumps here)
 
-  -- if a dump is due, it follows
-  module _ (d : Dumps fast (λ rest. AllByRecursion IsCrossing rest) deeds) where
-    one_dump : (form.rest ≡ []) ⊎ DumpForm set form.rest → DueCall fast x deeds
+  -- if a dump is due, the call makes one after the sample
+  module _ (d : Dumps fast (λ rest. AllByRecursion IsCrossing rest) effects) where
+    one_dump : (form.rest ≡ []) ⊎ DumpForm set form.rest → DueCall fast x effects
     one_dump (inl bare) =
-        let whole : deeds ≡ at_cpu form.sample ∷ [] = form.deeds_are ∙ ap (λ l. at_cpu form.sample ∷ l) bare in
-        let long : suc (suc (suc (length d.rest))) ≡ 1 = ap length (sym d.deeds_are ∙ whole) in
+        let whole : effects ≡ at_cpu form.sample ∷ [] = form.effects_are ∙ ap (λ l. at_cpu form.sample ∷ l) bare in
+        let long : suc (suc (suc (length d.rest))) ≡ 1 = ap length (sym d.effects_are ∙ whole) in
         absurd (omega arith)
     one_dump (inr e) =
         let m = e.mixes in
-        let whole : deeds ≡ at_cpu form.sample ∷ at_cpu e.dump ∷ at_pool m.pool ∷ m.rest =
-        form.deeds_are ∙ ap (λ l. at_cpu form.sample ∷ l) (e.deeds_are ∙ ap (λ l. at_cpu e.dump ∷ l) m.deeds_are) in
+        let whole : effects ≡ at_cpu form.sample ∷ at_cpu e.dump ∷ at_pool m.pool ∷ m.rest =
+        form.effects_are ∙ ap (λ l. at_cpu form.sample ∷ l) (e.effects_are ∙ ap (λ l. at_cpu e.dump ∷ l) m.effects_are) in
         let both : at_cpu d.sample ∷ at_cpu d.dump ∷ at_pool d.mix ∷ d.rest
-        ≡ at_cpu form.sample ∷ at_cpu e.dump ∷ at_pool m.pool ∷ m.rest = sym d.deeds_are ∙ whole in
+        ≡ at_cpu form.sample ∷ at_cpu e.dump ∷ at_pool m.pool ∷ m.rest = sym d.effects_are ∙ whole in
         let sampled : d.sample ≡ form.sample = cc in
         let dumped : d.dump ≡ e.dump = cc in
         let rest : d.rest ≡ m.rest = cc in
@@ -157,7 +157,7 @@ module _ (fast : ℕ → ℕ → FastPool) (x : Sample) (deeds : List Deed) (for
           dump = d.dump;
           mix = d.mix;
           rest = d.rest;
-          deeds_are = d.deeds_are;
+          effects_are = d.effects_are;
           on = on;
           dump_on = dump_on;
           is = is;
@@ -170,14 +170,14 @@ module _ (fast : ℕ → ℕ → FastPool) (x : Sample) (deeds : List Deed) (for
           crosses = subst Crossed (sym rest) (crossed (crossing m.pool.before.bits m.pool.after.bits) m.rest m.crosses);
         }
 
-  shape : SamplesStand fast deeds → QuietCall fast x deeds ⊎ DueCall fast x deeds
+  shape : SamplesConform fast effects → QuietCall fast x effects ⊎ DueCall fast x effects
   shape (inl quiet) = inl (no_dump quiet form.dumps)
   shape (inr d) = inr (one_dump d form.dumps)
 
-all_there : (fast : ℕ → ℕ → FastPool) (x : Sample) (deeds : List Deed) → QuietCall fast x deeds ⊎ DueCall fast x deeds →
-    AllThere deeds
-all_there fast x deeds (inl c) = subst AllThere (sym c.deeds_are) tt
-all_there fast x deeds (inr c) = subst AllThere (sym c.deeds_are) c.crosses.there
+all_there : (fast : ℕ → ℕ → FastPool) (x : Sample) (effects : List Effect) → QuietCall fast x effects ⊎ DueCall fast x effects →
+    AllThere effects
+all_there fast x effects (inl c) = subst AllThere (sym c.effects_are) tt
+all_there fast x effects (inr c) = subst AllThere (sym c.effects_are) c.crosses.there
 
 -- ---- one call after others
 
@@ -206,37 +206,37 @@ module _ (lists : Lists) (fast : ℕ → ℕ → FastPool)
       fast_is (length front) (omega arith)
       ∙ ap (λ l. fast_after (take (length front) l)) is ∙ ap fast_after (take-append_seam front rest)
 
-  module _ (samples : List Sample) (x : Sample) (deeds : List Deed) (front rest : List CpuEntry) (pool : List PoolEntry)
-      (is : cs ≡ front ++ rest) (had : Dumped samples front pool) (counts : Counts cs (length front) (cpu_seen deeds)) where
+  module _ (samples : List Sample) (x : Sample) (effects : List Effect) (front rest : List CpuEntry) (pool : List PoolEntry)
+      (is : cs ≡ front ++ rest) (had : Dumped samples front pool) (counts : Counts cs (length front) (cpu_seen effects)) where
     abbrev After : List (ℕ × CpuEntry) → List (ℕ × PoolEntry) → Type 0
     After c p = Dumped (samples ++ x ∷ []) (front ++ seconds c) (pool ++ seconds p)
 
-    quiet_call : QuietCall fast x deeds → After (cpu_seen deeds) (pool_seen deeds)
+    quiet_call : QuietCall fast x effects → After (cpu_seen effects) (pool_seen effects)
     quiet_call q =
-        let cpu : cpu_seen deeds ≡ (q.sample.place, irq_entry x) ∷ [] =
-        ap cpu_seen q.deeds_are ∙ (λ i. cond (nat_eq (q.on i + 2) 2) ((q.sample.place, q.is i) ∷ []) []) in
-        let unmixed : pool_seen deeds ≡ [] = ap pool_seen q.deeds_are in
+        let cpu : cpu_seen effects ≡ (q.sample.place, irq_entry x) ∷ [] =
+        ap cpu_seen q.effects_are ∙ (λ i. cond (nat_eq (q.on i + 2) 2) ((q.sample.place, q.is i) ∷ []) []) in
+        let unmixed : pool_seen effects ≡ [] = ap pool_seen q.effects_are in
         let at : q.sample.place ≡ length front = (subst (Counts cs (length front)) cpu counts).0 in
         let quiet : makes_due (fast_after front) 0 ≡ false =
         ap (λ f. makes_due f 0) (sym (ap (fast 0) at ∙ at_front front rest is)) ∙ q.quiet in
-        subst (λ (l : List (ℕ × CpuEntry)). After l (pool_seen deeds)) (sym cpu)
+        subst (λ (l : List (ℕ × CpuEntry)). After l (pool_seen effects)) (sym cpu)
         (subst (λ (l : List (ℕ × PoolEntry)). After ((q.sample.place, irq_entry x) ∷ []) l) (sym unmixed)
         (subst (Dumped (samples ++ x ∷ []) (front ++ irq_entry x ∷ [])) (sym (append-nil pool))
         (quiet_more samples front pool had x quiet)))
 
-    due_call : DueCall fast x deeds → After (cpu_seen deeds) (pool_seen deeds)
+    due_call : DueCall fast x effects → After (cpu_seen effects) (pool_seen effects)
     due_call d =
         let both : List (ℕ × CpuEntry) = (d.sample.place, irq_entry x) ∷ (d.dump.place, Dump 0) ∷ [] in
         let bits : ℕ = dump_bits (fast 0 d.dump.place) in
         let crossed : List (ℕ × PoolEntry) = pool_seen d.rest in
-        let cpu : cpu_seen deeds ≡ both =
-        ap cpu_seen d.deeds_are
+        let cpu : cpu_seen effects ≡ both =
+        ap cpu_seen d.effects_are
         ∙ (λ i. cond (nat_eq (d.on i + 2) 2)
         ((d.sample.place, d.is i) ∷ cond (nat_eq (d.dump_on i + 2) 2) ((d.dump.place, d.dumps i) ∷ d.crosses.no_cpu i)
         (d.crosses.no_cpu i))
         (cond (nat_eq (d.dump_on i + 2) 2) ((d.dump.place, d.dumps i) ∷ d.crosses.no_cpu i) (d.crosses.no_cpu i))) in
-        let mixed : pool_seen deeds ≡ (d.mix.place, Mix d.text bits) ∷ crossed =
-        ap pool_seen d.deeds_are ∙ ap (λ e. (d.mix.place, e) ∷ crossed) d.mixes in
+        let mixed : pool_seen effects ≡ (d.mix.place, Mix d.text bits) ∷ crossed =
+        ap pool_seen d.effects_are ∙ ap (λ e. (d.mix.place, e) ∷ crossed) d.mixes in
         let c : Counts cs (length front) both = subst (Counts cs (length front)) cpu counts in
         let due : makes_due (fast_after front) 0 ≡ true =
         ap (λ f. makes_due f 0) (sym (ap (fast 0) c.0 ∙ at_front front rest is)) ∙ d.due in
@@ -246,11 +246,11 @@ module _ (lists : Lists) (fast : ℕ → ℕ → FastPool)
         let then : fast 0 d.dump.place ≡ fast_after (front ++ irq_entry x ∷ []) =
         ap (fast 0) (c.2.0 ∙ sym long) ∙ at_front (front ++ irq_entry x ∷ []) one.0 one.1 in
         let sixteen : bits ≡ 16 = ap dump_bits then ∙ bits_at_dump samples front pool had x due in
-        subst (λ (l : List (ℕ × CpuEntry)). After l (pool_seen deeds)) (sym cpu)
+        subst (λ (l : List (ℕ × CpuEntry)). After l (pool_seen effects)) (sym cpu)
         (subst (λ (l : List (ℕ × PoolEntry)). After both l) (sym mixed)
         (due_more samples front pool had x d.text bits (seconds crossed) due sixteen d.crosses.same_bits))
 
-    call_more : QuietCall fast x deeds ⊎ DueCall fast x deeds → After (cpu_seen deeds) (pool_seen deeds)
+    call_more : QuietCall fast x effects ⊎ DueCall fast x effects → After (cpu_seen effects) (pool_seen effects)
     call_more (inl q) = quiet_call q
     call_more (inr d) = due_call d
 
@@ -264,7 +264,7 @@ module _ (visits : ℕ → List Visit) where
   fast = fast_in visits
 
   abbrev IsCall : Sample → List Step → Type 0
-  IsCall x steps = Sampled (IsOutcomeOf set (IrqEvent x.v1 x.v2) Done no_data) visits (deeds_of lists steps)
+  IsCall x steps = Sampled (IsOutcomeOf set (IrqEvent x.v1 x.v2) Done no_data) visits (effects_of lists steps)
 
   abbrev AreSampled : List Sample → List (List Step) → Type 0
   AreSampled [] [] = Unit {0}
@@ -278,26 +278,26 @@ module _ (visits : ℕ → List Visit) where
   are_calls (x ∷ xs) [] a = a
   are_calls (x ∷ xs) (steps ∷ calls) a = (a.0.holds, are_calls xs calls a.1)
 
-  stand : (xs : List Sample) (calls : List (List Step)) → AreSampled xs calls →
-      AllByRecursion (λ steps. SamplesStand fast (deeds_of lists steps)) calls
-  stand [] [] a = tt
-  stand [] (steps ∷ calls) a = absurd a
-  stand (x ∷ xs) [] a = tt
-  stand (x ∷ xs) (steps ∷ calls) a = (a.0.samples, stand xs calls a.1)
+  conform : (xs : List Sample) (calls : List (List Step)) → AreSampled xs calls →
+      AllByRecursion (λ steps. SamplesConform fast (effects_of lists steps)) calls
+  conform [] [] a = tt
+  conform [] (steps ∷ calls) a = absurd a
+  conform (x ∷ xs) [] a = tt
+  conform (x ∷ xs) (steps ∷ calls) a = (a.0.samples, conform xs calls a.1)
 
   are_sampled : (event : ℕ) (xs : List Sample) (v w : View) (m : Mixes (first_setting 0) event xs v w) →
       Continues 3 w visits → AreSampled xs (calls_in event xs v w m)
   are_sampled event [] v w m c = tt
   are_sampled event (x ∷ xs) v w (u, one, more) c =
-      let rest = course_in (suc event) xs u w more in (
-        subst (λ (l : List Step). Sampled (IsOutcomeOf set (IrqEvent x.v1 x.v2) Done no_data) visits (deeds_of lists l))
-            (sym one.did.told.trace)
-            (one.did.stands 3 visits [] (continues_before 3 u w visits rest.same.sized rest.grows c)),
+      let rest = path_in (suc event) xs u w more in (
+        subst (λ (l : List Step). Sampled (IsOutcomeOf set (IrqEvent x.v1 x.v2) Done no_data) visits (effects_of lists l))
+            (sym one.did.recorded.trace)
+            (one.did.conforms 3 visits [] (continues_before 3 u w visits rest.same.sized rest.grows c)),
         are_sampled (suc event) xs u w more c,
       )
 
   module _ (fast_is : (i : ℕ) → i ≤ length (cpu_list lists 0) → fast 0 i ≡ fast_after (take i (cpu_list lists 0))) where
-    -- the lists begin with the entries of some calls
+    -- the lists of the CPU and of the pool begin with the entries that the calls of these samples left
     record LeftBy (samples : List Sample) (cpu_long pool_long : ℕ) : Type 0 where
       pub cpu : List CpuEntry
       pub cpu_rest : List CpuEntry
@@ -316,34 +316,34 @@ module _ (visits : ℕ → List Visit) where
         LeftBy (samples ++ x ∷ []) (cpu_long + length (lane_of 2 (marks_from 0 event 0 steps)))
         (pool_long + length (lane_of 0 (marks_from 0 event 0 steps)))
     one_left samples x event cpu_long pool_long steps l call on_cpu on_pool =
-        let deeds : List Deed = deeds_of lists steps in
-        let which = shape fast x deeds call.holds.form call.samples in
-        let there = all_there fast x deeds which in
+        let effects : List Effect = effects_of lists steps in
+        let which = shape fast x effects call.holds.form call.samples in
+        let there = all_there fast x effects which in
         let c = cpu_here lists event 0 steps there in
         let p = pool_here lists event 0 steps there in
-        let c_counts : Counts (cpu_list lists 0) (length l.cpu) (cpu_seen deeds) =
+        let c_counts : Counts (cpu_list lists 0) (length l.cpu) (cpu_seen effects) =
         c.counts (length l.cpu) (subst (λ i. CountUp i (lane_of 2 (marks_from 0 event 0 steps))) (sym l.cpu_len) on_cpu) in
-        let p_counts : Counts lists.pool (length l.pool) (pool_seen deeds) =
+        let p_counts : Counts lists.pool (length l.pool) (pool_seen effects) =
         p.counts (length l.pool)
         (subst (λ i. CountUp i (lane_of 0 (marks_from 0 event 0 steps))) (sym l.pool_len) on_pool) in
-        let cs = all_entries (cpu_list lists 0) l.cpu l.cpu_rest (cpu_seen deeds) l.cpu_is c_counts in
-        let ps = all_entries lists.pool l.pool l.pool_rest (pool_seen deeds) l.pool_is p_counts in
+        let cs = all_entries (cpu_list lists 0) l.cpu l.cpu_rest (cpu_seen effects) l.cpu_is c_counts in
+        let ps = all_entries lists.pool l.pool l.pool_rest (pool_seen effects) l.pool_is p_counts in
         record {
-          cpu = l.cpu ++ seconds (cpu_seen deeds);
+          cpu = l.cpu ++ seconds (cpu_seen effects);
           cpu_rest = cs.0;
           cpu_is = cs.1;
           cpu_len =
-              (let a = length-append l.cpu (seconds (cpu_seen deeds)) in
-              let b = length-map (cpu_seen deeds) (λ (e : ℕ × CpuEntry). e.1) in
+              (let a = length-append l.cpu (seconds (cpu_seen effects)) in
+              let b = length-map (cpu_seen effects) (λ (e : ℕ × CpuEntry). e.1) in
               let m = c.many in let k = l.cpu_len in omega arith);
-          pool = l.pool ++ seconds (pool_seen deeds);
+          pool = l.pool ++ seconds (pool_seen effects);
           pool_rest = ps.0;
           pool_is = ps.1;
           pool_len =
-              (let a = length-append l.pool (seconds (pool_seen deeds)) in
-              let b = length-map (pool_seen deeds) (λ (e : ℕ × PoolEntry). e.1) in
+              (let a = length-append l.pool (seconds (pool_seen effects)) in
+              let b = length-map (pool_seen effects) (λ (e : ℕ × PoolEntry). e.1) in
               let m = p.many in let k = l.pool_len in omega arith);
-          dumped = call_more lists fast fast_is samples x deeds l.cpu l.cpu_rest l.pool l.cpu_is l.dumped c_counts which;
+          dumped = call_more lists fast fast_is samples x effects l.cpu l.cpu_rest l.pool l.cpu_is l.dumped c_counts which;
         }
 
     all_left : (event : ℕ) (samples xs : List Sample) (cpu_long pool_long : ℕ) (calls : List (List Step)) →
@@ -360,20 +360,20 @@ module _ (visits : ℕ → List Visit) where
     all_left event samples (x ∷ xs) cpu_long pool_long [] l a on_cpu on_pool = absurd a
     all_left event samples (x ∷ xs) cpu_long pool_long (steps ∷ calls) l a on_cpu on_pool =
         let here : List MarkBy = marks_from 0 event 0 steps in
-        let behind : List MarkBy = marks_of (suc event) calls in
-        let cpu = parts_count cpu_long (lane_of 2 here) (lane_of 2 behind)
-        (subst (CountUp cpu_long) (lane_append 2 here behind) on_cpu) in
-        let pool = parts_count pool_long (lane_of 0 here) (lane_of 0 behind)
-        (subst (CountUp pool_long) (lane_append 0 here behind) on_pool) in
+        let following : List MarkBy = marks_of (suc event) calls in
+        let cpu = parts_count cpu_long (lane_of 2 here) (lane_of 2 following)
+        (subst (CountUp cpu_long) (lane_append 2 here following) on_cpu) in
+        let pool = parts_count pool_long (lane_of 0 here) (lane_of 0 following)
+        (subst (CountUp pool_long) (lane_append 0 here following) on_pool) in
         let one = one_left samples x event cpu_long pool_long steps l a.0 cpu.0 pool.0 in
         let all = all_left (suc event) (samples ++ x ∷ []) xs (cpu_long + length (lane_of 2 here))
         (pool_long + length (lane_of 0 here)) calls one a.1 cpu.1 pool.1 in
-        let c : (cpu_long + length (lane_of 2 here)) + length (lane_of 2 behind)
-        ≡ cpu_long + length (lane_of 2 (here ++ behind)) =
-        (let n = ap length (lane_append 2 here behind) ∙ length-append (lane_of 2 here) (lane_of 2 behind) in omega arith) in
-        let p : (pool_long + length (lane_of 0 here)) + length (lane_of 0 behind)
-        ≡ pool_long + length (lane_of 0 (here ++ behind)) =
-        (let n = ap length (lane_append 0 here behind) ∙ length-append (lane_of 0 here) (lane_of 0 behind) in omega arith) in
+        let c : (cpu_long + length (lane_of 2 here)) + length (lane_of 2 following)
+        ≡ cpu_long + length (lane_of 2 (here ++ following)) =
+        (let n = ap length (lane_append 2 here following) ∙ length-append (lane_of 2 here) (lane_of 2 following) in omega arith) in
+        let p : (pool_long + length (lane_of 0 here)) + length (lane_of 0 following)
+        ≡ pool_long + length (lane_of 0 (here ++ following)) =
+        (let n = ap length (lane_append 0 here following) ∙ length-append (lane_of 0 here) (lane_of 0 following) in omega arith) in
         subst (λ (t : List Sample × ℕ × ℕ). LeftBy t.0 t.1 t.2)
         (λ i. (append_assoc samples (x ∷ []) xs i, c i, p i)) all
 
@@ -391,15 +391,15 @@ module _ (xs : List Sample) (v w : View) (m : Mixes (first_setting 0) 0 xs v w) 
   abbrev marks : List MarkBy
   marks = marks_of 0 calls
 
-  course : Course start w marks
-  course = subst (λ (z : View). Course z w marks) new (course_in 0 xs v w m)
+  path : Path start w marks
+  path = subst (λ (z : View). Path z w marks) new (path_in 0 xs v w m)
 
   pub whole_share : w.share ≡ 2 ^ w.halvings
-  whole_share = share_is w marks course
+  whole_share = share_is w marks path
 
   module _ (at_end : Ended 3 w) where
     three : length w.lanes ≡ 3
-    three = wide w marks course
+    three = wide w marks path
 
     low : 2 ≤ length w.lanes
     low = let n = three in omega arith
@@ -426,7 +426,7 @@ module _ (xs : List Sample) (v w : View) (m : Mixes (first_setting 0) 0 xs v w) 
     lawful = subst (λ (n : ℕ). LawfulLanes (book_lists n visits_of [])) three (ended_lawful w [] low ended)
 
     made : VisitsAre book marks
-    made = subst (λ (n : ℕ). VisitsAre (book_of n visits_of []) marks) three (visits_made w marks course ended)
+    made = subst (λ (n : ℕ). VisitsAre (book_of n visits_of []) marks) three (visits_made w marks path ended)
 
     pub fed_book : IsFedBook xs book
     fed_book = record {
@@ -442,10 +442,10 @@ module _ (xs : List Sample) (v w : View) (m : Mixes (first_setting 0) 0 xs v w) 
       calls = calls;
       are = are_calls visits_of xs calls sampled;
       visits = made;
-      lawful_samples = lawful_samples calls visits_of closed made (places_stand w marks course ended)
-          (stand visits_of xs calls sampled);
+      lawful_samples = lawful_samples calls visits_of closed made (places_conform w marks path ended)
+          (conform visits_of xs calls sampled);
       last = w.stamp;
-      in_order = course.climbs;
+      in_order = path.climbs;
     }
 
     cpu_is : cpu_list (lists_of book) 0 ≡ entries cpu_entry (visits_of 2)
@@ -475,13 +475,13 @@ module _ (xs : List Sample) (v w : View) (m : Mixes (first_setting 0) 0 xs v w) 
       pool_len = refl;
       dumped = none_dumped;
     }) sampled
-        (count_up 0 (lane_of 2 marks) (in_order w marks course ended 2 (lit< tt) (refl, refl)))
-        (count_up 0 (lane_of 0 marks) (in_order w marks course ended 0 (lit< tt) (refl, refl)))
+        (count_up 0 (lane_of 2 marks) (in_order w marks path ended 2 (lit< tt) (refl, refl)))
+        (count_up 0 (lane_of 0 marks) (in_order w marks path ended 0 (lit< tt) (refl, refl)))
 
     pub dumped_book : Dumped xs (cpu_list (lists_of book) 0) (lists_of book).pool
     dumped_book =
-        let a = all_here w marks course ended 2 (lit< tt) (refl, refl) in
-        let b = all_here w marks course ended 0 (lit< tt) (refl, refl) in
+        let a = all_here w marks path ended 2 (lit< tt) (refl, refl) in
+        let b = all_here w marks path ended 0 (lit< tt) (refl, refl) in
         let cpu : left.cpu ≡ cpu_list (lists_of book) 0 =
         front_is_all (cpu_list (lists_of book) 0) left.cpu left.cpu_rest left.cpu_is
         (let l = left.cpu_len in let k = cpu_long in omega arith) in

@@ -1,4 +1,5 @@
--- From the first feeder to the last sample.
+-- The path of a call of `feed`: the facts `CanStart`, `CanTakeBack`, `HasDrained` and `Front` lead from the first
+-- feeder's start to the last mixed sample, and to `AllMixed`.
 use Rattle.std.proofs.Common.{◌≡◌, ◌≢◌, ◌⊎◌, inl, inr, ⊎_elim, ℕ, zero, suc, ◌+◌, ◌*◌, ◌<◌, ◌≤◌, ◌==◌, cond, Bool, true, false, not, ◌&&◌, true≢false, List, [], ◌∷◌, ◌++◌, length, set, sym, refl, ap, ◌∙◌, subst, arith, length-append, append_assoc, add-one, suc-mul}
 use Rattle.std.specs.Prelude.{nat_lt, slice_index_or, vec_capacity, vec_items}
 use Rattle.std.specs.List.{AllByRecursion}
@@ -15,10 +16,10 @@ use Rattle.irq_feed.specs.declared.queue.FeedQueue.{FeedQueue}
 use Rattle.irq_feed.specs.declared.queue.FeedPass.{FeedPass}
 use Rattle.irq_feed.specs.Feeds.{Numbers}
 use Rattle.irq_feed.specs.Samples.{sample, first_samples, of_feeder}
-use Rattle.irq_feed.specs.Rule.{desk, post, ended, behind_split, taken_in, with_taken, Learned, Learns}
+use Rattle.irq_feed.specs.Rule.{desk, post, ended, after_split, taken_in, with_taken, Learned, Learns}
 use Rattle.irq_feed.specs.Passes.{known, took, taken_of, AreNew, IsPassOf}
 use Rattle.irq_feed.specs.Fed.{mixed_in, is_direct, sum_below, through_queue, by_worker, done_so_far, IsAmong, HasBegun, CanStart, CanTakeBack, Front, HasDrained, HasRoom, AllMixed}
-use Rattle.irq_feed.proofs.Counting.{sum_small, products_small, sum_same, sum_tight, sum_plus, counted, none_behind, cons_not_nil, of_here, first_length, first_own, first_else, front_whole, front_none, front_short}
+use Rattle.irq_feed.proofs.Counting.{sum_small, products_small, sum_same, sum_tight, sum_plus, counted, none_after, cons_not_nil, of_here, first_length, first_own, first_else, front_whole, front_none, front_short}
 
 -- ---- the samples of a feeder that are done
 
@@ -104,7 +105,7 @@ came_through : (d : ℕ → Bool) (xs : List Sample) → ((f : ℕ) → d f ≡ 
     → AllByRecursion (λ (x : Sample). d x.feeder ≡ false) xs
 came_through d [] none = tt
 came_through d (x ∷ xs) none =
-    (by (d x.feeder) refl, came_through d xs (λ f direct. none_behind x xs f (none f direct)))
+    (by (d x.feeder) refl, came_through d xs (λ f direct. none_after x xs f (none f direct)))
   where
     by : (b : Bool) → d x.feeder ≡ b → d x.feeder ≡ false
     by true e = absurd (cons_not_nil x (of_feeder x.feeder xs) (sym (of_here x xs x.feeder refl) ∙ none x.feeder e))
@@ -120,7 +121,7 @@ among_all P e (x ∷ xs) all here =
 among_more : (e : Ended) (es more : List Ended) → IsAmong e es → IsAmong e (es ++ more)
 among_more e [] more here = absurd here
 among_more e (x ∷ xs) more here =
-    ⊎_elim (λ (same : x ≡ e). inl same) (λ (behind : IsAmong e xs). inr (among_more e xs more behind)) here
+    ⊎_elim (λ (same : x ≡ e). inl same) (λ (following : IsAmong e xs). inr (among_more e xs more following)) here
 
 among_last : (e : Ended) (es : List Ended) → IsAmong e (es ++ e ∷ [])
 among_last e [] = inl refl
@@ -144,7 +145,7 @@ first_start q feeds w m new none room few = record {
 }
 
 pub has_pass : (q : FeedQueue) (feeds : Numbers) (n owed : ℕ) (w w' : FeedPass) (m : Mixed) → n < feeds.feeders
-    → CanStart q feeds n owed w m → IsPassOf q w' → known w' ≡ behind_split (known w) → CanTakeBack q feeds n owed w' m
+    → CanStart q feeds n owed w m → IsPassOf q w' → known w' ≡ after_split (known w) → CanTakeBack q feeds n owed w' m
 has_pass q feeds n owed w w' m near h of_queue is = (
   near,
   record {
@@ -152,7 +153,7 @@ has_pass q feeds n owed w w' m near h of_queue is = (
     low = h.low;
     few = h.few;
     ends = h.ends;
-    knows = is ∙ ap behind_split h.knows;
+    knows = is ∙ ap after_split h.knows;
     direct = h.direct;
     owes = h.owes;
     none = h.none;
@@ -160,7 +161,7 @@ has_pass q feeds n owed w w' m near h of_queue is = (
   },
 )
 
--- after the flag of feeder n is written, n has the new flag and the feeders below n keep theirs
+-- after the flag of feeder `n` is written, `n` has the new flag and the feeders below `n` keep theirs
 pub now_is : (ds : List Bool) (n : ℕ) (b : Bool) → n < length ds → slice_index_or (set ds n b) n false ≡ b
 now_is ds n b low = get_or-set_same ds n b false low
 
@@ -168,7 +169,7 @@ pub still_is : (ds : List Bool) (n : ℕ) (b : Bool) (f : ℕ) → f < n
     → slice_index_or (set ds n b) f false ≡ slice_index_or ds f false
 still_is ds n b f low = get_or-set_other ds n f b false (λ e. absurd (omega arith))
 
--- the next number, with the facts about the feeder before it
+-- once it is known whether feeder `n` is direct, the next feeder can start
 module _ (q : FeedQueue) (feeds : Numbers) (n owed : ℕ) (w : FeedPass) (m m' : Mixed) (b : Bool)
     (h : CanTakeBack q feeds n owed w m) (samples : m'.samples ≡ m.samples) (here : is_direct m' n ≡ b)
     (same : (f : ℕ) → f < n → is_direct m' f ≡ is_direct m f) where
@@ -221,7 +222,7 @@ taken_back q feeds n owed owed' pushed w w' x m m' b h samples here same of_queu
     (λ f low direct. among_more (ended f 0) h.1.ends (ended n pushed ∷ []) (h.1.direct f low direct))
     (λ e. subst (λ k. IsAmong (ended n 0) (h.1.ends ++ ended n k ∷ [])) (sym (none e)) (among_last (ended n 0) h.1.ends))
 
--- 32 bits suffice to count the samples of the queue
+-- at most 160,000 samples come through the queue, so 32 bits suffice to count them
 pub owed_small : (q : FeedQueue) (feeds : Numbers) (n next owed : ℕ) (w : FeedPass) (m : Mixed)
     → HasBegun q feeds n next owed w m → owed ≤ 160000
 owed_small q feeds n next owed w m h =
@@ -276,7 +277,7 @@ drained q feeds n owed w w' w'' m m' items all h knows count direct room of_queu
         directly = [];
         parts = sym (append-nil (mixed_in m'));
         came = came_through d (mixed_in m') (λ f is. none_direct feeds d (mixed_in m') each f is);
-        behind = tt;
+        following = tt;
         each = each;
         count = (let s = sum in omega arith);
         room = (let r = h.room in omega arith);
@@ -290,18 +291,18 @@ drained q feeds n owed w w' w'' m m' items all h knows count direct room of_queu
 
 -- ---- the samples that the worker mixes itself
 
-all_behind : (d : ℕ → Bool) (xs ys : List Sample) → AllByRecursion (λ (x : Sample). d x.feeder ≡ true) xs
+all_after : (d : ℕ → Bool) (xs ys : List Sample) → AllByRecursion (λ (x : Sample). d x.feeder ≡ true) xs
     → AllByRecursion (λ (x : Sample). d x.feeder ≡ true) ys → AllByRecursion (λ (x : Sample). d x.feeder ≡ true) (xs ++ ys)
-all_behind d [] ys a b = b
-all_behind d (x ∷ xs) ys a b = (a.0, all_behind d xs ys a.1 b)
+all_after d [] ys a b = b
+all_after d (x ∷ xs) ys a b = (a.0, all_after d xs ys a.1 b)
 
 firsts_direct : (d : ℕ → Bool) (feeds : Numbers) (n k : ℕ) → d n ≡ true
     → AllByRecursion (λ (x : Sample). d x.feeder ≡ true) (first_samples feeds n k)
 firsts_direct d feeds n zero is = tt
 firsts_direct d feeds n (suc k) is =
-    all_behind d (first_samples feeds n k) (sample feeds n k ∷ []) (firsts_direct d feeds n k is) (is, tt)
+    all_after d (first_samples feeds n k) (sample feeds n k ∷ []) (firsts_direct d feeds n k is) (is, tt)
 
--- one number further, the done samples of all other feeders are the same
+-- when feeder `n` is done too, the done samples of each other feeder are unchanged
 done_else : (feeds : Numbers) (d : ℕ → Bool) (n f : ℕ) → f ≢ n → done_so_far feeds d (n + 1) f ≡ done_so_far feeds d n f
 done_else feeds d n f differ = ap (λ b. cond (nat_lt f feeds.feeders) (cond (d f && not b) [] (first_samples feeds f feeds.each)) [])
     (⊎_elim (λ low. lt-ltb f (n + 1) (omega arith) ∙ sym (lt-ltb f n low))
@@ -330,10 +331,10 @@ sum_step n (suc k) g low = ⊎_elim
     let a = sum_step n k g (let differ = t.1 in omega arith) in omega arith)
     (eqb_tells n k)
 
--- the direct feeders of a front
+-- the facts of `Front`, with the list of direct feeders as a variable
 record Parts (feeds : Numbers) (n : ℕ) (through directly : List Sample) (m : Mixed) (d : ℕ → Bool) : Type 0 where
   came : AllByRecursion (λ (x : Sample). d x.feeder ≡ false) through
-  behind : AllByRecursion (λ (x : Sample). d x.feeder ≡ true) directly
+  following : AllByRecursion (λ (x : Sample). d x.feeder ≡ true) directly
   each : (f : ℕ) → of_feeder f (mixed_in m) ≡ done_so_far feeds d n f
   count : length (mixed_in m) ≡ sum_below feeds.feeders (through_queue feeds.each d)
       + sum_below n (by_worker feeds.each d)
@@ -365,7 +366,7 @@ module _ (feeds : Numbers) (n : ℕ) (through : List Sample) (m : Mixed) (near :
         directly = h.directly;
         parts = h.parts;
         came = h.came;
-        behind = h.behind;
+        following = h.following;
         each = λ f. ⊎_elim
             (λ (t : (f == n ≡ true) × (f ≡ n)).
             let is : d f ≡ false = ap d t.1 ∙ direct in let low : f < feeds.feeders = (let e = t.1 in omega arith) in
@@ -386,7 +387,7 @@ module _ (feeds : Numbers) (n : ℕ) (through : List Sample) (m : Mixed) (near :
       let P : List Bool → Type 0 = λ ds. Parts feeds (n + 1) through (h.directly ++ xs) m' (λ f. slice_index_or ds f false) in
       let p : P m.direct = record {
         came = h.came;
-        behind = all_behind d h.directly xs h.behind (firsts_direct d feeds n feeds.each direct);
+        following = all_after d h.directly xs h.following (firsts_direct d feeds n feeds.each direct);
         each = λ f. ap (of_feeder f) is ∙ filter-append (λ (x : Sample). x.feeder == f) (mixed_in m) xs
             ∙ ⊎_elim
             (λ (t : (f == n ≡ true) × (f ≡ n)).
@@ -407,7 +408,7 @@ module _ (feeds : Numbers) (n : ℕ) (through : List Sample) (m : Mixed) (near :
         directly = h.directly ++ xs;
         parts = is ∙ ap (λ l. l ++ xs) h.parts ∙ append_assoc through h.directly xs;
         came = q.came;
-        behind = q.behind;
+        following = q.following;
         each = q.each;
         count = q.count;
         room = (let r = h.room in omega arith);
@@ -434,7 +435,7 @@ all_mixed q feeds w m m' h f =
       directly = f.directly;
       parts = f.parts ∙ ap (λ l. l ++ f.directly) (sym took_is);
       through = subst (AllByRecursion (λ (x : Sample). d x.feeder ≡ false)) (sym took_is) f.came;
-      behind = f.behind;
+      following = f.following;
     }
   where
     by : (n : ℕ) → n < feeds.feeders → (b : Bool) → is_direct m' n ≡ b

@@ -3,7 +3,7 @@ pub mod Moves
 pub mod Mixings
 pub mod Counting
 pub mod Feeding
-pub mod Courses
+pub mod Paths
 pub mod Entries
 pub mod Dumps
 pub mod FedBooks

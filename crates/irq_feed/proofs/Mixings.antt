@@ -1,4 +1,4 @@
--- Successive interrupts, and the lanes after them.
+-- Successive interrupts of samples, and the visits and entries that they leave in the lanes.
 use Rattle.std.proofs.Common.{◌≡◌, ⊎_elim, ℕ, suc, ◌+◌, ◌<◌, ◌==◌, List, [], ◌∷◌, ◌++◌, map, cond, true, false, Bool, length, sym, refl, ap, ◌∙◌, subst, append_assoc, add-zero, zero-add, add-one, length-append, ◌≤◌, arith}
 use Rattle.std.proofs.lemmas.List.{append-nil, map-append}
 use Rattle.key_names.specs.declared.names.Step.{Step}
@@ -7,7 +7,7 @@ use Rattle.key_names.specs.declared.entries.CpuEntry.{CpuEntry}
 use Rattle.key_names.specs.declared.entries.CpuEntry.TheVariants.{Irq}
 use Rattle.key_names.specs.Callers.Calls.{Setting}
 use Rattle.key_names.specs.Lanes.PoolList.{Crossing, ready, early, none}
-use Rattle.key_names.specs.Callers.Deeds.{Deed, looked, at_pool, at_base, at_cpu, nothing_there, deed_of, deeds_of}
+use Rattle.key_names.specs.Callers.Effects.{Effect, looked, at_pool, at_base, at_cpu, nothing_there, effect_of, effects_of}
 use Rattle.key_names.specs.Callers.Forms.{Rooted, BaseOnly, Cross, DumpForm, IrqForm}
 use Rattle.key_names.specs.declared.entries.BaseEntry.{BaseEntry}
 use Rattle.key_names.specs.declared.entries.BaseEntry.TheVariants.{Early, Reseed as Reseeded}
@@ -56,7 +56,7 @@ mixes_then set event (x ∷ xs) ys v u w before after = (
       subst (λ n. Mixes set n ys u w) e after),
 )
 
--- interrupts that follow others are successive ones, numbered from the first event on
+-- interrupts of `xs`, and then of `ys`, are interrupts of both lists, with all events numbered from 0
 pub mixes_on : (set : Called) (xs ys zs : List Sample) (v u w : View) → zs ≡ xs ++ ys → Mixes set (length xs) ys u w
     → Mixes set 0 xs v u → Mixes set 0 zs v w
 mixes_on set xs ys zs v u w is after before = subst (λ l. Mixes set 0 l v w) (sym is)
@@ -124,7 +124,7 @@ places_more lane (Marked mark ∷ xs) ys =
 
 -- ---- the interrupts among the steps of one call
 
-irqs_more : (xs ys : List Deed) → irqs_of (xs ++ ys) ≡ irqs_of xs ++ irqs_of ys
+irqs_more : (xs ys : List Effect) → irqs_of (xs ++ ys) ≡ irqs_of xs ++ irqs_of ys
 irqs_more [] ys = refl
 irqs_more (looked g ∷ xs) ys = irqs_more xs ys
 irqs_more (at_pool visit ∷ xs) ys = irqs_more xs ys
@@ -134,25 +134,25 @@ irqs_more (at_cpu visit ∷ xs) ys =
     ∙ sym (append_assoc (irq_at visit.cpu visit.entry) (irqs_of xs) (irqs_of ys))
 irqs_more (nothing_there ∷ xs) ys = irqs_more xs ys
 
-rooted_none : (set : Setting) (entry : ℕ → BaseEntry) (deeds : List Deed) → Rooted set entry deeds → irqs_of deeds ≡ []
-rooted_none set entry deeds r = ap irqs_of r.deeds_are
+rooted_none : (set : Setting) (entry : ℕ → BaseEntry) (effects : List Effect) → Rooted set entry effects → irqs_of effects ≡ []
+rooted_none set entry effects r = ap irqs_of r.effects_are
 
-crossing_none : (set : Setting) (c : Crossing) (deeds : List Deed) → Cross set c deeds → irqs_of deeds ≡ []
-crossing_none set none deeds r = ap irqs_of r
-crossing_none set ready deeds r = rooted_none set (λ n. Reseeded n set.now) deeds r
-crossing_none set early deeds r = ⊎_elim (λ x. rooted_none set (λ n. Early (Some n)) deeds x)
-    (λ (x : BaseOnly (Early None) deeds). ap irqs_of x.deeds_are) r
+crossing_none : (set : Setting) (c : Crossing) (effects : List Effect) → Cross set c effects → irqs_of effects ≡ []
+crossing_none set none effects r = ap irqs_of r
+crossing_none set ready effects r = rooted_none set (λ n. Reseeded n set.now) effects r
+crossing_none set early effects r = ⊎_elim (λ x. rooted_none set (λ n. Early (Some n)) effects x)
+    (λ (x : BaseOnly (Early None) effects). ap irqs_of x.effects_are) r
 
-dump_none : (set : Setting) (deeds : List Deed) → DumpForm set deeds → irqs_of deeds ≡ []
-dump_none set deeds d =
+dump_none : (set : Setting) (effects : List Effect) → DumpForm set effects → irqs_of effects ≡ []
+dump_none set effects d =
     let m = d.mixes in
-    ap irqs_of d.deeds_are ∙ ap (λ e. irq_at d.dump.cpu e ++ irqs_of d.rest) d.dumps ∙ ap irqs_of m.deeds_are
+    ap irqs_of d.effects_are ∙ ap (λ e. irq_at d.dump.cpu e ++ irqs_of d.rest) d.dumps ∙ ap irqs_of m.effects_are
     ∙ crossing_none set _ m.rest m.crosses
 
-irq_one : (set : Setting) (v1 v2 : ℕ) (deeds : List Deed) → IrqForm set v1 v2 deeds
-    → irqs_of deeds ≡ (set.cpu, Irq v1 v2 set.now) ∷ []
-irq_one set v1 v2 deeds f =
-    ap irqs_of f.deeds_are
+irq_one : (set : Setting) (v1 v2 : ℕ) (effects : List Effect) → IrqForm set v1 v2 effects
+    → irqs_of effects ≡ (set.cpu, Irq v1 v2 set.now) ∷ []
+irq_one set v1 v2 effects f =
+    ap irqs_of f.effects_are
     ∙ ap (λ (p : ℕ × CpuEntry). irq_at p.0 p.1 ++ irqs_of f.rest) (λ i. (f.on i, f.samples i))
     ∙ ap (λ l. (set.cpu, Irq v1 v2 set.now) ∷ l)
     (⊎_elim (λ (e : f.rest ≡ []). ap irqs_of e) (λ d. dump_none set f.rest d) f.dumps)
@@ -170,7 +170,7 @@ puts set event [] v w same = record {
 puts set event (x ∷ xs) v w (u, one, more) =
     let p = puts set (suc event) xs u w more in
     let d = one.did in
-    let went = d.told.went in
+    let went = d.recorded.went in
     record {
       steps = one.steps ++ p.steps;
       all = λ lane low.
@@ -178,16 +178,16 @@ puts set event (x ∷ xs) v w (u, one, more) =
           ∙ ap (λ l. l ++ places_of lane p.steps) (went.places lane low)
           ∙ append_assoc (at lane v).places (places_in lane d.made_steps) (places_of lane p.steps)
           ∙ ap (λ l. (at lane v).places ++ (l ++ places_of lane p.steps))
-          (places_same lane d.made_steps ∙ ap (places_of lane) (sym d.told.trace))
+          (places_same lane d.made_steps ∙ ap (places_of lane) (sym d.recorded.trace))
           ∙ ap (λ l. (at lane v).places ++ l) (sym (places_more lane one.steps p.steps));
       irqs = λ lanes visits callers c.
           let lists = book_lists lanes visits callers in
-          let first = d.stands lanes visits callers (continues_before lanes u w visits p.sized p.grows c) in
-          ap irqs_of (map-append (deed_of lists) one.steps p.steps)
-          ∙ irqs_more (deeds_of lists one.steps) (deeds_of lists p.steps)
-          ∙ ap (λ l. irqs_of (deeds_of lists l) ++ irqs_of (deeds_of lists p.steps)) d.told.trace
-          ∙ ap (λ l. l ++ irqs_of (deeds_of lists p.steps))
-          (irq_one (setting_of set) x.v1 x.v2 (deeds_of lists (map step_of d.made_steps)) first.holds.form)
+          let first = d.conforms lanes visits callers (continues_before lanes u w visits p.sized p.grows c) in
+          ap irqs_of (map-append (effect_of lists) one.steps p.steps)
+          ∙ irqs_more (effects_of lists one.steps) (effects_of lists p.steps)
+          ∙ ap (λ l. irqs_of (effects_of lists l) ++ irqs_of (effects_of lists p.steps)) d.recorded.trace
+          ∙ ap (λ l. l ++ irqs_of (effects_of lists p.steps))
+          (irq_one (setting_of set) x.v1 x.v2 (effects_of lists (map step_of d.made_steps)) first.holds.form)
           ∙ ap (λ l. irq_of set x ∷ l) (p.irqs lanes visits callers c);
       sized = p.sized ∙ went.same.sized;
       grows = λ j low. begins_trans (known_of v j) (known_of u j) (known_of w j) (went.grows j low)

@@ -15,12 +15,12 @@ use Rattle.irq_feed.specs.declared.known.Known.{Known}
 use Rattle.irq_feed.specs.declared.known.Known.TheVariants.{Worker, Feeder, Nobody}
 use Rattle.irq_feed.specs.Feeds.{Numbers, numbers}
 use Rattle.irq_feed.specs.Samples.{sample, first_samples, of_feeder}
-use Rattle.irq_feed.specs.Rule.{HasEnded, Fits, InOrder, Pushed, Popped, behind_split, new_feeder, taken_in, IsWorker, IsFeeding, MayPush, no_feeds, begun, desk, post, ended, Learns}
+use Rattle.irq_feed.specs.Rule.{HasEnded, Fits, InOrder, Pushed, Popped, after_split, new_feeder, taken_in, IsWorker, IsFeeding, MayPush, no_feeds, begun, desk, post, ended, Learns}
 use Rattle.irq_feed.proofs.Changes.{same_or_not, changed, changed_here, changed_else}
 
 -- ---- lists of views
 
--- an element of a list with one more at its end is an old element or the new one
+-- if `a` is added at the end of the list `l`, each element is one of `l`, or is `a`
 at_more : (l : List Known) (a u : Known) (j : ℕ) → get_elem? (l ++ a ∷ []) j ≡ some u
     → (get_elem? l j ≡ some u) ⊎ ((j ≡ length l) × (a ≡ u))
 at_more [] a u zero e = inr (refl, some-injective a u e)
@@ -43,7 +43,7 @@ fit_set F views pass w mine others j u e =
 no_seat : (o : Option ℕ) (a : ℕ) → o ≡ None → o ≡ Some a → ⊥
 no_seat o a none is = none-some a (sym none ∙ is)
 
--- two passes have two numbers
+-- if two feeders have different passes, they have different numbers
 apart : (seat : ℕ → Option ℕ) (f g a b : ℕ) → seat f ≡ Some a → seat g ≡ Some b → b ≢ a → g ≢ f
 apart seat f g a b at bt other e = other (same_Some b a (sym bt ∙ ap seat e ∙ at))
 
@@ -78,7 +78,7 @@ ordered_more feeds pushed xs x number before is f =
 
 -- ---- the feeders that ended
 
--- the worker's knowledge of the feeders that ended stays right if none of them changes
+-- what the worker knows about the feeders that ended stays right if none of these feeders changes
 ends_kept : (next next' : ℕ) (seat seat' : ℕ → Option ℕ) (pushed pushed' : ℕ → ℕ) (es : List Ended) → next ≤ next'
     → ((f : ℕ) → f < next → seat f ≡ None → (seat' f ≡ None) × (pushed' f ≡ pushed f))
     → AllByRecursion (HasEnded next seat pushed) es → AllByRecursion (HasEnded next' seat' pushed') es
@@ -112,7 +112,7 @@ begins = record {
 
 -- ---- a push
 
--- the knowledge of other passes stays right when the feeder with pass j pushes
+-- what other passes know stays right when the feeder with pass `j` pushes
 push_kept : (feeds : Numbers) (worker : ℕ) (seat : ℕ → Option ℕ) (pushed : ℕ → ℕ) (taken : List Sample)
     (number j k : ℕ) → seat number ≡ Some j → k ≢ j → (u : Known) → Fits feeds worker seat pushed taken k u
     → Fits feeds worker seat (changed pushed number (suc (pushed number))) taken k u
@@ -177,7 +177,7 @@ pushes n pass (Feeder p) x may items views room h at =
 
 -- ---- a pop
 
--- the knowledge of other passes stays right when the worker's pass takes a sample
+-- what other passes know stays right when the worker's pass takes a sample
 pop_kept : (feeds : Numbers) (worker : ℕ) (seat : ℕ → Option ℕ) (pushed : ℕ → ℕ) (taken taken' : List Sample)
     (k : ℕ) → k ≢ worker → (u : Known) → Fits feeds worker seat pushed taken k u
     → Fits feeds worker seat pushed taken' k u
@@ -217,7 +217,7 @@ pops pass (Worker d) may x items views h at =
 
 -- ---- a split
 
--- the knowledge of feeders stays right when a number without a pass gets one
+-- what feeders know stays right when a number without a pass gets a pass
 seat_kept : (feeds : Numbers) (worker : ℕ) (seat : ℕ → Option ℕ) (pushed : ℕ → ℕ) (taken : List Sample)
     (number : ℕ) (o : Option ℕ) (k : ℕ) → seat number ≡ None → k ≢ worker → (u : Known)
     → Fits feeds worker seat pushed taken k u → Fits feeds worker (changed seat number o) pushed taken k u
@@ -229,13 +229,13 @@ seat_kept feeds worker seat pushed taken number o k free other (Feeder p) fit = 
 }
 seat_kept feeds worker seat pushed taken number o k free other Nobody fit = tt
 
-pub splits : (pass : ℕ) (v : Known) → IsWorker v → fifo.Forks InOrder pass v (behind_split v) (new_feeder v)
+pub splits : (pass : ℕ) (v : Known) → IsWorker v → fifo.Forks InOrder pass v (after_split v) (new_feeder v)
 splits pass (Feeder p) may items views h at = absurd may
 splits pass Nobody may items views h at = absurd may
 splits pass (Worker d) may items views h at =
     let mine = h.fits pass (Worker d) at in
     let free = mine.1.free d.next (omega arith) in
-    let l : Known = behind_split (Worker d) in
+    let l : Known = after_split (Worker d) in
     let r : Known = new_feeder (Worker d) in
     let vs : List Known = set views pass l in
     let o : Option ℕ = Some (length vs) in
@@ -272,7 +272,7 @@ splits pass (Worker d) may items views h at =
           })) (at_more vs r u j e);
     }
 
--- the worker, which has taken no sample and given out no number, learns its feeds
+-- what other passes know stays right when the worker, before its first sample and first number, learns its feeds
 begin_kept : (feeds feeds' : Numbers) (worker : ℕ) (seat : ℕ → Option ℕ) (pushed : ℕ → ℕ) (taken : List Sample) (k : ℕ)
     → ((f : ℕ) → seat f ≡ None) → k ≢ worker → (u : Known) → Fits feeds worker seat pushed taken k u
     → Fits feeds' worker seat pushed taken k u
@@ -309,7 +309,7 @@ tells_feeds pass v feeds is items views h at =
 
 -- ---- a join
 
--- the knowledge of feeders stays right when another number's pass is taken in
+-- what feeders know stays right when the pass of another number is taken in
 free_kept : (feeds : Numbers) (worker : ℕ) (seat : ℕ → Option ℕ) (pushed : ℕ → ℕ) (taken : List Sample)
     (number j k : ℕ) → seat number ≡ Some j → k ≢ j → k ≢ worker → (u : Known)
     → Fits feeds worker seat pushed taken k u → Fits feeds worker (changed seat number None) pushed taken k u
@@ -321,7 +321,7 @@ free_kept feeds worker seat pushed taken number j k at away other (Feeder p) fit
 }
 free_kept feeds worker seat pushed taken number j k at away other Nobody fit = tt
 
--- a number with a pass is below the next one
+-- a number that has a pass is below the next number to be given out
 below_next : (seat : ℕ → Option ℕ) (pushed : ℕ → ℕ) (next number j : ℕ)
     → ((f : ℕ) → next ≤ f → (seat f ≡ None) × (pushed f ≡ 0)) → seat number ≡ Some j → number < next
 below_next seat pushed next number j free at =

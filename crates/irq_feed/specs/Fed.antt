@@ -24,8 +24,8 @@ mixed_in m = m.samples.items
 abbrev pub is_direct : Mixed → ℕ → Bool
 is_direct m feeder = slice_index_or m.direct feeder false
 
--- all samples of each feeder were mixed, in order and each once. First come those from the queue, in the order in
--- which the worker took them, and then those of the direct feeders
+-- all samples of each feeder were mixed, in order and each once. First come the samples from the queue, in the order
+-- in which the worker took them, and then the samples of the direct feeders
 pub record AllMixed (feeds : Numbers) (worker : FeedPass) (m : Mixed) : Type 0 where
   pub each : (feeder : ℕ) → feeder < feeds.feeders
       → of_feeder feeder (mixed_in m) ≡ first_samples feeds feeder feeds.each
@@ -33,34 +33,34 @@ pub record AllMixed (feeds : Numbers) (worker : FeedPass) (m : Mixed) : Type 0 w
   pub directly : List Sample
   pub parts : mixed_in m ≡ took worker ++ directly
   pub through : AllByRecursion (λ (x : Sample). is_direct m x.feeder ≡ false) (took worker)
-  pub behind : AllByRecursion (λ (x : Sample). is_direct m x.feeder ≡ true) directly
+  pub following : AllByRecursion (λ (x : Sample). is_direct m x.feeder ≡ true) directly
 
 -- Before the call and during it
 
--- the sum of g over all numbers below n
+-- the sum of `g` over all numbers below `n`
 abbrev pub sum_below : ℕ → (ℕ → ℕ) → ℕ
 sum_below zero g = 0
 sum_below (suc n) g = sum_below n g + g n
 
--- how many samples of a feeder come through the queue, and how many the worker mixes itself
+-- how many samples of a feeder come through the queue, and how many samples of it the worker mixes itself
 abbrev pub through_queue : ℕ → (ℕ → Bool) → ℕ → ℕ
 through_queue each direct feeder = if direct feeder then 0 else each
 
 abbrev pub by_worker : ℕ → (ℕ → Bool) → ℕ → ℕ
 by_worker each direct feeder = if direct feeder then each else 0
 
--- the mixed samples of a feeder, once the direct feeders below this number are done
+-- the mixed samples of a feeder, once the direct feeders below `number` are done
 abbrev pub done_so_far : Numbers → (ℕ → Bool) → ℕ → ℕ → List Sample
 done_so_far feeds direct number feeder =
     if nat_lt feeder feeds.feeders
     then (if direct feeder && not (nat_lt feeder number) then [] else first_samples feeds feeder feeds.each)
     else []
 
--- there is room for one more feeder's samples
+-- the list of mixed samples has room for one more feeder's samples
 abbrev pub HasRoom : Numbers → Mixed → Type 0
 HasRoom feeds m = (length (mixed_in m) + feeds.each ≤ 160000) × (length (mixed_in m) + feeds.each ≤ vec_capacity m.samples)
 
--- the worker's calls can be made
+-- with this pass and this setting the worker can make its interrupts
 pub record CanMix (lanes : Lanes) (set : Setting) (p : Pass) : Type 0 where
   pub has : HoldsLanes lanes set.caller [] p
   pub cpu : set.cpu < lanes.cpus
@@ -74,8 +74,8 @@ IsAmong e (x ∷ xs) = (x ≡ e) ⊎ IsAmong e xs
 abbrev pub DirectEnded : (ℕ → Bool) → ℕ → List Ended → Type 0
 DirectEnded direct number es = (feeder : ℕ) → feeder < number → direct feeder ≡ true → IsAmong (ended feeder 0) es
 
--- the feeders below this number were started, and `owed` samples will come through the queue; the worker took no
--- sample yet, and the next feeder gets the number `next`
+-- the feeders below `number` were started, and `owed` samples will come through the queue; the worker took no sample
+-- yet, and the next feeder gets the number `next`
 pub record HasBegun (queue : FeedQueue) (feeds : Numbers) (number next owed : ℕ) (worker : FeedPass) (m : Mixed)
     : Type 0 where
   pub of_queue : IsPassOf queue worker
@@ -91,19 +91,19 @@ pub record HasBegun (queue : FeedQueue) (feeds : Numbers) (number next owed : �
 abbrev pub CanStart : FeedQueue → Numbers → ℕ → ℕ → FeedPass → Mixed → Type 0
 CanStart queue feeds number owed worker m = HasBegun queue feeds number number owed worker m
 
--- as `HasBegun`, except that the feeder with this number already got its pass
+-- as `HasBegun`, except that the feeder `number` already got its pass
 abbrev pub CanTakeBack : FeedQueue → Numbers → ℕ → ℕ → FeedPass → Mixed → Type 0
 CanTakeBack queue feeds number owed worker m =
     (number < feeds.feeders) × HasBegun queue feeds number (number + 1) owed worker m
 
--- these samples came through the queue, and after them the worker mixed those of the direct feeders below this
--- number
+-- `through` has the samples that came from the queue; after them the worker mixed the samples of the direct feeders
+-- below `number`
 pub record Front (feeds : Numbers) (number : ℕ) (through : List Sample) (m : Mixed) : Type 0 where
   pub few : (feeds.feeders ≤ 16) × (feeds.each ≤ 10000)
   pub directly : List Sample
   pub parts : mixed_in m ≡ through ++ directly
   pub came : AllByRecursion (λ (x : Sample). is_direct m x.feeder ≡ false) through
-  pub behind : AllByRecursion (λ (x : Sample). is_direct m x.feeder ≡ true) directly
+  pub following : AllByRecursion (λ (x : Sample). is_direct m x.feeder ≡ true) directly
   pub each : (feeder : ℕ) → of_feeder feeder (mixed_in m) ≡ done_so_far feeds (is_direct m) number feeder
   pub count : length (mixed_in m) ≡ sum_below feeds.feeders (through_queue feeds.each (is_direct m))
       + sum_below number (by_worker feeds.each (is_direct m))

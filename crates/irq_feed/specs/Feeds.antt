@@ -1,5 +1,5 @@
--- The data of feeds: the first word of each feeder's first sample, the number of feeders, and the number of samples of
--- each feeder.
+-- The numbers that determine all samples: the first word of each feeder's first sample, the number of feeders, and
+-- the number of samples of each feeder.
 use Rattle.std.specs.Prelude.{ℕ}
 
 pub record Numbers : Type 0 where

@@ -7,7 +7,7 @@ use Rattle.key_names.specs.declared.entries.CpuEntry.TheVariants.{Read, Int, Irq
 use Rattle.key_names.specs.declared.events.Event.TheVariants.{Irq as IrqEvent}
 use Rattle.key_names.specs.declared.events.Answer.TheVariants.{Ok as Done}
 use Rattle.key_names.specs.Transcripts.SeenLine.{no_data}
-use Rattle.key_names.specs.Callers.Deeds.{Deed, looked, at_pool, at_base, at_cpu, nothing_there, deeds_of}
+use Rattle.key_names.specs.Callers.Effects.{Effect, looked, at_pool, at_base, at_cpu, nothing_there, effects_of}
 use Rattle.lane_table.specs.declared.view.Visit.{Visit}
 use Rattle.lane_table.specs.declared.view.View.{View}
 use Rattle.lane_table.specs.LaneNumbers.{index_of}
@@ -18,26 +18,26 @@ use Rattle.lane_table.specs.BookLaws.{Continues}
 use Rattle.rng_core.specs.declared.setting.Setting.{Setting}
 use Rattle.rng_core.specs.Traces.{knowing}
 use Rattle.rng_core.specs.Makes.{MakesIn, IsOutcomeOf, setting_of}
-use Rattle.rng_core.specs.SampleDeeds.{Sampled}
+use Rattle.rng_core.specs.SampleEffects.{Sampled}
 use Rattle.irq_feed.specs.declared.samples.Sample.{Sample}
 
 abbrev pub in_event : Setting → ℕ → Setting
 in_event set event = record set { event = event }
 
--- from v to w the pass made one interrupt of this sample, with these steps
+-- from `v` to `w` the pass made one interrupt of this sample, with these steps
 pub record Interrupted (set : Setting) (event : ℕ) (x : Sample) (v w : View) : Type 0 where
   pub steps : List Step
   pub did : MakesIn (Sampled (IsOutcomeOf (setting_of set) (IrqEvent x.v1 x.v2) Done no_data)) (in_event set event)
       (knowing v []) (knowing w steps)
 
--- from v to w the pass made one interrupt for each sample, in order, in events numbered from this one on
+-- from `v` to `w` the pass made one interrupt for each sample, in order, in events numbered from `event` on
 abbrev pub Mixes : Setting → ℕ → List Sample → View → View → Type 0
 Mixes set event [] v w = w ≡ v
 Mixes set event (x ∷ xs) v w = (u : View) × Interrupted set event x v u × Mixes set (suc event) xs u w
 
--- The lanes after that
+-- The lanes after the interrupts
 
--- the interrupts among the deeds of steps: their CPUs and entries
+-- the interrupts among the effects of steps: their CPUs and entries
 abbrev pub irq_at : ℕ → CpuEntry → List (ℕ × CpuEntry)
 irq_at cpu (Read look refill taken) = []
 irq_at cpu (Int look refill width filled) = []
@@ -46,13 +46,13 @@ irq_at cpu (Dump now) = []
 irq_at cpu Prepare = []
 irq_at cpu Online = []
 
-abbrev pub irqs_of : List Deed → List (ℕ × CpuEntry)
+abbrev pub irqs_of : List Effect → List (ℕ × CpuEntry)
 irqs_of [] = []
-irqs_of (looked g ∷ deeds) = irqs_of deeds
-irqs_of (at_pool visit ∷ deeds) = irqs_of deeds
-irqs_of (at_base visit ∷ deeds) = irqs_of deeds
-irqs_of (at_cpu visit ∷ deeds) = irq_at visit.cpu visit.entry ++ irqs_of deeds
-irqs_of (nothing_there ∷ deeds) = irqs_of deeds
+irqs_of (looked g ∷ effects) = irqs_of effects
+irqs_of (at_pool visit ∷ effects) = irqs_of effects
+irqs_of (at_base visit ∷ effects) = irqs_of effects
+irqs_of (at_cpu visit ∷ effects) = irq_at visit.cpu visit.entry ++ irqs_of effects
+irqs_of (nothing_there ∷ effects) = irqs_of effects
 
 -- the places of a lane's visits among some steps
 abbrev pub places_of : ℕ → List Step → List ℕ
@@ -61,16 +61,16 @@ places_of lane (Look g ∷ steps) = places_of lane steps
 places_of lane (Marked mark ∷ steps) =
     if index_of mark.lane == lane then mark.place ∷ places_of lane steps else places_of lane steps
 
--- a sample's interrupt, on the setting's CPU and at its moment
+-- a sample's interrupt, on the CPU and at the moment of the setting
 abbrev pub irq_of : Setting → Sample → ℕ × CpuEntry
 irq_of set x = (set.cpu, Irq x.v1 x.v2 set.now)
 
--- from v to w the pass made exactly these steps; in all lists of visits that continue those that it knows then, the
--- interrupts of these steps are those of the samples, in order
+-- from `v` to `w` the pass made exactly these steps. In all lists of visits that continue those of `w`, the interrupts
+-- among the steps are those of the samples, in order
 pub record Put (set : Setting) (xs : List Sample) (v w : View) : Type 0 where
   pub steps : List Step
   pub all : (lane : ℕ) → lane < length v.lanes → (at lane w).places ≡ (at lane v).places ++ places_of lane steps
   pub irqs : (lanes : ℕ) (visits : ℕ → List Visit) (callers : StateLists) → Continues lanes w visits →
-      irqs_of (deeds_of (book_lists lanes visits callers) steps) ≡ map (irq_of set) xs
+      irqs_of (effects_of (book_lists lanes visits callers) steps) ≡ map (irq_of set) xs
   pub sized : length w.lanes ≡ length v.lanes
   pub grows : Grows v w

@@ -1,4 +1,4 @@
--- The queue's passes in clauses.
+-- The passes of a queue, and what they know, as the clauses use them.
 use Rattle.std.specs.Prelude.{◌≡◌, ℕ, List, []}
 use Rattle.crossbeam_queue.specs.Passes as ruled
 use Rattle.irq_feed.specs.declared.samples.Sample.{Sample}
@@ -13,7 +13,7 @@ use Rattle.irq_feed.specs.Rule.{begun, post}
 abbrev pub known : FeedPass → Known
 known w = ruled.view w.pass
 
--- it is a pass of this queue
+-- the pass is one of this queue
 abbrev pub IsPassOf : FeedQueue → FeedPass → Type 0
 IsPassOf q w = ruled.IsPassOf q.line w.pass
 
@@ -39,6 +39,6 @@ next_number w = next_of (known w)
 abbrev pub AreNew : FeedQueue → Numbers → FeedPass → Type 0
 AreNew q feeds w = IsPassOf q w × (known w ≡ begun feeds)
 
--- a feeder's pass of this queue, after this number of pushed samples
+-- the pass of a feeder of this queue, after the feeder pushed this number of samples
 abbrev pub IsFeeder : FeedQueue → Numbers → ℕ → ℕ → FeedPass → Type 0
 IsFeeder q feeds number pushed w = IsPassOf q w × (known w ≡ Feeder (post feeds number pushed))

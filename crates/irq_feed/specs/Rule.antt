@@ -26,12 +26,12 @@ ended feeder pushed = record { feeder = feeder; pushed = pushed }
 
 -- The rule
 
--- the feeder has a number that was given out, has no pass any more, and pushed this number of samples
+-- the feeder's number was given out, no pass has the number any more, and the feeder pushed this number of samples
 abbrev pub HasEnded : ℕ → (ℕ → Option ℕ) → (ℕ → ℕ) → Ended → Type 0
 HasEnded next seat pushed e = (e.feeder < next) × (seat e.feeder ≡ None) × (pushed e.feeder ≡ e.pushed)
 
--- the worker's knowledge is right: it has the one pass that may take, and no feeder has the next number or a higher
--- one
+-- the worker's knowledge is right: the feeds, the samples that it took, and the feeders that ended. No feeder has the
+-- next number or a higher one
 pub record IsDesk (feeds : Numbers) (seat : ℕ → Option ℕ) (pushed : ℕ → ℕ) (taken : List Sample) (d : Desk)
     : Type 0 where
   pub feeds_are : d.feeds ≡ feeds
@@ -39,7 +39,7 @@ pub record IsDesk (feeds : Numbers) (seat : ℕ → Option ℕ) (pushed : ℕ �
   pub free : (feeder : ℕ) → d.next ≤ feeder → (seat feeder ≡ None) × (pushed feeder ≡ 0)
   pub ends : AllByRecursion (HasEnded d.next seat pushed) d.ended
 
--- a feeder's knowledge is right, and no other pass has its number
+-- a feeder's knowledge is right, and `pass` is the pass that has the feeder's number
 pub record IsPost (feeds : Numbers) (seat : ℕ → Option ℕ) (pushed : ℕ → ℕ) (pass : ℕ) (p : Post) : Type 0 where
   pub feeds_are : p.feeds ≡ feeds
   pub mine : seat p.number ≡ Some pass
@@ -50,8 +50,8 @@ Fits feeds worker seat pushed taken pass (Worker d) = (pass ≡ worker) × IsDes
 Fits feeds worker seat pushed taken pass (Feeder p) = IsPost feeds seat pushed pass p
 Fits feeds worker seat pushed taken pass Nobody = ⊤
 
--- `seat` has each feeder's pass, if any, `pushed` the number of samples that it pushed, `taken` the samples that the
--- worker took, and `worker` the worker's pass
+-- `seat` maps each feeder to its pass, if it has one, and `pushed` to the number of samples that it pushed; `taken`
+-- has the samples that the worker took, and `worker` is the worker's pass
 pub record InOrder (items : List Sample) (views : List Known) : Type 0 where
   pub feeds : Numbers
   pub worker : ℕ
@@ -64,23 +64,23 @@ pub record InOrder (items : List Sample) (views : List Known) : Type 0 where
 
 -- The kinds of step
 
--- a push: the next sample of the feeder
+-- a push: the feeder has pushed one more sample
 abbrev pub Pushed : Known → Sample → Known → Type 0
 Pushed (Worker d) x w = ⊤
 Pushed (Feeder p) x w = w ≡ Feeder (post p.feeds p.number (p.pushed + 1))
 Pushed Nobody x w = ⊤
 
--- a pop: the worker takes one more sample
+-- a pop: the worker has taken one more sample
 abbrev pub Popped : Known → Sample → Known → Type 0
 Popped (Worker d) x w = w ≡ Worker (desk d.feeds (d.taken ++ x ∷ []) d.next d.ended)
 Popped (Feeder p) x w = ⊤
 Popped Nobody x w = ⊤
 
 -- a split: a new feeder gets the next number
-abbrev pub behind_split : Known → Known
-behind_split (Worker d) = Worker (desk d.feeds d.taken (d.next + 1) d.ended)
-behind_split (Feeder p) = Feeder p
-behind_split Nobody = Nobody
+abbrev pub after_split : Known → Known
+after_split (Worker d) = Worker (desk d.feeds d.taken (d.next + 1) d.ended)
+after_split (Feeder p) = Feeder p
+after_split Nobody = Nobody
 
 abbrev pub new_feeder : Known → Known
 new_feeder (Worker d) = Feeder (post d.feeds d.next 0)
@@ -95,13 +95,13 @@ taken_in (Worker d) Nobody = Worker d
 taken_in (Feeder p) w = Feeder p
 taken_in Nobody w = Nobody
 
--- the worker with these samples taken
+-- the worker's knowledge, with `xs` as the samples that it took
 abbrev pub with_taken : Known → List Sample → Known
 with_taken (Worker d) xs = Worker (desk d.feeds xs d.next d.ended)
 with_taken (Feeder p) xs = Feeder p
 with_taken Nobody xs = Nobody
 
--- the kind of a pass
+-- whether a pass is the worker's or a feeder's
 abbrev pub IsWorker : Known → Type 0
 IsWorker (Worker d) = ⊤
 IsWorker (Feeder p) = ⊥

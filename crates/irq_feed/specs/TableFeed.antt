@@ -1,4 +1,4 @@
--- Feeders on a new table: the visits of its lanes after the feeders, and the numbers of samples, dumps and bits.
+-- Feeders on a new table: the visits of the table's lanes at the end, and the numbers of samples, dumps and bits.
 use Rattle.std.specs.Prelude.{◌≡◌, ◌<◌, ◌*◌, ◌/◌, ◌+◌, ◌++◌, ℕ, suc, min, List, [], ◌∷◌, length, map}
 use Rattle.key_names.specs.declared.names.Step.{Step}
 use Rattle.key_names.specs.declared.entries.CpuEntry.{CpuEntry}
@@ -8,7 +8,7 @@ use Rattle.key_names.specs.declared.events.Answer.TheVariants.{Ok as Done}
 use Rattle.key_names.specs.Lanes.Samples.{LawfulSamples}
 use Rattle.key_names.specs.Transcripts.SeenLine.{no_data}
 use Rattle.key_names.specs.Lanes.PoolList.{pool_after}
-use Rattle.key_names.specs.Callers.Deeds.{deeds_of}
+use Rattle.key_names.specs.Callers.Effects.{effects_of}
 use Rattle.key_names.specs.Lanes.Book.{Book, Lists, LawfulLanes, lists_of, cpu_list}
 use Rattle.key_names.specs.Transcripts.IsTranscript.{MarkBy, VisitsAre, marks_from}
 use Rattle.key_names.specs.Keys.Uses.{IsDisjoint}
@@ -19,21 +19,21 @@ use Rattle.irq_feed.specs.declared.samples.Sample.{Sample}
 use Rattle.irq_feed.specs.declared.table_feed.FeedSums.{FeedSums}
 use Rattle.irq_feed.specs.Samples.{numbers, first_samples, of_feeder}
 
--- each call is the interrupt of its sample, by the deeds of its steps
+-- the effects of each call's steps are those of one interrupt, with the words of the call's sample
 abbrev pub AreCalls : Lists → List Sample → List (List Step) → Type 0
 AreCalls lists [] [] = Unit {0}
 AreCalls lists [] (steps ∷ calls) = ⊥
 AreCalls lists (x ∷ xs) [] = ⊥
 AreCalls lists (x ∷ xs) (steps ∷ calls) =
-    IsOutcomeOf (setting_of (first_setting 0)) (IrqEvent x.v1 x.v2) Done no_data (deeds_of lists steps)
+    IsOutcomeOf (setting_of (first_setting 0)) (IrqEvent x.v1 x.v2) Done no_data (effects_of lists steps)
     × AreCalls lists xs calls
 
--- the visits of these calls, in events numbered from this one on
+-- the visits of these calls, in events numbered from `event` on
 abbrev pub marks_of : ℕ → List (List Step) → List MarkBy
 marks_of event [] = []
 marks_of event (steps ∷ calls) = marks_from 0 event 0 steps ++ marks_of (suc event) calls
 
--- the interrupts of a CPU's list, and its number of dumps
+-- the interrupts in a CPU's list, and the number of dumps in the list
 abbrev pub irq_here : CpuEntry → List CpuEntry
 irq_here (Irq v1 v2 now) = Irq v1 v2 now ∷ []
 irq_here (Read look refill taken) = []
@@ -74,8 +74,8 @@ pub record IsFedBook (samples : List Sample) (book : Book) : Type 0 where
   pub last : ℕ
   pub in_order : Climbs 0 (map (λ by. by.mark.stamp) (marks_of 0 calls)) last
 
--- all samples of these feeders were mixed on a new table, those of each feeder in order and each once; the sums are
--- those of the table's book, and are the same for every order of the samples
+-- all samples of these feeders were mixed on a new table, each once, and those of each feeder in order. The sums are
+-- those of the table's book, and the order of different feeders' samples does not change them
 pub record IsFed (start feeders each : ℕ) (sums : FeedSums) : Type 0 where
   pub samples : List Sample
   pub each_of : (feeder : ℕ) → feeder < feeders

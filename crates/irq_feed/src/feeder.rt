@@ -3,7 +3,7 @@ ghost use Rattle.std.specs.Prelude.{◌≡◌, IfErr, IfOk};
 ghost use Rattle.irq_feed.specs.Rule.{MayPush, Pushed};
 ghost use Rattle.irq_feed.specs.Passes.{known, IsFeeder, IsPassOf};
 
-use crate::intake::Intake;
+use crate::intake::FeedIntake;
 use crate::queue::{FeedPass, FeedQueue};
 use crate::samples::{Feeds, Sample};
 use crossbeam_utils::Backoff;
@@ -14,7 +14,7 @@ use std::thread::{Promise, PromisedHandle, Scope, SpawnError};
 
 /// The result of a feeder: its pass, and the number of samples that it pushed.
 #[derive(Drop)]
-pub(crate) struct Fed {
+pub(crate) struct FeederResult {
     pub(crate) pass: FeedPass,
     pub(crate) pushed: u32,
 }
@@ -22,13 +22,13 @@ pub(crate) struct Fed {
 /// The data that the worker and all feeders of a call share.
 #[derive(Drop)]
 pub(crate) struct Call<'a, G: Gate> {
-    pub(crate) intake: &'a Intake<'a, G>,
+    pub(crate) intake: &'a FeedIntake<'a, G>,
     pub(crate) feeders: Feeders,
     /// The feeder whose closure the worker calls itself, if any.
     pub(crate) handed_back: AtomicU32,
 }
 
-/// The value of `handed_back` for no feeder.
+/// The value of `handed_back` if the worker calls no feeder's closure.
 pub(crate) const NOBODY: u32 = u32::MAX;
 
 fn push<R: Wait>(rt: &R, queue: &FeedQueue, feeder: &mut FeedPass, sample: Sample)
@@ -47,20 +47,20 @@ fn push<R: Wait>(rt: &R, queue: &FeedQueue, feeder: &mut FeedPass, sample: Sampl
     unreachable!()
 }
 
-/// Pushes all samples of a feeder, and waits while the queue is full. If the worker itself calls it, it pushes none:
-/// the worker could not take them out meanwhile.
+/// Pushes all samples of a feeder, and waits while the queue is full. If the worker itself calls this function, no
+/// sample is pushed, since the worker could not take samples out meanwhile.
 pub(crate) fn push_all<R: Wait, G: Gate>(
     rt: &R,
     feeder: &Feeder,
     gate: &G,
     handed_back: &AtomicU32,
     mut pass: FeedPass,
-) -> Fed
+) -> FeederResult
     requires { IsFeeder feeder.now.queue.now feeder.now.feeds.now feeder.now.number 0 pass }
     ensures { IsFeeder feeder.now.queue.now feeder.now.feeds.now feeder.now.number result.pushed result.pass }
 {
     if handed_back.load(Ordering::SeqCst) == feeder.number {
-        return Fed { pass, pushed: 0 };
+        return FeederResult { pass, pushed: 0 };
     }
     let each = feeder.feeds.each();
     for index in 0..each {
@@ -68,15 +68,15 @@ pub(crate) fn push_all<R: Wait, G: Gate>(
         let sample = feeder.feeds.sample(feeder.number, index);
         push(rt, feeder.queue, &mut pass, sample);
     }
-    Fed { pass, pushed: each }
+    FeederResult { pass, pushed: each }
 }
 
 /// The place where feeders run.
 #[derive(Clone, Copy, Drop)]
 pub enum Feeders {
-    /// Each in its own thread, if one can be made.
+    /// Each feeder runs in its own thread, if a thread can be made.
     InThreads,
-    /// None in a thread, as if no thread could be made.
+    /// No feeder runs in a thread, as if none could be made.
     Nowhere,
 }
 
@@ -101,7 +101,8 @@ impl Feeders {
     }
 }
 
-/// A feeder. Its thread promises to return the feeder's pass, with the number of pushed samples that it reports.
+/// A feeder, with what its thread promises: the thread returns the feeder's pass, and the pass has pushed as many
+/// samples as the thread reports.
 #[derive(Drop)]
 pub(crate) struct Feeder<'a> {
     pub(crate) queue: &'a FeedQueue,
@@ -123,7 +124,7 @@ impl<'a> Feeder<'a> {
     }
 }
 
-impl<'a> Promise<Fed> for Feeder<'a> {
+impl<'a> Promise<FeederResult> for Feeder<'a> {
     ghost use Rattle.irq_feed.specs.Passes.{IsFeeder};
 
     ghost kept_by = { λ p r. IsFeeder p.queue.now p.feeds.now p.number r.pushed r.pass };

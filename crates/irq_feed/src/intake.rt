@@ -6,10 +6,10 @@ use io_edges::Gate;
 use lane_table::Lanes;
 use rng_core::Setting;
 
-/// The input of a call: the table of the CPU, the caller's setting for all its interrupts, the feeders' samples, the
-/// queue between them and the caller, and the gate that is called before each sample.
+/// The input of a call: the table of the CPU; the setting that the caller has for all its interrupts; the feeders'
+/// samples; the queue between the feeders and the caller; and the gate, which is called before each sample.
 #[derive(Drop)]
-pub struct Intake<'a, G: Gate> {
+pub struct FeedIntake<'a, G: Gate> {
     pub lanes: &'a Lanes,
     pub set: Setting,
     pub feeds: &'a Feeds,

@@ -3,7 +3,7 @@
 use crate::samples::{Feeds, Sample};
 use std::collections::LinkedList;
 
-/// A feeder whose pass was taken in, with the number of samples that it pushed.
+/// A feeder whose pass the worker took in, and the number of samples that the feeder pushed.
 pub struct Ended {
     pub feeder: u32,
     pub pushed: u32,

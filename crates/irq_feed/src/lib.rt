@@ -1,15 +1,47 @@
-//! Interrupt samples of several feeders, handed to one worker through a queue.
+//! Interrupt samples of several feeders, handed to one worker through a queue. The worker makes one interrupt of each
+//! (`rng_core::irq`, `add_interrupt_randomness` of drivers/char/random.c).
 //!
-//! [`feed`] starts a thread for each feeder. A feeder pushes its samples into a bounded queue, in order. The caller
-//! is the worker, and the only thread that visits a CPU: it takes each sample out and makes one interrupt
-//! (`rng_core::irq`) of it. If a feeder gets no thread, the worker mixes its samples itself, after all others.
+//! [`feed`] starts a thread for each feeder. A feeder pushes its samples into a bounded queue, in order. The caller is
+//! the worker, and the only thread that visits a CPU. If a feeder gets no thread, the worker mixes its samples itself,
+//! after all others. The crate uses only the contracts of `rng_core` and of a queue of `crossbeam_queue`, whose rule
+//! is: for each feeder, the samples that the worker took and those in the queue are its first samples.
 //!
-//! For every interleaving of the threads, a call that returns has mixed each sample of each feeder once, and those
-//! of one feeder in their order. Not promised: that a call returns, that two feeders ever run at once, and in which
-//! order the samples of different feeders come.
+//! # Example
 //!
-//! The proof rests on the rule of a queue of `crossbeam_queue`: for each feeder, the samples that the worker took
-//! and those in the queue are its first samples. The crate uses only the contracts of the queue and of `rng_core`.
+//! ```rust
+//! let (lanes, mut pass) = Lanes::start(alloc, 1, 0)?;
+//! let (queue, worker) = FeedQueue::of(alloc, feeds)?;
+//! let intake = FeedIntake {
+//!     lanes: &lanes,
+//!     set: Setting::first(0),
+//!     feeds,
+//!     queue: &queue,
+//!     gate,
+//! };
+//! let (mixed, _worker) = feed(rt, alloc, &intake, &mut pass, worker);
+//! ```
+//!
+//! From `crates/test_core/src/irq_feed_tests.rt`.
+//!
+//! # Proved
+//!
+//! For every interleaving of the threads:
+//!
+//! - [`feed`]: a call that succeeds has mixed each sample of each feeder once, and those of one feeder in their order.
+//!   If memory runs out, it has mixed none.
+//! - [`feed_on_new_table`]: the sums are those of the table's visits.
+//!
+//! Not promised: that a call returns, that two feeders ever run at once, and in which order the samples of different
+//! feeders come.
+//!
+//! # Tested only
+//!
+//! The gate is called before each sample, two feeders run side by side, and a feeder that has a thread sends all its
+//! samples through the queue: `irq_feed_tests` of `test_core`.
+//!
+//! # Differs from the kernel
+//!
+//! The kernel has no such queue: the CPU that takes an interrupt mixes it.
 #![tactic(auto)]
 
 mod feeder;
@@ -23,7 +55,7 @@ mod table_feed;
 mod worker;
 
 pub use feeder::Feeders;
-pub use intake::Intake;
+pub use intake::FeedIntake;
 pub use mixed::Mixed;
 pub use queue::{FeedPass, FeedQueue};
 pub use run::{feed, feed_by};

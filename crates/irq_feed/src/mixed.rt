@@ -38,7 +38,7 @@ impl Mixed {
         self.samples.len() as u32
     }
 
-    /// The feeder of one of them, and its index among the feeder's samples.
+    /// The feeder of the i-th mixed sample, and the sample's index among that feeder's samples.
     pub fn get(&self, i: u32) -> (u32, u32)
         requires { i < length (mixed_in self.now) }
         ensures { (x : Sample) × (slice_get (mixed_in self.now) i ≡ Some x) × (result ≡ (x.feeder, x.index)) }
@@ -47,8 +47,8 @@ impl Mixed {
         (sample.feeder, sample.index)
     }
 
-    /// Whether the worker mixed the feeder's samples itself, after all others. `feeder` is below 16. A test checks
-    /// that it does so only for a feeder without a thread.
+    /// Whether the worker mixed the feeder's samples itself, after all others. `feeder` is below 16. A test checks that
+    /// the worker does so only for a feeder without a thread.
     pub fn direct(&self, feeder: u32) -> bool
         requires { feeder < 16 }
         ensures { result ≡ is_direct self.now feeder }

@@ -2,7 +2,7 @@
 ghost use Rattle.std.specs.Prelude.{◌≡◌, IfOk, List, MatchBool, MatchOption};
 ghost use Rattle.irq_feed.specs.declared.samples.Sample.{Sample};
 ghost use Rattle.irq_feed.specs.Feeds.{numbers};
-ghost use Rattle.irq_feed.specs.Rule.{IsFeeding, IsWorker, Learns, MayPush, Popped, Pushed, behind_split, new_feeder, taken_in};
+ghost use Rattle.irq_feed.specs.Rule.{IsFeeding, IsWorker, Learns, MayPush, Popped, Pushed, after_split, new_feeder, taken_in};
 ghost use Rattle.irq_feed.specs.Passes.{known, IsPassOf, AreNew};
 
 use crate::known::Known;
@@ -13,11 +13,11 @@ use io_edges::NoMemory;
 use std::alloc::Global;
 use std::marker::{Brand, PhantomData};
 
-/// The most samples in the queue.
+/// The most samples that the queue can hold.
 pub const ROOM: usize = 64;
 
-/// The rule: for each feeder, the samples that the worker took and those in the queue are its first samples, in
-/// order.
+/// The rule: for each feeder, the samples that the worker took, followed by those in the queue, are the feeder's
+/// first samples, in order.
 pub struct Ordered;
 
 impl Protocol<Sample, Known> for Ordered {
@@ -47,21 +47,21 @@ impl Outcome<Sample, Known> for Pop {
 }
 
 /// The worker learns which samples were pushed.
-struct Told;
+struct PushReport;
 
-impl Lesson<Sample, Known> for Told {
+impl Lesson<Sample, Known> for PushReport {
     ghost use Rattle.irq_feed.specs.Rule.{Learns};
 
     ghost fact = { Learns };
 }
 
-/// A pass for the next feeder is split off the worker's pass, and taken in again.
+/// Split: the worker splits off a pass for the next feeder. Join: the worker takes in a feeder's pass.
 struct Next;
 
 impl Split<Known> for Next {
-    ghost use Rattle.irq_feed.specs.Rule.{behind_split, new_feeder};
+    ghost use Rattle.irq_feed.specs.Rule.{after_split, new_feeder};
 
-    ghost left = { behind_split };
+    ghost left = { after_split };
 
     ghost right = { new_feeder };
 }
@@ -75,7 +75,7 @@ impl Join<Known> for Next {
     ghost spent = { Nobody };
 }
 
-/// The feeds of a queue. Only `tell_feeds` needs to choose them.
+/// A type that names the feeds of a queue, for `Begin`. Only `tell_feeds` has to choose such a type.
 pub trait Naming {
     ghost use Rattle.irq_feed.specs.Feeds.{Numbers};
 
@@ -102,16 +102,16 @@ impl<F: Naming> Split<Known> for Begin<F> {
     ghost right = { λ v. Nobody };
 }
 
-type Line = RuledArrayQueue<Sample, Known, Ordered>;
+type SampleLine = RuledArrayQueue<Sample, Known, Ordered>;
 
 /// The queue, of 64 samples, which all threads share.
 #[derive(Drop)]
 pub struct FeedQueue {
-    line: Line,
+    line: SampleLine,
 }
 
-/// The token of the worker or of a feeder. The worker's pass knows which samples it took from the queue, and the
-/// number of the next feeder.
+/// The token of the worker or of a feeder. The worker's pass knows which samples the worker took from the queue, and
+/// which number the next feeder gets.
 #[derive(Drop)]
 pub struct FeedPass {
     pass: Pass<Sample, Known>,
@@ -134,7 +134,7 @@ impl FeedQueue {
     pub fn of(alloc: Global, feeds: &Feeds) -> Result<(FeedQueue, FeedPass), NoMemory>
         ensures { IfOk result (λ r. AreNew r.0 feeds.now r.1) }
     {
-        let (line, pass) = Line::ruled(alloc, ROOM)?;
+        let (line, pass) = SampleLine::ruled(alloc, ROOM)?;
         let queue = FeedQueue { line };
         let mut worker = FeedPass { pass };
         tell_feeds::<Brand>(&queue, &mut worker, feeds);
@@ -144,7 +144,7 @@ impl FeedQueue {
     /// A pass for the next feeder.
     pub(crate) fn next(&self, worker: &mut FeedPass) -> FeedPass
         requires worker { IsPassOf self.now worker.old × IsWorker (known worker.old) }
-        ensures worker { IsPassOf self.now worker.new × (known worker.new ≡ behind_split (known worker.old)) }
+        ensures worker { IsPassOf self.now worker.new × (known worker.new ≡ after_split (known worker.old)) }
         ensures feeder { IsPassOf self.now result × (known result ≡ new_feeder (known worker.old)) }
     {
         FeedPass {
@@ -162,7 +162,7 @@ impl FeedQueue {
         self.line.absorb::<Next>(&mut worker.pass, pass);
     }
 
-    /// Tries once to push a feeder's next sample. It fails if the queue is full or another thread interferes.
+    /// Tries once to push a feeder's next sample. The push fails if the queue is full or another thread interferes.
     pub(crate) fn try_push(&self, feeder: &mut FeedPass, sample: Sample) -> bool
         requires feeder { IsPassOf self.now feeder.old }
         requires next { MayPush (known feeder.old) sample }
@@ -174,8 +174,8 @@ impl FeedQueue {
             .is_ok()
     }
 
-    /// Tries once to take the sample at the front for the worker. It fails if the queue is empty or another thread
-    /// interferes.
+    /// Tries once to take the sample at the front for the worker. The attempt fails if the queue is empty or another
+    /// thread interferes.
     pub(crate) fn try_pop(&self, worker: &mut FeedPass) -> Option<Sample>
         requires worker { IsPassOf self.now worker.old × IsWorker (known worker.old) }
         ensures worker { IsPassOf self.now worker.new }
@@ -191,6 +191,6 @@ impl FeedQueue {
         ensures worker { IsPassOf self.now worker.new × (known worker.new ≡ known worker.old) }
         ensures learned { (items : List Sample) × Learns (known worker.old) items }
     {
-        self.line.learn_as::<Told>(&mut worker.pass);
+        self.line.learn_as::<PushReport>(&mut worker.pass);
     }
 }

@@ -9,8 +9,8 @@ ghost use Rattle.irq_feed.specs.Passes.{AreNew, IsFeeder, IsPassOf, next_number}
 ghost use Rattle.irq_feed.specs.Mixing.{Mixes, Put};
 ghost use Rattle.irq_feed.specs.Fed.{AllMixed, CanMix, CanStart, CanTakeBack, Front, HasDrained, HasRoom, is_direct, mixed_in};
 
-use crate::feeder::{Call, Fed, Feeder, Feeders, NOBODY, push_all};
-use crate::intake::Intake;
+use crate::feeder::{Call, Feeder, FeederResult, Feeders, NOBODY, push_all};
+use crate::intake::FeedIntake;
 use crate::mixed::Mixed;
 use crate::queue::FeedPass;
 use crate::worker::{Hand, drain, mix_directly};
@@ -22,17 +22,17 @@ use std::sync::atomic::{AtomicU32, Ordering};
 use std::thread;
 use std::thread::{Scope, Threads};
 
-/// Hands the samples of all feeders to this caller, which makes an interrupt of each (`add_interrupt_randomness`).
+/// Hands the samples of all feeders to this caller, which makes an interrupt of each sample
+/// (`add_interrupt_randomness`).
 ///
-/// Each feeder has its own thread. It calls the gate before each sample, pushes the sample, and waits while the
-/// queue is full. The caller takes the samples out and makes one `irq` of each, at the setting's moment and on its
-/// CPU, with the events numbered from 0. If a feeder got no thread, the caller mixes its samples itself, after all
-/// others, with the gate before each; a test checks that it does so only then. Samples of one feeder keep their
-/// order, and those of different feeders may come in any order.
+/// Each feeder has its own thread. It calls the gate before each sample, pushes the sample, and waits while the queue
+/// is full. The caller takes the samples out and makes one `irq` of each, at the moment and on the CPU of the setting.
+/// The events are numbered from 0. If a feeder got no thread, the caller mixes that feeder's samples itself, after all
+/// others, with the gate before each. A test checks that the caller does so only in this case. Samples of one feeder
+/// keep their order; those of different feeders may come in any order.
 ///
 /// After the first feeder has started, only thread creation allocates. The call waits for the lanes and for its
-/// feeders. It always returns the worker's pass, and after success that pass knows all samples that it took from the
-/// queue.
+/// feeders. It always returns the worker's pass. After success that pass knows all samples that it took from the queue.
 ///
 /// # Errors
 ///
@@ -41,7 +41,7 @@ use std::thread::{Scope, Threads};
 pub fn feed<'a, R: Threads + Wait + Sync, G: Gate>(
     rt: &R,
     alloc: Global,
-    intake: &Intake<'a, G>,
+    intake: &FeedIntake<'a, G>,
     pass: &mut Pass,
     worker: FeedPass,
 ) -> (Result<Mixed, NoMemory>, FeedPass)
@@ -64,11 +64,11 @@ pub fn feed<'a, R: Threads + Wait + Sync, G: Gate>(
 ///
 /// # Errors
 ///
-/// As [`feed`].
+/// The same as those of [`feed`].
 pub fn feed_by<'a, R: Threads + Wait + Sync, G: Gate>(
     rt: &R,
     alloc: Global,
-    intake: &Intake<'a, G>,
+    intake: &FeedIntake<'a, G>,
     pass: &mut Pass,
     worker: FeedPass,
     feeders: Feeders,
@@ -175,7 +175,7 @@ fn start_rest<'s, E, R: Threads + Wait + Sync, G: Gate>(
     match call.feeders.start(
         scope,
         promise,
-        move || -> Fed
+        move || -> FeederResult
             requires { IsSync R.row × IsFeeder queue.now feeds.now number 0 theirs }
             ensures { IsFeeder queue.entry.now feeds.entry.now number result.pushed result.pass }
         {
@@ -200,8 +200,8 @@ fn start_rest<'s, E, R: Threads + Wait + Sync, G: Gate>(
     }
 }
 
-// Takes in the pass of a feeder that got no thread, and notes that the worker has to mix its samples.
-fn take_back<G: Gate>(intake: &Intake<G>, hand: &mut Hand, number: u32, fed: Fed)
+// Takes in the pass of a feeder that got no thread. If that feeder pushed nothing, the worker has to mix its samples.
+fn take_back<G: Gate>(intake: &FeedIntake<G>, hand: &mut Hand, number: u32, fed: FeederResult)
     requires start { CanTakeBack intake.now.queue.now intake.now.feeds.now number hand.old.owed hand.old.worker
         hand.old.mixed }
     requires fed { IsFeeder intake.now.queue.now intake.now.feeds.now number fed.pushed fed.pass }
@@ -217,8 +217,8 @@ fn take_back<G: Gate>(intake: &Intake<G>, hand: &mut Hand, number: u32, fed: Fed
     }
 }
 
-// Mixes the samples of all feeders that got no thread, feeder by feeder.
-fn mix_rest<R: Wait, G: Gate>(rt: &R, intake: &Intake<G>, pass: &mut Pass, mixed: &mut Mixed)
+// Mixes the samples of all feeders that the worker has to serve itself, feeder by feeder.
+fn mix_rest<R: Wait, G: Gate>(rt: &R, intake: &FeedIntake<G>, pass: &mut Pass, mixed: &mut Mixed)
     requires mix { CanMix intake.now.lanes.now intake.now.set pass.old }
     requires front { Front intake.now.feeds.now 0 (mixed_in mixed.old) mixed.old }
     ensures mix { CanMix intake.now.lanes.now intake.now.set pass.new }
@@ -231,10 +231,10 @@ fn mix_rest<R: Wait, G: Gate>(rt: &R, intake: &Intake<G>, pass: &mut Pass, mixed
     }
 }
 
-// Mixes the samples of a feeder if it got no thread.
+// Mixes the samples of a feeder if the worker has to mix them itself.
 fn mix_if_direct<R: Wait, G: Gate>(
     rt: &R,
-    intake: &Intake<G>,
+    intake: &FeedIntake<G>,
     pass: &mut Pass,
     mixed: &mut Mixed,
     number: u32,

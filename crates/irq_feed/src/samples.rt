@@ -6,8 +6,8 @@ use io_edges::NoMemory;
 use std::alloc::Global;
 use std::marker::Model;
 
-/// A sample of an interrupt: two words of the machine's state, the feeder that took them, and the number of its
-/// samples before this one.
+/// A sample of an interrupt: two words of the machine's state, the feeder that took the sample, and the number of
+/// samples that this feeder took before.
 #[derive(Clone, Copy, Debug, PartialEq, Eq)]
 pub struct Sample {
     pub feeder: u32,
@@ -36,8 +36,8 @@ impl Model for Feeds {
 }
 
 impl Feeds {
-    /// The samples of all feeders, `each` of every one: sample i of feeder f has the words `start` + i and f, both
-    /// counted from 0.
+    /// Gives `each` samples to each of `feeders` feeders. Sample `i` of feeder `f` has the words `start` + `i` and `f`;
+    /// both numbers count from 0.
     ///
     /// # Errors
     ///

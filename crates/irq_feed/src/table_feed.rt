@@ -2,7 +2,7 @@
 ghost use Rattle.std.specs.Prelude.{◌≡◌, ◌≤◌, ◌*◌, ◌/◌, min, IfOk};
 ghost use Rattle.irq_feed.specs.TableFeed.{IsFed};
 
-use crate::intake::Intake;
+use crate::intake::FeedIntake;
 use crate::queue::FeedQueue;
 use crate::run::feed;
 use crate::samples::Feeds;
@@ -16,7 +16,7 @@ use std::thread::Threads;
 /// The number of samples after which a CPU dumps them into the pool.
 const DUMP_AT: u32 = 1024;
 
-/// The credit of a dump after that many samples, in bits.
+/// The credit of a dump after `DUMP_AT` samples, in bits.
 const DUMP_BITS: u32 = 16;
 
 /// The most bits of the pool.
@@ -29,7 +29,7 @@ pub struct FeedSums {
     pub samples: u32,
     /// The number of the CPU's dumps.
     pub dumps: u32,
-    /// The bits of the pool after them.
+    /// The bits of the pool after these dumps.
     pub bits: u32,
 }
 
@@ -47,9 +47,9 @@ fn sums(samples: u32) -> FeedSums
     }
 }
 
-/// Makes a table with one CPU, and feeds it the samples of `feeders` feeders, `each` of every one, as [`feed`] does:
-/// at moment 0, by caller 0. Sample i of feeder f has the words `start` + i and f. The sums are computed, and proved
-/// to be those of the table's visits.
+/// Makes a table with one CPU, and feeds it as [`feed`] does, by caller 0 at moment 0. There are `feeders` feeders,
+/// with `each` samples for each. Sample `i` of feeder `f` has the words `start` + `i` and `f`. The function computes
+/// the sums, and they are proved to be those of the table's visits.
 ///
 /// # Errors
 ///
@@ -69,7 +69,7 @@ pub fn feed_on_new_table<R: Threads + Wait + Sync, G: Gate>(
     let feeds = Feeds::of(alloc, start, feeders, each)?;
     let (queue, worker) = FeedQueue::of(alloc, &feeds)?;
     let (lanes, mut pass) = Lanes::start(alloc, 1, 0)?;
-    let intake = Intake {
+    let intake = FeedIntake {
         lanes: &lanes,
         set: Setting::first(0),
         feeds: &feeds,

@@ -8,7 +8,7 @@ ghost use Rattle.irq_feed.specs.Passes.{known, IsPassOf};
 ghost use Rattle.irq_feed.specs.Mixing.{Interrupted, Mixes};
 ghost use Rattle.irq_feed.specs.Fed.{HasRoom, mixed_in};
 
-use crate::intake::Intake;
+use crate::intake::FeedIntake;
 use crate::mixed::Mixed;
 use crate::queue::{FeedPass, FeedQueue};
 use crate::samples::Sample;
@@ -43,7 +43,7 @@ fn pop<R: Wait>(rt: &R, queue: &FeedQueue, worker: &mut FeedPass) -> Sample
     unreachable!()
 }
 
-// Makes an interrupt of a sample. The event's number is the number of interrupts made before it.
+// Makes an interrupt from a sample. Its event has as its number how many interrupts were made before.
 fn mix<R: Wait>(
     rt: &R,
     lanes: &Lanes,
@@ -77,8 +77,13 @@ fn mix<R: Wait>(
     mixed.samples.push_reserved(sample);
 }
 
-/// Takes all expected samples out of the queue, and makes an interrupt of each.
-pub(crate) fn drain<R: Wait, G: Gate>(rt: &R, intake: &Intake<G>, pass: &mut Pass, hand: &mut Hand)
+/// Takes the `owed` samples out of the queue, and makes an interrupt of each sample.
+pub(crate) fn drain<R: Wait, G: Gate>(
+    rt: &R,
+    intake: &FeedIntake<G>,
+    pass: &mut Pass,
+    hand: &mut Hand,
+)
     requires has { HoldsLanes intake.now.lanes.now intake.now.set.caller [] pass.old }
     requires set { (intake.now.set.cpu < intake.now.lanes.now.cpus) × (intake.now.set.now < 2 ^ 40) }
     requires worker { IsPassOf intake.now.queue.now hand.old.worker × IsWorker (known hand.old.worker) }
@@ -98,10 +103,10 @@ pub(crate) fn drain<R: Wait, G: Gate>(rt: &R, intake: &Intake<G>, pass: &mut Pas
     }
 }
 
-/// Mixes the samples of a feeder that got no thread.
+/// Mixes the samples of a feeder, in order, without the queue.
 pub(crate) fn mix_directly<R: Wait, G: Gate>(
     rt: &R,
-    intake: &Intake<G>,
+    intake: &FeedIntake<G>,
     pass: &mut Pass,
     mixed: &mut Mixed,
     number: u32,

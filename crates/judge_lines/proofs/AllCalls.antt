@@ -1,4 +1,4 @@
--- The calls of all callers are found caller by caller.
+-- A loop finds the calls of all callers, one caller after another.
 use Rattle.std.proofs.Common.{◌≡◌, ℕ, suc, ◌+◌, ◌<◌, ◌≤◌, Some, List, [], ◌∷◌, ◌++◌, length, get_or, drop, map, refl, sym, ap, ◌∙◌, append_assoc}
 use Rattle.std.specs.Prelude.{slice_get}
 use Rattle.std.specs.Global.{Vec}
@@ -8,20 +8,20 @@ use Rattle.key_names.specs.Transcripts.SeenLine.{SeenLine}
 use Rattle.key_names.specs.Callers.Calls.{Call, calls_of, all_calls}
 use Rattle.key_names.proofs.Lists.ListFacts.{found_dropped}
 use Rattle.judge_lines.specs.declared.bare.BareLine.{BareLine}
-use Rattle.judge_lines.specs.declared.called.Called.{Called}
+use Rattle.judge_lines.specs.declared.called.CalledLines.{CalledLines}
 use Rattle.judge_lines.specs.Seen.{seen_bare, seen_callers}
 use Rattle.judge_lines.specs.Called.{seen_call, seen_calls}
 use Rattle.judge_lines.proofs.Fronts.{dropped}
 
-pub calls_next : (c : ℕ) (ess : List (List Event)) (lines : List (Vec BareLine)) (calls : List (Vec Called))
-    (es : List Event) (ls : Vec BareLine) (made : Vec Called) (whole : List (List Call)) → slice_get ess c ≡ Some es →
+pub calls_next : (c : ℕ) (ess : List (List Event)) (lines : List (Vec BareLine)) (calls : List (Vec CalledLines))
+    (es : List Event) (ls : Vec BareLine) (made : Vec CalledLines) (whole : List (List Call)) → slice_get ess c ≡ Some es →
     c < length lines → ls ≡ get_or lines c ls → map seen_call made.items ≡ calls_of es (map seen_bare ls.items) →
     seen_calls calls ++ all_calls (drop c ess) (seen_callers (drop c lines)) ≡ whole →
     seen_calls (calls ++ made ∷ []) ++ all_calls (drop (c + 1) ess) (seen_callers (drop (c + 1) lines)) ≡ whole
 calls_next c ess lines calls es ls made whole here low is made_is so_far =
     let one : List (List Call) = calls_of es (map seen_bare ls.items) ∷ [] in
     let rest : List (List Call) = all_calls (drop (c + 1) ess) (seen_callers (drop (c + 1) lines)) in
-    ap (λ xs. xs ++ rest) (map-append (λ (v : Vec Called). map seen_call v.items) calls (made ∷ [])
+    ap (λ xs. xs ++ rest) (map-append (λ (v : Vec CalledLines). map seen_call v.items) calls (made ∷ [])
     ∙ ap (λ x. seen_calls calls ++ x ∷ []) made_is)
     ∙ append_assoc (seen_calls calls) one rest
     ∙ sym (ap (λ xs. seen_calls calls ++ xs)

@@ -1,4 +1,5 @@
--- Values along the orders of callers, from each parent to its children.
+-- Callers are checked in turn, each from the value kept at the fork that made the caller. Together these checks cover
+-- the orders of all callers.
 use Rattle.std.proofs.Common.{◌≡◌, ℕ, Bool, true, false, suc, ◌+◌, ◌<◌, ◌≤◌, Option, Some, None, List, [], ◌∷◌, ◌++◌, length, take, drop, min, get_or, map, eq-eqb, refl, sym, subst, ap, ◌∙◌, arith, append_assoc}
 use Rattle.std.specs.Prelude.{slice_get}
 use Rattle.std.specs.Prelude.{◌==◌, ◌||◌}
@@ -18,7 +19,7 @@ use Rattle.key_names.specs.Callers.History.{ancestors_steps, inherited_steps, or
 use Rattle.key_names.specs.Callers.CallerOrders.{start_of}
 use Rattle.key_names.proofs.History.CallerOrders.{order_is_start_and_own, start_is_a_front}
 use Rattle.key_names.proofs.Lists.ListFacts.{each_list, at_list}
-use Rattle.judge_lines.specs.declared.called.Called.{Called}
+use Rattle.judge_lines.specs.declared.called.CalledLines.{CalledLines}
 use Rattle.judge_lines.specs.declared.order.Fork.{Fork}
 use Rattle.judge_lines.specs.Called.{seen_call, seen_calls}
 use Rattle.judge_lines.specs.Orders.{all_forks, front_in, is_parent_in}
@@ -27,7 +28,7 @@ use Rattle.judge_lines.proofs.Carried.{get_front, along_parts, along_both}
 use Rattle.judge_lines.proofs.SettingsFound.{list_found}
 use Rattle.judge_lines.proofs.Forks.{AtParent, at_parent, rises, steps_before}
 
--- the parent in a caller's fork forks that caller
+-- if `fork` makes caller c, then the fork's parent is a caller that forks
 parent_forks : (c : ℕ) (forks : List Fork) (fork : Fork) → front_in c forks ≡ Some fork →
     is_parent_in fork.parent forks ≡ true
 parent_forks c [] fork is = cc
@@ -57,32 +58,33 @@ module _ (after : Option ℕ → Step → Option ℕ) (May : Option ℕ → Step
     abbrev begun : ℕ → Option ℕ
     begun c = fold after None (start_of callers c)
 
-    -- all steps of the caller's order may follow, and its values are kept if it forks another caller
+    -- each step of caller c's order may follow; if caller c forks another, the values along its own steps are kept
     pub record KeptOf (c : ℕ) (kept : List (Vec (Option ℕ))) : Type 0 where
-      pub stands : Along after May None (start_of callers c ++ calls_steps (list_at callers c))
+      pub conforms : Along after May None (start_of callers c ++ calls_steps (list_at callers c))
       pub values : Vec (Option ℕ)
       pub here : slice_get kept c ≡ Some values
       pub along : is_parent_in c (all_forks 0 callers) ≡ true →
           AreAlong after (fold after None (start_of callers c)) (calls_steps (list_at callers c)) values.items
 
-    -- the caller begins with its parent's value at the fork, and all steps before it may follow
+    -- caller c begins with the value carried along the steps before its own, and each step before its own may follow
     pub record Begins (c : ℕ) (kept : List (Vec (Option ℕ))) (forks : List Fork) : Type 0 where
       pub value : begin_in kept (front_in c forks) ≡ fold after None (start_of callers c)
-      pub stands : Along after May None (start_of callers c)
+      pub conforms : Along after May None (start_of callers c)
 
     module _ (c : ℕ) (kept : List (Vec (Option ℕ))) (rise : AllByRecursion (λ f. f.parent < f.child) (all_forks 0 callers))
         (each : (p : ℕ) → p < c → KeptOf p kept) where
       abbrev started : Option Parent → List Step
       started o = inherited_steps (ancestors_steps callers c) o
 
-      -- if the caller begins after n steps of its parent's own, it begins with the parent's value there
-      behind : (p n : ℕ) → p < c → is_parent_in p (all_forks 0 callers) ≡ true →
+      -- suppose caller c begins after the first n own steps of its parent p. Then c begins with p's value after these
+      -- steps, and each step before c's own may follow
+      following : (p n : ℕ) → p < c → is_parent_in p (all_forks 0 callers) ≡ true →
           start_of callers c ≡ start_of callers p ++ take n (own p) → n ≤ length (own p) →
           (kept_at (slice_get kept p) n ≡ begun c) × Along after May None (start_of callers c)
-      behind p n low forks shape short =
+      following p n low forks shape short =
           let k : KeptOf p kept = each p low in
           let parts : Along after May None (start_of callers p) × Along after May (begun p) (own p) =
-          along_parts after May None (start_of callers p) (own p) k.stands in
+          along_parts after May None (start_of callers p) (own p) k.conforms in
           let front : Along after May (begun p) (take n (own p)) =
           (along_parts after May (begun p) (take n (own p)) (drop n (own p))
           (subst (Along after May (begun p)) (sym (take-append-drop n (own p))) parts.1)).0 in
@@ -99,7 +101,7 @@ module _ (after : Option ℕ → Step → Option ℕ) (May : Option ℕ → Step
       begins_at None is at =
           let none : start_of callers c ≡ [] = ap started is in record {
             value = ap (begin_in kept) at ∙ sym (ap (λ (s : List Step). fold after None s) none);
-            stands = subst (λ (s : List Step). Along after May None s) (sym none) tt;
+            conforms = subst (λ (s : List Step). Along after May None s) (sym none) tt;
           }
       begins_at (Some parent) is f =
           let p : ℕ = parent.caller in
@@ -118,25 +120,25 @@ module _ (after : Option ℕ → Step → Option ℕ) (May : Option ℕ → Step
           (let e : min n (length (own p)) ≡ n =
           sym (length-take n (own p)) ∙ ap (λ (s : List Step). length s) front ∙ sym f.steps in omega arith) in
           let found : (kept_at (slice_get kept p) n ≡ begun c) × Along after May None (start_of callers c) =
-          behind p n low (subst (λ q. is_parent_in q (all_forks 0 callers) ≡ true) fork_is
+          following p n low (subst (λ q. is_parent_in q (all_forks 0 callers) ≡ true) fork_is
           (parent_forks c (all_forks 0 callers) f.fork f.here)) shape short in record {
             value = ap (begin_in kept) f.here ∙ ap (λ m. kept_at (slice_get kept m) n) fork_is ∙ found.0;
-            stands = found.1;
+            conforms = found.1;
           }
 
       pub begins : Begins c kept (all_forks 0 callers)
       begins = begins_at (parent_from c 0 callers) refl (at_parent c 0 callers)
 
-    -- if KeptOf holds of each caller, all steps of all orders may follow
+    -- if KeptOf holds of each caller, each step of each order may follow
     pub all_follow : (kept : List (Vec (Option ℕ))) → ((p : ℕ) → p < length callers → KeptOf p kept) →
         AllByRecursion (Along after May None) (caller_orders callers)
     all_follow kept each = each_list (Along after May None) (caller_orders callers) (λ c low.
         let low' : c < length callers =
         (let e : length (caller_orders callers) ≡ length callers =
         orders_long (ancestors_steps callers (length callers)) callers in omega arith) in
-        subst (λ (s : List Step). Along after May None s) (sym (order_is_start_and_own callers c low')) (each c low').stands)
+        subst (λ (s : List Step). Along after May None s) (sym (order_is_start_and_own callers c low')) (each c low').conforms)
 
-    -- if all steps of all orders may follow, so may a caller's own steps after its start value
+    -- if all steps of all orders may follow, all own steps of a caller may follow, carried from its start value on
     pub own_follow : (c : ℕ) → c < length callers → AllByRecursion (Along after May None) (caller_orders callers) →
         Along after May (fold after None (start_of callers c)) (calls_steps (list_at callers c))
     own_follow c low all =
@@ -147,16 +149,16 @@ module _ (after : Option ℕ → Step → Option ℕ) (May : Option ℕ → Step
         (subst (λ (s : List Step). Along after May None s) (order_is_start_and_own callers c low)
         (at_list (Along after May None) (caller_orders callers) c low' all))).1
 
--- there are calls for each caller
-pub seen_long : (callers : List (Vec Called)) → length (seen_calls callers) ≡ length callers
-seen_long callers = length-map callers (λ (calls : Vec Called). map seen_call calls.items)
+-- there are as many lists of calls as callers
+pub seen_long : (callers : List (Vec CalledLines)) → length (seen_calls callers) ≡ length callers
+seen_long callers = length-map callers (λ (calls : Vec CalledLines). map seen_call calls.items)
 
--- the facts hold of one caller more, if they hold of the callers before it
-module _ (after : Option ℕ → Step → Option ℕ) (May : Option ℕ → Step → Type 0) (called : List (Vec Called)) where
+-- if KeptOf holds of each caller before c, KeptOf holds of c
+module _ (after : Option ℕ → Step → Option ℕ) (May : Option ℕ → Step → Type 0) (called : List (Vec CalledLines)) where
   abbrev callers : List (List Call)
   callers = seen_calls called
 
-  module _ (forks : List Fork) (kept : List (Vec (Option ℕ))) (c : ℕ) (calls : Vec Called) (start : Option ℕ)
+  module _ (forks : List Fork) (kept : List (Vec (Option ℕ))) (c : ℕ) (calls : Vec CalledLines) (start : Option ℕ)
       (forks_are : forks ≡ all_forks 0 (seen_calls called)) (above : AllByRecursion (λ f. f.parent < f.child) forks)
       (low : c < length called) (calls_are : calls ≡ get_or called c calls)
       (each : (p : ℕ) → p < c → KeptOf after May (seen_calls called) p kept)
@@ -188,7 +190,7 @@ module _ (after : Option ℕ → Step → Option ℕ) (May : Option ℕ → Step
         Along after May start ours → OnTrue (is_parent_in c forks) (AreAlong after start ours values.items) →
         KeptOf after May callers c more
     now_kept values more here follow along = record {
-      stands = along_both after May None (start_of callers c) (calls_steps (list_at callers c)) all_begins.stands
+      conforms = along_both after May None (start_of callers c) (calls_steps (list_at callers c)) all_begins.conforms
           (subst (Along after May (fold after None (start_of callers c))) steps_are
           (subst (λ v. Along after May v ours) begun_at follow));
       values = values;
@@ -202,7 +204,7 @@ module _ (after : Option ℕ → Step → Option ℕ) (May : Option ℕ → Step
   pub still_kept : (p : ℕ) (kept : List (Vec (Option ℕ))) (one : Vec (Option ℕ)) → p < length kept →
       KeptOf after May callers p kept → KeptOf after May callers p (kept ++ one ∷ [])
   still_kept p kept one low k = record {
-    stands = k.stands;
+    conforms = k.conforms;
     values = k.values;
     here = get_front kept one p low ∙ k.here;
     along = k.along;

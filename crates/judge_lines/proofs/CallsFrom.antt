@@ -1,4 +1,4 @@
--- Calls in sequence, event by event.
+-- Calls are made event by event. Each event adds a call to those so far, or waits as an act for the next vread.
 use Rattle.std.proofs.Common.{◌≡◌, ℕ, zero, suc, ◌+◌, ◌<◌, Bool, true, false, List, [], ◌∷◌, ◌++◌, length, get_or, take, drop, refl, sym, ap, ◌∙◌, arith, map, subst, append_assoc}
 use Rattle.std.specs.Prelude.{nat_lt, ◌||◌, if◌then◌else◌}
 use Rattle.std.proofs.lemmas.Bool.Decides.{nat_tests}
@@ -11,7 +11,7 @@ use Rattle.key_names.specs.Transcripts.SeenLine.{SeenLine}
 use Rattle.key_names.specs.Callers.Calls.{Call, alone, vread_call, unbound, ending, BoundAct, has_vread, calls_from}
 use Rattle.judge_lines.specs.declared.bare.BareLine.{BareLine}
 use Rattle.judge_lines.specs.declared.called.ActLine.{ActLine}
-use Rattle.judge_lines.specs.declared.called.Called.{Called}
+use Rattle.judge_lines.specs.declared.called.CalledLines.{CalledLines}
 use Rattle.judge_lines.specs.Seen.{seen_bare}
 use Rattle.judge_lines.proofs.Fronts.{dropped}
 use Rattle.judge_lines.specs.Called.{is_vread, seen_act, seen_call}
@@ -34,7 +34,7 @@ or_false : (b : Bool) → (b || false) ≡ b
 or_false true = refl
 or_false false = refl
 
--- if the last event is a vread, any rest that is not empty has a vread
+-- if the last event is a vread, each non-empty tail of the events has a vread
 vread_last : (es : List Event) (e : Event) → is_vread e ≡ true → (k : ℕ) →
     has_vread (drop k (es ++ e ∷ [])) ≡ nat_lt k (length es + 1)
 vread_last es e is zero =
@@ -47,7 +47,7 @@ vread_last (x ∷ es) e is (suc k) =
     vread_last es e is k
     ∙ (let n : nat_lt k (length es + 1) ≡ nat_lt (suc k) (suc (length es) + 1) = grind (arith, nat_tests) in n)
 
--- if the last event is no vread, a rest has a vread exactly if it has one without this event
+-- a last event that is no vread does not change whether a tail of the events has a vread
 other_last : (es : List Event) (e : Event) → is_vread e ≡ false → (k : ℕ) →
     has_vread (drop k (es ++ e ∷ [])) ≡ has_vread (drop k es)
 other_last es e is zero = has_more es e ∙ ap (λ b. has_vread es || b) is ∙ or_false (has_vread es)
@@ -58,7 +58,7 @@ module _ (es : List Event) (i : ℕ) (e : Event) (low : i < length es) (at : e �
   one_more : (k : ℕ) → drop k (take (i + 1) es) ≡ drop k (take i es ++ e ∷ [])
   one_more k = ap (drop k) (take_more es i e low ∙ ap (λ x. take i es ++ x ∷ []) (sym at))
 
-  -- if event i is a vread, any rest of the first i + 1 events that is not empty has a vread
+  -- if event i is a vread, each non-empty tail of the first i + 1 events has a vread
   pub ends_at_vread : is_vread e ≡ true → (k : ℕ) → has_vread (drop k (take (i + 1) es)) ≡ nat_lt k (i + 1)
   ends_at_vread is k =
       ap has_vread (one_more k) ∙ vread_last (take i es) e is k
@@ -67,7 +67,7 @@ module _ (es : List Event) (i : ℕ) (e : Event) (low : i < length es) (at : e �
   pub ends_before : is_vread e ≡ false → (k : ℕ) → has_vread (drop k (take (i + 1) es)) ≡ has_vread (drop k (take i es))
   ends_before is k = ap has_vread (one_more k) ∙ other_last (take i es) e is k
 
--- a single event makes one call
+-- an event that is neither a vread nor an act makes a call by itself
 pub alone_first : (w : List BoundAct) (e : Event) (es : List Event) (l : SeenLine) (ls : List SeenLine) →
     ((n f : ℕ) → e ≡ Vread n f → ⊥) → ((p : Point) (a : InsideAct) → e ≡ Inside p a → ⊥) →
     calls_from w (e ∷ es) (l ∷ ls) ≡ alone e l ∷ calls_from w es ls
@@ -75,9 +75,9 @@ alone_first w (Vread n f) es l ls not_vread not_inside = absurd (not_vread n f r
 alone_first w (Inside p a) es l ls not_vread not_inside = absurd (not_inside p a refl)
 alone_first w e es l ls not_vread not_inside = refl
 
--- the calls so far, with one more event and its line
+-- the first n events made `calls`, and their acts `waiting` still wait; `e` is the next event, and `l` is its line
 module _ (events : List Event) (lines : List BareLine) (n : ℕ) (e : Event) (l : BareLine) (low : n < length events)
-    (low' : n < length lines) (is : e ≡ get_or events n e) (is' : l ≡ get_or lines n l) (calls : List Called)
+    (low' : n < length lines) (is : e ≡ get_or events n e) (is' : l ≡ get_or lines n l) (calls : List CalledLines)
     (waiting : List ActLine) (whole : List Call)
     (so_far : map seen_call calls
     ++ calls_from (map seen_act waiting) (drop n events) (map seen_bare (drop n lines)) ≡ whole) where
@@ -91,8 +91,8 @@ module _ (events : List Event) (lines : List BareLine) (n : ℕ) (e : Event) (l 
   here = sym (λ i. map seen_call calls
       ++ calls_from (map seen_act waiting) (dropped events n e low is i) (map seen_bare (dropped lines n l low' is' i))) ∙ so_far
 
-  -- an event that makes a call adds it to the calls so far
-  makes : (call : Called) (left : List BoundAct) →
+  -- if event e makes a call, this call comes after the calls so far
+  makes : (call : CalledLines) (left : List BoundAct) →
       calls_from (map seen_act waiting) (e ∷ es) (seen_bare l ∷ ls) ≡ seen_call call ∷ calls_from left es ls →
       map seen_call (calls ++ call ∷ []) ++ calls_from left es ls ≡ whole
   makes call left made =
@@ -100,13 +100,13 @@ module _ (events : List Event) (lines : List BareLine) (n : ℕ) (e : Event) (l 
       ∙ append_assoc (map seen_call calls) (seen_call call ∷ []) (calls_from left es ls)
       ∙ ap (λ cs. map seen_call calls ++ cs) (sym made) ∙ here
 
-  pub vread_next : (k f : ℕ) → e ≡ Vread k f → (call : Called) →
+  pub vread_next : (k f : ℕ) → e ≡ Vread k f → (call : CalledLines) →
       seen_call call ≡ vread_call k f (seen_bare l) (map seen_act waiting) →
       map seen_call (calls ++ call ∷ []) ++ calls_from [] es ls ≡ whole
   vread_next k f e_is call call_is = makes call []
       (ap (λ x. calls_from (map seen_act waiting) (x ∷ es) (seen_bare l ∷ ls)) e_is ∙ ap (λ x. x ∷ calls_from [] es ls) (sym call_is))
 
-  pub alone_next : ((k f : ℕ) → e ≡ Vread k f → ⊥) → ((p : Point) (a : InsideAct) → e ≡ Inside p a → ⊥) → (call : Called) →
+  pub alone_next : ((k f : ℕ) → e ≡ Vread k f → ⊥) → ((p : Point) (a : InsideAct) → e ≡ Inside p a → ⊥) → (call : CalledLines) →
       seen_call call ≡ alone e (seen_bare l) →
       map seen_call (calls ++ call ∷ []) ++ calls_from (map seen_act waiting) es ls ≡ whole
   alone_next not_vread not_inside call call_is = makes call (map seen_act waiting)
@@ -116,7 +116,7 @@ module _ (events : List Event) (lines : List BareLine) (n : ℕ) (e : Event) (l 
   abbrev bound_of : Point → InsideAct → BoundAct
   bound_of p a = record { point = p; act = a; line = seen_bare l }
 
-  pub unbound_next : (p : Point) (a : InsideAct) → e ≡ Inside p a → has_vread es ≡ false → (call : Called) →
+  pub unbound_next : (p : Point) (a : InsideAct) → e ≡ Inside p a → has_vread es ≡ false → (call : CalledLines) →
       seen_call call ≡ unbound (record { point = p; act = a; line = seen_bare l }) →
       map seen_call (calls ++ call ∷ []) ++ calls_from (map seen_act waiting) es ls ≡ whole
   unbound_next p a e_is none call call_is = makes call (map seen_act waiting)
@@ -137,9 +137,9 @@ module _ (events : List Event) (lines : List BareLine) (n : ℕ) (e : Event) (l 
       else unbound (bound_of p a) ∷ calls_from (map seen_act waiting) es ls) some))
       ∙ here
 
--- the last line makes the last call
-pub calls_end : (events : List Event) (lines : List BareLine) (n : ℕ) (l : BareLine) (calls : List Called)
-    (waiting : List BoundAct) (whole : List Call) (call : Called) → n ≡ length events → length lines ≡ length events + 1 →
+-- the last line, which is that of the caller's end, makes the last call
+pub calls_end : (events : List Event) (lines : List BareLine) (n : ℕ) (l : BareLine) (calls : List CalledLines)
+    (waiting : List BoundAct) (whole : List Call) (call : CalledLines) → n ≡ length events → length lines ≡ length events + 1 →
     l ≡ get_or lines (length events) l → seen_call call ≡ ending (seen_bare l) →
     map seen_call calls ++ calls_from waiting (drop n events) (map seen_bare (drop n lines)) ≡ whole →
     map seen_call (calls ++ call ∷ []) ≡ whole

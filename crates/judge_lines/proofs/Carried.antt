@@ -1,4 +1,4 @@
--- A carried value, step by step.
+-- A value is carried along a list of steps, one step at a time.
 use Rattle.std.proofs.Common.{◌≡◌, ℕ, zero, suc, ◌+◌, ◌<◌, ◌≤◌, Option, Some, List, [], ◌∷◌, ◌++◌, length, get_or, take, drop, refl, sym, subst, ap, ◌∙◌, arith}
 use Rattle.std.specs.Prelude.{◌↔◌, slice_get}
 use Rattle.std.specs.List.{fold}
@@ -7,7 +7,7 @@ use Rattle.std.proofs.lemmas.List.Sums.{fold-append}
 use mathlib.Core.Logic.{dite}
 use native.Mathlib.Decide.{ℕ_discrete}
 use Rattle.key_names.specs.declared.names.Step.{Step}
-use Rattle.judge_lines.specs.declared.along.Walk.{Walk}
+use Rattle.judge_lines.specs.declared.along.OrderWalk.{OrderWalk}
 use Rattle.judge_lines.specs.Along.{Along, HasGone}
 
 pub get_front : {X : Type 0} (xs : List X) (x : X) (n : ℕ) → n < length xs → slice_get (xs ++ x ∷ []) n ≡ slice_get xs n
@@ -19,7 +19,8 @@ pub get_last : {X : Type 0} (xs : List X) (x : X) → slice_get (xs ++ x ∷ [])
 get_last [] x = refl
 get_last (y ∷ xs) x = get_last xs x
 
--- a fact of each element at its place holds of a list with one more element, if it holds of that element
+-- if P holds of each element of `xs` at its place, and of `y` at the next place, then P holds of each element of the
+-- longer list
 pub each_found : {X : Type 0} (P : ℕ → X → Type 0) (xs : List X) (y : X) →
     ((p : ℕ) (x : X) → slice_get xs p ≡ Some x → P p x) → P (length xs) y →
     (p : ℕ) (x : X) → slice_get (xs ++ y ∷ []) p ≡ Some x → P p x
@@ -70,11 +71,11 @@ module _ (after : Option ℕ → Step → Option ℕ) (May : Option ℕ → Step
   along_both v [] ys h k = k
   along_both v (x ∷ xs) ys h k = (h.0, along_both (after v x) xs ys h.1 k)
 
-  pub gone_nowhere : (walk : Walk) → HasGone after May walk [] walk
+  pub gone_nowhere : (walk : OrderWalk) → HasGone after May walk [] walk
   gone_nowhere walk = record { carried = refl; follows = ((λ h. (h, tt)), (λ h. h.0)) }
 
-  -- a walk along some steps and then along more goes along all of them
-  pub gone_on : (walk middle on : Walk) (xs ys : List Step) → HasGone after May walk xs middle →
+  -- a walk along `xs` and then along `ys` is a walk along xs ++ ys
+  pub gone_on : (walk middle on : OrderWalk) (xs ys : List Step) → HasGone after May walk xs middle →
       HasGone after May middle ys on → HasGone after May walk (xs ++ ys) on
   gone_on walk middle on xs ys a b = record {
     carried = b.carried ∙ ap (λ v. fold after v ys) a.carried ∙ sym (fold-append after walk.carried xs ys);
@@ -89,13 +90,13 @@ module _ (after : Option ℕ → Step → Option ℕ) (May : Option ℕ → Step
     );
   }
 
-  pub gone_more : (walk middle on : Walk) (steps : List Step) (i : ℕ) (d : Step) → i < length steps →
+  pub gone_more : (walk middle on : OrderWalk) (steps : List Step) (i : ℕ) (d : Step) → i < length steps →
       HasGone after May walk (take i steps) middle → HasGone after May middle (get_or steps i d ∷ []) on →
       HasGone after May walk (take (i + 1) steps) on
   gone_more walk middle on steps i d low a b =
       subst (λ (xs : List Step). HasGone after May walk xs on) (sym (take_more steps i d low))
       (gone_on walk middle on (take i steps) (get_or steps i d ∷ []) a b)
 
-  pub gone_all : (walk on : Walk) (steps : List Step) (i : ℕ) → length steps ≤ i →
+  pub gone_all : (walk on : OrderWalk) (steps : List Step) (i : ℕ) → length steps ≤ i →
       HasGone after May walk (take i steps) on → HasGone after May walk steps on
   gone_all walk on steps i high a = subst (λ (xs : List Step). HasGone after May walk xs on) (take_all i steps high) a

@@ -1,4 +1,5 @@
--- The place of a caller's fork in its parent's order, in the code and in the definitions.
+-- The fork that the code finds for a caller is that of the definitions: the same parent, and the same steps before the
+-- child's.
 use Rattle.std.proofs.Common.{◌≡◌, ℕ, suc, ◌+◌, ◌<◌, Bool, true, false, Option, Some, None, List, [], ◌∷◌, ◌++◌, length, take, refl, sym, subst, ap, ◌∙◌, arith, append_assoc, length-append}
 use Rattle.std.specs.Prelude.{◌==◌, if◌then◌else◌}
 use Rattle.std.specs.List.{AllByRecursion}
@@ -23,11 +24,11 @@ take_past (x ∷ a) r k =
     let e : length (x ∷ a) + k ≡ suc (length a + k) = omega arith in
     ap (λ n. take n (x ∷ (a ++ r))) e ∙ ap (λ s. x ∷ s) (take_past a r k)
 
--- the parent's own steps that come before the child's
+-- the parent's own steps up to and including the fork's first visit
 abbrev pub steps_before : ForkPoint → List Step
 steps_before f = calls_steps f.before ++ through_visit f.line.steps
 
--- the first fork of c among these and then more is this one, after k calls and n steps of caller p
+-- `f` is the point in `calls` at which caller c is forked first. Before `calls`, caller p made k calls and n steps
 record Found (c p k n : ℕ) (calls : List Call) (more : List Fork) (f : ForkPoint) : Type 0 where
   fork : Fork
   here : front_in c (forks_in p k n calls ++ more) ≡ Some fork
@@ -92,7 +93,7 @@ at_point c p k n (alone (ForkEvent child) line ∷ calls) more = by (child == c)
 at_point c p k n (call ∷ calls) more = one_more c p k n call calls more (fork_point c calls) refl
     (at_point c p (suc k) (n + length (call_steps call)) calls more)
 
--- the first fork of c by these callers, the first of which is p, is by the caller with number p + k
+-- the first of `callers` has number p; the first fork among theirs that makes caller c is made by caller p + k
 pub record FoundIn (c p : ℕ) (callers : List (List Call)) (parent : Parent) : Type 0 where
   pub fork : Fork
   pub here : front_in c (all_forks p callers) ≡ Some fork
@@ -151,7 +152,7 @@ at_parent c p (calls ∷ callers) =
       front = at.front;
     }
 
--- a caller's fork is by a parent with a lower number
+-- if each fork's parent is below its child, then the parent of the fork that makes caller c is below c
 pub rises : (c : ℕ) (forks : List Fork) (fork : Fork) → AllByRecursion (λ f. f.parent < f.child) forks →
     front_in c forks ≡ Some fork → fork.parent < c
 rises c [] fork all here = cc

@@ -1,4 +1,4 @@
--- In a well-formed script each caller forks numbers above its own.
+-- In a well-formed script each caller forks only callers with higher numbers than its own.
 use Rattle.std.proofs.Common.{ℕ, suc, ◌+◌, ◌<◌, Bool, true, false, List, [], ◌∷◌, ◌++◌, length}
 use Rattle.std.specs.Prelude.{⊤, if◌then◌else◌}
 use Rattle.std.specs.List.{AllByRecursion}

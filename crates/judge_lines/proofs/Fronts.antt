@@ -1,10 +1,11 @@
--- A list is read from its front.
+-- A loop goes through a list from its front. The output of the finished part and that of the rest together are the
+-- whole.
 use Rattle.std.specs.Prelude.{slice_get}
 use Rattle.std.proofs.Common.{Some, zero, suc, ◌≡◌, ℕ, ◌+◌, ◌<◌, ◌≤◌, List, [], ◌∷◌, ◌++◌, length, get_or, take, drop, map, sym, ap, ◌∙◌, append_assoc}
 use Rattle.std.proofs.lemmas.List.{map-append, take_more, drop_more, at_drop_all, append-nil}
 use Rattle.std.proofs.lemmas.Option.{same_Some}
 
--- two mapped lists stay equal if their next elements are mapped to the same
+-- two equal mapped lists stay equal if each gets one more element, and both new elements are mapped to the same value
 pub map_more : {A B C : Type 0} (f : A → C) (g : B → C) (done : List A) (bs : List B) (i : ℕ) (a : A) (d : B) →
     map f done ≡ map g (take i bs) → i < length bs → f a ≡ g (get_or bs i d) →
     map f (done ++ a ∷ []) ≡ map g (take (i + 1) bs)
@@ -21,7 +22,7 @@ found_or [] i x is = cc
 found_or (y ∷ xs) zero x is = same_Some y x is
 found_or (y ∷ xs) (suc i) x is = found_or xs i x is
 
--- the output of an element moves from the rest to the finished part
+-- the output of the next element moves from the rest to the finished part
 pub goes_on : {X Y : Type 0} (F G : List X → List Y) (xs : List X) (i : ℕ) (x : X) (done piece whole : List Y) →
     i < length xs → x ≡ get_or xs i x → F (x ∷ drop (i + 1) xs) ≡ piece ++ G (drop (i + 1) xs) →
     done ++ F (drop i xs) ≡ whole → (done ++ piece) ++ G (drop (i + 1) xs) ≡ whole

@@ -1,5 +1,5 @@
-pub mod ToldReads
-pub mod ToldEvents
+pub mod InferredReads
+pub mod InferredEvents
 pub mod RowShapes
 pub mod RowReads
 pub mod RowEvents
@@ -13,7 +13,7 @@ pub mod ForksRise
 pub mod AlongOrders
 pub mod Runs
 pub mod StampsRise
-pub mod BareStands
+pub mod BareConforms
 pub mod MarksMoved
 pub mod Carried
 pub mod OwnSteps

@@ -1,4 +1,4 @@
--- The lines of a caller in sequence, and the callers in sequence.
+-- Lines fit exactly if the first line fits and the other lines do. The same is proved caller by caller.
 use Rattle.std.proofs.Common.{◌≡◌, ℕ, suc, ◌+◌, ◌<◌, List, [], ◌∷◌, length, get_or, drop, map, refl, sym, subst, arith, add-one, Some}
 use Rattle.std.specs.Prelude.{◌↔◌, slice_get}
 use Rattle.std.proofs.lemmas.List.{at_drop_all}
@@ -21,7 +21,7 @@ module _ (c n : ℕ) (es : List Event) (ls : List BareLine) where
   fits_more e l low low' is is' =
       rw (dropped es n e low is, dropped ls n l low' is', add-one) ((λ h. h), (λ h. h))
 
-  -- the lines fit from the last one on exactly if it is a line of the end
+  -- the last line fits exactly if it is the line of a caller's end
   pub fits_last : (l : BareLine) (m : ℕ) → n ≡ m → length es ≡ m → length ls ≡ m + 1 → l ≡ get_or ls m l →
       LinesFit c n (drop n es) (map seen_bare (drop n ls)) ↔ LineIs c m EndWord (seen_bare l)
   fits_last l m same here long is =
@@ -44,7 +44,7 @@ callers_long c (es ∷ ess) [] fit = absurd fit
 callers_long c (es ∷ ess) (ls ∷ t) fit =
     let rest : length t ≡ length ess = callers_long (suc c) ess t fit.1 in omega arith
 
--- the lines of the callers from c on fit exactly if caller c's do and those of the callers after c do
+-- the lines of the callers from c on fit exactly if the lines of caller c fit and the lines of all callers after c do
 pub callers_more : (c : ℕ) (ess : List (List Event)) (t : List (Vec BareLine)) (es : List Event) (ls : Vec BareLine) →
     slice_get ess c ≡ Some es → c < length t → ls ≡ get_or t c ls →
     EachCaller CallerFits c (drop c ess) (seen_callers (drop c t))

@@ -1,4 +1,4 @@
--- All marks are those of the pool, of the base and of the CPUs.
+-- The marks of the pool, of the base and of the CPUs together are all marks, in some order.
 use Rattle.std.proofs.Common.{◌≡◌, cond, List, [], ◌∷◌, ◌++◌, sym, ap, ◌∙◌, subst, append_assoc}
 use Rattle.std.specs.Prelude.{IsPermutation}
 use Rattle.std.specs.List.{filter}
@@ -16,7 +16,7 @@ of group xs = filter (is_by group) xs
 moved : (x : MarkBy) (ys zs : List MarkBy) → IsPermutation (x ∷ (ys ++ zs)) (ys ++ x ∷ zs)
 moved x ys zs = IsPermutation-sym (ys ++ x ∷ zs) (x ∷ (ys ++ zs)) (IsPermutation-middle ys x zs)
 
--- if a mark is added in front of all marks, it is added in front of its group's
+-- if mark x is added both to all marks and to its group, the groups together still have all marks
 module _ (x : MarkBy) (xs pool base cpus : List MarkBy) (all : IsPermutation xs (pool ++ (base ++ cpus))) where
   to_pool : IsPermutation (x ∷ xs) (x ∷ (pool ++ (base ++ cpus)))
   to_pool = IsPermutation-cons x xs (pool ++ (base ++ cpus)) all

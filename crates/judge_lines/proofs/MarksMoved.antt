@@ -1,4 +1,4 @@
--- Whether the marks of a lane are lawful does not depend on the order of all marks.
+-- If the marks of a lane are lawful, they stay lawful when all marks are put in another order.
 use Rattle.std.proofs.Common.{◌≡◌, ℕ, ◌+◌, Bool, true, false, cond, List, [], ◌∷◌, length, refl, sym, subst, ap, ◌∙◌, arith}
 use Rattle.std.specs.Prelude.{count_by, ◌==◌, ◌&&◌, IsPermutation}
 use Rattle.std.specs.List.{AllByRecursion, range_with_len}
@@ -7,7 +7,7 @@ use Rattle.std.proofs.lemmas.List.Elements.{All-from_recursion, recursion_from_A
 use Rattle.std.proofs.lemmas.List.Sorted.{All-permutation, sum_by-IsPermutation, IsPermutation-sym}
 use Rattle.key_names.specs.declared.names.LaneId.{LaneId}
 use Rattle.key_names.specs.declared.names.Mark.{Mark}
-use Rattle.key_names.specs.Transcripts.IsTranscript.{MarkBy, is_same_lane, lane_marks, PlacesStand}
+use Rattle.key_names.specs.Transcripts.IsTranscript.{MarkBy, is_same_lane, lane_marks, PlacesConform}
 use Rattle.key_names.proofs.Lists.MarkLists.{Above}
 use Rattle.key_names.proofs.Lists.Each.{each_weaker}
 
@@ -73,19 +73,19 @@ module _ (lane : LaneId) where
     pub same_long : length (lane_marks lane ys) ≡ length (lane_marks lane xs)
     same_long = long_here ys ∙ sum_by-IsPermutation (λ by. cond (here by) 1 0) xs ys same ∙ sym (long_here xs)
 
-    pub lane_moved : PlacesStand (lane_marks lane xs) → PlacesStand (lane_marks lane ys)
-    lane_moved stand = record {
+    pub lane_moved : PlacesConform (lane_marks lane xs) → PlacesConform (lane_marks lane ys)
+    lane_moved conform = record {
       once = each_weaker (λ place. count_by (λ mark. mark.place == place) (lane_marks lane xs) ≡ 1)
           (λ place. count_by (λ mark. mark.place == place) (lane_marks lane ys) ≡ 1)
           (range_with_len 0 (length (lane_marks lane ys))) (λ place is. same_count (λ mark. mark.place == place) ∙ is)
           (subst (λ (n : ℕ). AllByRecursion (λ place. count_by (λ mark. mark.place == place) (lane_marks lane xs) ≡ 1)
-          (range_with_len 0 n)) (sym same_long) stand.once);
+          (range_with_len 0 n)) (sym same_long) conform.once);
       rise = any_order (λ a. AllByRecursion (Above a) (lane_marks lane ys))
           (each_weaker (λ a. AllByRecursion (Above a) (lane_marks lane xs))
           (λ a. AllByRecursion (Above a) (lane_marks lane ys)) (lane_marks lane xs)
-          (λ a all. any_order (Above a) all) stand.rise);
+          (λ a all. any_order (Above a) all) conform.rise);
     }
 
-pub lane_moved_back : (lane : LaneId) (xs ys : List MarkBy) → IsPermutation xs ys → PlacesStand (lane_marks lane ys) →
-    PlacesStand (lane_marks lane xs)
-lane_moved_back lane xs ys same stand = lane_moved lane ys xs (IsPermutation-sym xs ys same) stand
+pub lane_moved_back : (lane : LaneId) (xs ys : List MarkBy) → IsPermutation xs ys → PlacesConform (lane_marks lane ys) →
+    PlacesConform (lane_marks lane xs)
+lane_moved_back lane xs ys same conform = lane_moved lane ys xs (IsPermutation-sym xs ys same) conform

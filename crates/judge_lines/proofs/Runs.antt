@@ -1,4 +1,5 @@
--- Marks sorted by lane and stamp: the places of each lane count up exactly if the runs do.
+-- In marks sorted by lane and stamp, each lane's marks are one run. So the places of each lane count up exactly if
+-- those of each run do.
 use Rattle.std.proofs.Common.{◌≡◌, ℕ, suc, ◌+◌, ◌<◌, ◌≤◌, Bool, true, false, cond, Option, Some, None, List, [], ◌∷◌, length, get_or, drop, map, inl, inr, refl, sym, subst, ap, ◌∙◌, arith}
 use Rattle.std.specs.Prelude.{◌↔◌, ◌⊎◌, ◌==◌, MatchBool, nat_lt, IsSortedByKey}
 use Rattle.std.specs.Ordering.{is_lt, ordering_then, nat_cmp}
@@ -11,13 +12,13 @@ use Rattle.std.proofs.lemmas.Bool.Decides.{nat_tests}
 use Rattle.key_names.specs.declared.names.LaneId.{LaneId}
 use Rattle.key_names.specs.declared.names.LaneId.TheVariants.{Pool as PoolLane, Base as BaseLane, Cpu as CpuLane}
 use Rattle.key_names.specs.declared.names.Mark.{Mark}
-use Rattle.key_names.specs.Transcripts.IsTranscript.{is_same_lane, lane_marks, PlacesStand}
+use Rattle.key_names.specs.Transcripts.IsTranscript.{is_same_lane, lane_marks, PlacesConform}
 use Rattle.key_names.specs.Transcripts.PlacesInOrder.{InOrder, ByStamp}
 use Rattle.key_names.proofs.Transcripts.PlacesInOrder.{places_count_up}
 use Rattle.key_names.proofs.Lists.Each.{each_weaker}
 use Rattle.key_names.proofs.Transcripts.LaneCounts.{same_lane, lane_itself}
 use Rattle.judge_lines.specs.declared.marks.MarkOf.{MarkOf}
-use Rattle.judge_lines.specs.Marks.{seen_mark, lane_rank, NotBehind, IsSortedByLane, Follows, RunsCount}
+use Rattle.judge_lines.specs.Marks.{seen_mark, lane_rank, NotAfter, IsSortedByLane, Follows, RunsCount}
 
 rank_same : (a b : LaneId) → lane_rank a ≡ lane_rank b → is_same_lane a b ≡ true
 rank_same PoolLane PoolLane e = refl
@@ -38,19 +39,19 @@ apart a b low = go (is_same_lane b a) refl
     go true e = let r : lane_rank b ≡ lane_rank a = ap lane_rank (same_lane b a e) in absurd (omega arith)
     go false e = e
 
-behind_behind : (a b c : Mark) → NotBehind a b → NotBehind b c → NotBehind a c
-behind_behind a b c (inl p) (inl q) = inl (omega arith)
-behind_behind a b c (inl p) (inr q) = inl (let e = q.0 in omega arith)
-behind_behind a b c (inr p) (inl q) = inl (let e = p.0 in omega arith)
-behind_behind a b c (inr p) (inr q) = inr (p.0 ∙ q.0, (let x = p.1 in let y = q.1 in omega arith))
+after_after : (a b c : Mark) → NotAfter a b → NotAfter b c → NotAfter a c
+after_after a b c (inl p) (inl q) = inl (omega arith)
+after_after a b c (inl p) (inr q) = inl (let e = q.0 in omega arith)
+after_after a b c (inr p) (inl q) = inl (let e = p.0 in omega arith)
+after_after a b c (inr p) (inr q) = inr (p.0 ∙ q.0, (let x = p.1 in let y = q.1 in omega arith))
 
-all_behind : (a : MarkOf) (marks : List MarkOf) → IsSortedByLane (a ∷ marks) →
-    AllByRecursion (λ b. NotBehind a.mark b.mark) marks
-all_behind a [] sorted = tt
-all_behind a (b ∷ marks) sorted = (
+all_after : (a : MarkOf) (marks : List MarkOf) → IsSortedByLane (a ∷ marks) →
+    AllByRecursion (λ b. NotAfter a.mark b.mark) marks
+all_after a [] sorted = tt
+all_after a (b ∷ marks) sorted = (
   sorted.0,
-  each_weaker (λ (c : MarkOf). NotBehind b.mark c.mark) (λ (c : MarkOf). NotBehind a.mark c.mark) marks
-      (λ c h. behind_behind a.mark b.mark c.mark sorted.0 h) (all_behind b marks sorted.1),
+  each_weaker (λ (c : MarkOf). NotAfter b.mark c.mark) (λ (c : MarkOf). NotAfter a.mark c.mark) marks
+      (λ c h. after_after a.mark b.mark c.mark sorted.0 h) (all_after b marks sorted.1),
 )
 
 sorted_rest : (a : MarkOf) (marks : List MarkOf) → IsSortedByLane (a ∷ marks) → IsSortedByLane marks
@@ -68,7 +69,7 @@ left : (lane : LaneId) (m : MarkOf) (marks : List MarkOf) → is_same_lane m.mar
     of_lane lane (m ∷ marks) ≡ of_lane lane marks
 left lane m marks e = rw e refl
 
--- a fact of each mark that is of the lane holds of the lane's marks
+-- if P holds of each mark in `marks` that is on the lane, P holds of all elements of `of_lane lane marks`
 in_lane : (P : Mark → Type 0) (lane : LaneId) (marks : List MarkOf) →
     AllByRecursion (λ (m : MarkOf). is_same_lane m.mark.lane lane ≡ true → P m.mark) marks → AllByRecursion P (of_lane lane marks)
 in_lane P lane [] all = tt
@@ -79,7 +80,7 @@ in_lane P lane (m ∷ marks) all = go (is_same_lane m.mark.lane lane) refl (in_l
     go true e rest = subst (λ (ms : List Mark). AllByRecursion P ms) (sym (taken lane m marks e)) (all.0 e, rest)
     go false e rest = subst (λ (ms : List Mark). AllByRecursion P ms) (sym (left lane m marks e)) rest
 
--- if no mark is of the lane, the lane has no marks
+-- if no mark in `marks` is on the lane, `of_lane lane marks` is empty
 none_left : (lane : LaneId) (marks : List MarkOf) →
     AllByRecursion (λ (m : MarkOf). is_same_lane m.mark.lane lane ≡ false) marks → of_lane lane marks ≡ []
 none_left lane [] none = refl
@@ -90,7 +91,7 @@ lane_sorted lane [] sorted = tt
 lane_sorted lane (m ∷ marks) sorted =
     go (is_same_lane m.mark.lane lane) refl (lane_sorted lane marks (sorted_rest m marks sorted))
   where
-    not_above : is_same_lane m.mark.lane lane ≡ true → (n : MarkOf) → NotBehind m.mark n.mark →
+    not_above : is_same_lane m.mark.lane lane ≡ true → (n : MarkOf) → NotAfter m.mark n.mark →
         is_same_lane n.mark.lane lane ≡ true → m.mark.stamp ≤ n.mark.stamp
     not_above e n (inl less) e' =
         let r : lane_rank m.mark.lane ≡ lane_rank n.mark.lane =
@@ -101,20 +102,20 @@ lane_sorted lane (m ∷ marks) sorted =
         ByStamp (of_lane lane (m ∷ marks))
     go true e rest = subst ByStamp (sym (taken lane m marks e)) (
       in_lane (λ n. m.mark.stamp ≤ n.stamp) lane marks
-          (each_weaker (λ (n : MarkOf). NotBehind m.mark n.mark)
+          (each_weaker (λ (n : MarkOf). NotAfter m.mark n.mark)
           (λ (n : MarkOf). is_same_lane n.mark.lane lane ≡ true → m.mark.stamp ≤ n.mark.stamp) marks (not_above e)
-          (all_behind m marks sorted)),
+          (all_after m marks sorted)),
       rest,
     )
     go false e rest = subst ByStamp (sym (left lane m marks e)) rest
 
--- the marks after mark a continue a's lane, and begin each other lane
+-- after mark `a`, a's lane goes on with the next places and higher stamps; each other lane begins at place 0
 record GoesOn (a : Mark) (marks : List MarkOf) : Type 0 where
   run : InOrder (suc a.place) (of_lane a.lane marks)
   above : AllByRecursion (λ n. a.stamp < n.stamp) (of_lane a.lane marks)
   others : (lane : LaneId) → is_same_lane a.lane lane ≡ false → InOrder 0 (of_lane lane marks)
 
--- if the marks after m continue its lane from place i, then m and they are in order from i on
+-- if m has place i and the marks after it go on from m, then m's lane is in order from place i
 first_of : (m : MarkOf) (marks : List MarkOf) (i : ℕ) → m.mark.place ≡ i → GoesOn m.mark marks →
     InOrder i (of_lane m.mark.lane (m ∷ marks))
 first_of m marks i here on = subst (InOrder i) (sym (taken m.mark.lane m marks (lane_itself m.mark.lane)))
@@ -129,7 +130,7 @@ of_first m marks i order =
     subst (InOrder i) (taken m.mark.lane m marks (lane_itself m.mark.lane)) order in
     (h.0, h.1, subst (λ j. InOrder (suc j) (of_lane m.mark.lane marks)) (sym h.0) h.2)
 
--- if all marks are in order, so are those of other lanes after a first mark of this lane
+-- if m and the marks after it are in order, the marks of other lanes are in order without m
 others_of : (m : MarkOf) (marks : List MarkOf) (order : (lane : LaneId) → InOrder 0 (of_lane lane (m ∷ marks))) →
     (lane : LaneId) → is_same_lane m.mark.lane lane ≡ false → InOrder 0 (of_lane lane marks)
 others_of m marks order lane e = subst (InOrder 0) (left lane m marks e) (order lane)
@@ -191,18 +192,18 @@ module _ (a m : MarkOf) (marks : List MarkOf) (sorted : IsSortedByLane (a ∷ m 
     below : lane_rank a.mark.lane < lane_rank m.mark.lane
     below = go sorted.0
       where
-        go : NotBehind a.mark m.mark → lane_rank a.mark.lane < lane_rank m.mark.lane
+        go : NotAfter a.mark m.mark → lane_rank a.mark.lane < lane_rank m.mark.lane
         go (inl less) = less
         go (inr h) = let t : is_same_lane a.mark.lane m.mark.lane ≡ true = rank_same a.mark.lane m.mark.lane h.0 in cc
 
     no_more : of_lane a.mark.lane (m ∷ marks) ≡ []
     no_more = none_left a.mark.lane (m ∷ marks) (
       apart a.mark.lane m.mark.lane below,
-      each_weaker (λ (n : MarkOf). NotBehind m.mark n.mark) (λ (n : MarkOf). is_same_lane n.mark.lane a.mark.lane ≡ false) marks
-          far (all_behind m marks sorted.1),
+      each_weaker (λ (n : MarkOf). NotAfter m.mark n.mark) (λ (n : MarkOf). is_same_lane n.mark.lane a.mark.lane ≡ false) marks
+          far (all_after m marks sorted.1),
     )
       where
-        far : (n : MarkOf) → NotBehind m.mark n.mark → is_same_lane n.mark.lane a.mark.lane ≡ false
+        far : (n : MarkOf) → NotAfter m.mark n.mark → is_same_lane n.mark.lane a.mark.lane ≡ false
         far n (inl less) = apart a.mark.lane n.mark.lane (let b = below in omega arith)
         far n (inr h) = apart a.mark.lane n.mark.lane (let b = below in let r = h.0 in omega arith)
 
@@ -234,11 +235,11 @@ module _ (a m : MarkOf) (marks : List MarkOf) (sorted : IsSortedByLane (a ∷ m 
             gone = sym (left lane m marks other)
                 ∙ subst (λ l. of_lane l (m ∷ marks) ≡ []) (same_lane a.mark.lane lane e') no_more
 
-behind_mark : (a : MarkOf) (marks : List MarkOf) → IsSortedByLane (a ∷ marks) →
+after_mark : (a : MarkOf) (marks : List MarkOf) → IsSortedByLane (a ∷ marks) →
     (RunsCount (Some a.mark) marks → GoesOn a.mark marks) × (GoesOn a.mark marks → RunsCount (Some a.mark) marks)
-behind_mark a [] sorted = ((λ h. record { run = tt; above = tt; others = λ lane other. tt }), (λ h. tt))
-behind_mark a (m ∷ marks) sorted =
-    go (is_same_lane a.mark.lane m.mark.lane) refl (behind_mark m marks sorted.1)
+after_mark a [] sorted = ((λ h. record { run = tt; above = tt; others = λ lane other. tt }), (λ h. tt))
+after_mark a (m ∷ marks) sorted =
+    go (is_same_lane a.mark.lane m.mark.lane) refl (after_mark m marks sorted.1)
   where
     Both : Type 0
     Both = (RunsCount (Some m.mark) marks → GoesOn m.mark marks) × (GoesOn m.mark marks → RunsCount (Some m.mark) marks)
@@ -274,7 +275,7 @@ counted : (marks : List MarkOf) → IsSortedByLane marks →
 counted [] sorted = ((λ h lane. tt), (λ h. tt))
 counted (m ∷ marks) sorted =
     let both : (RunsCount (Some m.mark) marks → GoesOn m.mark marks) × (GoesOn m.mark marks → RunsCount (Some m.mark) marks) =
-    behind_mark m marks sorted in (
+    after_mark m marks sorted in (
       (λ h lane. begins m marks h.0 (both.0 h.1) lane),
       (λ order.
           let run : (m.mark.place ≡ 0) × AllByRecursion (λ n. m.mark.stamp < n.stamp) (of_lane m.mark.lane marks)
@@ -282,7 +283,7 @@ counted (m ∷ marks) sorted =
           (run.0, both.1 (record { run = run.2; above = run.1; others = others_of m marks order }))),
     )
 
--- the runs from mark i on count up exactly if this mark follows the last one and the runs after it count up
+-- the runs from mark i on count up exactly if mark i follows `last` and the runs after mark i count up
 pub runs_more : (last : Option Mark) (marks : List MarkOf) (i : ℕ) (d : MarkOf) → i < length marks →
     RunsCount last (drop i marks)
     ↔ Follows last (get_or marks i d).mark × RunsCount (Some (get_or marks i d).mark) (drop (i + 1) marks)
@@ -292,12 +293,12 @@ pub runs_end : (last : Option Mark) (marks : List MarkOf) (i : ℕ) → length m
 runs_end last marks i high = rw (at_drop_all (λ x. x) marks i high) tt
 
 -- in marks sorted by lane, the places of each lane count up exactly if the runs do
-pub runs_stand : (marks : List MarkOf) → IsSortedByLane marks →
-    RunsCount None marks ↔ ((lane : LaneId) → PlacesStand (lane_marks lane (map seen_mark marks)))
-runs_stand marks sorted = (
+pub runs_conform : (marks : List MarkOf) → IsSortedByLane marks →
+    RunsCount None marks ↔ ((lane : LaneId) → PlacesConform (lane_marks lane (map seen_mark marks)))
+runs_conform marks sorted = (
   (λ h lane. (places_count_up (of_lane lane marks)).0 ((counted marks sorted).0 h lane)),
-  (λ stand. (counted marks sorted).1
-      (λ lane. (places_count_up (of_lane lane marks)).1 (lane_sorted lane marks sorted) (stand lane))),
+  (λ conform. (counted marks sorted).1
+      (λ lane. (places_count_up (of_lane lane marks)).1 (lane_sorted lane marks sorted) (conform lane))),
 )
 
 -- ---- sorting
@@ -308,7 +309,7 @@ sort_key of = (lane_rank of.mark.lane, of.mark.stamp)
 abbrev pub by_both : ℕ × ℕ → ℕ × ℕ → Ordering
 by_both x y = ordering_then (nat_cmp x.0 y.0) (nat_cmp x.1 y.1)
 
--- if a mark does not come before another, its rank is higher, or the ranks are equal and its stamp is not lower
+-- if mark b does not come before mark a, then b's rank is higher, or the ranks are equal and b's stamp is not lower
 not_before : (ra rb sa sb : ℕ) → is_lt (by_both (rb, sb) (ra, sa)) ≡ false → (ra < rb) ⊎ ((ra ≡ rb) × (sa ≤ sb))
 not_before ra rb sa sb e = go (nat_lt rb ra) refl (rb == ra) refl (nat_lt sb sa) refl (sb == sa) e
   where

@@ -1,4 +1,4 @@
--- The settings before calls, and the start setting of a child.
+-- The code finds the setting before each call. It starts each child with the setting found at the child's fork.
 use Rattle.std.proofs.Common.{◌≡◌, inl, inr, ℕ, zero, suc, ◌+◌, ◌<◌, Option, Some, None, List, [], ◌∷◌, ◌++◌, length, get_or, take, drop, map, refl, sym, subst, ap, ◌∙◌, arith}
 use Rattle.std.specs.Prelude.{slice_get, unwrap_or}
 use Rattle.std.specs.List.{fold, AllByRecursion}
@@ -9,15 +9,15 @@ use Rattle.key_names.specs.Callers.Calls.{inherited_setting, first_settings}
 use Rattle.key_names.specs.Transcripts.IsTranscript.{start_setting}
 use Rattle.key_names.proofs.Transcripts.Settings.{setting_front, setting_last, long_settings}
 use Rattle.key_names.proofs.History.CallerOrders.{below}
-use Rattle.judge_lines.specs.declared.called.Called.{Called}
+use Rattle.judge_lines.specs.declared.called.CalledLines.{CalledLines}
 use Rattle.judge_lines.specs.Called.{seen_call, seen_calls}
 use Rattle.judge_lines.specs.Orders.{all_forks, front_in}
 use Rattle.judge_lines.specs.Settings.{settings_from, found_by, first_found}
 use Rattle.judge_lines.proofs.Forks.{AtParent, at_parent, rises}
 use Rattle.judge_lines.proofs.Fronts.{goes_on}
 
--- the setting before the next call moves from the rest to the found settings
-pub found_next : (calls : List Called) (n : ℕ) (call : Called) (set : Setting) (found whole : List Setting) →
+-- the setting before the next call is added to the found settings
+pub found_next : (calls : List CalledLines) (n : ℕ) (call : CalledLines) (set : Setting) (found whole : List Setting) →
     n < length calls → call ≡ get_or calls n call → found ++ settings_from set (map seen_call (drop n calls)) ≡ whole →
     (found ++ set ∷ []) ++ settings_from (setting_after_call set (seen_call call)) (map seen_call (drop (n + 1) calls))
     ≡ whole
@@ -32,7 +32,7 @@ at_settings set [] k low = absurd (omega arith)
 at_settings set (call ∷ calls) zero low = refl
 at_settings set (call ∷ calls) (suc k) low = at_settings (setting_after_call set call) calls k (omega arith)
 
--- start settings of callers
+-- the start settings of callers
 
 abbrev begun : List (List Call) → ℕ → Setting
 begun callers c = inherited_setting (first_settings callers c) (parent_from c 0 callers)
@@ -53,7 +53,7 @@ get_some [] p low = absurd (omega arith)
 get_some (x ∷ xs) zero low = (x, refl)
 get_some (x ∷ xs) (suc p) low = get_some xs p (omega arith)
 
--- for each caller that was reached, the settings before its calls are found
+-- for each caller reached so far, `found` has the setting before each call of that caller
 abbrev pub EachFound : List (List Call) → List (Vec Setting) → Type 0
 EachFound callers settings = (c : ℕ) (found : Vec Setting) → slice_get settings c ≡ Some found →
     found.items ≡ settings_from (start_setting callers c) (list_at callers c)
@@ -87,12 +87,12 @@ module _ (callers : List (List Call)) (settings : List (Vec Setting)) (c : ℕ) 
       ∙ ap (λ s. fold setting_after_call s parent.fork.before)
       (begins_at callers (length callers) p (omega arith) ∙ sym (begins_at callers c p lower))
 
-  -- the setting found at a caller's fork is its start setting
+  -- the setting found at the fork that makes caller c is the start setting of c
   pub first_is : first_found settings (front_in c (all_forks 0 callers)) ≡ start_setting callers c
   first_is = at_front (parent_from c 0 callers) (at_parent c 0 callers) ∙ sym starts
 
-pub list_found : (callers : List (Vec Called)) (c : ℕ) (calls : Vec Called) → c < length callers →
+pub list_found : (callers : List (Vec CalledLines)) (c : ℕ) (calls : Vec CalledLines) → c < length callers →
     calls ≡ get_or callers c calls → map seen_call calls.items ≡ list_at (seen_calls callers) c
 list_found [] c calls low is = absurd (omega arith)
-list_found (x ∷ callers) zero calls low is = ap (λ (v : Vec Called). map seen_call v.items) is
+list_found (x ∷ callers) zero calls low is = ap (λ (v : Vec CalledLines). map seen_call v.items) is
 list_found (x ∷ callers) (suc c) calls low is = list_found callers c calls (omega arith) is

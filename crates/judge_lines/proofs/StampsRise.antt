@@ -13,7 +13,7 @@ use Rattle.judge_lines.specs.Stamps.{stamp_after, IsAbove}
 abbrev Follow : Option ℕ → List Step → Type 0
 Follow last steps = Along stamp_after IsAbove last steps
 
--- if the steps follow a stamp, all their stamps rise above it
+-- if each step may follow the stamp carried to it, beginning with `last`, the stamps rise and the first is above `last`
 rise_above : (last : ℕ) (steps : List Step) → Follow (Some last) steps → Rises (last ∷ stamps_of steps)
 rise_above last [] h = tt
 rise_above last (Look g ∷ steps) h = rise_above last steps h.1

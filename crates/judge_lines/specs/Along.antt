@@ -3,7 +3,7 @@ use Rattle.std.specs.Prelude.{ℕ, ◌≡◌, ◌↔◌, ◌≤◌, ⊤, IsTrue,
 use Rattle.std.specs.List.{fold}
 use Rattle.std.specs.Global.{Vec}
 use Rattle.key_names.specs.declared.names.Step.{Step}
-use Rattle.judge_lines.specs.declared.along.Walk.{Walk}
+use Rattle.judge_lines.specs.declared.along.OrderWalk.{OrderWalk}
 use Rattle.judge_lines.specs.declared.order.Fork.{Fork}
 
 module _ (after : Option ℕ → Step → Option ℕ) where
@@ -12,12 +12,13 @@ module _ (after : Option ℕ → Step → Option ℕ) where
   Along MayFollow carried [] = ⊤
   Along MayFollow carried (step ∷ steps) = MayFollow carried step × Along MayFollow (after carried step) steps
 
-  -- the walk went along the steps
-  pub record HasGone (MayFollow : Option ℕ → Step → Type 0) (walk : Walk) (steps : List Step) (on : Walk) : Type 0 where
+  -- `on` is `walk` after these steps. The value of `on` is that of `walk` carried along them, and `on` follows exactly
+  -- if `walk` does and each step may follow
+  pub record HasGone (MayFollow : Option ℕ → Step → Type 0) (walk : OrderWalk) (steps : List Step) (on : OrderWalk) : Type 0 where
     pub carried : on.carried ≡ fold after walk.carried steps
     pub follows : IsTrue on.follows ↔ IsTrue walk.follows × Along MayFollow walk.carried steps
 
-  -- kept lists the values after each prefix of the steps
+  -- `kept` has, at each place n up to the number of steps, the value after the first n steps
   abbrev pub AreAlong : Option ℕ → List Step → List (Option ℕ) → Type 0
   AreAlong start steps kept = (n : ℕ) → n ≤ length steps → slice_get kept n ≡ Some (fold after start (take n steps))
 
@@ -30,7 +31,7 @@ abbrev pub kept_at : Option (Vec (Option ℕ)) → ℕ → Option ℕ
 kept_at None n = None
 kept_at (Some kept) n = carried_in (slice_get kept.items n)
 
--- the start value of a child that this fork makes
+-- the start value of a child: the value kept for its parent at this fork, or none if there is no fork
 abbrev pub begin_in : List (Vec (Option ℕ)) → Option Fork → Option ℕ
 begin_in kept None = None
 begin_in kept (Some fork) = kept_at (slice_get kept fork.parent) fork.steps

@@ -3,7 +3,7 @@ use Rattle.std.specs.Prelude.{ℕ, ◌≡◌, List, [], ◌∷◌, ◌++◌}
 use Rattle.key_names.specs.declared.entries.Taken.TheVariants.{User}
 use Rattle.key_names.specs.declared.events.Event.{Event}
 use Rattle.key_names.specs.Callers.Calls.{Setting}
-use Rattle.key_names.specs.Callers.Deeds.{Deed}
+use Rattle.key_names.specs.Callers.Effects.{Effect}
 use Rattle.key_names.specs.Callers.Forms.{SysForm, Form, EndForm}
 use Rattle.key_names.specs.declared.events.Event.TheVariants.{Reseed}
 use Rattle.key_names.specs.declared.events.InsideAct.{InsideAct}
@@ -11,109 +11,110 @@ use Rattle.key_names.specs.declared.events.InsideAct.TheVariants.{Wipe as WipeAc
 use Rattle.key_names.specs.declared.events.InsideAct.TheVariants.{Reseed as ReseedAct}
 use Rattle.key_names.specs.declared.names.Step.{Step}
 use Rattle.key_names.specs.Lanes.Book.{Lists, ForwardLawful}
-use Rattle.key_names.specs.Callers.Deeds.{looked, deeds_of}
+use Rattle.key_names.specs.Callers.Effects.{looked, effects_of}
 use Rattle.key_names.specs.Callers.Meaning.{ActMeans, LineMeaning}
-use Rattle.judge_lines.specs.declared.told.Sign.{Sign}
+use Rattle.judge_lines.specs.declared.inferred.Sign.{Sign}
 use Rattle.judge_lines.specs.Rows.{IsActRow}
 use Rattle.judge_lines.specs.LaneFacts.{facts_of}
-use Rattle.judge_lines.specs.Told.{act_telling, AllFill, FillsPart, AllThere}
+use Rattle.judge_lines.specs.Inferred.{act_telling, AllFill, FillsPart, AllThere}
 use Rattle.judge_lines.specs.Kinds.{kinds_of}
 use Rattle.judge_lines.specs.Rows.{IsSystemCall, IsRow, IsEnd, cpu_for}
 use Rattle.judge_lines.specs.LaneFacts.{first_crossing, CrossingsKnown, LaneFacts, AllFit}
-use Rattle.input_pool.specs.PoolStands.{crossing_of}
-use Rattle.key_names.specs.Callers.LineSamples.{SamplesStand}
-use Rattle.judge_lines.specs.Told.{LineFills, telling, reads, ends}
+use Rattle.input_pool.specs.PoolConforms.{crossing_of}
+use Rattle.key_names.specs.Callers.LineSamples.{SamplesConform}
+use Rattle.judge_lines.specs.Inferred.{LineFills, telling, reads, ends}
 use Rattle.input_pool.specs.declared.pool.Crossing.{Crossing as Crossed}
 
--- if the entries fit and the samples hold, each visit of a form has the entry that is inferred from the steps around it
-abbrev pub FormIsTold : Type 0
-FormIsTold = (c : LaneFacts) (set : Setting) (event : Event) (deeds : List Deed) → Form set event deeds →
-    AllFit c deeds → SamplesStand c.fast deeds → LineFills c set (telling set event) deeds
+-- if the entries fit and the samples are correct, each visit of a form has the entry inferred from the steps around it
+abbrev pub FormIsInferred : Type 0
+FormIsInferred = (c : LaneFacts) (set : Setting) (event : Event) (effects : List Effect) → Form set event effects →
+    AllFit c effects → SamplesConform c.fast effects → LineFills c set (telling set event) effects
 
-abbrev pub EndIsTold : Type 0
-EndIsTold = (c : LaneFacts) (set : Setting) (deeds : List Deed) → EndForm deeds → LineFills c set ends deeds
+abbrev pub EndIsInferred : Type 0
+EndIsInferred = (c : LaneFacts) (set : Setting) (effects : List Effect) → EndForm effects → LineFills c set ends effects
 
--- if the entries of a system call fit, they are the inferred ones; it is a call alone, an act, or the end of a vread
-abbrev pub SystemCallIsTold : Type 0
-SystemCallIsTold = (c : LaneFacts) (set : Setting) (n flags : ℕ) (deeds : List Deed) → SysForm set n flags deeds →
-    AllFit c deeds → LineFills c set (reads (User n)) deeds
+-- if the entries of a system call fit, its visits have the inferred entries. Such a call can be a line, an act, or the
+-- end of a vread
+abbrev pub SystemCallIsInferred : Type 0
+SystemCallIsInferred = (c : LaneFacts) (set : Setting) (n flags : ℕ) (effects : List Effect) → SysForm set n flags effects →
+    AllFit c effects → LineFills c set (reads (User n)) effects
 
 -- steps are a system call if they have the inferred entries and their kinds are a row
 abbrev pub SystemRowIsForm : Type 0
-SystemRowIsForm = (c : LaneFacts) (set : Setting) (n flags : ℕ) (deeds : List Deed) →
-    LineFills c set (reads (User n)) deeds → IsSystemCall n flags (kinds_of set.cpu deeds) → SysForm set n flags deeds
+SystemRowIsForm = (c : LaneFacts) (set : Setting) (n flags : ℕ) (effects : List Effect) →
+    LineFills c set (reads (User n)) effects → IsSystemCall n flags (kinds_of set.cpu effects) → SysForm set n flags effects
 
--- steps are a form of an event if they have the inferred entries and their kinds are a row of the event; crossed is the
--- crossing of the first visit of the pool
+-- steps are a form of an event if they have the inferred entries and their kinds are a row of the event; `crossed` is
+-- the crossing of the first visit of the pool
 abbrev pub RowIsForm : Type 0
-RowIsForm = (c : LaneFacts) (set : Setting) (event : Event) (crossed : Crossed) (deeds : List Deed) →
-    crossing_of crossed ≡ first_crossing deeds → CrossingsKnown c deeds → LineFills c set (telling set event) deeds →
-    IsRow event crossed (kinds_of (cpu_for set event) deeds) → Form set event deeds
+RowIsForm = (c : LaneFacts) (set : Setting) (event : Event) (crossed : Crossed) (effects : List Effect) →
+    crossing_of crossed ≡ first_crossing effects → CrossingsKnown c effects → LineFills c set (telling set event) effects →
+    IsRow event crossed (kinds_of (cpu_for set event) effects) → Form set event effects
 
 abbrev pub EndRowIsForm : Type 0
-EndRowIsForm = (c : LaneFacts) (set : Setting) (deeds : List Deed) → LineFills c set ends deeds →
-    IsEnd (kinds_of set.cpu deeds) → EndForm deeds
+EndRowIsForm = (c : LaneFacts) (set : Setting) (effects : List Effect) → LineFills c set ends effects →
+    IsEnd (kinds_of set.cpu effects) → EndForm effects
 
--- if its entries fit, the kinds of a form are a row of its event
+-- if the entries of a form fit, the kinds of its effects are a row of the event
 abbrev pub FormIsRow : Type 0
-FormIsRow = (c : LaneFacts) (set : Setting) (event : Event) (crossed : Crossed) (deeds : List Deed) →
-    crossing_of crossed ≡ first_crossing deeds → Form set event deeds → AllFit c deeds →
-    IsRow event crossed (kinds_of (cpu_for set event) deeds)
+FormIsRow = (c : LaneFacts) (set : Setting) (event : Event) (crossed : Crossed) (effects : List Effect) →
+    crossing_of crossed ≡ first_crossing effects → Form set event effects → AllFit c effects →
+    IsRow event crossed (kinds_of (cpu_for set event) effects)
 
 abbrev pub EndFormIsRow : Type 0
-EndFormIsRow = (set : Setting) (deeds : List Deed) → EndForm deeds → IsEnd (kinds_of set.cpu deeds)
+EndFormIsRow = (set : Setting) (effects : List Effect) → EndForm effects → IsEnd (kinds_of set.cpu effects)
 
 abbrev pub SystemFormIsRow : Type 0
-SystemFormIsRow = (c : LaneFacts) (set : Setting) (n flags : ℕ) (deeds : List Deed) → SysForm set n flags deeds →
-    AllFit c deeds → IsSystemCall n flags (kinds_of set.cpu deeds)
+SystemFormIsRow = (c : LaneFacts) (set : Setting) (n flags : ℕ) (effects : List Effect) → SysForm set n flags effects →
+    AllFit c effects → IsSystemCall n flags (kinds_of set.cpu effects)
 
 -- ---- lanes and acts
 
-abbrev pub ActForm : Setting → InsideAct → List Deed → Type 0
-ActForm set WipeAct deeds = deeds ≡ []
-ActForm set (VreadAct n) deeds = SysForm set n 0 deeds
-ActForm set ReseedAct deeds = Form set Reseed deeds
+abbrev pub ActForm : Setting → InsideAct → List Effect → Type 0
+ActForm set WipeAct effects = effects ≡ []
+ActForm set (VreadAct n) effects = SysForm set n 0 effects
+ActForm set ReseedAct effects = Form set Reseed effects
 
 -- in lawful lists, the entries of any steps fit
 abbrev pub LawfulListsFit : Type 0
 LawfulListsFit = (lists : Lists) → ForwardLawful lists → (steps : List Step) →
-    AllFit (facts_of lists) (deeds_of lists steps)
+    AllFit (facts_of lists) (effects_of lists steps)
 
 abbrev pub ActHasForm : Type 0
-ActHasForm = (set : Setting) (act : InsideAct) (m : LineMeaning) → ActMeans set act m → ActForm set act m.deeds
+ActHasForm = (set : Setting) (act : InsideAct) (m : LineMeaning) → ActMeans set act m → ActForm set act m.effects
 
-abbrev pub ActIsTold : Type 0
-ActIsTold = (c : LaneFacts) (set : Setting) (act : InsideAct) (deeds : List Deed) → ActForm set act deeds →
-    AllFit c deeds → LineFills c set (act_telling act) deeds
+abbrev pub ActIsInferred : Type 0
+ActIsInferred = (c : LaneFacts) (set : Setting) (act : InsideAct) (effects : List Effect) → ActForm set act effects →
+    AllFit c effects → LineFills c set (act_telling act) effects
 
 abbrev pub ActRowIsForm : Type 0
-ActRowIsForm = (c : LaneFacts) (set : Setting) (act : InsideAct) (deeds : List Deed) →
-    LineFills c set (act_telling act) deeds → IsActRow act (kinds_of set.cpu deeds) → ActForm set act deeds
+ActRowIsForm = (c : LaneFacts) (set : Setting) (act : InsideAct) (effects : List Effect) →
+    LineFills c set (act_telling act) effects → IsActRow act (kinds_of set.cpu effects) → ActForm set act effects
 
 abbrev pub ActFormIsRow : Type 0
-ActFormIsRow = (c : LaneFacts) (set : Setting) (act : InsideAct) (deeds : List Deed) → ActForm set act deeds →
-    AllFit c deeds → IsActRow act (kinds_of set.cpu deeds)
+ActFormIsRow = (c : LaneFacts) (set : Setting) (act : InsideAct) (effects : List Effect) → ActForm set act effects →
+    AllFit c effects → IsActRow act (kinds_of set.cpu effects)
 
--- if the entries of an attempt's system call for a key fit, and the steps after the call have the inferred entries,
--- then all of these steps have them
-abbrev pub KeyCallIsTold : Type 0
-KeyCallIsTold = (c : LaneFacts) (set : Setting) (n : ℕ) (first : Sign) (call : List Deed) (h : ℕ) (rest : List Deed)
+-- suppose the entries of an attempt's system call for a key fit. If the steps after the call have the inferred entries,
+-- the steps of the call have theirs
+abbrev pub KeyCallIsInferred : Type 0
+KeyCallIsInferred = (c : LaneFacts) (set : Setting) (n : ℕ) (first : Sign) (call : List Effect) (h : ℕ) (rest : List Effect)
     (a b : Sign) → AllThere call → SysForm set 32 0 call → AllFit c call →
     ((a b : Sign) → AllFill (FillsPart c set (User 32) (User n) first) a b (looked h ∷ rest)) →
     AllFill (FillsPart c set (User 32) (User n) first) a b (call ++ looked h ∷ rest)
 
--- if the entries of the system call at the end of a vread fit, they are the inferred ones
-abbrev pub LastCallIsTold : Type 0
-LastCallIsTold = (c : LaneFacts) (set : Setting) (n flags : ℕ) (first : Sign) (call : List Deed) (a b : Sign) →
+-- the visits of the system call at the end of a vread have the inferred entries, if the call's entries fit
+abbrev pub LastCallIsInferred : Type 0
+LastCallIsInferred = (c : LaneFacts) (set : Setting) (n flags : ℕ) (first : Sign) (call : List Effect) (a b : Sign) →
     SysForm set n flags call → AllFit c call → AllFill (FillsPart c set (User 32) (User n) first) a b call
 
--- the steps before a look are the system call for a key, if they have its kinds and the entries inferred in the vread
+-- a vread's steps before a look are the system call for a key, if they have its kinds and the inferred entries
 abbrev pub KeyRowIsCall : Type 0
-KeyRowIsCall = (c : LaneFacts) (set : Setting) (n : ℕ) (first : Sign) (call : List Deed) (h : ℕ) (rest : List Deed)
+KeyRowIsCall = (c : LaneFacts) (set : Setting) (n : ℕ) (first : Sign) (call : List Effect) (h : ℕ) (rest : List Effect)
     (a b : Sign) → AllThere call → AllFill (FillsPart c set (User 32) (User n) first) a b (call ++ looked h ∷ rest) →
     IsSystemCall 32 0 (kinds_of set.cpu call) → SysForm set 32 0 call
 
 abbrev pub LastRowIsCall : Type 0
-LastRowIsCall = (c : LaneFacts) (set : Setting) (n flags : ℕ) (first : Sign) (call : List Deed) (a b : Sign) →
+LastRowIsCall = (c : LaneFacts) (set : Setting) (n flags : ℕ) (first : Sign) (call : List Effect) (a b : Sign) →
     AllFill (FillsPart c set (User 32) (User n) first) a b call → IsSystemCall n flags (kinds_of set.cpu call) →
     SysForm set n flags call

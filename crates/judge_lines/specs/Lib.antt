@@ -1,7 +1,7 @@
 pub mod LaneFacts
 pub mod Kinds
 pub mod Rows
-pub mod Told
+pub mod Inferred
 pub mod Laws
 pub mod Seen
 pub mod Called

@@ -1,4 +1,4 @@
--- Marks sorted by lane and stamp, and runs of them.
+-- Marks are sorted by lane and stamp. The marks of one lane are then a run.
 use Rattle.std.specs.Prelude.{ℕ, suc, ◌+◌, ◌≡◌, ◌<◌, ◌≤◌, ◌⊎◌, ⊤, Bool, true, false, MatchBool, Option, Some, None, List, [], ◌∷◌}
 use Rattle.key_names.specs.declared.names.LaneId.{LaneId}
 use Rattle.key_names.specs.declared.names.LaneId.TheVariants.{Pool as PoolLane, Base as BaseLane, Cpu as CpuLane}
@@ -27,17 +27,18 @@ lane_rank PoolLane = 0
 lane_rank BaseLane = 1
 lane_rank (CpuLane c) = 2 + c
 
--- the lane of mark a is before b's, or it is the same and a's stamp is not higher
-abbrev pub NotBehind : Mark → Mark → Type 0
-NotBehind a b = (lane_rank a.lane < lane_rank b.lane) ⊎ ((lane_rank a.lane ≡ lane_rank b.lane) × (a.stamp ≤ b.stamp))
+-- the lane of mark `a` comes before that of mark `b`, or the lanes are the same and a's stamp is not higher
+abbrev pub NotAfter : Mark → Mark → Type 0
+NotAfter a b = (lane_rank a.lane < lane_rank b.lane) ⊎ ((lane_rank a.lane ≡ lane_rank b.lane) × (a.stamp ≤ b.stamp))
 
 -- each mark and the next are in order
 abbrev pub IsSortedByLane : List MarkOf → Type 0
 IsSortedByLane [] = ⊤
 IsSortedByLane (a ∷ []) = ⊤
-IsSortedByLane (a ∷ b ∷ marks) = NotBehind a.mark b.mark × IsSortedByLane (b ∷ marks)
+IsSortedByLane (a ∷ b ∷ marks) = NotAfter a.mark b.mark × IsSortedByLane (b ∷ marks)
 
--- in the last mark's lane, the mark has the next place and a higher stamp; in a new lane it has place 0
+-- a mark in the last mark's lane has the next place and a higher stamp; the first mark, and a mark in another lane, has
+-- place 0
 abbrev pub Follows : Option Mark → Mark → Type 0
 Follows None mark = mark.place ≡ 0
 Follows (Some last) mark =

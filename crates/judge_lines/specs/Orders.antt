@@ -1,4 +1,4 @@
--- The forks among callers' calls, and the number of a parent's steps before its child's.
+-- The forks that callers make. Each fork has the number of its parent's steps that come before the child's steps.
 use Rattle.std.specs.Prelude.{ℕ, Bool, true, false, suc, ◌+◌, ◌==◌, Option, Some, None, List, [], ◌∷◌, ◌++◌, length, if◌then◌else◌}
 use Rattle.std.specs.List.{list_any}
 use Rattle.key_names.specs.declared.events.Event.TheVariants.{Fork as ForkEvent}
@@ -21,12 +21,12 @@ abbrev pub forks_in : ℕ → ℕ → ℕ → List Call → List Fork
 forks_in p k n [] = []
 forks_in p k n (call ∷ calls) = fork_here p k n call ++ forks_in p (suc k) (n + length (call_steps call)) calls
 
--- the forks of some callers, the first of which is p
+-- the forks that these callers make; the first of these callers is caller p
 abbrev pub all_forks : ℕ → List (List Call) → List Fork
 all_forks p [] = []
 all_forks p (calls ∷ callers) = forks_in p 0 0 calls ++ all_forks (suc p) callers
 
--- the first fork of a caller
+-- the first fork that makes caller c
 abbrev pub front_in : ℕ → List Fork → Option Fork
 front_in c [] = None
 front_in c (fork ∷ forks) = if fork.child == c then Some fork else front_in c forks

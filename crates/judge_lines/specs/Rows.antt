@@ -1,4 +1,4 @@
--- The rows of kinds that forms have.
+-- The rows: each is a list of kinds that the steps of a form can have.
 use Rattle.std.specs.Prelude.{ℕ, ◌≡◌, ◌⊎◌, ◌==◌, ◌&&◌, not, Bool, true, false, List, [], ◌∷◌, MatchBool}
 use Rattle.key_names.specs.Kernel.Flags.{is_bad, is_nonblock, is_insecure}
 use Rattle.key_names.specs.declared.events.Event.{Event}
@@ -16,11 +16,11 @@ use Rattle.input_pool.specs.declared.pool.Crossing.TheVariants.{Ready as Crossed
 use Rattle.judge_lines.specs.declared.kind.Kind.{Kind}
 use Rattle.judge_lines.specs.declared.kind.Kind.TheVariants.{Unready, Ready, Pool, Base, Resumed, Cpu}
 
--- bytes from the base of a core that is not ready
+-- a draw: bytes from the base of a core that is not ready
 abbrev pub IsDraw : List Kind → Type 0
 IsDraw kinds = (kinds ≡ Pool ∷ Base ∷ []) ⊎ (kinds ≡ Base ∷ [])
 
--- bytes from a CPU
+-- a read from a CPU, which first takes a new key from the base if it needs one
 abbrev pub IsCpuRead : List Kind → Type 0
 IsCpuRead kinds = (kinds ≡ Ready ∷ Cpu ∷ []) ⊎ (kinds ≡ Ready ∷ Base ∷ Cpu ∷ [])
 
@@ -37,8 +37,8 @@ abbrev pub IsWait : ℕ → List Kind → Type 0
 IsWait len kinds = (kinds ≡ Base ∷ Base ∷ []) ⊎ ((rest : List Kind) × (kinds ≡ Base ∷ Resumed ∷ rest) × GoesOn len rest)
 
 -- the steps of a system call after its first look
-abbrev pub IsBehindLook : ℕ → ℕ → Bool → List Kind → Type 0
-IsBehindLook len flags ready kinds =
+abbrev pub IsAfterLook : ℕ → ℕ → Bool → List Kind → Type 0
+IsAfterLook len flags ready kinds =
     MatchBool (not ready && not (is_insecure flags))
     (MatchBool (is_nonblock flags) (kinds ≡ []) (IsWait len kinds))
     (MatchBool (len == 0) (kinds ≡ []) (IsRead ready kinds))
@@ -46,8 +46,8 @@ IsBehindLook len flags ready kinds =
 -- a system call (getrandom(2))
 abbrev pub IsSystemCall : ℕ → ℕ → List Kind → Type 0
 IsSystemCall len flags kinds = MatchBool (is_bad flags) (kinds ≡ [])
-    (((rest : List Kind) × (kinds ≡ Unready ∷ rest) × IsBehindLook len flags false rest)
-    ⊎ ((rest : List Kind) × (kinds ≡ Ready ∷ rest) × IsBehindLook len flags true rest))
+    (((rest : List Kind) × (kinds ≡ Unready ∷ rest) × IsAfterLook len flags false rest)
+    ⊎ ((rest : List Kind) × (kinds ≡ Ready ∷ rest) × IsAfterLook len flags true rest))
 
 -- a read that begins with a look
 abbrev pub IsLookedRead : List Kind → Type 0
@@ -68,21 +68,21 @@ abbrev pub IsReseed : List Kind → Type 0
 IsReseed kinds = (kinds ≡ Unready ∷ []) ⊎ (kinds ≡ Ready ∷ Pool ∷ Base ∷ [])
 
 -- the steps after a credit
-abbrev pub IsBehindCredit : Crossed → List Kind → Type 0
-IsBehindCredit Nothing kinds = kinds ≡ []
-IsBehindCredit CrossedEarly kinds = (kinds ≡ Pool ∷ Base ∷ []) ⊎ (kinds ≡ Base ∷ [])
-IsBehindCredit CrossedReady kinds = kinds ≡ Pool ∷ Base ∷ []
+abbrev pub IsAfterCredit : Crossed → List Kind → Type 0
+IsAfterCredit Nothing kinds = kinds ≡ []
+IsAfterCredit CrossedEarly kinds = (kinds ≡ Pool ∷ Base ∷ []) ⊎ (kinds ≡ Base ∷ [])
+IsAfterCredit CrossedReady kinds = kinds ≡ Pool ∷ Base ∷ []
 
--- a credit, and its effects
+-- a credit, and the steps after it
 abbrev pub IsCredit : Crossed → List Kind → Type 0
-IsCredit crossed kinds = (rest : List Kind) × (kinds ≡ Pool ∷ rest) × IsBehindCredit crossed rest
+IsCredit crossed kinds = (rest : List Kind) × (kinds ≡ Pool ∷ rest) × IsAfterCredit crossed rest
 
--- a sample; or a sample, a dump and the dump's effects
+-- a sample alone; or a sample, a dump, the mix of the dump, and the steps after its credit
 abbrev pub IsInterrupt : Crossed → List Kind → Type 0
 IsInterrupt crossed kinds = (kinds ≡ Cpu ∷ [])
-    ⊎ ((rest : List Kind) × (kinds ≡ Cpu ∷ Cpu ∷ Pool ∷ rest) × IsBehindCredit crossed rest)
+    ⊎ ((rest : List Kind) × (kinds ≡ Cpu ∷ Cpu ∷ Pool ∷ rest) × IsAfterCredit crossed rest)
 
--- a tick that did not fire, or did
+-- a tick that did not fire, or one that did
 abbrev pub IsTick : List Kind → Type 0
 IsTick kinds = (kinds ≡ Base ∷ []) ⊎ (kinds ≡ Pool ∷ Base ∷ [])
 
@@ -98,7 +98,7 @@ IsVmfork kinds = (kinds ≡ Pool ∷ Unready ∷ []) ⊎ (kinds ≡ Pool ∷ Rea
 abbrev pub IsEnd : List Kind → Type 0
 IsEnd kinds = kinds ≡ Base ∷ []
 
--- the rows of a single event; crossed is the crossing of the line's first visit of the pool. A vread and the acts
+-- the rows of a single event; `crossed` is the crossing of the line's first visit of the pool. A vread and the acts
 -- inside it have forms of their own. An event that needs nothing of the core has no steps
 abbrev pub IsRow : Event → Crossed → List Kind → Type 0
 IsRow (Write text) crossed kinds = kinds ≡ Pool ∷ []

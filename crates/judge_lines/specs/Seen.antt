@@ -1,4 +1,4 @@
--- Lines without data and with an arbitrary answer: in contracts, the lines that a replay reads.
+-- The bare lines of the code, as lines of the definitions. Such a line has no data, and its answer is arbitrary.
 use Rattle.std.specs.Prelude.{List, map}
 use Rattle.std.specs.Global.{Vec}
 use Rattle.key_names.specs.declared.events.Answer.TheVariants.{Ok as Done}

@@ -1,4 +1,4 @@
--- The settings before calls.
+-- The setting before each call of a caller.
 use Rattle.std.specs.Prelude.{ℕ, ◌≡◌, Option, Some, None, List, [], ◌∷◌, length, slice_get, unwrap_or}
 use Rattle.std.specs.Global.{Vec}
 use Rattle.key_names.specs.Lanes.Book.{list_at}
@@ -15,12 +15,13 @@ abbrev pub found_by : Option (Vec Setting) → ℕ → Setting
 found_by None k = first_setting
 found_by (Some settings) k = unwrap_or (slice_get settings.items k) first_setting
 
--- the start setting of a caller that this fork makes
+-- the start setting of the child of this fork: the setting before the call that forks, or the first setting if there is
+-- no fork
 abbrev pub first_found : List (Vec Setting) → Option Fork → Setting
 first_found settings None = first_setting
 first_found settings (Some fork) = found_by (slice_get settings fork.parent) fork.calls
 
--- settings has the setting before each call of each caller
+-- `settings` has the setting before each call of each caller
 pub record AreSettings (callers : List (List Call)) (settings : List (Vec Setting)) : Type 0 where
   pub long : length settings ≡ length callers
   pub each : (c : ℕ) (found : Vec Setting) → slice_get settings c ≡ Some found →

@@ -1,4 +1,4 @@
--- The last stamp along an order, and whether the next one is higher.
+-- `stamp_after` carries the stamp of the last visit over a step; by `IsAbove`, the next visit has a higher stamp.
 use Rattle.std.specs.Prelude.{ℕ, ◌<◌, ⊤, Option, Some, None}
 use Rattle.key_names.specs.declared.names.Step.{Step}
 use Rattle.key_names.specs.declared.names.Step.TheVariants.{Look, Visit as Marked}

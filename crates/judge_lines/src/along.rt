@@ -1,5 +1,5 @@
-//! A value is carried along the orders of callers. It begins as nothing, and each step changes it. A child begins with
-//! its parent's value at the fork.
+//! A value is carried along each caller's steps. It is `None` at first, and each step may change it. A child begins
+//! with its parent's value at the fork.
 ghost use Rattle.std.specs.Prelude.{◌≡◌, ◌↔◌, ◌<◌, ℕ, [], ◌∷◌, true, IsTrue, IfOk, Option, None, map};
 ghost use Rattle.std.specs.Bool.{OnTrue};
 ghost use Rattle.std.specs.List.{AllByRecursion};
@@ -9,12 +9,13 @@ ghost use Rattle.judge_lines.specs.Called.{seen_act, seen_call, seen_calls};
 ghost use Rattle.judge_lines.specs.Orders.{all_forks, front_in};
 ghost use Rattle.judge_lines.specs.Along.{Along, AreAlong, HasGone, begin_in};
 
-use crate::called::{ActLine, Called};
+use crate::called::{ActLine, CalledLines};
 use crate::order::{Fork, cut, front_of, is_parent, own_steps};
 use key_names::{Point, Step};
 use std::alloc::{AllocError, Global};
 
-/// A value, which is a number or nothing, is carried from step to step. It determines which steps may follow.
+/// A rule for a value carried along steps: how each step changes the value, and which steps may follow it. The value is
+/// a number or `None`.
 pub trait Carry {
     /// The value after a step.
     ghost after: { Self → Option ℕ → Step → Option ℕ };
@@ -29,19 +30,19 @@ pub trait Carry {
         ensures { result ≡ after self.now carried step };
 }
 
-/// A position in an order: the value there, and whether each step before it was allowed to follow.
+/// A position in an order: the value there, and whether each step before the position was allowed to follow.
 #[derive(Clone, Copy)]
-pub(crate) struct Walk {
+pub(crate) struct OrderWalk {
     pub(crate) carried: Option<u64>,
     pub(crate) follows: bool,
 }
 
-impl Walk {
-    fn from(start: Option<u64>) -> Walk
+impl OrderWalk {
+    fn from(start: Option<u64>) -> OrderWalk
         ensures carried { result.carried ≡ start }
         ensures follows { result.follows ≡ true }
     {
-        Walk {
+        OrderWalk {
             carried: start,
             follows: true,
         }
@@ -93,31 +94,33 @@ impl Walk {
         self.go(carry, rest);
     }
 
-    // Goes along a call.
-    fn go_call<C: Carry>(&mut self, carry: &C, call: &Called<'_>)
+    // Goes along the steps of a call.
+    fn go_call<C: Carry>(&mut self, carry: &C, call: &CalledLines<'_>)
         ensures { HasGone (C.after carry.now) (C.MayFollow carry.now) self.old (call_steps (seen_call call.now)) self.new }
     {
         match call {
-            Called::Alone { line, .. } | Called::Ending(line) => self.go(carry, line.steps),
-            Called::Unbound(act) => self.go(carry, act.line.steps),
-            Called::Vread { line, acts, .. } => self.go_vread(carry, line.steps, acts),
+            CalledLines::Alone { line, .. } | CalledLines::Ending(line) => self.go(
+                carry, line.steps,
+            ),
+            CalledLines::Unbound(act) => self.go(carry, act.line.steps),
+            CalledLines::Vread { line, acts, .. } => self.go_vread(carry, line.steps, acts),
         }
     }
 }
 
-// Whether each step of some calls may follow the value before it.
-fn may_go<C: Carry>(carry: &C, start: Option<u64>, calls: &[Called<'_>]) -> bool
+// Whether each step of these calls may follow the value carried to it.
+fn may_go<C: Carry>(carry: &C, start: Option<u64>, calls: &[CalledLines<'_>]) -> bool
     ensures { IsTrue result ↔ Along (C.after carry.now) (C.MayFollow carry.now) start
         (calls_steps (map seen_call calls.now)) }
 {
-    let mut walk = Walk::from(start);
+    let mut walk = OrderWalk::from(start);
     for call in calls {
         walk.go_call(carry, call);
     }
     walk.follows
 }
 
-// The value after each prefix of some steps, first of the empty one.
+// The value after each prefix of these steps. The first is that of the empty prefix.
 fn along<C: Carry>(
     alloc: Global,
     carry: &C,
@@ -136,12 +139,12 @@ fn along<C: Carry>(
     Ok(kept)
 }
 
-// The values along a caller's steps, if it forks another caller; otherwise no values.
+// The values along a caller's own steps if it forks another caller, and otherwise no values.
 fn kept_of<C: Carry>(
     alloc: Global,
     carry: &C,
     start: Option<u64>,
-    calls: &[Called<'_>],
+    calls: &[CalledLines<'_>],
     is_parent: bool,
 ) -> Result<Vec<Option<u64>>, AllocError>
     ensures { IfOk result (λ kept. OnTrue is_parent
@@ -154,7 +157,7 @@ fn kept_of<C: Carry>(
     }
 }
 
-// The value that a child begins with: its parent's at the fork.
+// The value that a caller begins with: its parent's value at the fork, or `None` if the caller has no fork.
 fn start_of(forks: &[Fork], kept: &[Vec<Option<u64>>], caller: usize) -> Option<u64>
     ensures { result ≡ begin_in kept.now (front_in caller forks.now) }
 {
@@ -163,14 +166,14 @@ fn start_of(forks: &[Fork], kept: &[Vec<Option<u64>>], caller: usize) -> Option<
     *parent.get(fork.steps)?
 }
 
-/// Whether each step of each caller's order may follow the value before it.
+/// Whether each step of each caller's order may follow the value carried to it.
 ///
 /// # Errors
 ///
 /// `AllocError` if there is no memory for the values.
 pub fn all_may_follow<C: Carry>(
     alloc: Global,
-    callers: &[Vec<Called<'_>>],
+    callers: &[Vec<CalledLines<'_>>],
     forks: &[Fork],
     carry: &C,
 ) -> Result<bool, AllocError>

@@ -1,4 +1,4 @@
-//! The clauses on lines and marks, which are judged before any list is made.
+//! Judges the clauses on lines and marks, before any lane's list is made.
 ghost use Rattle.std.specs.Prelude.{◌≡◌, ◌≤◌, length, IfOk};
 ghost use Rattle.key_names.specs.Texts.ScriptGrammar.{WellFormed};
 ghost use Rattle.key_names.specs.Transcripts.IsTranscript.{HasLines, script_calls};
@@ -8,7 +8,7 @@ ghost use Rattle.judge_lines.specs.Begun.{IsBegun};
 
 use crate::along::all_may_follow;
 use crate::bare::BareLine;
-use crate::called::{Called, caller_calls};
+use crate::called::{CalledLines, caller_calls};
 use crate::clause::Clause;
 use crate::lines::lines_fit;
 use crate::marks::{MarkOf, places_count, sorted_marks};
@@ -19,8 +19,8 @@ use std::alloc::{AllocError, Global};
 
 /// The calls, marks and forks of a transcript whose lines and marks are lawful.
 #[derive(Drop)]
-pub struct Parts<'a> {
-    pub calls: Vec<Vec<Called<'a>>>,
+pub struct TranscriptParts<'a> {
+    pub calls: Vec<Vec<CalledLines<'a>>>,
     pub marks: Vec<MarkOf>,
     pub forks: Vec<Fork>,
 }
@@ -28,7 +28,7 @@ pub struct Parts<'a> {
 /// The judgement of lines and marks.
 #[derive(Drop)]
 pub enum Begun<'a> {
-    Stands(Parts<'a>),
+    Conforms(TranscriptParts<'a>),
     /// The first clause that fails, which is `Lines` or `Marks`.
     No(Clause),
 }
@@ -38,7 +38,7 @@ fn all_calls<'a>(
     alloc: Global,
     script: &'a Script,
     lines: &[Vec<BareLine<'a>>],
-) -> Result<Vec<Vec<Called<'a>>>, AllocError>
+) -> Result<Vec<Vec<CalledLines<'a>>>, AllocError>
     requires few { length lines.now ≤ 64 }
     requires lines { HasLines script.now (seen_callers lines.now) }
     ensures { IfOk result (λ calls. seen_calls calls.items ≡ script_calls script.now (seen_callers lines.now)) }
@@ -51,7 +51,7 @@ fn all_calls<'a>(
 }
 
 /// Judges lines and marks. Each caller must have exactly its lines. In each lane the places must be 0, 1, 2 and so on.
-/// Stamps must rise in each lane, and along each caller's steps, which follow those of its ancestors.
+/// Stamps must rise in each lane, and along each caller's order: its ancestors' steps before the fork, then its own.
 ///
 /// # Errors
 ///
@@ -76,7 +76,7 @@ pub fn begin<'a>(
     if !all_may_follow(alloc, &calls, &forks, &Stamps)? {
         return Ok(Begun::No(Clause::Marks));
     }
-    Ok(Begun::Stands(Parts {
+    Ok(Begun::Conforms(TranscriptParts {
         calls,
         marks,
         forks,

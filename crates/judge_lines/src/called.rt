@@ -1,4 +1,4 @@
-//! A caller's events with their lines, as its calls in sequence.
+//! Groups a caller's events and their lines into calls.
 ghost use Rattle.std.specs.Prelude.{◌≡◌, ◌+◌, ◌<◌, ℕ, IsTrue, IfOk, map, length, drop, nat_lt};
 ghost use Rattle.key_names.specs.Callers.Calls.{calls_of, has_vread};
 ghost use Rattle.judge_lines.specs.Seen.{seen_bare};
@@ -20,7 +20,7 @@ pub struct ActLine<'a> {
 /// One call of a caller with its lines: a single event, a `vread` with the acts inside it, an act that no `vread`
 /// follows, or the end.
 #[derive(Drop)]
-pub enum Called<'a> {
+pub enum CalledLines<'a> {
     Alone {
         event: &'a Event,
         line: BareLine<'a>,
@@ -63,7 +63,7 @@ pub(crate) fn caller_calls<'a>(
     alloc: Global,
     events: &'a [Event],
     lines: &[BareLine<'a>],
-) -> Result<Vec<Called<'a>>, AllocError>
+) -> Result<Vec<CalledLines<'a>>, AllocError>
     requires { length lines.now ≡ length events.now + 1 }
     ensures { IfOk result (λ calls. map seen_call calls.items ≡ calls_of events.now (map seen_bare lines.now)) }
 {
@@ -75,7 +75,7 @@ pub(crate) fn caller_calls<'a>(
         match event {
             Event::Vread { len, flags } => {
                 let acts = mem::replace(&mut waiting, Vec::new(alloc));
-                calls.push(Called::Vread {
+                calls.push(CalledLines::Vread {
                     len: *len,
                     flags: *flags,
                     line,
@@ -91,12 +91,12 @@ pub(crate) fn caller_calls<'a>(
                 if number + 1 < end {
                     waiting.push(bound)?;
                 } else {
-                    calls.push(Called::Unbound(bound))?;
+                    calls.push(CalledLines::Unbound(bound))?;
                 }
             }
-            _ => calls.push(Called::Alone { event, line })?,
+            _ => calls.push(CalledLines::Alone { event, line })?,
         }
     }
-    calls.push(Called::Ending(lines[events.len()]))?;
+    calls.push(CalledLines::Ending(lines[events.len()]))?;
     Ok(calls)
 }

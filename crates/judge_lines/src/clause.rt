@@ -3,15 +3,15 @@ ghost use Rattle.std.specs.Prelude.{◌≡◌};
 ghost use Rattle.key_names.specs.Transcripts.IsTranscript.{clause_number};
 ghost use Rattle.judge_lines.specs.Clauses.{clause_of};
 
-/// The conditions for a lawful transcript, in the order in which they are judged. One more comes first: the text is a
-/// transcript's.
+/// The clauses of a lawful transcript, in the order in which they are judged. Clause 1 comes before these: the text is
+/// that of a transcript.
 #[derive(Clone, Copy, Debug, PartialEq, Eq)]
 pub enum Clause {
     /// Each caller has its lines.
     Lines,
     /// In each lane places count up from 0, and stamps rise in each lane and along each caller's order.
     Marks,
-    /// The steps of each line are a form of its event, and one book has all of them.
+    /// The steps of each line are a form of its event. One book contains the steps of all lines.
     Forms,
     /// Each answer is the one that the steps and the lists require.
     Answers,

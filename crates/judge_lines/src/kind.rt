@@ -1,6 +1,6 @@
 //! The kinds of a line's steps.
 
-/// The kind of a step. A row lists the kinds of all steps of a form.
+/// The kind of a step. A row is a list of kinds, one for each step of a form.
 #[derive(Clone, Copy, Debug, PartialEq, Eq)]
 pub enum Kind {
     /// A look that found generation 0: the core was not ready.
@@ -11,10 +11,10 @@ pub enum Kind {
     Pool,
     /// A visit of the base.
     Base,
-    /// A visit of the base with which a waiting caller went on.
+    /// A visit of the base that ended a wait because the core was ready.
     Resumed,
-    /// A visit of the caller's CPU.
+    /// A visit of the line's CPU: the one that the event names, or the caller's.
     Cpu,
-    /// A visit of another CPU, or one that the lists do not have.
+    /// A visit of another CPU, or a visit that is in no list.
     OtherCpu,
 }

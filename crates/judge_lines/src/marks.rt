@@ -1,8 +1,8 @@
-//! The marks of all lines, and whether the places of each lane count up with their stamps.
+//! Collects the marks of all lines, and checks that places count up and stamps rise in each lane.
 ghost use Rattle.std.specs.Prelude.{◌≡◌, ◌↔◌, ◌+◌, ◌++◌, ◌<◌, ◌≤◌, ℕ, IsTrue, IfOk, OnOk, List, [], map, length, IsPermutation};
 ghost use Rattle.std.specs.List.{filter, flat_map, AllByRecursion};
 ghost use Rattle.key_names.specs.declared.names.LaneId.{LaneId};
-ghost use Rattle.key_names.specs.Transcripts.IsTranscript.{is_same_lane, line_marks, all_marks, lane_marks, PlacesStand};
+ghost use Rattle.key_names.specs.Transcripts.IsTranscript.{is_same_lane, line_marks, all_marks, lane_marks, PlacesConform};
 ghost use Rattle.judge_lines.specs.Seen.{seen_bare, seen_callers};
 ghost use Rattle.judge_lines.specs.Marks.{seen_mark, is_in, is_by, lane_rank, Follows, RunsCount, IsSortedByLane};
 
@@ -10,14 +10,14 @@ use crate::bare::BareLine;
 use key_names::{LaneId, Mark, Step, Who};
 use std::alloc::{AllocError, Global};
 
-/// A mark, with the caller, the line and the number of its step.
+/// A mark, and its step: the caller, the line, and the step's number in the line.
 #[derive(Clone, Copy, Debug, PartialEq, Eq)]
 pub struct MarkOf {
     pub mark: Mark,
     pub who: Who,
 }
 
-/// Lanes whose marks are gathered together.
+/// A group of lanes. The marks are collected group by group.
 #[derive(Clone, Copy)]
 enum Group {
     Pool,
@@ -87,7 +87,7 @@ fn push_group(
     Ok(())
 }
 
-// All marks, with those of the pool first, then those of the base, then those of the CPUs. This is already the sorted
+// All marks: first those of the pool, then those of the base, then those of the CPUs. This is already the sorted
 // order if one caller made all marks on one CPU.
 fn gathered(alloc: Global, callers: &[Vec<BareLine<'_>>]) -> Result<Vec<MarkOf>, AllocError>
     ensures { IfOk result (λ marks. IsPermutation (all_marks (seen_callers callers.now)) (map seen_mark marks.items)) }
@@ -141,7 +141,7 @@ fn follows(last: Option<Mark>, mark: Mark) -> bool
 /// Whether the places of each lane count up from 0, and the stamps rise with them.
 pub(crate) fn places_count(marks: &[MarkOf]) -> bool
     requires { IsSortedByLane marks.now }
-    ensures { IsTrue result ↔ ((lane : LaneId) → PlacesStand (lane_marks lane (map seen_mark marks.now))) }
+    ensures { IsTrue result ↔ ((lane : LaneId) → PlacesConform (lane_marks lane (map seen_mark marks.now))) }
 {
     let mut last = None;
     for of in marks {

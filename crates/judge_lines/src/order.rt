@@ -1,17 +1,17 @@
-//! The order of a caller's steps, which begins at a place in its parent's order.
+//! Each caller's own steps, and the point in its parent's steps at which it was forked.
 ghost use Rattle.std.specs.Prelude.{◌≡◌, ◌<◌, ◌≤◌, ◌^◌, ◌++◌, IfOk, OnOk, map, length, take, drop};
 ghost use Rattle.std.specs.List.{list_any};
-ghost use Rattle.key_names.specs.Callers.History.{is_mark, through_visit, steps_at_point, cut_behind_visits, cut_behind_rekey};
+ghost use Rattle.key_names.specs.Callers.History.{is_mark, through_visit, steps_at_point, cut_after_visits, cut_after_rekey};
 ghost use Rattle.key_names.specs.Callers.History.{call_steps, calls_steps, vread_steps};
 ghost use Rattle.judge_lines.specs.Called.{seen_act, seen_call, seen_calls};
 ghost use Rattle.judge_lines.specs.Orders.{fork_here, forks_in, is_fork, all_forks, front_in, is_parent_in};
 
-use crate::called::{ActLine, Called};
+use crate::called::{ActLine, CalledLines};
 use key_names::{Event, Point, Step};
 use std::alloc::{AllocError, Global};
 
-/// The fork of a caller: its parent, how many of the parent's calls come before the fork, and how many of the parent's
-/// own steps come before the child's.
+/// The fork that makes a caller. `calls` counts the parent's calls before the fork. `steps` counts the parent's own
+/// steps up to and including the fork's first visit.
 #[derive(Clone, Copy, Debug, PartialEq, Eq)]
 pub struct Fork {
     pub parent: u32,
@@ -26,11 +26,11 @@ fn is_visit(step: Step) -> bool
     matches!(step, Step::Visit(_))
 }
 
-// The number of consecutive visits at the start.
+// The number of visits before the first step that is no visit.
 fn visits_in_front(steps: &[Step]) -> usize
     ensures within { result ≤ length steps.now }
-    ensures front { take result steps.now ≡ (cut_behind_visits steps.now).0 }
-    ensures rest { drop result steps.now ≡ (cut_behind_visits steps.now).1 }
+    ensures front { take result steps.now ≡ (cut_after_visits steps.now).0 }
+    ensures rest { drop result steps.now ≡ (cut_after_visits steps.now).1 }
 {
     match steps {
         [Step::Visit(_), rest @ ..] => 1 + visits_in_front(rest),
@@ -38,11 +38,12 @@ fn visits_in_front(steps: &[Step]) -> usize
     }
 }
 
-// How many of a `vread`'s steps, from the third on, come before its points `Serve` and `End`.
+// The number of these steps that come before the points `Serve` and `End`. The steps are those of a `vread` from its
+// third on.
 fn rekey_end(steps: &[Step]) -> usize
     ensures within { result ≤ length steps.now }
-    ensures front { take result steps.now ≡ (cut_behind_rekey steps.now).0 }
-    ensures rest { drop result steps.now ≡ (cut_behind_rekey steps.now).1 }
+    ensures front { take result steps.now ≡ (cut_after_rekey steps.now).0 }
+    ensures rest { drop result steps.now ≡ (cut_after_rekey steps.now).1 }
 {
     if steps.len() > 2 && is_visit(steps[2]) {
         2 + visits_in_front(&steps[2..])
@@ -51,7 +52,7 @@ fn rekey_end(steps: &[Step]) -> usize
     }
 }
 
-// How many steps there are up to and including the first visit.
+// The number of steps up to and including the first visit.
 fn first_visit_end(steps: &[Step]) -> usize
     ensures within { result ≤ length steps.now }
     ensures front { take result steps.now ≡ through_visit steps.now }
@@ -79,14 +80,14 @@ fn push_at_point(own: &mut Vec<Step>, acts: &[ActLine<'_>], point: Point) -> Res
 /// `Serve` and `End`, and the rest.
 pub(crate) fn cut(steps: &[Step]) -> (&[Step], &[Step], &[Step])
     ensures looks { result.0.now ≡ take 2 steps.now }
-    ensures rekey { result.1.now ≡ (cut_behind_rekey (drop 2 steps.now)).0 }
-    ensures rest { result.2.now ≡ (cut_behind_rekey (drop 2 steps.now)).1 }
+    ensures rekey { result.1.now ≡ (cut_after_rekey (drop 2 steps.now)).0 }
+    ensures rest { result.2.now ≡ (cut_after_rekey (drop 2 steps.now)).1 }
 {
     if steps.len() < 2 {
         return (steps, &[], &[]);
     }
-    let (looks, behind) = steps.split_at(2);
-    let (rekey, rest) = behind.split_at(rekey_end(behind));
+    let (looks, following) = steps.split_at(2);
+    let (rekey, rest) = following.split_at(rekey_end(following));
     (looks, rekey, rest)
 }
 
@@ -104,29 +105,31 @@ fn push_vread(own: &mut Vec<Step>, steps: &[Step], acts: &[ActLine<'_>]) -> Resu
     Ok(())
 }
 
-fn push_call(own: &mut Vec<Step>, call: &Called<'_>) -> Result<(), AllocError>
+fn push_call(own: &mut Vec<Step>, call: &CalledLines<'_>) -> Result<(), AllocError>
     ensures { OnOk result (own.new.items ≡ own.old.items ++ call_steps (seen_call call.now)) }
 {
     match call {
-        Called::Alone { line, .. } | Called::Ending(line) => own.extend_from_slice(line.steps),
-        Called::Unbound(act) => own.extend_from_slice(act.line.steps),
-        Called::Vread { line, acts, .. } => push_vread(own, line.steps, acts),
+        CalledLines::Alone { line, .. } | CalledLines::Ending(line) => own.extend_from_slice(
+            line.steps,
+        ),
+        CalledLines::Unbound(act) => own.extend_from_slice(act.line.steps),
+        CalledLines::Vread { line, acts, .. } => push_vread(own, line.steps, acts),
     }
 }
 
-// Adds a fork if the call is one. The parent has made this many calls and steps before.
+// Adds the fork that the call makes, if there is one. Before the call, the parent made `calls` calls and `steps` steps.
 fn push_fork(
     forks: &mut Vec<Fork>,
     parent: u32,
     calls: usize,
     steps: usize,
-    call: &Called<'_>,
+    call: &CalledLines<'_>,
 ) -> Result<(), AllocError>
     requires { steps < 2 ^ 63 }
     ensures { OnOk result (forks.new.items ≡ forks.old.items ++ fork_here parent calls steps (seen_call call.now)) }
 {
     match call {
-        Called::Alone { event, line } => match event {
+        CalledLines::Alone { event, line } => match event {
             Event::Fork { child } => {
                 forks.push(Fork {
                     parent,
@@ -142,12 +145,12 @@ fn push_fork(
     }
 }
 
-/// The own steps of a caller with these calls, in their order.
+/// A caller's own steps, in their order.
 ///
 /// # Errors
 ///
 /// `AllocError` if there is no memory for them.
-pub(crate) fn own_steps(alloc: Global, calls: &[Called<'_>]) -> Result<Vec<Step>, AllocError>
+pub(crate) fn own_steps(alloc: Global, calls: &[CalledLines<'_>]) -> Result<Vec<Step>, AllocError>
     ensures { IfOk result (λ own. own.items ≡ calls_steps (map seen_call calls.now)) }
 {
     let mut own = Vec::new(alloc);
@@ -164,7 +167,7 @@ pub(crate) fn own_steps(alloc: Global, calls: &[Called<'_>]) -> Result<Vec<Step>
 /// `AllocError` if there is no memory for them.
 pub fn all_own_steps(
     alloc: Global,
-    callers: &[Vec<Called<'_>>],
+    callers: &[Vec<CalledLines<'_>>],
 ) -> Result<Vec<Vec<Step>>, AllocError>
     ensures { IfOk result (λ owns. map (λ own. own.items) owns.items ≡ map calls_steps (seen_calls callers.now)) }
 {
@@ -175,17 +178,17 @@ pub fn all_own_steps(
     Ok(owns)
 }
 
-fn is_fork(call: &Called<'_>) -> bool
+fn is_fork(call: &CalledLines<'_>) -> bool
     ensures { result ≡ is_fork (seen_call call.now) }
 {
     match call {
-        Called::Alone { event, .. } => matches!(event, Event::Fork { .. }),
+        CalledLines::Alone { event, .. } => matches!(event, Event::Fork { .. }),
         _ => false,
     }
 }
 
 // Whether one of these calls is a fork.
-fn has_fork(calls: &[Called<'_>]) -> bool
+fn has_fork(calls: &[CalledLines<'_>]) -> bool
     ensures { result ≡ list_any (λ call. is_fork (seen_call call)) calls.now }
 {
     calls.iter().any(|call| is_fork(call))
@@ -195,7 +198,7 @@ fn has_fork(calls: &[Called<'_>]) -> bool
 fn push_forks(
     alloc: Global,
     caller: u32,
-    calls: &[Called<'_>],
+    calls: &[CalledLines<'_>],
     forks: &mut Vec<Fork>,
 ) -> Result<(), AllocError>
     ensures { OnOk result (forks.new.items ≡ forks.old.items ++ forks_in caller 0 0 (map seen_call calls.now)) }
@@ -211,12 +214,15 @@ fn push_forks(
     Ok(())
 }
 
-/// The forks of callers with these calls.
+/// All forks among the calls of these callers.
 ///
 /// # Errors
 ///
 /// `AllocError` if there is no memory for them.
-pub(crate) fn all_forks(alloc: Global, callers: &[Vec<Called<'_>>]) -> Result<Vec<Fork>, AllocError>
+pub(crate) fn all_forks(
+    alloc: Global,
+    callers: &[Vec<CalledLines<'_>>],
+) -> Result<Vec<Fork>, AllocError>
     requires { length callers.now ≤ 64 }
     ensures { IfOk result (λ forks. forks.items ≡ all_forks 0 (seen_calls callers.now)) }
 {
@@ -227,7 +233,7 @@ pub(crate) fn all_forks(alloc: Global, callers: &[Vec<Called<'_>>]) -> Result<Ve
     Ok(forks)
 }
 
-/// The fork of a caller, if it has one.
+/// The fork that makes this caller, if there is one.
 pub fn front_of(forks: &[Fork], child: usize) -> Option<Fork>
     ensures { result ≡ front_in child forks.now }
 {

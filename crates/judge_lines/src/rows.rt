@@ -1,21 +1,21 @@
-//! The rows of kinds that forms have.
+//! Whether the kinds of some steps are a row: a list of kinds that the steps of a form can have.
 ghost use Rattle.std.specs.Prelude.{◌≡◌, ◌↔◌, IsTrue, ℕ};
-ghost use Rattle.judge_lines.specs.Rows.{IsDraw, IsCpuRead, IsRead, IsBehindLook, IsSystemCall, IsLookedRead};
-ghost use Rattle.judge_lines.specs.Rows.{IsPlainRead, IsInt, IsReseed, IsBehindCredit, IsCredit, IsInterrupt};
+ghost use Rattle.judge_lines.specs.Rows.{IsDraw, IsCpuRead, IsRead, IsAfterLook, IsSystemCall, IsLookedRead};
+ghost use Rattle.judge_lines.specs.Rows.{IsPlainRead, IsInt, IsReseed, IsAfterCredit, IsCredit, IsInterrupt};
 ghost use Rattle.judge_lines.specs.Rows.{IsTick, IsFork, IsVmfork, IsEnd, IsRow, IsActRow};
 
 use crate::kind::Kind;
 use input_pool::Crossing;
 use key_names::{Event, InsideAct, flags};
 
-/// Bytes from the base of a core that is not ready.
+/// A draw: bytes from the base of a core that is not ready.
 fn is_draw(kinds: &[Kind]) -> bool
     ensures { IsTrue result ↔ IsDraw kinds.now }
 {
     matches!(kinds, [Kind::Pool, Kind::Base] | [Kind::Base])
 }
 
-/// Bytes from a CPU, which first takes a new key from the base if it needs one.
+/// A read from a CPU, which first takes a new key from the base if it needs one.
 fn is_cpu_read(kinds: &[Kind]) -> bool
     ensures { IsTrue result ↔ IsCpuRead kinds.now }
 {
@@ -33,8 +33,8 @@ fn is_read(ready: bool, kinds: &[Kind]) -> bool
 }
 
 /// The steps of a system call of `len` bytes after its first look (getrandom(2)).
-fn is_behind_look(len: u32, flags: u32, ready: bool, kinds: &[Kind]) -> bool
-    ensures { IsTrue result ↔ IsBehindLook len flags ready kinds.now }
+fn is_after_look(len: u32, flags: u32, ready: bool, kinds: &[Kind]) -> bool
+    ensures { IsTrue result ↔ IsAfterLook len flags ready kinds.now }
 {
     if ready || flags::is_insecure(flags) {
         if len == 0 {
@@ -67,8 +67,8 @@ fn is_system_call(len: u32, flags: u32, kinds: &[Kind]) -> bool
         return kinds.is_empty();
     }
     match kinds {
-        [Kind::Unready, rest @ ..] => is_behind_look(len, flags, false, rest),
-        [Kind::Ready, rest @ ..] => is_behind_look(len, flags, true, rest),
+        [Kind::Unready, rest @ ..] => is_after_look(len, flags, false, rest),
+        [Kind::Ready, rest @ ..] => is_after_look(len, flags, true, rest),
         _ => false,
     }
 }
@@ -117,8 +117,8 @@ fn is_reseed(kinds: &[Kind]) -> bool
 }
 
 /// The steps after a credit of the pool with this crossing.
-fn is_behind_credit(crossed: Crossing, kinds: &[Kind]) -> bool
-    ensures { IsTrue result ↔ IsBehindCredit crossed kinds.now }
+fn is_after_credit(crossed: Crossing, kinds: &[Kind]) -> bool
+    ensures { IsTrue result ↔ IsAfterCredit crossed kinds.now }
 {
     match crossed {
         Crossing::None => kinds.is_empty(),
@@ -127,35 +127,35 @@ fn is_behind_credit(crossed: Crossing, kinds: &[Kind]) -> bool
     }
 }
 
-/// A credit of the pool, and its effects.
+/// A credit of the pool, and the steps after it.
 fn is_credit(crossed: Crossing, kinds: &[Kind]) -> bool
     ensures { IsTrue result ↔ IsCredit crossed kinds.now }
 {
     match kinds {
-        [Kind::Pool, rest @ ..] => is_behind_credit(crossed, rest),
+        [Kind::Pool, rest @ ..] => is_after_credit(crossed, rest),
         _ => false,
     }
 }
 
-/// An interrupt: its sample, and the effects of a dump of the fast pool into the pool, if there is one.
+/// An interrupt: its sample and, if there is one, a dump of the fast pool into the pool, with the steps after it.
 fn is_interrupt(crossed: Crossing, kinds: &[Kind]) -> bool
     ensures { IsTrue result ↔ IsInterrupt crossed kinds.now }
 {
     match kinds {
         [Kind::Cpu] => true,
-        [Kind::Cpu, Kind::Cpu, Kind::Pool, rest @ ..] => is_behind_credit(crossed, rest),
+        [Kind::Cpu, Kind::Cpu, Kind::Pool, rest @ ..] => is_after_credit(crossed, rest),
         _ => false,
     }
 }
 
-/// A tick of the reseed timer, which fires or does not.
+/// A tick of the reseed timer, which may fire.
 fn is_tick(kinds: &[Kind]) -> bool
     ensures { IsTrue result ↔ IsTick kinds.now }
 {
     matches!(kinds, [Kind::Base] | [Kind::Pool, Kind::Base])
 }
 
-/// A fork. The child may have run in its parent's thread.
+/// A fork. If the child ran in its parent's thread, the line has two more visits of the base.
 fn is_fork(kinds: &[Kind]) -> bool
     ensures { IsTrue result ↔ IsFork kinds.now }
 {
@@ -172,15 +172,15 @@ fn is_vmfork(kinds: &[Kind]) -> bool
     )
 }
 
-/// A caller's last line.
+/// The line of a caller's end.
 pub fn is_end(kinds: &[Kind]) -> bool
     ensures { IsTrue result ↔ IsEnd kinds.now }
 {
     matches!(kinds, [Kind::Base])
 }
 
-/// The rows of a single event. `crossed` is the crossing of the line's first visit of the pool. A `vread` and the acts
-/// inside it have forms of their own.
+/// Whether these kinds are a row of a single event. `crossed` is the crossing of the line's first visit of the pool. A
+/// `vread` and the acts inside it have forms of their own.
 pub fn is_row(event: &Event, crossed: Crossing, kinds: &[Kind]) -> bool
     ensures { IsTrue result ↔ IsRow event.now crossed kinds.now }
 {
@@ -202,7 +202,7 @@ pub fn is_row(event: &Event, crossed: Crossing, kinds: &[Kind]) -> bool
     }
 }
 
-/// The rows of an act inside a `vread`.
+/// Whether these kinds are a row of an act inside a `vread`.
 pub fn is_act_row(act: InsideAct, kinds: &[Kind]) -> bool
     ensures { IsTrue result ↔ IsActRow act kinds.now }
 {

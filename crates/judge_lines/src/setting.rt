@@ -4,15 +4,15 @@ use std::marker::Model;
 
 /// A caller's CPU, its moment in milliseconds and its hardware words.
 ///
-/// In contracts it is the `Setting` of the calls.
+/// In contracts it is the `LineSetting` of the calls.
 #[derive(Drop)]
-pub struct Setting {
+pub struct LineSetting {
     cpu: u32,
     moment: u64,
     hw: [u8; 32],
 }
 
-impl Model for Setting {
+impl Model for LineSetting {
     ghost use Rattle.key_names.specs.Callers.Calls.{Setting as CallSetting};
 
     ghost Value = { CallSetting };
@@ -20,15 +20,15 @@ impl Model for Setting {
     ghost view = { λ s. record { cpu = s.cpu; now = s.moment; hw = s.hw } };
 }
 
-impl Setting {
+impl LineSetting {
     ghost use Rattle.std.specs.Prelude.{◌≡◌};
     ghost use Rattle.key_names.specs.Callers.Calls.{first_setting, setting_after};
 
     /// The setting of caller 0 at its start: CPU 0, moment 0 and zeros as hardware words.
-    pub fn first() -> Setting
+    pub fn first() -> LineSetting
         ensures { result ≡ first_setting }
     {
-        Setting {
+        LineSetting {
             cpu: 0,
             moment: 0,
             hw: [0; 32],
@@ -36,10 +36,10 @@ impl Setting {
     }
 
     /// A copy.
-    pub fn again(&self) -> Setting
+    pub fn again(&self) -> LineSetting
         ensures { result ≡ self.now }
     {
-        Setting {
+        LineSetting {
             cpu: self.cpu,
             moment: self.moment,
             hw: self.hw,

@@ -6,27 +6,27 @@ ghost use Rattle.judge_lines.specs.Called.{seen_call, seen_calls};
 ghost use Rattle.judge_lines.specs.Orders.{all_forks, front_in};
 ghost use Rattle.judge_lines.specs.Settings.{settings_from, first_found, AreSettings};
 
-use crate::called::Called;
+use crate::called::CalledLines;
 use crate::order::{Fork, front_of};
-use crate::setting::Setting;
+use crate::setting::LineSetting;
 use std::alloc::{AllocError, Global};
 
 // Changes the setting as the call does.
-fn follow(set: &mut Setting, call: &Called<'_>)
+fn follow(set: &mut LineSetting, call: &CalledLines<'_>)
     ensures { set.new ≡ setting_after_call set.old (seen_call call.now) }
 {
     match call {
-        Called::Alone { event, .. } => set.follow(event),
-        Called::Vread { .. } | Called::Unbound(_) | Called::Ending(_) => {}
+        CalledLines::Alone { event, .. } => set.follow(event),
+        CalledLines::Vread { .. } | CalledLines::Unbound(_) | CalledLines::Ending(_) => {}
     }
 }
 
-// The settings before these calls; `start` is the first.
+// The setting before each of these calls. `start` is the setting before the first call.
 fn caller_settings(
     alloc: Global,
-    start: Setting,
-    calls: &[Called<'_>],
-) -> Result<Vec<Setting>, AllocError>
+    start: LineSetting,
+    calls: &[CalledLines<'_>],
+) -> Result<Vec<LineSetting>, AllocError>
     ensures { IfOk result (λ settings. settings.items ≡ settings_from start (map seen_call calls.now)) }
 {
     let mut settings = Vec::with_capacity(alloc, calls.len())?;
@@ -38,19 +38,20 @@ fn caller_settings(
     Ok(settings)
 }
 
-// The setting that a caller starts with: its parent's at the fork.
-fn start_setting(forks: &[Fork], settings: &[Vec<Setting>], caller: usize) -> Setting
+// The setting that a caller starts with: its parent's setting at the fork, or the first setting if the caller has no
+// fork.
+fn start_setting(forks: &[Fork], settings: &[Vec<LineSetting>], caller: usize) -> LineSetting
     ensures { result ≡ first_found settings.now (front_in caller forks.now) }
 {
     let Some(fork) = front_of(forks, caller) else {
-        return Setting::first();
+        return LineSetting::first();
     };
     let Some(parent) = settings.get(fork.parent as usize) else {
-        return Setting::first();
+        return LineSetting::first();
     };
     match parent.get(fork.calls) {
         Some(set) => set.again(),
-        None => Setting::first(),
+        None => LineSetting::first(),
     }
 }
 
@@ -61,9 +62,9 @@ fn start_setting(forks: &[Fork], settings: &[Vec<Setting>], caller: usize) -> Se
 /// `AllocError` if there is no memory for them.
 pub fn all_settings(
     alloc: Global,
-    callers: &[Vec<Called<'_>>],
+    callers: &[Vec<CalledLines<'_>>],
     forks: &[Fork],
-) -> Result<Vec<Vec<Setting>>, AllocError>
+) -> Result<Vec<Vec<LineSetting>>, AllocError>
     requires forks { forks.now ≡ all_forks 0 (seen_calls callers.now) }
     requires rise { AllByRecursion (λ fork. fork.parent < fork.child) forks.now }
     ensures { IfOk result (λ settings. AreSettings (seen_calls callers.now) settings.items) }

@@ -5,7 +5,7 @@ ghost use Rattle.judge_lines.specs.Stamps.{stamp_after, IsAbove};
 use crate::along::Carry;
 use key_names::Step;
 
-/// The stamp of the last visit is carried along an order, and the next visit must have a higher one.
+/// Carries the stamp of the last visit along an order. The next visit must have a higher stamp.
 pub struct Stamps;
 
 impl Carry for Stamps {

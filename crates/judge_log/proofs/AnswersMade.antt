@@ -1,5 +1,5 @@
--- The answers and data that the steps of calls give.
-pub mod MetDeeds
+-- The answers and data that the code makes for calls are those of the definitions.
+pub mod MetEffects
 pub mod MetSays
 pub mod CallMeant
 pub mod MeantSaid

@@ -1,4 +1,5 @@
--- A CPU is replayed along its list, with the data kept of the base.
+-- The loop of replay_cpu: after i entries, the code's CPU is the one of the definitions, the code has the data to keep
+-- of these entries, and each entry was allowed.
 use Rattle.std.proofs.Common.{◌≡◌, ◌<◌, ◌≤◌, ◌+◌, ◌/◌, ℕ, suc, List, [], ◌∷◌, ◌++◌, take, true, false, Bool, not, Option, Some, None, refl, sym, subst, ap, ◌∙◌, arith, inl, inr}
 use Rattle.std.specs.Prelude.{slice_get, option_and_then, option_map, IsSome, nat_le, ◌||◌, ◌==◌, if◌then◌else◌}
 use Rattle.key_names.specs.declared.names.KeyName.{KeyName}
@@ -8,27 +9,27 @@ use Rattle.key_names.specs.declared.entries.CpuEntry.{CpuEntry}
 use Rattle.key_names.specs.declared.entries.CpuEntry.TheVariants.{Read, Int, Irq, Dump, Prepare, Online}
 use Rattle.key_names.specs.Lanes.BaseList.{base_after, base_erases, refill_of, refill_at, reseeds_at, generation_after, generation_at}
 use Rattle.key_names.specs.Kernel.Batches.{Fill, fills_after, must_fill, one_more_served}
-use Rattle.key_names.specs.Lanes.CpuList.{CpuState, CpuFits, CpuMayCome, RefillStands, base_refill_of, cpu_key_in_use, cpu_start, cpu_step, cpu_after}
+use Rattle.key_names.specs.Lanes.CpuList.{CpuState, CpuFits, CpuMayCome, RefillConforms, base_refill_of, cpu_key_in_use, cpu_start, cpu_step, cpu_after}
 use Rattle.key_names.specs.Keys.KeyInUse.{zero_key, base_used_at, base_call_value, cpu_value_in_use, cpu_value_step, cpu_value_after, cpu_value_at, cpu_used_at}
 use Rattle.key_names.specs.Lanes.Book.{Lists, list_at, cpu_list}
-use Rattle.key_names.specs.Callers.Deeds.{cpu_visit}
+use Rattle.key_names.specs.Callers.Effects.{cpu_visit}
 use Rattle.cpu_gen.specs.CpuValue.{CpuValue, cpu_at, start}
 use Rattle.cpu_gen.proofs.Entries.{handed_at}
-use Rattle.judge_lines.specs.declared.told.CpuTold.{CpuTold}
-use Rattle.judge_lines.specs.declared.told.CpuTold.TheVariants.{Is as cpu_is, Batch as batch}
+use Rattle.judge_lines.specs.declared.inferred.CpuInferred.{CpuInferred}
+use Rattle.judge_lines.specs.declared.inferred.CpuInferred.TheVariants.{Is as cpu_is, Batch as batch}
 use Rattle.judge_log.specs.declared.kept.KeptBase.{KeptBase}
 use Rattle.judge_log.specs.declared.kept.KeptCpu.{KeptCpu}
 use Rattle.judge_log.specs.declared.last_fills.LastFill.{LastFill}
 use Rattle.judge_log.specs.declared.last_fills.LastFills.{LastFills}
-use Rattle.judge_log.specs.declared.told.ToldCpu.{ToldCpu}
-use Rattle.judge_log.specs.Closed.{closed, cpu_told_entry}
-use Rattle.judge_log.specs.CpuLane.{slot, put, no_fills, wants_kept, one_more_kept, HasRoom, RoomFor, cpu_closed, FitsKept, KeysKept, NamesIn, RefillStandsIn, HandedStands, refill_named, key_used, cpu_entered, fills_entered, source_kept, source_entered, AllCpuMay}
+use Rattle.judge_log.specs.declared.inferred.InferredCpu.{InferredCpu}
+use Rattle.judge_log.specs.Closed.{closed, cpu_inferred_entry}
+use Rattle.judge_log.specs.CpuLane.{slot, put, no_fills, wants_kept, one_more_kept, HasRoom, RoomFor, cpu_closed, FitsKept, KeysKept, NamesIn, RefillConformsIn, HandedConforms, refill_named, key_used, cpu_entered, fills_entered, source_kept, source_entered, AllCpuMay}
 use Rattle.judge_log.specs.Kept.{source_in, source_of, KeepsCpu, KeepsBaseLane}
 use Rattle.judge_log.specs.Tables.{Tables, IsWidth, EntryIsWide, CpuIsWide}
 use Rattle.std.proofs.lemmas.Grind.{common_steps}
 use Rattle.judge_log.proofs.Dumps.{some_or_none}
 use Rattle.judge_log.proofs.Filling.{closed_fills, closes_cpu}
-use Rattle.judge_log.proofs.Loops.{Behind, behind_none, behind_more, at_too, fold_at}
+use Rattle.judge_log.proofs.Loops.{After, after_none, after_more, at_too, fold_at}
 
 -- ---- batches
 
@@ -37,14 +38,14 @@ abbrev kept_fill : (ℕ → List ℕ) → Option Fill → Option LastFill
 kept_fill keys None = None
 kept_fill keys (Some fill) = Some (record { look = fill.look; key = keys fill.place; count = fill.count })
 
--- the last fill of each width is kept
-pub record FillsStand (keys : ℕ → List ℕ) (fills : ℕ → Option Fill) (f : LastFills) : Type 0 where
+-- `f` keeps the last fill of each width
+pub record FillsConform (keys : ℕ → List ℕ) (fills : ℕ → Option Fill) (f : LastFills) : Type 0 where
   pub one : f.one ≡ kept_fill keys (fills 1)
   pub two : f.two ≡ kept_fill keys (fills 2)
   pub four : f.four ≡ kept_fill keys (fills 4)
   pub eight : f.eight ≡ kept_fill keys (fills 8)
 
-module _ (keys : ℕ → List ℕ) (fills : ℕ → Option Fill) (f : LastFills) (h : FillsStand keys fills f) where
+module _ (keys : ℕ → List ℕ) (fills : ℕ → Option Fill) (f : LastFills) (h : FillsConform keys fills f) where
   slot_is : (w : ℕ) → IsWidth w → slot f w ≡ kept_fill keys (fills w)
   slot_is w wide = elim wide [
     | inl e ↦ (let P : ℕ → Type 0 = λ x. slot f x ≡ kept_fill keys (fills x) in subst P (sym e) h.one)
@@ -64,7 +65,7 @@ module _ (keys : ℕ → List ℕ) (fills : ℕ → Option Fill) (f : LastFills)
       go None = refl
       go (Some fill) = refl
 
--- a batch that is not used up has bytes
+-- a batch that is not used up has bytes left
 used_up : (w count : ℕ) → IsWidth w → (b : Bool) → nat_le (96 / w) count || b ≡ false → count < 96
 used_up w count wide b is = elim wide [
   | inl e ↦ (let P : ℕ → Type 0 = λ x. nat_le (96 / x) count || b ≡ false in let h = subst P e is in below 96 h (omega arith))
@@ -103,9 +104,9 @@ module _ (keys : ℕ → List ℕ) where
       let n : fill.count + 1 ≡ suc fill.count = omega arith in
       ap (λ c. Some (record { look = fill.look; key = keys fill.place; count = c })) n
 
-  -- after an integer fills its batch, the fills are kept
+  -- if an integer fills its batch, the code's fills are still those of the definitions
   filled_more : (fills : ℕ → Option Fill) (f : LastFills) (place look w : ℕ) (name : Option KeyName) → IsWidth w →
-      (refill : Option ℕ) → FillsStand keys fills f → FillsStand keys
+      (refill : Option ℕ) → FillsConform keys fills f → FillsConform keys
       (fills_after place (Int look refill w true) name fills)
       (put w (Some (record { look = look; key = keys place; count = 1 })) f)
   filled_more fills f place look w name wide refill h = elim wide [
@@ -120,12 +121,12 @@ module _ (keys : ℕ → List ℕ) where
   ]
     where
       P : ℕ → Type 0
-      P x = FillsStand keys (fills_after place (Int look refill x true) name fills)
+      P x = FillsConform keys (fills_after place (Int look refill x true) name fills)
           (put x (Some (record { look = look; key = keys place; count = 1 })) f)
 
-  -- after an integer is served from a filled batch, the fills are kept
+  -- if an integer is served from a filled batch, the code's fills are still those of the definitions
   served_more : (fills : ℕ → Option Fill) (f : LastFills) (place look w : ℕ) (name : Option KeyName) → IsWidth w →
-      (refill : Option ℕ) → FillsStand keys fills f → FillsStand keys
+      (refill : Option ℕ) → FillsConform keys fills f → FillsConform keys
       (fills_after place (Int look refill w false) name fills) (put w (one_more_kept (slot f w)) f)
   served_more fills f place look w name wide refill h = elim wide [
     | inl e ↦ subst P (sym e) (record { one = more 1 f.one h.one; two = h.two; four = h.four; eight = h.eight })
@@ -140,15 +141,15 @@ module _ (keys : ℕ → List ℕ) where
   ]
     where
       P : ℕ → Type 0
-      P x = FillsStand keys (fills_after place (Int look refill x false) name fills) (put x (one_more_kept (slot f x)) f)
+      P x = FillsConform keys (fills_after place (Int look refill x false) name fills) (put x (one_more_kept (slot f x)) f)
 
       more : (x : ℕ) (o : Option LastFill) → o ≡ kept_fill keys (fills x) →
           one_more_kept o ≡ kept_fill keys (one_more_served (fills x))
       more x o is = ap one_more_kept is ∙ one_more_is (fills x)
 
   fills_more : (fills : ℕ → Option Fill) (f : LastFills) (place : ℕ) (name : Option KeyName) (e : CpuEntry) →
-      EntryIsWide e → FillsStand keys fills f →
-      FillsStand keys (fills_after place e name fills) (fills_entered e (keys place) f)
+      EntryIsWide e → FillsConform keys fills f →
+      FillsConform keys (fills_after place e name fills) (fills_entered e (keys place) f)
   fills_more fills f place name (Int look refill width true) wide h = filled_more fills f place look width name wide refill h
   fills_more fills f place name (Int look refill width false) wide h =
       served_more fills f place look width name wide refill h
@@ -168,7 +169,7 @@ module _ (keys : ℕ → List ℕ) where
   source_in_is (Some fill) = refl
 
   source_is : (fills : ℕ → Option Fill) (f : LastFills) (place : ℕ) (e : CpuEntry) → EntryIsWide e →
-      FillsStand keys fills f → source_entered e (keys place) f ≡ source_of keys fills place e
+      FillsConform keys fills f → source_entered e (keys place) f ≡ source_of keys fills place e
   source_is fills f place (Int look refill width true) wide h = refl
   source_is fills f place (Int look refill width false) wide h =
       ap source_kept (slot_is keys fills f h width wide) ∙ source_in_is (fills width)
@@ -179,7 +180,7 @@ module _ (keys : ℕ → List ℕ) where
   source_is fills f place Online wide h = refl
 
   -- an entry fits by the kept fills exactly if it fits by the definition
-  fits_is : (s : CpuState) (f : LastFills) (e : CpuEntry) → EntryIsWide e → FillsStand keys s.fills f →
+  fits_is : (s : CpuState) (f : LastFills) (e : CpuEntry) → EntryIsWide e → FillsConform keys s.fills f →
       (FitsKept s.generation f e → CpuFits s e) × (CpuFits s e → FitsKept s.generation f e)
   fits_is s f (Read look refill taken) wide h = (
     λ k. record { looks = record { known = k.0; not_back = k.1 }; names = k.2 },
@@ -198,13 +199,13 @@ module _ (keys : ℕ → List ℕ) where
   fits_is s f Prepare wide h = (λ k. k, λ k. k)
   fits_is s f Online wide h = (λ k. k, λ k. k)
 
-  closed_is : (s : CpuState) (f : LastFills) (t : CpuTold) → CpuIsWide t → FillsStand keys s.fills f →
-      cpu_closed f t ≡ cpu_told_entry s t
+  closed_is : (s : CpuState) (f : LastFills) (t : CpuInferred) → CpuIsWide t → FillsConform keys s.fills f →
+      cpu_closed f t ≡ cpu_inferred_entry s t
   closed_is s f (cpu_is e) wide h = refl
   closed_is s f (batch look width) wide h =
       ap (λ filled. Int look None width filled) (wants_is keys s.fills f h look width wide)
 
-pub closed_wide : (f : LastFills) (t : CpuTold) → CpuIsWide t → EntryIsWide (cpu_closed f t)
+pub closed_wide : (f : LastFills) (t : CpuInferred) → CpuIsWide t → EntryIsWide (cpu_closed f t)
 closed_wide f (cpu_is e) wide = wide
 closed_wide f (batch look width) wide = wide
 
@@ -225,7 +226,7 @@ refill_keeps Interrupt named is = cc
 refill_keeps Stall named is = cc
 refill_keeps Unstall named is = cc
 
--- if a visit of the base hands over its key, that key is kept
+-- a visit of the base that refills a CPU erases the key in use, so that key is kept
 pub handed_none : (base : List KeptBase) → KeysKept base → (c place look b : ℕ) (kept : KeptBase) →
     slice_get base b ≡ Some kept → NamesIn c place look (Some kept) → kept.key ≡ None → ⊥
 handed_none base keys c place look b kept is names none =
@@ -237,7 +238,7 @@ module _ (lists : Lists) (base : List KeptBase) (keeps : KeepsBaseLane base list
   entry_at : (b : ℕ) (k : KeptBase) → slice_get base b ≡ Some k → (e : BaseEntry) × (slice_get lists.base b ≡ Some e)
   entry_at b k is = at_too lists.base base b k (sym keeps.count) is
 
-  -- an entry of the base that erases its key has the key in use kept
+  -- if an entry of the base erases the key in use, the kept data have this key
   erased_key : (b : ℕ) (k : KeptBase) → slice_get base b ≡ Some k → base_erases k.entry ≡ true →
       k.key ≡ Some (base_used_at lists.pool lists.base b)
   erased_key b k is erases =
@@ -289,8 +290,8 @@ module _ (lists : Lists) (base : List KeptBase) (keeps : KeepsBaseLane base list
           ap refill_of one.entry ∙ sym (ap (option_and_then refill_of) e.1) ∙ named in
           (refills, subst (λ g. look ≤ g) (sym (generation_is b k (c, place) is refills)) looks)
 
-  refill_there : (c place : ℕ) (e : CpuEntry) → RefillStandsIn base c place (refill_named e) →
-      RefillStands lists.base c place e
+  refill_there : (c place : ℕ) (e : CpuEntry) → RefillConformsIn base c place (refill_named e) →
+      RefillConforms lists.base c place e
   refill_there c place (Read look (Some b) taken) h = names_there c place look b h
   refill_there c place (Read look None taken) h = tt
   refill_there c place (Int look (Some b) width filled) h = names_there c place look b h
@@ -300,8 +301,8 @@ module _ (lists : Lists) (base : List KeptBase) (keeps : KeepsBaseLane base list
   refill_there c place Prepare h = tt
   refill_there c place Online h = tt
 
-  refill_back : (c place : ℕ) (e : CpuEntry) → RefillStands lists.base c place e →
-      RefillStandsIn base c place (refill_named e)
+  refill_back : (c place : ℕ) (e : CpuEntry) → RefillConforms lists.base c place e →
+      RefillConformsIn base c place (refill_named e)
   refill_back c place (Read look (Some b) taken) h = names_back c place look b h.0 h.1
   refill_back c place (Read look None taken) h = tt
   refill_back c place (Int look (Some b) width filled) h = names_back c place look b h.0 h.1
@@ -312,7 +313,7 @@ module _ (lists : Lists) (base : List KeptBase) (keeps : KeepsBaseLane base list
   refill_back c place Online h = tt
 
   handed_named : (c place look b : ℕ) (handed : Option CpuValue) → NamesIn c place look (slice_get base b) →
-      HandedStands base (Some (look, b)) handed → handed ≡ Some (handed_at lists b)
+      HandedConforms base (Some (look, b)) handed → handed ≡ Some (handed_at lists b)
   handed_named c place look b handed n h = go (slice_get base b) refl n
     where
       go : (o : Option KeptBase) → slice_get base b ≡ o → NamesIn c place look o → handed ≡ Some (handed_at lists b)
@@ -322,8 +323,8 @@ module _ (lists : Lists) (base : List KeptBase) (keeps : KeepsBaseLane base list
           ∙ ap (λ g. Some (record { key = base_call_value lists b; generation = g }))
           (generation_is b k (c, place) is n.0)
 
-  handed_is : (c place : ℕ) (e : CpuEntry) (handed : Option CpuValue) → RefillStandsIn base c place (refill_named e) →
-      HandedStands base (refill_named e) handed → handed ≡ option_map (handed_at lists) (base_refill_of e)
+  handed_is : (c place : ℕ) (e : CpuEntry) (handed : Option CpuValue) → RefillConformsIn base c place (refill_named e) →
+      HandedConforms base (refill_named e) handed → handed ≡ option_map (handed_at lists) (base_refill_of e)
   handed_is c place (Read look (Some b) taken) handed n h = handed_named c place look b handed n h
   handed_is c place (Read look None taken) handed n h = h
   handed_is c place (Int look (Some b) width filled) handed n h = handed_named c place look b handed n h
@@ -367,89 +368,89 @@ CpuMay lists c k e = CpuMayCome lists.base c (cpu_after lists.base c (take k (cp
 abbrev pub CpuKeeps : Lists → ℕ → ℕ → KeptCpu → CpuEntry → Type 0
 CpuKeeps lists c place k e = KeepsCpu (cpu_used_at lists c) k (cpu_visit lists c place e)
 
--- the CPU after its first i entries
-pub record CpuBehind (lists : Lists) (c i : ℕ) (cpu : CpuValue) (f : LastFills) (made : List KeptCpu) : Type 0 where
-  pub behind : Behind (CpuMay lists c) (CpuKeeps lists c) (cpu_list lists c) i made
-  pub cpu_stands : cpu ≡ cpu_at (cpu_after lists.base c (take i (cpu_list lists c)))
+-- after the first i entries, `cpu`, the fills `f` and the kept data `made` are those of the definitions
+pub record CpuAfter (lists : Lists) (c i : ℕ) (cpu : CpuValue) (f : LastFills) (made : List KeptCpu) : Type 0 where
+  pub following : After (CpuMay lists c) (CpuKeeps lists c) (cpu_list lists c) i made
+  pub cpu_conforms : cpu ≡ cpu_at (cpu_after lists.base c (take i (cpu_list lists c)))
       (cpu_value_after lists (take i (cpu_list lists c)))
-  pub fills : FillsStand (cpu_used_at lists c) (cpu_after lists.base c (take i (cpu_list lists c))).fills f
+  pub fills : FillsConform (cpu_used_at lists c) (cpu_after lists.base c (take i (cpu_list lists c))).fills f
   pub place : (cpu_after lists.base c (take i (cpu_list lists c))).place ≡ i
 
-module _ (told : Tables) (base : List KeptBase) (keeps : KeepsBaseLane base (closed told)) (c i : ℕ) (t : ToldCpu)
-    (is : slice_get (list_at told.cpus c) i ≡ Some t) (wide : CpuIsWide t.entry) (cpu : CpuValue) (f : LastFills)
-    (made : List KeptCpu) (h : CpuBehind (closed told) c i cpu f made) (entry : CpuEntry)
+module _ (inferred : Tables) (base : List KeptBase) (keeps : KeepsBaseLane base (closed inferred)) (c i : ℕ) (t : InferredCpu)
+    (is : slice_get (list_at inferred.cpus c) i ≡ Some t) (wide : CpuIsWide t.entry) (cpu : CpuValue) (f : LastFills)
+    (made : List KeptCpu) (h : CpuAfter (closed inferred) c i cpu f made) (entry : CpuEntry)
     (entry_is : entry ≡ cpu_closed f t.entry) where
   abbrev s : CpuState
-  s = cpu_after (closed told).base c (take i (cpu_list (closed told) c))
+  s = cpu_after (closed inferred).base c (take i (cpu_list (closed inferred) c))
 
   abbrev value : List ℕ
-  value = cpu_value_after (closed told) (take i (cpu_list (closed told) c))
+  value = cpu_value_after (closed inferred) (take i (cpu_list (closed inferred) c))
 
   abbrev keys : ℕ → List ℕ
-  keys = cpu_used_at (closed told) c
+  keys = cpu_used_at (closed inferred) c
 
   pub entry_wide : EntryIsWide entry
   entry_wide = subst (λ e. EntryIsWide e) (sym entry_is) (closed_wide f t.entry wide)
 
-  stand : FillsStand keys s.fills f
-  stand = h.fills
+  conform : FillsConform keys s.fills f
+  conform = h.fills
 
-  at : slice_get (cpu_list (closed told) c) i ≡ Some entry
+  at : slice_get (cpu_list (closed inferred) c) i ≡ Some entry
   at =
-      let there = at_too (cpu_list (closed told) c) (list_at told.cpus c) i t ((closed_fills told).cpu_count c) is in
-      let filled = closes_cpu t.entry (cpu_visit (closed told) c i there.0)
-      ((closed_fills told).cpu c i t there.0 is there.1) in
-      there.1 ∙ ap Some (filled ∙ sym (closed_is keys s f t.entry wide stand) ∙ sym entry_is)
+      let there = at_too (cpu_list (closed inferred) c) (list_at inferred.cpus c) i t ((closed_fills inferred).cpu_count c) is in
+      let filled = closes_cpu t.entry (cpu_visit (closed inferred) c i there.0)
+      ((closed_fills inferred).cpu c i t there.0 is there.1) in
+      there.1 ∙ ap Some (filled ∙ sym (closed_is keys s f t.entry wide conform) ∙ sym entry_is)
 
   generation : cpu.generation ≡ s.generation
-  generation = ap (λ (x : CpuValue). x.generation) h.cpu_stands
+  generation = ap (λ (x : CpuValue). x.generation) h.cpu_conforms
 
-  pub cpu_stops_at_refill : (RefillStandsIn base c i (refill_named entry) → ⊥) → AllCpuMay (closed told) c → ⊥
+  pub cpu_stops_at_refill : (RefillConformsIn base c i (refill_named entry) → ⊥) → AllCpuMay (closed inferred) c → ⊥
   cpu_stops_at_refill unfit all =
       let may = all i entry at in
-      unfit (refill_back (closed told) base keeps c i entry
-      (subst (λ p. RefillStands (closed told).base c p entry) h.place may.refill))
+      unfit (refill_back (closed inferred) base keeps c i entry
+      (subst (λ p. RefillConforms (closed inferred).base c p entry) h.place may.refill))
 
-  pub cpu_stops : (FitsKept cpu.generation f entry → ⊥) → AllCpuMay (closed told) c → ⊥
+  pub cpu_stops : (FitsKept cpu.generation f entry → ⊥) → AllCpuMay (closed inferred) c → ⊥
   cpu_stops unfit all =
       let may = all i entry at in
-      unfit (subst (λ g. FitsKept g f entry) (sym generation) ((fits_is keys s f entry entry_wide stand).1 may.fits))
+      unfit (subst (λ g. FitsKept g f entry) (sym generation) ((fits_is keys s f entry entry_wide conform).1 may.fits))
 
   pub cpu_room : FitsKept cpu.generation f entry → RoomFor f entry
   cpu_room fits = room_for cpu.generation f entry entry_wide fits
 
-  module _ (handed : Option CpuValue) (stands : RefillStandsIn base c i (refill_named entry))
-      (gives : HandedStands base (refill_named entry) handed) (fits : FitsKept cpu.generation f entry) where
-    handed_same : handed ≡ option_map (handed_at (closed told)) (base_refill_of entry)
-    handed_same = handed_is (closed told) base keeps c i entry handed stands gives
+  module _ (handed : Option CpuValue) (conforms : RefillConformsIn base c i (refill_named entry))
+      (gives : HandedConforms base (refill_named entry) handed) (fits : FitsKept cpu.generation f entry) where
+    handed_same : handed ≡ option_map (handed_at (closed inferred)) (base_refill_of entry)
+    handed_same = handed_is (closed inferred) base keeps c i entry handed conforms gives
 
     stepped : cpu_entered entry handed cpu ≡
-        cpu_at (cpu_step (closed told).base c s entry) (cpu_value_step (closed told) value entry)
+        cpu_at (cpu_step (closed inferred).base c s entry) (cpu_value_step (closed inferred) value entry)
     stepped =
         ap (λ o. cpu_entered entry o cpu) handed_same
-        ∙ ap (cpu_entered entry (option_map (handed_at (closed told)) (base_refill_of entry))) h.cpu_stands
-        ∙ entered_is (closed told) c s value entry
+        ∙ ap (cpu_entered entry (option_map (handed_at (closed inferred)) (base_refill_of entry))) h.cpu_conforms
+        ∙ entered_is (closed inferred) c s value entry
 
     key_is : key_used handed cpu ≡ keys i
     key_is =
         ap (λ o. key_used o cpu) handed_same
-        ∙ ap (key_used (option_map (handed_at (closed told)) (base_refill_of entry))) h.cpu_stands
-        ∙ used_is (closed told) s value entry
-        ∙ sym (ap (cpu_value_at (closed told) value) at)
+        ∙ ap (key_used (option_map (handed_at (closed inferred)) (base_refill_of entry))) h.cpu_conforms
+        ∙ used_is (closed inferred) s value entry
+        ∙ sym (ap (cpu_value_at (closed inferred) value) at)
 
-    state_more : cpu_after (closed told).base c (take (i + 1) (cpu_list (closed told) c)) ≡
-        cpu_step (closed told).base c s entry
-    state_more = fold_at (cpu_step (closed told).base c) cpu_start (cpu_list (closed told) c) i entry at
+    state_more : cpu_after (closed inferred).base c (take (i + 1) (cpu_list (closed inferred) c)) ≡
+        cpu_step (closed inferred).base c s entry
+    state_more = fold_at (cpu_step (closed inferred).base c) cpu_start (cpu_list (closed inferred) c) i entry at
 
-    value_more : cpu_value_after (closed told) (take (i + 1) (cpu_list (closed told) c)) ≡
-        cpu_value_step (closed told) value entry
-    value_more = fold_at (cpu_value_step (closed told)) zero_key (cpu_list (closed told) c) i entry at
+    value_more : cpu_value_after (closed inferred) (take (i + 1) (cpu_list (closed inferred) c)) ≡
+        cpu_value_step (closed inferred) value entry
+    value_more = fold_at (cpu_value_step (closed inferred)) zero_key (cpu_list (closed inferred) c) i entry at
 
-    may : CpuMay (closed told) c i entry
+    may : CpuMay (closed inferred) c i entry
     may = record {
-      fits = (fits_is keys s f entry entry_wide stand).0 (subst (λ g. FitsKept g f entry) generation fits);
-      refill = subst (λ p. RefillStands (closed told).base c p entry) (sym h.place)
-          (refill_there (closed told) base keeps c i entry stands);
+      fits = (fits_is keys s f entry entry_wide conform).0 (subst (λ g. FitsKept g f entry) generation fits);
+      refill = subst (λ p. RefillConforms (closed inferred).base c p entry) (sym h.place)
+          (refill_there (closed inferred) base keeps c i entry conforms);
     }
 
     abbrev made_here : KeptCpu
@@ -459,49 +460,49 @@ module _ (told : Tables) (base : List KeptBase) (keeps : KeepsBaseLane base (clo
       source = source_entered entry (key_used handed cpu) f;
     }
 
-    keeps_it : CpuKeeps (closed told) c i made_here entry
+    keeps_it : CpuKeeps (closed inferred) c i made_here entry
     keeps_it = record {
       entry = refl;
       generation = ap (λ (x : CpuValue). x.generation) stepped;
-      source = ap (λ k. source_entered entry k f) key_is ∙ source_is keys s.fills f i entry entry_wide stand;
+      source = ap (λ k. source_entered entry k f) key_is ∙ source_is keys s.fills f i entry entry_wide conform;
     }
 
-    fills_next : FillsStand keys (cpu_step (closed told).base c s entry).fills
+    fills_next : FillsConform keys (cpu_step (closed inferred).base c s entry).fills
         (fills_entered entry (key_used handed cpu) f)
     fills_next =
-        subst (λ k. FillsStand keys (fills_after s.place entry (cpu_key_in_use entry s.key) s.fills)
+        subst (λ k. FillsConform keys (fills_after s.place entry (cpu_key_in_use entry s.key) s.fills)
         (fills_entered entry k f)) (sym key_is)
-        (subst (λ p. FillsStand keys (fills_after p entry (cpu_key_in_use entry s.key) s.fills)
+        (subst (λ p. FillsConform keys (fills_after p entry (cpu_key_in_use entry s.key) s.fills)
         (fills_entered entry (keys i) f)) (sym h.place)
-        (fills_more keys s.fills f i (cpu_key_in_use entry s.key) entry entry_wide stand))
+        (fills_more keys s.fills f i (cpu_key_in_use entry s.key) entry entry_wide conform))
 
-    pub cpu_more : CpuBehind (closed told) c (i + 1) (cpu_entered entry handed cpu)
+    pub cpu_more : CpuAfter (closed inferred) c (i + 1) (cpu_entered entry handed cpu)
         (fills_entered entry (key_used handed cpu) f)
         (made ++ made_here ∷ [])
     cpu_more = record {
-      behind = behind_more (CpuMay (closed told) c) (CpuKeeps (closed told) c) (cpu_list (closed told) c) i made
-          made_here entry at h.behind may keeps_it;
-      cpu_stands = stepped
-          ∙ ap (λ (x : CpuState). cpu_at x (cpu_value_step (closed told) value entry)) (sym state_more)
-          ∙ ap (cpu_at (cpu_after (closed told).base c (take (i + 1) (cpu_list (closed told) c)))) (sym value_more);
-      fills = subst (λ (x : CpuState). FillsStand keys x.fills (fills_entered entry (key_used handed cpu) f))
+      following = after_more (CpuMay (closed inferred) c) (CpuKeeps (closed inferred) c) (cpu_list (closed inferred) c) i made
+          made_here entry at h.following may keeps_it;
+      cpu_conforms = stepped
+          ∙ ap (λ (x : CpuState). cpu_at x (cpu_value_step (closed inferred) value entry)) (sym state_more)
+          ∙ ap (cpu_at (cpu_after (closed inferred).base c (take (i + 1) (cpu_list (closed inferred) c)))) (sym value_more);
+      fills = subst (λ (x : CpuState). FillsConform keys x.fills (fills_entered entry (key_used handed cpu) f))
           (sym state_more) fills_next;
       place = ap (λ (x : CpuState). x.place) state_more ∙ ap suc h.place ∙ (let n : suc i ≡ i + 1 = omega arith in n);
     }
 
--- equal values in the code have the same facts
+-- if CpuAfter holds of some values, it holds of equal values
 pub cpu_next : (lists : Lists) (c i : ℕ) (cpu : CpuValue) (f : LastFills) (made : List KeptCpu) (next : CpuValue)
-    (fills : LastFills) (items : List KeptCpu) → CpuBehind lists c i cpu f made → next ≡ cpu → fills ≡ f →
-    items ≡ made → CpuBehind lists c i next fills items
+    (fills : LastFills) (items : List KeptCpu) → CpuAfter lists c i cpu f made → next ≡ cpu → fills ≡ f →
+    items ≡ made → CpuAfter lists c i next fills items
 cpu_next lists c i cpu f made next fills items h is_cpu is_fills is_items =
-    subst (λ x. CpuBehind lists c i x fills items) (sym is_cpu)
-    (subst (λ x. CpuBehind lists c i cpu x items) (sym is_fills)
-    (subst (λ x. CpuBehind lists c i cpu f x) (sym is_items) h))
+    subst (λ x. CpuAfter lists c i x fills items) (sym is_cpu)
+    (subst (λ x. CpuAfter lists c i cpu x items) (sym is_fills)
+    (subst (λ x. CpuAfter lists c i cpu f x) (sym is_items) h))
 
-pub cpu_begin : (lists : Lists) (c : ℕ) → CpuBehind lists c 0 start no_fills []
+pub cpu_begin : (lists : Lists) (c : ℕ) → CpuAfter lists c 0 start no_fills []
 cpu_begin lists c = record {
-  behind = behind_none (CpuMay lists c) (CpuKeeps lists c) (cpu_list lists c);
-  cpu_stands = refl;
+  following = after_none (CpuMay lists c) (CpuKeeps lists c) (cpu_list lists c);
+  cpu_conforms = refl;
   fills = record { one = refl; two = refl; four = refl; eight = refl };
   place = refl;
 }

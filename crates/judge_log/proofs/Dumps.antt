@@ -1,4 +1,4 @@
--- The fast pools along the inferred visits, and the dumps that the pool mixes.
+-- The code replays the fast pools from the inferred entries. This gives the dumps that the pool mixes.
 use Rattle.std.proofs.Common.{◌≡◌, ◌<◌, ◌+◌, ℕ, zero, suc, List, [], ◌∷◌, ◌++◌, length, Bool, Option, Some, None, refl, sym, subst, ap, ◌∙◌, arith, ◌⊎◌, inl, inr}
 use Rattle.std.specs.Prelude.{slice_get, option_and_then}
 use Rattle.key_names.specs.declared.entries.PoolEntry.{PoolEntry}
@@ -8,25 +8,25 @@ use Rattle.key_names.specs.declared.entries.CpuEntry.TheVariants.{Read, Int, Irq
 use Rattle.key_names.specs.Kernel.FastPool.{FastPool, fast_start, fast_step, dump_bytes, dump_bits}
 use Rattle.key_names.specs.Lanes.PoolNotes.{entry_of}
 use Rattle.key_names.specs.Lanes.Book.{Lists, list_at, cpu_list}
-use Rattle.key_names.specs.Callers.Deeds.{CpuVisit, cpu_visit}
+use Rattle.key_names.specs.Callers.Effects.{CpuVisit, cpu_visit}
 use Rattle.key_names.proofs.Lists.ListFacts.{list_is}
-use Rattle.judge_lines.specs.declared.told.CpuTold.{CpuTold}
-use Rattle.judge_lines.specs.declared.told.CpuTold.TheVariants.{Is as cpu_is, Batch as batch}
+use Rattle.judge_lines.specs.declared.inferred.CpuInferred.{CpuInferred}
+use Rattle.judge_lines.specs.declared.inferred.CpuInferred.TheVariants.{Is as cpu_is, Batch as batch}
 use Rattle.judge_lines.specs.LaneFacts.{facts_of}
-use Rattle.judge_lines.specs.Told.{FillsCpu}
+use Rattle.judge_lines.specs.Inferred.{FillsCpu}
 use Rattle.sample_credit.specs.declared.fast_pool.Dump.{Dump as Dumped}
-use Rattle.judge_log.specs.declared.told.ToldPool.{ToldPool}
-use Rattle.judge_log.specs.declared.told.ToldPool.TheVariants.{Is as pool_is, Dumped as dumped}
-use Rattle.judge_log.specs.declared.told.ToldCpu.{ToldCpu}
-use Rattle.judge_log.specs.Closed.{closed, fast_told}
-use Rattle.judge_log.specs.Dumps.{DueTold, DueAt, DumpIs, dump_by, dump_told, fast_at, AllDumps}
+use Rattle.judge_log.specs.declared.inferred.InferredPool.{InferredPool}
+use Rattle.judge_log.specs.declared.inferred.InferredPool.TheVariants.{Is as pool_is, Dumped as dumped}
+use Rattle.judge_log.specs.declared.inferred.InferredCpu.{InferredCpu}
+use Rattle.judge_log.specs.Closed.{closed, fast_inferred}
+use Rattle.judge_log.specs.Dumps.{DueInferred, DueAt, DumpIs, dump_by, dump_inferred, fast_at, AllDumps}
 use Rattle.judge_log.specs.Fills.{pool_entry}
-use Rattle.judge_log.specs.Lawful.{DueStands, DumpsAt}
+use Rattle.judge_log.specs.Lawful.{DueConforms, DumpsAt}
 use Rattle.judge_log.specs.Places.{AllPlaces, AllKept}
-use Rattle.judge_log.specs.PoolLane.{dump_in, mix_of, entry_found, MixStands}
+use Rattle.judge_log.specs.PoolLane.{dump_in, mix_of, entry_found, MixConforms}
 use Rattle.judge_log.specs.Tables.{Tables}
 use Rattle.judge_log.proofs.Filling.{closed_fills, fills_fast}
-use Rattle.judge_log.proofs.Loops.{Behind, behind_more, at_too, fold_at}
+use Rattle.judge_log.proofs.Loops.{After, after_more, at_too, fold_at}
 
 -- ---- options and lists of lists
 
@@ -52,56 +52,56 @@ list_within (xs ∷ xss) (suc c) below = list_within xss c (omega arith)
 
 -- ---- one visit
 
-due_there : (f : FastPool) (dumps : Bool) (t : CpuTold) (v : CpuVisit) → FillsCpu t v → DueTold f dumps t →
-    DueStands f dumps v.entry
-due_there f dumps (cpu_is e) v h d = subst (λ x. DueStands f dumps x) (sym h) d
-due_there f dumps (batch look width) v h d = subst (λ x. DueStands f dumps x) (sym h) tt
+due_there : (f : FastPool) (dumps : Bool) (t : CpuInferred) (v : CpuVisit) → FillsCpu t v → DueInferred f dumps t →
+    DueConforms f dumps v.entry
+due_there f dumps (cpu_is e) v h d = subst (λ x. DueConforms f dumps x) (sym h) d
+due_there f dumps (batch look width) v h d = subst (λ x. DueConforms f dumps x) (sym h) tt
 
-due_back : (f : FastPool) (dumps : Bool) (t : CpuTold) (v : CpuVisit) → FillsCpu t v → DueStands f dumps v.entry →
-    DueTold f dumps t
-due_back f dumps (cpu_is e) v h d = subst (λ x. DueStands f dumps x) h d
+due_back : (f : FastPool) (dumps : Bool) (t : CpuInferred) (v : CpuVisit) → FillsCpu t v → DueConforms f dumps v.entry →
+    DueInferred f dumps t
+due_back f dumps (cpu_is e) v h d = subst (λ x. DueConforms f dumps x) h d
 due_back f dumps (batch look width) v h d = tt
 
-dump_same : (f : FastPool) (t : CpuTold) (v : CpuVisit) → FillsCpu t v → dump_told f t ≡ dump_by f v.entry
+dump_same : (f : FastPool) (t : CpuInferred) (v : CpuVisit) → FillsCpu t v → dump_inferred f t ≡ dump_by f v.entry
 dump_same f (cpu_is e) v h = ap (dump_by f) (sym h)
 dump_same f (batch look width) v h = ap (dump_by f) (sym h)
 
-module _ (told : Tables) (c i : ℕ) (t : ToldCpu) (f : FastPool) (is : slice_get (list_at told.cpus c) i ≡ Some t)
-    (before : f ≡ fast_at (closed told) c i) where
-  there : (e : CpuEntry) × (slice_get (cpu_list (closed told) c) i ≡ Some e)
-  there = at_too (cpu_list (closed told) c) (list_at told.cpus c) i t ((closed_fills told).cpu_count c) is
+module _ (inferred : Tables) (c i : ℕ) (t : InferredCpu) (f : FastPool) (is : slice_get (list_at inferred.cpus c) i ≡ Some t)
+    (before : f ≡ fast_at (closed inferred) c i) where
+  there : (e : CpuEntry) × (slice_get (cpu_list (closed inferred) c) i ≡ Some e)
+  there = at_too (cpu_list (closed inferred) c) (list_at inferred.cpus c) i t ((closed_fills inferred).cpu_count c) is
 
-  filled : FillsCpu t.entry (cpu_visit (closed told) c i there.0)
-  filled = (closed_fills told).cpu c i t there.0 is there.1
+  filled : FillsCpu t.entry (cpu_visit (closed inferred) c i there.0)
+  filled = (closed_fills inferred).cpu c i t there.0 is there.1
 
-  pub sample_stops : (DueTold f t.dumps t.entry → ⊥) → AllPlaces (DueAt told c) (cpu_list (closed told) c) → ⊥
+  pub sample_stops : (DueInferred f t.dumps t.entry → ⊥) → AllPlaces (DueAt inferred c) (cpu_list (closed inferred) c) → ⊥
   sample_stops unfit all =
-      let due : DueStands (fast_at (closed told) c i) t.dumps there.0 = all i there.0 there.1 t is in
-      unfit (due_back f t.dumps t.entry (cpu_visit (closed told) c i there.0) filled
-      (subst (λ g. DueStands g t.dumps there.0) (sym before) due))
+      let due : DueConforms (fast_at (closed inferred) c i) t.dumps there.0 = all i there.0 there.1 t is in
+      unfit (due_back f t.dumps t.entry (cpu_visit (closed inferred) c i there.0) filled
+      (subst (λ g. DueConforms g t.dumps there.0) (sym before) due))
 
-  pub sample_more : (made : List (Option Dumped)) → DueTold f t.dumps t.entry →
-      Behind (DueAt told c) (DumpIs (closed told) c) (cpu_list (closed told) c) i made →
-      Behind (DueAt told c) (DumpIs (closed told) c) (cpu_list (closed told) c) (i + 1)
-      (made ++ dump_told f t.entry ∷ []) × (fast_told f t.entry ≡ fast_at (closed told) c (i + 1))
+  pub sample_more : (made : List (Option Dumped)) → DueInferred f t.dumps t.entry →
+      After (DueAt inferred c) (DumpIs (closed inferred) c) (cpu_list (closed inferred) c) i made →
+      After (DueAt inferred c) (DumpIs (closed inferred) c) (cpu_list (closed inferred) c) (i + 1)
+      (made ++ dump_inferred f t.entry ∷ []) × (fast_inferred f t.entry ≡ fast_at (closed inferred) c (i + 1))
   sample_more made fits h = (
-    behind_more (DueAt told c) (DumpIs (closed told) c) (cpu_list (closed told) c) i made (dump_told f t.entry) there.0
+    after_more (DueAt inferred c) (DumpIs (closed inferred) c) (cpu_list (closed inferred) c) i made (dump_inferred f t.entry) there.0
         there.1 h due dump,
-    sym (fills_fast t.entry (cpu_visit (closed told) c i there.0) filled f)
+    sym (fills_fast t.entry (cpu_visit (closed inferred) c i there.0) filled f)
         ∙ ap (λ g. fast_step g there.0) before
-        ∙ sym (fold_at fast_step fast_start (cpu_list (closed told) c) i there.0 there.1),
+        ∙ sym (fold_at fast_step fast_start (cpu_list (closed inferred) c) i there.0 there.1),
   )
     where
-      due : DueAt told c i there.0
+      due : DueAt inferred c i there.0
       due u at =
           let same : t ≡ u = (let both : Some t ≡ Some u = sym is ∙ at in cc) in
-          subst (λ (x : ToldCpu). DueStands (fast_at (closed told) c i) x.dumps there.0) same
-          (subst (λ g. DueStands g t.dumps there.0) before
-          (due_there f t.dumps t.entry (cpu_visit (closed told) c i there.0) filled fits))
+          subst (λ (x : InferredCpu). DueConforms (fast_at (closed inferred) c i) x.dumps there.0) same
+          (subst (λ g. DueConforms g t.dumps there.0) before
+          (due_there f t.dumps t.entry (cpu_visit (closed inferred) c i there.0) filled fits))
 
-      dump : DumpIs (closed told) c i (dump_told f t.entry) there.0
+      dump : DumpIs (closed inferred) c i (dump_inferred f t.entry) there.0
       dump =
-          dump_same f t.entry (cpu_visit (closed told) c i there.0) filled ∙ ap (λ g. dump_by g there.0) before
+          dump_same f t.entry (cpu_visit (closed inferred) c i there.0) filled ∙ ap (λ g. dump_by g there.0) before
 
 -- ---- the mixes of the pool
 
@@ -129,8 +129,8 @@ module _ (lists : Lists) (dumps : List (List (Option Dumped))) (all : AllDumps l
       subst (λ xs. slice_get xs k ≡ Some entry.0) (sym (list_is lists.cpus c lane.0 lane.1)) entry.1 in
       (record { now = by.0; is = at ∙ ap Some by.1 }, by.2)
 
-  pub found_is : (t : ToldPool) (e : PoolEntry) → entry_found dumps t ≡ Some e →
-      (e ≡ pool_entry (facts_of lists) t) × MixStands lists t
+  pub found_is : (t : InferredPool) (e : PoolEntry) → entry_found dumps t ≡ Some e →
+      (e ≡ pool_entry (facts_of lists) t) × MixConforms lists t
   found_is (pool_is note) e is = let same : entry_of note ≡ e = cc in (sym same, tt)
   found_is (dumped c k) e is =
       let found = and_then_is mix_of (dump_in dumps c k) e is in
@@ -152,7 +152,7 @@ module _ (lists : Lists) (dumps : List (List (Option Dumped))) (all : AllDumps l
             ∙ is,
       )
 
-  pub not_found : (t : ToldPool) → entry_found dumps t ≡ None → MixStands lists t → ⊥
+  pub not_found : (t : InferredPool) → entry_found dumps t ≡ None → MixConforms lists t → ⊥
   not_found (pool_is note) is h = cc
   not_found (dumped c k) is h =
       let d = dump_is_there c k h in

@@ -1,10 +1,10 @@
--- The lanes of CPUs are kept in vectors.
+-- The code keeps the lists of the CPUs in vectors.
 use Rattle.std.proofs.Common.{◌≡◌, ◌<◌, ◌+◌, ℕ, zero, suc, List, [], ◌∷◌, ◌++◌, length, map, get_or, Vec, Global, refl, sym, subst, ap, arith}
 use Rattle.std.specs.Prelude.{slice_index_or, All}
 use Rattle.std.proofs.lemmas.List.{length-map}
 use Rattle.key_names.specs.Lanes.Book.{list_at}
 use Rattle.judge_log.proofs.Dumps.{list_within}
-use Rattle.judge_log.proofs.Loops.{Behind, behind_more}
+use Rattle.judge_log.proofs.Loops.{After, after_more}
 
 module _ {T : Type 0} where
   abbrev pub items_of : List (Vec T Global) → List (List T)
@@ -21,14 +21,14 @@ module _ {T : Type 0} where
   items_more [] v = refl
   items_more (x ∷ vecs) v = ap (λ xs. x.items ∷ xs) (items_more vecs v)
 
--- one more lane with its facts joins the lanes that were made
+-- if P and S hold of the first c lanes and of lane c, they hold of the first c + 1 lanes
 pub lanes_more : {T E : Type 0} (P : ℕ → List E → Type 0) (S : ℕ → List T → List E → Type 0) (lists : List (List E))
     (c : ℕ) (made : List (Vec T Global)) (v : Vec T Global) → c < length lists →
-    Behind P S lists c (map (λ (w : Vec T Global). w.items) made) → P c (list_at lists c) →
-    S c v.items (list_at lists c) → Behind P S lists (c + 1) (map (λ (w : Vec T Global). w.items) (made ++ v ∷ []))
+    After P S lists c (map (λ (w : Vec T Global). w.items) made) → P c (list_at lists c) →
+    S c v.items (list_at lists c) → After P S lists (c + 1) (map (λ (w : Vec T Global). w.items) (made ++ v ∷ []))
 lanes_more {T = T} P S lists c made v below h p s =
-    subst (λ xs. Behind P S lists (c + 1) xs) (sym (items_more {T = T} made v))
-    (behind_more P S lists c (map (λ (w : Vec T Global). w.items) made) v.items (list_at lists c)
+    subst (λ xs. After P S lists (c + 1) xs) (sym (items_more {T = T} made v))
+    (after_more P S lists c (map (λ (w : Vec T Global). w.items) made) v.items (list_at lists c)
     (list_within lists c below) h p s)
 
 pub list_index : {E : Type 0} (xss : List (List E)) (c : ℕ) → slice_index_or xss c [] ≡ list_at xss c
@@ -36,7 +36,7 @@ list_index [] c = refl
 list_index (xs ∷ xss) zero = refl
 list_index (xs ∷ xss) (suc c) = list_index xss c
 
--- a fact of all lanes holds of each lane
+-- if P holds of all lanes, P holds of lane c
 pub all_at : {E : Type 0} (P : List E → Type 0) (xss : List (List E)) (c : ℕ) → c < length xss → All P xss →
     P (list_at xss c)
 all_at P xss c below all = subst P (list_index xss c) (all c [] below)

@@ -1,4 +1,4 @@
--- A loop goes along a list, and keeps facts and data of the places that it has passed.
+-- A loop goes along a list. P holds of each place that the loop has passed, and S of the item kept for that place.
 use Rattle.std.proofs.Common.{◌≡◌, ◌<◌, ◌+◌, ℕ, zero, suc, List, [], ◌∷◌, ◌++◌, length, take, Some, None, get_or, refl, sym, subst, ap, ◌∙◌, arith, inl, inr, ◌⊎◌}
 use Rattle.std.specs.Prelude.{slice_get}
 use Rattle.std.specs.List.{fold}
@@ -8,7 +8,7 @@ use Rattle.std.proofs.lemmas.Option.{slice_get_within, slice_get-get_or, get_or_
 use Rattle.key_names.specs.Lanes.LawfulList.{LawfulFrom}
 use Rattle.judge_log.specs.Places.{AllPlaces, AllKept}
 
--- the element that a loop reads is at this place of an equal list
+-- the element that a loop reads at place i is also at place i of an equal list
 pub found : {T : Type 0} (xs ys : List T) (i : ℕ) (d : T) → xs ≡ ys → i < length xs →
     slice_get ys i ≡ Some (get_or xs i d)
 found xs ys i d same below =
@@ -26,7 +26,7 @@ pub fold_at : {S E : Type 0} (step : S → E → S) (s : S) (list : List E) (i :
 fold_at step s list i e is =
     ap (fold step s) (take_at list i e is) ∙ fold-append step s (take i list) (e ∷ [])
 
--- an element of a list with one more item is an earlier one or that item
+-- if `k` is added to a list, each element of the longer list is an earlier element or `k` itself
 pub push_at : {K : Type 0} (made : List K) (k x : K) (j : ℕ) → slice_get (made ++ k ∷ []) j ≡ Some x →
     (slice_get made j ≡ Some x) ⊎ ((j ≡ length made) × (x ≡ k))
 push_at [] k x zero is = let same : k ≡ x = cc in inr (refl, sym same)
@@ -44,33 +44,33 @@ below_or_at (suc j) (suc i) below = elim (below_or_at j i (omega arith)) [
   | inr h ↦ inr (ap suc h)
 ]
 
--- if two lists have the same length and one has an element at a place, so has the other
-pub at_too : {E T : Type 0} (list : List E) (told : List T) (i : ℕ) (t : T) → length list ≡ length told →
-    slice_get told i ≡ Some t → (e : E) × (slice_get list i ≡ Some e)
+-- if two lists have the same length and one has an element at a place, the other has one there too
+pub at_too : {E T : Type 0} (list : List E) (inferred : List T) (i : ℕ) (t : T) → length list ≡ length inferred →
+    slice_get inferred i ≡ Some t → (e : E) × (slice_get list i ≡ Some e)
 at_too [] [] i t same is = let never : None ≡ Some t = is in cc
-at_too [] (u ∷ told) i t same is = cc
+at_too [] (u ∷ inferred) i t same is = cc
 at_too (e ∷ list) [] i t same is = cc
-at_too (e ∷ list) (u ∷ told) zero t same is = (e, refl)
-at_too (e ∷ list) (u ∷ told) (suc i) t same is = let s : length list ≡ length told = cc in at_too list told i t s is
+at_too (e ∷ list) (u ∷ inferred) zero t same is = (e, refl)
+at_too (e ∷ list) (u ∷ inferred) (suc i) t same is = let s : length list ≡ length inferred = cc in at_too list inferred i t s is
 
--- P holds of each place below i, and S of each of these places with its kept item
-pub record Behind {K E : Type 0} (P : ℕ → E → Type 0) (S : ℕ → K → E → Type 0) (list : List E) (i : ℕ)
+-- P holds of each place below i, and S holds of each of these places with the item kept for it
+pub record After {K E : Type 0} (P : ℕ → E → Type 0) (S : ℕ → K → E → Type 0) (list : List E) (i : ℕ)
     (made : List K) : Type 0 where
   pub holds : (j : ℕ) (e : E) → j < i → slice_get list j ≡ Some e → P j e
   pub count : length made ≡ i
   pub each : (j : ℕ) (k : K) (e : E) → slice_get made j ≡ Some k → slice_get list j ≡ Some e → S j k e
 
 module _ {K E : Type 0} (P : ℕ → E → Type 0) (S : ℕ → K → E → Type 0) (list : List E) where
-  pub behind_none : Behind P S list 0 []
-  behind_none = record {
+  pub after_none : After P S list 0 []
+  after_none = record {
     holds = λ j e below is. absurd (omega arith);
     count = refl;
     each = λ j k e made is. let never : None ≡ Some k = made in cc;
   }
 
-  pub behind_more : (i : ℕ) (made : List K) (k : K) (e : E) → slice_get list i ≡ Some e → Behind P S list i made →
-      P i e → S i k e → Behind P S list (i + 1) (made ++ k ∷ [])
-  behind_more i made k e is h p s = record {
+  pub after_more : (i : ℕ) (made : List K) (k : K) (e : E) → slice_get list i ≡ Some e → After P S list i made →
+      P i e → S i k e → After P S list (i + 1) (made ++ k ∷ [])
+  after_more i made k e is h p s = record {
     holds = λ j x below at. elim (below_or_at j i below) [
       | inl b ↦ h.holds j x b at
       | inr same ↦ there j x same at
@@ -95,9 +95,9 @@ module _ {K E : Type 0} (P : ℕ → E → Type 0) (S : ℕ → K → E → Type
       made_there j y x same is_k at =
           subst (λ n. S n y x) (sym same) (subst (λ z. S i z x) (sym is_k) (subst (S i k) (same_entry j x same at) s))
 
-  pub behind_all : (i : ℕ) (made : List K) → length list ≡ i → Behind P S list i made →
+  pub after_all : (i : ℕ) (made : List K) → length list ≡ i → After P S list i made →
       AllPlaces P list × AllKept S made list
-  behind_all i made all h = (
+  after_all i made all h = (
     λ j e is. h.holds j e (subst (λ n. j < n) all (slice_get_within list j e is)) is,
     record { count = h.count ∙ sym all; each = h.each },
   )

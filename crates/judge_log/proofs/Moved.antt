@@ -1,4 +1,4 @@
--- A fact of lists holds of all lists with the same lanes: the lists of vgetrandom states do not matter.
+-- Facts about lanes do not depend on the lists of vgetrandom states: the facts hold of all lists with the same lanes.
 use Rattle.std.proofs.Common.{◌≡◌, ℕ, List, [], ◌∷◌, take, Option, Some, None, true, false, refl, sym, subst, ap, ◌∙◌}
 use Rattle.std.specs.Prelude.{slice_get, if◌then◌else◌}
 use Rattle.std.specs.List.{fold}
@@ -97,8 +97,8 @@ module _ (l : Lists) (states : List (List (List VEntry))) where
     refills = h.refills;
   }
 
-  lawful_too : (told : Tables) → Lawful told l → Lawful told with_states
-  lawful_too told h = record {
+  lawful_too : (inferred : Tables) → Lawful inferred l → Lawful inferred with_states
+  lawful_too inferred h = record {
     lanes = lanes_too h.lanes;
     dues = h.dues;
     mixes = λ p cpu place is. let m = h.mixes p cpu place is in record { now = m.now; is = m.is };
@@ -120,5 +120,5 @@ module _ (a b : Lists) (same : SameLanes a b) where
       ∙ ap (λ xs. record { pool = b.pool; base = xs; cpus = a.cpus; callers = b.callers }) same.base
       ∙ ap (λ xs. record { pool = b.pool; base = b.base; cpus = xs; callers = b.callers }) same.cpus
 
-  pub lawful_of_same : (told : Tables) → Lawful told a → Lawful told b
-  lawful_of_same told h = subst (λ l. Lawful told l) other_states (lawful_too a b.callers told h)
+  pub lawful_of_same : (inferred : Tables) → Lawful inferred a → Lawful inferred b
+  lawful_of_same inferred h = subst (λ l. Lawful inferred l) other_states (lawful_too a b.callers inferred h)

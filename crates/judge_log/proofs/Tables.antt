@@ -9,13 +9,13 @@ pub mod Gathers
 pub mod IrqShapes
 pub mod LanePlaces
 pub mod LineVisits
-pub mod MadeIsTold
+pub mod MadeIsInferred
 pub mod MarkedSteps
 pub mod Matches
 pub mod OneRow
 pub mod RisingSteps
 pub mod RowRanges
-pub mod RowsBehind
+pub mod RowsAfter
 pub mod SampledLines
 pub mod SampledVisits
 pub mod SpotRows

@@ -7,12 +7,12 @@ use Rattle.key_names.specs.Lanes.CpuList.{CpuMayCome, cpu_start, cpu_step, base_
 use Rattle.key_names.specs.Lanes.Book.{Lists, LawfulLanes, list_at, cpu_list}
 use Rattle.key_names.proofs.Lists.Growing.{may_at}
 use Rattle.key_names.proofs.Lists.ListFacts.{list_is}
-use Rattle.judge_log.specs.declared.kept.Root.{Root}
+use Rattle.judge_log.specs.declared.kept.KeptRoot.{KeptRoot}
 use Rattle.judge_log.specs.declared.kept.KeptPool.{KeptPool}
 use Rattle.judge_log.specs.declared.kept.KeptBase.{KeptBase}
 use Rattle.judge_log.specs.declared.kept.KeptCpu.{KeptCpu}
-use Rattle.judge_log.specs.declared.told.ToldPool.{ToldPool}
-use Rattle.judge_log.specs.declared.told.ToldPool.TheVariants.{Is as pool_is, Dumped as dumped}
+use Rattle.judge_log.specs.declared.inferred.InferredPool.{InferredPool}
+use Rattle.judge_log.specs.declared.inferred.InferredPool.TheVariants.{Is as pool_is, Dumped as dumped}
 use Rattle.judge_log.specs.BaseLane.{AllBaseMay, root_in}
 use Rattle.judge_log.specs.Closed.{closed}
 use Rattle.judge_log.specs.CpuLane.{AllCpuMay, AllCpusMay}
@@ -23,7 +23,7 @@ use Rattle.judge_log.specs.Kept.{Keeps, KeepsPoolLane, KeepsBaseLane, KeepsCpuLa
 use Rattle.judge_log.specs.Lawful.{Lawful}
 use Rattle.judge_log.specs.Names.{AnsweredBy, root_named_in, refill_named_in, AllExtractionsAnswered, AllRefillsAnswered}
 use Rattle.judge_log.specs.Places.{AllPlaces, AllKept}
-use Rattle.judge_log.specs.PoolLane.{MixStands, AllMixed}
+use Rattle.judge_log.specs.PoolLane.{MixConforms, AllMixed}
 use Rattle.judge_log.specs.Tables.{Tables}
 use Rattle.judge_log.proofs.BaseSteps.{place_same}
 use Rattle.judge_log.proofs.Dumps.{and_then_is, list_there}
@@ -31,7 +31,7 @@ use Rattle.judge_log.proofs.Filling.{closed_fills, fills_same}
 use Rattle.judge_log.proofs.Loops.{lawful_by_place}
 use Rattle.judge_log.proofs.Moved.{kept_of_same, lawful_of_same}
 
--- a kept item contains the name that its entry contains
+-- if each kept item has its entry's name, a look-up at any place gives the same name in both lists
 names_same : {K E B : Type 0} (f : K → Option B) (g : E → Option B) (kept : List K) (list : List E) →
     length kept ≡ length list →
     ((i : ℕ) (k : K) (e : E) → slice_get kept i ≡ Some k → slice_get list i ≡ Some e → f k ≡ g e) → (i : ℕ) →
@@ -82,7 +82,7 @@ module _ (lists : Lists) (pool : List KeptPool) (base : List KeptBase) (cpus : L
   pub extractions_there : AllExtractionsAnswered pool base → (p i : ℕ) → extraction_at lists.pool p ≡ Some i →
       root_at lists.base i ≡ Some p
   extractions_there all p i is =
-      let outer = and_then_is (λ (root : Root). Some root.base_place) (root_in pool p) i
+      let outer = and_then_is (λ (root : KeptRoot). Some root.base_place) (root_in pool p) i
       (place_same lists pool keeps_pool p ∙ is) in
       let inner = and_then_is (λ (kept : KeptPool). kept.root) (slice_get pool p) outer.0 outer.1 in
       let answered : root_named_in base outer.0.base_place ≡ Some p = all p inner.0 outer.0 inner.1 inner.2 in
@@ -96,8 +96,8 @@ module _ (lists : Lists) (pool : List KeptPool) (base : List KeptBase) (cpus : L
       ∙ all p root.base_place
       (sym (place_same lists pool keeps_pool p)
       ∙ ap
-      (λ o. option_and_then (λ (r : Root). Some r.base_place) (option_and_then (λ (k : KeptPool). k.root) o)) at
-      ∙ ap (option_and_then (λ (r : Root). Some r.base_place)) is)
+      (λ o. option_and_then (λ (r : KeptRoot). Some r.base_place) (option_and_then (λ (k : KeptPool). k.root) o)) at
+      ∙ ap (option_and_then (λ (r : KeptRoot). Some r.base_place)) is)
 
   pub refills_there : AllRefillsAnswered base cpus → (b c k : ℕ) → refill_at lists.base b ≡ Some (c, k) →
       base_refill_at (cpu_list lists c) k ≡ Some b
@@ -135,50 +135,50 @@ pub cpus_may_come : (lists : Lists) → LawfulLanes lists → AllCpusMay lists
 cpus_may_come lists h c k e is =
     may_at (CpuMayCome lists.base c) (cpu_step lists.base c) cpu_start (cpu_list lists c) k e (h.forward.cpus c) is
 
--- CPUs beyond the last have no entries
+-- a CPU that does not exist has no entries, so all CPUs satisfy AllCpuMay if the CPUs of the lists do
 pub cpus_may : (lists : Lists) → AllPlaces (λ c lane. AllCpuMay lists c) lists.cpus → AllCpusMay lists
 cpus_may lists all c k e is = all c (list_at lists.cpus c) (list_there lists.cpus c k e is) k e is
 
-module _ (told : Tables) where
-  pub all_due : Lawful told (closed told) → AllDue told
+module _ (inferred : Tables) where
+  pub all_due : Lawful inferred (closed inferred) → AllDue inferred
   all_due h c lane is k e at t there =
       h.dues c k t e there
-      (subst (λ xs. slice_get xs k ≡ Some e) (sym (list_is (closed told).cpus c lane is)) at)
+      (subst (λ xs. slice_get xs k ≡ Some e) (sym (list_is (closed inferred).cpus c lane is)) at)
 
-  pub all_mixed : Lawful told (closed told) → AllMixed told
+  pub all_mixed : Lawful inferred (closed inferred) → AllMixed inferred
   all_mixed h p t is = go t is
     where
-      go : (u : ToldPool) → slice_get told.pool p ≡ Some u → MixStands (closed told) u
+      go : (u : InferredPool) → slice_get inferred.pool p ≡ Some u → MixConforms (closed inferred) u
       go (pool_is note) at = tt
       go (dumped c k) at = h.mixes p c k at
 
-  pub lawful_whole : LawfulLanes (closed told) → AllDue told → AllMixed told → Lawful told (closed told)
+  pub lawful_whole : LawfulLanes (closed inferred) → AllDue inferred → AllMixed inferred → Lawful inferred (closed inferred)
   lawful_whole lanes due mixed = record {
     lanes = lanes;
     dues = λ c k t e there at.
-        due c (list_at (closed told).cpus c) (list_there (closed told).cpus c k e at) k e at t there;
+        due c (list_at (closed inferred).cpus c) (list_there (closed inferred).cpus c k e at) k e at t there;
     mixes = λ p c k is. mixed p (dumped c k) is;
   }
 
 -- if some lawful lists match the inferred entries, the completed lists are lawful
-pub closed_lawful : (told : Tables) (lists : Lists) → Fills told lists → Lawful told lists → Lawful told (closed told)
-closed_lawful told lists fills lawful =
-    lawful_of_same lists (closed told) (fills_same told lists fills) told lawful
+pub closed_lawful : (inferred : Tables) (lists : Lists) → Fills inferred lists → Lawful inferred lists → Lawful inferred (closed inferred)
+closed_lawful inferred lists fills lawful =
+    lawful_of_same lists (closed inferred) (fills_same inferred lists fills) inferred lawful
 
-pub keeps_all : (told : Tables) (lists : Lists) (kept : KeptLists) → Fills told lists → Keeps kept (closed told) →
+pub keeps_all : (inferred : Tables) (lists : Lists) (kept : KeptLists) → Fills inferred lists → Keeps kept (closed inferred) →
     Keeps kept lists
-keeps_all told lists kept fills keeps = kept_of_same lists (closed told) (fills_same told lists fills) kept keeps
+keeps_all inferred lists kept fills keeps = kept_of_same lists (closed inferred) (fills_same inferred lists fills) kept keeps
 
-pub lists_found : (told : Tables) (kept : KeptLists) → AllDue told → AllMixed told → AllBaseMay (closed told) →
-    AllCpusMay (closed told) → Keeps kept (closed told) →
+pub lists_found : (inferred : Tables) (kept : KeptLists) → AllDue inferred → AllMixed inferred → AllBaseMay (closed inferred) →
+    AllCpusMay (closed inferred) → Keeps kept (closed inferred) →
     AllExtractionsAnswered kept.pool.items kept.base.items →
     AllRefillsAnswered kept.base.items (map (λ lane. lane.items) kept.cpus.items) →
-    (lists : Lists) × Fills told lists × Lawful told lists × Keeps kept lists
-lists_found told kept due mixed base_may cpus_may keeps extractions refills = (
-  closed told,
-  closed_fills told,
-  lawful_whole told
-      (lanes_lawful (closed told) kept.pool.items kept.base.items (map (λ lane. lane.items) kept.cpus.items) keeps.pool
+    (lists : Lists) × Fills inferred lists × Lawful inferred lists × Keeps kept lists
+lists_found inferred kept due mixed base_may cpus_may keeps extractions refills = (
+  closed inferred,
+  closed_fills inferred,
+  lawful_whole inferred
+      (lanes_lawful (closed inferred) kept.pool.items kept.base.items (map (λ lane. lane.items) kept.cpus.items) keeps.pool
       keeps.base keeps.cpus base_may cpus_may extractions refills) due mixed,
   keeps,
 )

@@ -1,16 +1,16 @@
--- The base, replayed along its list.
+-- The base, as the code replays it along its list.
 use Rattle.std.specs.Prelude.{ℕ, ◌≡◌, ◌≤◌, ⊤, Option, Some, None, List, take, slice_get, option_and_then}
 use Rattle.key_names.specs.declared.entries.BaseEntry.{BaseEntry}
 use Rattle.key_names.specs.Lanes.PoolList.{Crossing, none}
 use Rattle.key_names.specs.Lanes.BaseList.{BaseState, BaseFits, BaseMayCome, base_after}
 use Rattle.key_names.specs.Lanes.Book.{Lists}
 use Rattle.base_gen.specs.BaseValue.{BaseValue}
-use Rattle.input_pool.specs.PoolStands.{crossing_of}
-use Rattle.judge_log.specs.declared.kept.Root.{Root}
+use Rattle.input_pool.specs.PoolConforms.{crossing_of}
+use Rattle.judge_log.specs.declared.kept.KeptRoot.{KeptRoot}
 use Rattle.judge_log.specs.declared.kept.KeptPool.{KeptPool}
 use Rattle.judge_log.specs.Places.{AllPlaces}
 
--- the state of a base without its place, its roots and the name of its key, which the code does not keep
+-- the state of a base; its place, its roots and the name of its key are left out, since the code does not keep these
 abbrev pub state_of : BaseValue → BaseState
 state_of b = record {
   place = 0;
@@ -34,18 +34,18 @@ crossing_kept (Some kept) = crossing_of kept.crossing
 abbrev pub crossed_of : List KeptPool → ℕ → Crossing
 crossed_of pool place = crossing_kept (slice_get pool place)
 
--- the root from the pool's visit at a place
-abbrev pub root_in : List KeptPool → ℕ → Option Root
+-- the root of the pool's visit at this place, if the visit is an extraction
+abbrev pub root_in : List KeptPool → ℕ → Option KeptRoot
 root_in pool r = option_and_then (λ (kept : KeptPool). kept.root) (slice_get pool r)
 
 abbrev pub root_value_in : List KeptPool → ℕ → Option (List ℕ)
-root_value_in pool r = option_and_then (λ (root : Root). Some root.value) (root_in pool r)
+root_value_in pool r = option_and_then (λ (root : KeptRoot). Some root.value) (root_in pool r)
 
--- if a root is named, it is at least `least`, and its extraction names this place
-abbrev pub RootStandsIn : List KeptPool → ℕ → ℕ → Option ℕ → Type 0
-RootStandsIn pool least place None = ⊤
-RootStandsIn pool least place (Some r) =
-    (least ≤ r) × (option_and_then (λ (root : Root). Some root.base_place) (root_in pool r) ≡ Some place)
+-- the place of a named root is not below `least`, and the extraction there names this place of the base
+abbrev pub RootConformsIn : List KeptPool → ℕ → ℕ → Option ℕ → Type 0
+RootConformsIn pool least place None = ⊤
+RootConformsIn pool least place (Some r) =
+    (least ≤ r) × (option_and_then (λ (root : KeptRoot). Some root.base_place) (root_in pool r) ≡ Some place)
 
 -- each entry of the base is allowed at its place
 abbrev pub AllBaseMay : Lists → Type 0

@@ -1,4 +1,4 @@
--- The answers and data of the lines of a call, and the caller's vgetrandom states after it.
+-- The answers and data of a call's lines, and the caller's vgetrandom states after the call.
 use Rattle.std.specs.Prelude.{ℕ, ◌≡◌, Bool, true, false, Some, List, [], ◌∷◌, ◌++◌, map, replicate, slice_get}
 use Rattle.std.specs.Prelude.{slice_set, unwrap_or}
 use Rattle.std.specs.List.{AllByRecursion}
@@ -10,12 +10,12 @@ use Rattle.key_names.specs.Transcripts.SeenLine.{SeenLine}
 use Rattle.key_names.specs.Kernel.VgetrandomState.{VgetrandomState, wiped_state}
 use Rattle.judge_log.specs.declared.kept.Lists.{Lists as KeptLists}
 use Rattle.judge_vread.specs.declared.inside.Reached.{Reached}
-use Rattle.judge_vread.specs.Course.{Followed, followed}
+use Rattle.judge_vread.specs.Path.{Followed, followed}
 use Rattle.judge_vread.specs.Inside.{inside_of, includes}
-use Rattle.judge_log.specs.declared.said.Said.{Said}
-use Rattle.judge_log.specs.declared.said.Shows.TheVariants.{Nothing as ShowsNothing, Served}
+use Rattle.judge_log.specs.declared.said.MadeLine.{MadeLine}
+use Rattle.judge_log.specs.declared.said.ShownRecipe.TheVariants.{Nothing as ShowsNothing, Served}
 use Rattle.judge_log.specs.Met.{met_in, seen_in}
-use Rattle.judge_log.specs.EventSays.{AloneStands, alone_says, ActStands, act_says_at, EndStands, unused}
+use Rattle.judge_log.specs.EventSays.{AloneConforms, alone_says, ActConforms, act_says_at, EndConforms, unused}
 use Rattle.judge_log.specs.Writes.{Write, Written}
 
 -- the sixteen vgetrandom states of a caller, and the number of the current one
@@ -38,18 +38,18 @@ states_after Drop s = with_state s wiped_state
 states_after (State number) s = record s { current = number }
 states_after _ s = s
 
-abbrev pub write : SeenLine → Said → Write
+abbrev pub write : SeenLine → MadeLine → Write
 write line said = record { event = line.event; said = said }
 
 module _ (kept : KeptLists) (set : Setting) where
   pub record AloneSaid (event : Event) (line : SeenLine) (old new : VStates) (writes : List Write) : Type 0 where
-    pub stands : AloneStands kept set event line.steps
+    pub conforms : AloneConforms kept set event line.steps
     pub new_is : new ≡ states_after event old
     pub writes_are : writes ≡ write line (alone_says kept set event line.steps) ∷ []
 
-  -- an act whose point was reached has a form, and any other act has no steps
+  -- if the point of an act was reached, the act has a form; any other act has no steps
   abbrev pub ActDone : Reached → BoundAct → Type 0
-  ActDone reached bound = ActStands kept set (includes reached bound.point) bound.act bound.line.steps
+  ActDone reached bound = ActConforms kept set (includes reached bound.point) bound.act bound.line.steps
 
   abbrev pub act_write : Reached → BoundAct → Write
   act_write reached bound =
@@ -59,10 +59,10 @@ module _ (kept : KeptLists) (set : Setting) where
       (writes : List Write) : Type 0 where
     pub f : Followed
     pub follows : followed n flags (inside_of acts) (state_of old) (seen_in set.cpu (met_in kept line.steps)) ≡ Some f
-    pub done : AllByRecursion (ActDone f.course.reached) acts
+    pub done : AllByRecursion (ActDone f.path.reached) acts
     pub new_is : new ≡ with_state old f.state
-    pub writes_are : writes ≡ map (act_write f.course.reached) acts
-        ++ write line (record { answer = f.course.answer; shows = Served f.course.served }) ∷ []
+    pub writes_are : writes ≡ map (act_write f.path.reached) acts
+        ++ write line (record { answer = f.path.answer; shows = Served f.path.served }) ∷ []
 
   pub record UnboundSaid (bound : BoundAct) (old new : VStates) (writes : List Write) : Type 0 where
     pub no_steps : bound.line.steps ≡ []
@@ -70,7 +70,7 @@ module _ (kept : KeptLists) (set : Setting) where
     pub writes_are : writes ≡ write bound.line unused ∷ []
 
   pub record EndingSaid (line : SeenLine) (old new : VStates) (writes : List Write) : Type 0 where
-    pub stands : EndStands kept set line.steps
+    pub conforms : EndConforms kept set line.steps
     pub new_is : new ≡ old
     pub writes_are : writes ≡ write line (record { answer = Done; shows = ShowsNothing }) ∷ []
 
@@ -80,8 +80,8 @@ module _ (kept : KeptLists) (set : Setting) where
   CallSaid (unbound bound) old new writes = UnboundSaid bound old new writes
   CallSaid (ending line) old new writes = EndingSaid line old new writes
 
--- the notes after a call that has answers and data, or that the call has none
-module _ {Noted : Type 0} (IsNoted : ℕ → Said → Noted → Type 0) (kept : KeptLists) (set : Setting) where
+-- for true: the call has answers and data, and notes' has them; for false: the call has no answers and data
+module _ {Noted : Type 0} (IsNoted : ℕ → MadeLine → Noted → Type 0) (kept : KeptLists) (set : Setting) where
   abbrev pub IsCallSaid : Call → VStates → VStates → List Noted → List Noted → Bool → Type 0
   IsCallSaid call old new notes notes' true =
       (writes : List Write) × CallSaid kept set call old new writes × Written IsNoted writes notes notes'
@@ -89,7 +89,7 @@ module _ {Noted : Type 0} (IsNoted : ℕ → Said → Noted → Type 0) (kept : 
       (t : VStates) (writes : List Write) → CallSaid kept set call old t writes → ⊥
 
 module _ (kept : KeptLists) where
-  -- the calls, each with its setting, have these answers and data in sequence
+  -- `writes` has the answers and data of the calls one after another, each call with its setting
   abbrev pub CallsSaid : List Setting → List Call → VStates → VStates → List Write → Type 0
   CallsSaid [] calls s t writes = (t ≡ s) × (writes ≡ [])
   CallsSaid (set ∷ sets) [] s t writes = (t ≡ s) × (writes ≡ [])

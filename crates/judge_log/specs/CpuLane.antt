@@ -1,4 +1,4 @@
--- A CPU, replayed along its list.
+-- A CPU, as the code replays it along its list.
 use Rattle.std.specs.Prelude.{ℕ, ◌+◌, ◌/◌, ◌≡◌, ◌≤◌, ◌<◌, ◌↔◌, ◌⊎◌, ⊤, Bool, true, false, not, ◌||◌, ◌==◌, nat_le}
 use Rattle.std.specs.Prelude.{Option, Some, None, List, take, slice_get, IsSome, if◌then◌else◌}
 use Rattle.key_names.specs.declared.entries.CpuEntry.{CpuEntry}
@@ -8,12 +8,12 @@ use Rattle.key_names.specs.Lanes.BaseList.{base_erases, refill_of}
 use Rattle.key_names.specs.Lanes.CpuList.{CpuMayCome, cpu_after}
 use Rattle.key_names.specs.Lanes.Book.{Lists, cpu_list}
 use Rattle.cpu_gen.specs.CpuValue.{CpuValue, erased, prepared}
-use Rattle.judge_lines.specs.declared.told.CpuTold.{CpuTold}
-use Rattle.judge_lines.specs.declared.told.CpuTold.TheVariants.{Is as cpu_is, Batch as batch}
+use Rattle.judge_lines.specs.declared.inferred.CpuInferred.{CpuInferred}
+use Rattle.judge_lines.specs.declared.inferred.CpuInferred.TheVariants.{Is as cpu_is, Batch as batch}
 use Rattle.judge_log.specs.declared.kept.KeptBase.{KeptBase}
 use Rattle.judge_log.specs.declared.last_fills.LastFill.{LastFill}
 use Rattle.judge_log.specs.declared.last_fills.LastFills.{LastFills}
-use Rattle.judge_log.specs.declared.kept.Source.{Source}
+use Rattle.judge_log.specs.declared.kept.BytesSource.{BytesSource}
 use Rattle.judge_log.specs.Kept.{no_source}
 use Rattle.judge_log.specs.Places.{AllPlaces}
 
@@ -47,7 +47,7 @@ abbrev pub HasRoom : Option LastFill → Type 0
 HasRoom None = ⊤
 HasRoom (Some fill) = fill.count < 96
 
--- if the entry takes bytes of a filled batch, the batch has some left
+-- an entry that takes bytes of a batch filled earlier needs a batch with bytes left
 abbrev pub RoomFor : LastFills → CpuEntry → Type 0
 RoomFor f (Int look refill width true) = ⊤
 RoomFor f (Int look refill width false) = HasRoom (slot f width)
@@ -59,7 +59,7 @@ RoomFor f Online = ⊤
 
 -- ---- the entry
 
-abbrev pub cpu_closed : LastFills → CpuTold → CpuEntry
+abbrev pub cpu_closed : LastFills → CpuInferred → CpuEntry
 cpu_closed f (cpu_is e) = e
 cpu_closed f (batch look width) = Int look None width (wants_kept look width (slot f width))
 
@@ -86,23 +86,23 @@ refill_named (Dump now) = None
 refill_named Prepare = None
 refill_named Online = None
 
--- each kept visit of the base that erases a key has that key
+-- if a visit of the base erases the key in use, that key is kept
 abbrev pub KeysKept : List KeptBase → Type 0
 KeysKept base = (b : ℕ) (kept : KeptBase) → slice_get base b ≡ Some kept → base_erases kept.entry ≡ true → IsSome kept.key
 
--- the base's visit at a place is a refill for this place of this CPU, and has a generation of at least the look
+-- the base's visit is a refill for this place of this CPU, and its generation is at least the look
 abbrev pub NamesIn : ℕ → ℕ → ℕ → Option KeptBase → Type 0
 NamesIn cpu place look None = ⊥
 NamesIn cpu place look (Some kept) = (refill_of kept.entry ≡ Some (cpu, place)) × (look ≤ kept.generation)
 
-abbrev pub RefillStandsIn : List KeptBase → ℕ → ℕ → Option (ℕ × ℕ) → Type 0
-RefillStandsIn base cpu place None = ⊤
-RefillStandsIn base cpu place (Some named) = NamesIn cpu place named.0 (slice_get base named.1)
+abbrev pub RefillConformsIn : List KeptBase → ℕ → ℕ → Option (ℕ × ℕ) → Type 0
+RefillConformsIn base cpu place None = ⊤
+RefillConformsIn base cpu place (Some named) = NamesIn cpu place named.0 (slice_get base named.1)
 
--- handed is the key and the generation that the base handed over in the named refill
-abbrev pub HandedStands : List KeptBase → Option (ℕ × ℕ) → Option CpuValue → Type 0
-HandedStands base None handed = handed ≡ None
-HandedStands base (Some named) handed = (kept : KeptBase) (key : List ℕ) → slice_get base named.1 ≡ Some kept →
+-- `handed` is the key and the generation that the base handed over in the named refill
+abbrev pub HandedConforms : List KeptBase → Option (ℕ × ℕ) → Option CpuValue → Type 0
+HandedConforms base None handed = handed ≡ None
+HandedConforms base (Some named) handed = (kept : KeptBase) (key : List ℕ) → slice_get base named.1 ≡ Some kept →
     kept.key ≡ Some key → handed ≡ Some (record { key = keystream key 32 32; generation = kept.generation })
 
 -- ---- the effect of an entry
@@ -132,11 +132,11 @@ fills_entered (Dump now) key f = f
 fills_entered Prepare key f = no_fills
 fills_entered Online key f = f
 
-abbrev pub source_kept : Option LastFill → Source
+abbrev pub source_kept : Option LastFill → BytesSource
 source_kept None = no_source
 source_kept (Some fill) = record { key = Some fill.key; served = fill.count }
 
-abbrev pub source_entered : CpuEntry → List ℕ → LastFills → Source
+abbrev pub source_entered : CpuEntry → List ℕ → LastFills → BytesSource
 source_entered (Read look refill taken) key f = record { key = Some key; served = 0 }
 source_entered (Int look refill width true) key f = record { key = Some key; served = 0 }
 source_entered (Int look refill width false) key f = source_kept (slot f width)

@@ -1,23 +1,23 @@
--- The dumps of CPUs.
+-- The dumps of the fast pools, and the interrupts that make them due.
 use Rattle.std.specs.Prelude.{ℕ, ◌≡◌, ⊤, Bool, Option, Some, None, List, take, slice_get}
 use Rattle.key_names.specs.declared.entries.CpuEntry.{CpuEntry}
 use Rattle.key_names.specs.declared.entries.CpuEntry.TheVariants.{Read, Int, Irq, Dump, Prepare, Online}
 use Rattle.key_names.specs.Kernel.FastPool.{FastPool, fast_after, dump_bytes, dump_bits}
 use Rattle.key_names.specs.Lanes.Book.{Lists, list_at, cpu_list}
-use Rattle.judge_lines.specs.declared.told.CpuTold.{CpuTold}
-use Rattle.judge_lines.specs.declared.told.CpuTold.TheVariants.{Is as cpu_is, Batch as batch}
+use Rattle.judge_lines.specs.declared.inferred.CpuInferred.{CpuInferred}
+use Rattle.judge_lines.specs.declared.inferred.CpuInferred.TheVariants.{Is as cpu_is, Batch as batch}
 use Rattle.sample_credit.specs.declared.fast_pool.Dump.{Dump as Dumped}
-use Rattle.judge_log.specs.declared.told.ToldCpu.{ToldCpu}
+use Rattle.judge_log.specs.declared.inferred.InferredCpu.{InferredCpu}
 use Rattle.judge_log.specs.Closed.{closed}
-use Rattle.judge_log.specs.Lawful.{DueStands}
+use Rattle.judge_log.specs.Lawful.{DueConforms}
 use Rattle.judge_log.specs.Places.{AllPlaces, AllKept}
 use Rattle.judge_log.specs.Tables.{Tables}
 
-abbrev pub DueTold : FastPool → Bool → CpuTold → Type 0
-DueTold f dumps (cpu_is e) = DueStands f dumps e
-DueTold f dumps (batch look width) = ⊤
+abbrev pub DueInferred : FastPool → Bool → CpuInferred → Type 0
+DueInferred f dumps (cpu_is e) = DueConforms f dumps e
+DueInferred f dumps (batch look width) = ⊤
 
--- the dump of an entry, if it is one
+-- the dump that an entry makes, if the entry is a dump
 abbrev pub dump_by : FastPool → CpuEntry → Option Dumped
 dump_by f (Dump now) = Some (record { bytes = dump_bytes f; bits = dump_bits f })
 dump_by f (Read look refill taken) = None
@@ -26,9 +26,9 @@ dump_by f (Irq v1 v2 now) = None
 dump_by f Prepare = None
 dump_by f Online = None
 
-abbrev pub dump_told : FastPool → CpuTold → Option Dumped
-dump_told f (cpu_is e) = dump_by f e
-dump_told f (batch look width) = None
+abbrev pub dump_inferred : FastPool → CpuInferred → Option Dumped
+dump_inferred f (cpu_is e) = dump_by f e
+dump_inferred f (batch look width) = None
 
 -- a CPU's fast pool before a place of its list
 abbrev pub fast_at : Lists → ℕ → ℕ → FastPool
@@ -36,13 +36,13 @@ fast_at lists c k = fast_after (take k (cpu_list lists c))
 
 -- an interrupt at this place makes a dump due exactly if its line dumps
 abbrev pub DueAt : Tables → ℕ → ℕ → CpuEntry → Type 0
-DueAt told c k e = (t : ToldCpu) → slice_get (list_at told.cpus c) k ≡ Some t →
-    DueStands (fast_at (closed told) c k) t.dumps e
+DueAt inferred c k e = (t : InferredCpu) → slice_get (list_at inferred.cpus c) k ≡ Some t →
+    DueConforms (fast_at (closed inferred) c k) t.dumps e
 
 abbrev pub AllDue : Tables → Type 0
-AllDue told = AllPlaces (λ c lane. AllPlaces (DueAt told c) lane) (closed told).cpus
+AllDue inferred = AllPlaces (λ c lane. AllPlaces (DueAt inferred c) lane) (closed inferred).cpus
 
--- dump is the dump of the visit at a place
+-- `dump` is the dump of the visit at this place, if the visit is a dump
 abbrev pub DumpIs : Lists → ℕ → ℕ → Option Dumped → CpuEntry → Type 0
 DumpIs lists c k dump e = dump ≡ dump_by (fast_at lists c k) e
 

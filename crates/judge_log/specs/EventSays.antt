@@ -1,4 +1,4 @@
--- The answer and data of a single event, or of an act inside a vread, from steps with their kept data.
+-- The answer and data of a single event, or of an act inside a vread, made from the kept data of its steps.
 use Rattle.std.specs.Prelude.{ℕ, ◌≡◌, ◌-◌, ◌*◌, ◌==◌, ◌&&◌, not, Bool, true, false, Option, Some, None, List, [], ◌∷◌}
 use Rattle.std.specs.Prelude.{length, slice_get, nat_lt, if◌then◌else◌}
 use Rattle.key_names.specs.declared.entries.Taken.{Taken}
@@ -27,12 +27,12 @@ use Rattle.judge_log.specs.declared.kept.Lists.{Lists as KeptLists}
 use Rattle.judge_vread.specs.Recipe.{Recipe, no_recipe, user_recipe, kernel_recipe, int_recipe}
 use Rattle.judge_log.specs.declared.met.Met.{Met}
 use Rattle.judge_log.specs.declared.met.Met.TheVariants.{Looked, InPool, InBase, InCpu, Nothing}
-use Rattle.judge_log.specs.declared.said.Said.{Said}
-use Rattle.judge_log.specs.declared.said.Shows.{Shows}
-use Rattle.judge_log.specs.declared.said.Shows.TheVariants.{Nothing as ShowsNothing, Count, Served}
+use Rattle.judge_log.specs.declared.said.MadeLine.{MadeLine}
+use Rattle.judge_log.specs.declared.said.ShownRecipe.{ShownRecipe}
+use Rattle.judge_log.specs.declared.said.ShownRecipe.TheVariants.{Nothing as ShowsNothing, Count, Served}
 use Rattle.judge_log.specs.Met.{met_in, kinds_met}
 
--- the crossing of the first visit of the pool
+-- the crossing of the first visit of the pool, if there is one
 abbrev pub first_crossing : List Met → Crossing
 first_crossing [] = CrossedNothing
 first_crossing (InPool kept ∷ met) = kept.crossing
@@ -107,11 +107,11 @@ event_says Tick met = tick_says met
 event_says _ met = Done
 
 -- the pool's bits before the visit that reads them
-abbrev pub bits_shown : List Met → Shows
+abbrev pub bits_shown : List Met → ShownRecipe
 bits_shown (InPool kept ∷ []) = Count kept.before
 bits_shown _ = ShowsNothing
 
-abbrev pub event_shows : Event → List Met → Shows
+abbrev pub event_shows : Event → List Met → ShownRecipe
 event_shows Bits met = bits_shown met
 event_shows (Read len flags) met = Served (last_recipe met)
 event_shows (Dread len flag) met = Served (last_recipe met)
@@ -123,44 +123,44 @@ event_shows Int32 met = Served (last_recipe met)
 event_shows Int64 met = Served (last_recipe met)
 event_shows _ met = ShowsNothing
 
-abbrev pub act_says : InsideAct → List Met → Said
+abbrev pub act_says : InsideAct → List Met → MadeLine
 act_says WipeAct met = record { answer = Done; shows = ShowsNothing }
 act_says (VreadAct n) met = record { answer = system_says 0 met; shows = Served (last_recipe met) }
 act_says ReseedAct met = record { answer = reseed_says met; shows = ShowsNothing }
 
-abbrev pub unused : Said
+abbrev pub unused : MadeLine
 unused = record { answer = Unused; shows = ShowsNothing }
 
 -- ---- lines
 
 module _ (kept : KeptLists) (set : Setting) where
   -- the steps have the kinds of a form of the event
-  abbrev pub AloneStands : Event → List Step → Type 0
-  AloneStands event steps =
+  abbrev pub AloneConforms : Event → List Step → Type 0
+  AloneConforms event steps =
       IsRow event (first_crossing (met_in kept steps)) (kinds_met (cpu_for set event) (met_in kept steps))
 
-  abbrev pub alone_says : Event → List Step → Said
+  abbrev pub alone_says : Event → List Step → MadeLine
   alone_says event steps =
       record { answer = event_says event (met_in kept steps); shows = event_shows event (met_in kept steps) }
 
-  -- if the steps have the kinds of a form, their answer and data; otherwise none
-  abbrev pub IsAloneSaid : Event → List Step → Option Said → Type 0
-  IsAloneSaid event steps None = AloneStands event steps → ⊥
-  IsAloneSaid event steps (Some said) = AloneStands event steps × (said ≡ alone_says event steps)
+  -- the answer and data are made from the steps if these have the kinds of a form; otherwise there are none
+  abbrev pub IsAloneSaid : Event → List Step → Option MadeLine → Type 0
+  IsAloneSaid event steps None = AloneConforms event steps → ⊥
+  IsAloneSaid event steps (Some said) = AloneConforms event steps × (said ≡ alone_says event steps)
 
-  -- if an act's point was reached, its steps have the kinds of the act; if not, it has no steps
-  abbrev pub ActStands : Bool → InsideAct → List Step → Type 0
-  ActStands true act steps = IsActRow act (kinds_met set.cpu (met_in kept steps))
-  ActStands false act steps = steps ≡ []
+  -- if the point of an act was reached, the steps have the kinds of the act; if not, the act has no steps
+  abbrev pub ActConforms : Bool → InsideAct → List Step → Type 0
+  ActConforms true act steps = IsActRow act (kinds_met set.cpu (met_in kept steps))
+  ActConforms false act steps = steps ≡ []
 
-  abbrev pub act_says_at : Bool → InsideAct → List Step → Said
+  abbrev pub act_says_at : Bool → InsideAct → List Step → MadeLine
   act_says_at true act steps = act_says act (met_in kept steps)
   act_says_at false act steps = unused
 
-  abbrev pub IsActSaid : Bool → InsideAct → List Step → Option Said → Type 0
-  IsActSaid reached act steps None = ActStands reached act steps → ⊥
+  abbrev pub IsActSaid : Bool → InsideAct → List Step → Option MadeLine → Type 0
+  IsActSaid reached act steps None = ActConforms reached act steps → ⊥
   IsActSaid reached act steps (Some said) =
-      ActStands reached act steps × (said ≡ act_says_at reached act steps)
+      ActConforms reached act steps × (said ≡ act_says_at reached act steps)
 
-  abbrev pub EndStands : List Step → Type 0
-  EndStands steps = IsEnd (kinds_met set.cpu (met_in kept steps))
+  abbrev pub EndConforms : List Step → Type 0
+  EndConforms steps = IsEnd (kinds_met set.cpu (met_in kept steps))

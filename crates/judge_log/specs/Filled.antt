@@ -1,32 +1,32 @@
--- The inferred entries of all lines, call by call.
+-- Call by call, the visits of all lines have the inferred entries.
 use Rattle.std.specs.Prelude.{ℕ, ◌<◌, ⊤, List, [], ◌∷◌, length}
 use Rattle.std.specs.List.{AllByRecursion}
 use Rattle.key_names.specs.declared.entries.Taken.TheVariants.{User}
 use Rattle.key_names.specs.Lanes.Book.{Lists, list_at}
 use Rattle.key_names.specs.Callers.Calls.{Setting, Call, alone, vread_call, unbound, ending, BoundAct, setting_after_call}
-use Rattle.key_names.specs.Callers.Deeds.{Deed, deeds_of}
+use Rattle.key_names.specs.Callers.Effects.{Effect, effects_of}
 use Rattle.key_names.specs.Transcripts.IsTranscript.{start_setting}
 use Rattle.judge_lines.specs.LaneFacts.{facts_of}
-use Rattle.judge_lines.specs.declared.told.Sign.TheVariants.{Nowhere as nowhere}
-use Rattle.judge_lines.specs.Told.{telling, silent, ends, act_telling, LineFills, AllFill, FillsPart, first_sign}
+use Rattle.judge_lines.specs.declared.inferred.Sign.TheVariants.{Nowhere as nowhere}
+use Rattle.judge_lines.specs.Inferred.{telling, silent, ends, act_telling, LineFills, AllFill, FillsPart, first_sign}
 
 module _ (lists : Lists) where
-  -- the visits of a vread have the inferred entries: its calls for keys take 32 bytes, and its last call takes the
-  -- wanted bytes
-  abbrev pub VreadFills : Setting → ℕ → List Deed → Type 0
-  VreadFills set n deeds = AllFill (FillsPart (facts_of lists) set (User 32) (User n) (first_sign deeds)) nowhere nowhere deeds
+  -- the visits of a vread have the inferred entries. The line's last step takes n bytes, and each earlier read takes a
+  -- key of 32 bytes
+  abbrev pub VreadFills : Setting → ℕ → List Effect → Type 0
+  VreadFills set n effects = AllFill (FillsPart (facts_of lists) set (User 32) (User n) (first_sign effects)) nowhere nowhere effects
 
   abbrev pub ActFills : Setting → BoundAct → Type 0
-  ActFills set bound = LineFills (facts_of lists) set (act_telling bound.act) (deeds_of lists bound.line.steps)
+  ActFills set bound = LineFills (facts_of lists) set (act_telling bound.act) (effects_of lists bound.line.steps)
 
-  -- each visit of a call's lines has the entry inferred from the steps around it; the kind of an act that no vread
-  -- follows is silent
+  -- each visit of a call's lines has the entry inferred from the steps around it; an act that no vread follows has the
+  -- kind `silent`
   abbrev pub CallFills : Setting → Call → Type 0
-  CallFills set (alone event line) = LineFills (facts_of lists) set (telling set event) (deeds_of lists line.steps)
+  CallFills set (alone event line) = LineFills (facts_of lists) set (telling set event) (effects_of lists line.steps)
   CallFills set (vread_call n flags line acts) =
-      VreadFills set n (deeds_of lists line.steps) × AllByRecursion (ActFills set) acts
-  CallFills set (unbound bound) = LineFills (facts_of lists) set silent (deeds_of lists bound.line.steps)
-  CallFills set (ending line) = LineFills (facts_of lists) set ends (deeds_of lists line.steps)
+      VreadFills set n (effects_of lists line.steps) × AllByRecursion (ActFills set) acts
+  CallFills set (unbound bound) = LineFills (facts_of lists) set silent (effects_of lists bound.line.steps)
+  CallFills set (ending line) = LineFills (facts_of lists) set ends (effects_of lists line.steps)
 
   abbrev pub CallsFill : Setting → List Call → Type 0
   CallsFill set [] = ⊤

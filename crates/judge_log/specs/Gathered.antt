@@ -1,13 +1,13 @@
--- The inferred entries of all marks, and their relation to the lines.
+-- What the tables of a transcript are, and how they relate to its lines.
 use Rattle.std.specs.Prelude.{ℕ, ◌≡◌, ◌↔◌, List, length}
 use Rattle.std.specs.List.{AllByRecursion}
 use Rattle.key_names.specs.declared.names.LaneId.TheVariants.{Pool as PoolLane, Base as BaseLane, Cpu as CpuLane}
 use Rattle.key_names.specs.Lanes.Book.{Book, lists_of, list_at, LawfulLanes}
 use Rattle.key_names.specs.Lanes.Samples.{LawfulSamples}
-use Rattle.key_names.specs.Callers.LineSamples.{SamplesStand}
+use Rattle.key_names.specs.Callers.LineSamples.{SamplesConform}
 use Rattle.key_names.specs.Texts.ScriptGrammar.{Script}
 use Rattle.key_names.specs.Transcripts.SeenLine.{SeenLine}
-use Rattle.key_names.specs.Callers.Deeds.{deeds_of}
+use Rattle.key_names.specs.Callers.Effects.{effects_of}
 use Rattle.key_names.specs.Callers.Meaning.{CallMeaning}
 use Rattle.key_names.specs.Transcripts.IsTranscript.{EachCaller, CallerMeans, VisitsAre, all_marks, lane_marks, script_calls}
 use Rattle.key_names.specs.Transcripts.IsTranscript.{start_setting}
@@ -17,7 +17,7 @@ use Rattle.judge_log.specs.Fills.{Fills}
 use Rattle.judge_log.specs.Lawful.{Lawful}
 use Rattle.judge_log.specs.Filled.{AllCallsFill}
 
--- the book's visits are the marks of the transcript, on the CPUs of the script
+-- the book has the CPUs of the script, and the book's visits are the marks of the transcript
 pub record IsBookOf (script : Script) (t : List (List SeenLine)) (book : Book) : Type 0 where
   pub cpus : length book.cpus ≡ script.cpus
   pub visits : VisitsAre book (all_marks t)
@@ -28,21 +28,21 @@ AllMean script t book ms =
     EachCaller (λ c calls ms. CallerMeans (lists_of book) (start_setting (script_calls script t) c) calls ms) 0
     (script_calls script t) ms
 
-pub record IsGathered (script : Script) (t : List (List SeenLine)) (told : Tables) : Type 0 where
-  pub in_range : InRange told
-  -- a row for each mark
-  pub pool_count : length told.pool ≡ length (lane_marks PoolLane (all_marks t))
-  pub base_count : length told.base ≡ length (lane_marks BaseLane (all_marks t))
-  pub cpus_count : length told.cpus ≡ script.cpus
-  pub cpu_count : (c : ℕ) → length (list_at told.cpus c) ≡ length (lane_marks (CpuLane c) (all_marks t))
+pub record IsGathered (script : Script) (t : List (List SeenLine)) (inferred : Tables) : Type 0 where
+  pub in_range : InRange inferred
+  -- the tables have a row for each mark
+  pub pool_count : length inferred.pool ≡ length (lane_marks PoolLane (all_marks t))
+  pub base_count : length inferred.base ≡ length (lane_marks BaseLane (all_marks t))
+  pub cpus_count : length inferred.cpus ≡ script.cpus
+  pub cpu_count : (c : ℕ) → length (list_at inferred.cpus c) ≡ length (lane_marks (CpuLane c) (all_marks t))
   -- the visits of all lines have the entries inferred from their steps exactly if the lists match the tables
   pub fills : (book : Book) → IsBookOf script t book →
-      AllCallsFill (lists_of book) (script_calls script t) ↔ Fills told (lists_of book)
-  -- the samples of the book are lawful exactly if the dumps of the tables are
+      AllCallsFill (lists_of book) (script_calls script t) ↔ Fills inferred (lists_of book)
+  -- the samples of the book are lawful exactly if the dumps of the tables are lawful
   pub samples : (book : Book) (ms : List (List CallMeaning)) → IsBookOf script t book → AllMean script t book ms →
-      Fills told (lists_of book) → LawfulLanes (lists_of book) → LawfulSamples book ↔ Lawful told (lists_of book)
-  -- if the samples of the book are lawful, the samples of each line are
+      Fills inferred (lists_of book) → LawfulLanes (lists_of book) → LawfulSamples book ↔ Lawful inferred (lists_of book)
+  -- if the samples of the book are lawful, the samples of each line are lawful
   pub sampled : (book : Book) (ms : List (List CallMeaning)) → IsBookOf script t book → AllMean script t book ms →
       LawfulLanes (lists_of book) → LawfulSamples book →
-      AllByRecursion (AllByRecursion (λ line. SamplesStand (facts_of (lists_of book)).fast
-      (deeds_of (lists_of book) line.steps))) t
+      AllByRecursion (AllByRecursion (λ line. SamplesConform (facts_of (lists_of book)).fast
+      (effects_of (lists_of book) line.steps))) t

@@ -9,18 +9,18 @@ use Rattle.key_names.specs.Lanes.BaseList.{base_erases}
 use Rattle.key_names.specs.Kernel.Batches.{Fill}
 use Rattle.key_names.specs.Keys.KeyInUse.{base_used_at, cpu_used_at}
 use Rattle.key_names.specs.Lanes.Book.{Lists}
-use Rattle.key_names.specs.Callers.Deeds.{PoolVisit, BaseVisit, CpuVisit, pool_visit, base_visit, cpu_visit}
-use Rattle.input_pool.specs.PoolStands.{crossing_of}
-use Rattle.judge_log.specs.declared.kept.Root.{Root}
+use Rattle.key_names.specs.Callers.Effects.{PoolVisit, BaseVisit, CpuVisit, pool_visit, base_visit, cpu_visit}
+use Rattle.input_pool.specs.PoolConforms.{crossing_of}
+use Rattle.judge_log.specs.declared.kept.KeptRoot.{KeptRoot}
 use Rattle.judge_log.specs.declared.kept.KeptPool.{KeptPool}
 use Rattle.judge_log.specs.declared.kept.KeptBase.{KeptBase}
 use Rattle.judge_log.specs.declared.kept.KeptCpu.{KeptCpu}
 use Rattle.judge_log.specs.declared.kept.Lists.{Lists as KeptLists}
-use Rattle.judge_log.specs.declared.kept.Source.{Source}
+use Rattle.judge_log.specs.declared.kept.BytesSource.{BytesSource}
 use Rattle.judge_log.specs.Places.{AllKept}
 
 -- the root of an extraction in a state of the pool
-abbrev pub root_kept : PoolState → PoolEntry → Option Root
+abbrev pub root_kept : PoolState → PoolEntry → Option KeptRoot
 root_kept s (Extract hw base_place) = Some (record { value = root_of_extraction s hw; base_place = base_place })
 root_kept s (Mix text bits) = None
 root_kept s (Input word kind code value now) = None
@@ -31,21 +31,21 @@ pub record KeepsPool (k : KeptPool) (v : PoolVisit) : Type 0 where
   pub crosses : crossing_of k.crossing ≡ crossing v.before.bits v.after.bits
   pub root : k.root ≡ root_kept v.before v.entry
 
--- the data are kept of a visit of the base; used is the value of the key in use there
+-- `k` has the data to keep of this visit of the base; `used` is the value of the key in use there
 pub record KeepsBase (used : List ℕ) (k : KeptBase) (v : BaseVisit) : Type 0 where
   pub entry : k.entry ≡ v.entry
   pub generation : k.generation ≡ v.after.generation
   pub key : k.key ≡ (if base_erases v.entry then Some used else None)
 
-abbrev pub no_source : Source
+abbrev pub no_source : BytesSource
 no_source = record { key = None; served = 0 }
 
-abbrev pub source_in : (ℕ → List ℕ) → Option Fill → Source
+abbrev pub source_in : (ℕ → List ℕ) → Option Fill → BytesSource
 source_in used None = no_source
 source_in used (Some fill) = record { key = Some (used fill.place); served = fill.count }
 
 -- the source of an entry's bytes, given the key in use at each place of its CPU
-abbrev pub source_of : (ℕ → List ℕ) → (ℕ → Option Fill) → ℕ → CpuEntry → Source
+abbrev pub source_of : (ℕ → List ℕ) → (ℕ → Option Fill) → ℕ → CpuEntry → BytesSource
 source_of used fills place (Read look refill taken) = record { key = Some (used place); served = 0 }
 source_of used fills place (Int look refill width true) = record { key = Some (used place); served = 0 }
 source_of used fills place (Int look refill width false) = source_in used (fills width)
@@ -54,7 +54,7 @@ source_of used fills place (Dump now) = no_source
 source_of used fills place Prepare = no_source
 source_of used fills place Online = no_source
 
--- the data are kept of a visit of a CPU; used is the value of the key in use at each of the CPU's places
+-- `k` has the data to keep of this visit of a CPU; `used` is the value of the key in use at each of the CPU's places
 pub record KeepsCpu (used : ℕ → List ℕ) (k : KeptCpu) (v : CpuVisit) : Type 0 where
   pub entry : k.entry ≡ v.entry
   pub generation : k.generation ≡ v.after.generation
@@ -70,7 +70,7 @@ KeepsBaseLane kept lists =
 abbrev pub KeepsCpuLane : Lists → ℕ → List KeptCpu → List CpuEntry → Type 0
 KeepsCpuLane lists c kept es = AllKept (λ place k e. KeepsCpu (cpu_used_at lists c) k (cpu_visit lists c place e)) kept es
 
--- the data of each visit of each lane are kept
+-- `kept` has the data to keep of each visit of each lane
 pub record Keeps (kept : KeptLists) (lists : Lists) : Type 0 where
   pub pool : KeepsPoolLane kept.pool.items lists
   pub base : KeepsBaseLane kept.base.items lists

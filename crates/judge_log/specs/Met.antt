@@ -1,4 +1,4 @@
--- The data kept of a line's steps, and its seen steps.
+-- The data kept of a line's steps, and the line's seen steps.
 use Rattle.std.specs.Prelude.{ℕ, ◌==◌, Bool, true, false, Option, Some, None, List, map, slice_get, unwrap_or}
 use Rattle.std.specs.Prelude.{if◌then◌else◌}
 use Rattle.std.specs.Global.{Vec}
@@ -13,8 +13,8 @@ use Rattle.judge_log.specs.declared.kept.KeptPool.{KeptPool}
 use Rattle.judge_log.specs.declared.kept.KeptBase.{KeptBase}
 use Rattle.judge_log.specs.declared.kept.KeptCpu.{KeptCpu}
 use Rattle.judge_log.specs.declared.kept.Lists.{Lists as KeptLists}
-use Rattle.judge_vread.specs.declared.seen.Seen.{Seen}
-use Rattle.judge_vread.specs.declared.seen.Seen.TheVariants.{Unready, Ready, Pool, Base, Resumed, Cpu, Elsewhere}
+use Rattle.judge_vread.specs.declared.seen.SeenStep.{SeenStep}
+use Rattle.judge_vread.specs.declared.seen.SeenStep.TheVariants.{Unready, Ready, Pool, Base, Resumed, Cpu, Elsewhere}
 use Rattle.judge_vread.specs.Seen.{seen_kind}
 use Rattle.judge_log.specs.declared.met.Met.{Met}
 use Rattle.judge_log.specs.declared.met.Met.TheVariants.{Looked, InPool, InBase, InCpu, Nothing}
@@ -48,26 +48,26 @@ met_at kept (Marked mark) = mark_met kept mark.lane mark.place
 abbrev pub met_in : KeptLists → List Step → List Met
 met_in kept steps = map (met_at kept) steps
 
-abbrev pub look_seen : ℕ → Seen
+abbrev pub look_seen : ℕ → SeenStep
 look_seen g = if g == 0 then Unready else Ready g
 
-abbrev pub base_seen : Bool → List ℕ → Seen
+abbrev pub base_seen : Bool → List ℕ → SeenStep
 base_seen true key = Resumed
 base_seen false key = Base key
 
-abbrev pub cpu_seen : Bool → List ℕ → Seen
+abbrev pub cpu_seen : Bool → List ℕ → SeenStep
 cpu_seen true key = Cpu key
 cpu_seen false key = Elsewhere
 
--- the seen step, with cpu as the line's CPU
-abbrev pub seen_of : ℕ → Met → Seen
+-- the seen step; `cpu` is the line's CPU
+abbrev pub seen_of : ℕ → Met → SeenStep
 seen_of cpu (Looked g) = look_seen g
 seen_of cpu (InPool kept) = Pool
 seen_of cpu (InBase kept) = base_seen (is_resume kept.entry) (unwrap_or kept.key zero_key)
 seen_of cpu (InCpu on kept) = cpu_seen (on == cpu) (unwrap_or kept.source.key zero_key)
 seen_of cpu Nothing = Elsewhere
 
-abbrev pub seen_in : ℕ → List Met → List Seen
+abbrev pub seen_in : ℕ → List Met → List SeenStep
 seen_in cpu met = map (seen_of cpu) met
 
 abbrev pub kind_met : ℕ → Met → Kind

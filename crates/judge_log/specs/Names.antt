@@ -1,8 +1,8 @@
--- Two entries name each other, by the kept data.
+-- The kept data determine whether entries name each other.
 use Rattle.std.specs.Prelude.{ℕ, ◌≡◌, ⊤, Option, Some, None, List, slice_get, option_and_then}
 use Rattle.key_names.specs.Lanes.BaseList.{root_of, refill_of}
 use Rattle.key_names.specs.Lanes.CpuList.{base_refill_of}
-use Rattle.judge_log.specs.declared.kept.Root.{Root}
+use Rattle.judge_log.specs.declared.kept.KeptRoot.{KeptRoot}
 use Rattle.judge_log.specs.declared.kept.KeptPool.{KeptPool}
 use Rattle.judge_log.specs.declared.kept.KeptBase.{KeptBase}
 use Rattle.judge_log.specs.declared.kept.KeptCpu.{KeptCpu}
@@ -16,10 +16,10 @@ refill_named_in cpus c k =
     (slice_get cpus c)
 
 abbrev pub AllExtractionsAnswered : List KeptPool → List KeptBase → Type 0
-AllExtractionsAnswered pool base = (p : ℕ) (kept : KeptPool) (root : Root) → slice_get pool p ≡ Some kept →
+AllExtractionsAnswered pool base = (p : ℕ) (kept : KeptPool) (root : KeptRoot) → slice_get pool p ≡ Some kept →
     kept.root ≡ Some root → root_named_in base root.base_place ≡ Some p
 
--- if a visit of the base names an entry of a CPU, that entry names the visit
+-- if a visit of the base names an entry of a CPU, that entry names the visit back
 abbrev pub AnsweredBy : List (List KeptCpu) → ℕ → Option (ℕ × ℕ) → Type 0
 AnsweredBy cpus b None = ⊤
 AnsweredBy cpus b (Some named) = refill_named_in cpus named.0 named.1 ≡ Some b

@@ -1,22 +1,22 @@
--- The pool, replayed along its list.
+-- The pool, as the code replays it along its list.
 use Rattle.std.specs.Prelude.{ℕ, ◌≡◌, ⊤, Option, Some, List, slice_get, option_and_then}
 use Rattle.key_names.specs.declared.entries.PoolEntry.{PoolEntry}
 use Rattle.key_names.specs.declared.entries.PoolEntry.TheVariants.{Mix}
 use Rattle.key_names.specs.Lanes.PoolList.{PoolState}
 use Rattle.key_names.specs.Lanes.PoolNotes.{entry_of}
 use Rattle.key_names.specs.Lanes.Book.{Lists}
-use Rattle.input_pool.specs.PoolStands.{PoolStands}
+use Rattle.input_pool.specs.PoolConforms.{PoolConforms}
 use Rattle.sample_credit.specs.declared.fast_pool.Dump.{Dump}
-use Rattle.judge_log.specs.declared.pool_list.Lane.{Lane}
-use Rattle.judge_log.specs.declared.told.ToldPool.{ToldPool}
-use Rattle.judge_log.specs.declared.told.ToldPool.TheVariants.{Is as pool_is, Dumped as dumped}
+use Rattle.judge_log.specs.declared.pool_list.PoolReplay.{PoolReplay}
+use Rattle.judge_log.specs.declared.inferred.InferredPool.{InferredPool}
+use Rattle.judge_log.specs.declared.inferred.InferredPool.TheVariants.{Is as pool_is, Dumped as dumped}
 use Rattle.judge_log.specs.Closed.{closed}
 use Rattle.judge_log.specs.Lawful.{DumpsAt}
 use Rattle.judge_log.specs.Places.{AllPlaces}
 use Rattle.judge_log.specs.Tables.{Tables}
 
-pub record LaneStands (lane : Lane) (s : PoolState) : Type 0 where
-  pub pool : PoolStands lane.pool s
+pub record LaneConforms (lane : PoolReplay) (s : PoolState) : Type 0 where
+  pub pool : PoolConforms lane.pool s
   pub value : lane.timer.value ≡ s.value
   pub timer : lane.timer.timer ≡ s.timer
 
@@ -27,15 +27,15 @@ dump_in dumps c k = option_and_then (λ lane. option_and_then (λ dump. dump) (s
 abbrev pub mix_of : Dump → Option PoolEntry
 mix_of dump = Some (Mix dump.bytes dump.bits)
 
--- the inferred entry of the pool; none if it mixes a dump that the table lacks
-abbrev pub entry_found : List (List (Option Dump)) → ToldPool → Option PoolEntry
+-- the completed entry of the pool; none if the entry mixes a dump that the table lacks
+abbrev pub entry_found : List (List (Option Dump)) → InferredPool → Option PoolEntry
 entry_found dumps (pool_is note) = Some (entry_of note)
 entry_found dumps (dumped c k) = option_and_then mix_of (dump_in dumps c k)
 
 -- if the entry mixes a dump, it names a place where a CPU dumps
-abbrev pub MixStands : Lists → ToldPool → Type 0
-MixStands lists (pool_is note) = ⊤
-MixStands lists (dumped c k) = DumpsAt lists c k
+abbrev pub MixConforms : Lists → InferredPool → Type 0
+MixConforms lists (pool_is note) = ⊤
+MixConforms lists (dumped c k) = DumpsAt lists c k
 
 abbrev pub AllMixed : Tables → Type 0
-AllMixed told = AllPlaces (λ p (t : ToldPool). MixStands (closed told) t) told.pool
+AllMixed inferred = AllPlaces (λ p (t : InferredPool). MixConforms (closed inferred) t) inferred.pool

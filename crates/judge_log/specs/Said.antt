@@ -10,40 +10,40 @@ use Rattle.key_names.specs.Callers.Meaning.{LineMeaning, CallMeaning}
 use Rattle.key_names.specs.Transcripts.SeenLine.{SeenLine, Shown, no_data, count, bytes_or_none}
 use Rattle.key_names.specs.Texts.TranscriptGrammar.{StepFits}
 use Rattle.judge_vread.specs.Recipe.{bytes_made}
-use Rattle.judge_log.specs.declared.said.Said.{Said}
-use Rattle.judge_log.specs.declared.said.Shows.{Shows}
-use Rattle.judge_log.specs.declared.said.Shows.TheVariants.{Nothing, Count, Served}
+use Rattle.judge_log.specs.declared.said.MadeLine.{MadeLine}
+use Rattle.judge_log.specs.declared.said.ShownRecipe.{ShownRecipe}
+use Rattle.judge_log.specs.declared.said.ShownRecipe.TheVariants.{Nothing, Count, Served}
 
-abbrev pub shown_by : Shows → Shown
+abbrev pub shown_by : ShownRecipe → Shown
 shown_by Nothing = no_data
 shown_by (Count n) = count n
 shown_by (Served recipe) = bytes_or_none (bytes_made recipe)
 
 -- the note at an event's number is a note of this answer and data
-pub record NotedAt {Noted : Type 0} (IsNoted : ℕ → Said → Noted → Type 0) (notes : List Noted) (event : ℕ)
-    (one : Said) : Type 0 where
+pub record NotedAt {Noted : Type 0} (IsNoted : ℕ → MadeLine → Noted → Type 0) (notes : List Noted) (event : ℕ)
+    (one : MadeLine) : Type 0 where
   pub note : Noted
   pub is : slice_get notes event ≡ Some note
   pub noted : IsNoted event one note
 
 -- the note is the answer and data themselves
-abbrev pub itself : ℕ → ℕ → Said → Said → Type 0
+abbrev pub itself : ℕ → ℕ → MadeLine → MadeLine → Type 0
 itself caller event said noted = noted ≡ said
 
--- the answer and data at a line's event number are those of its meaning
-pub record SaysIt (At : ℕ → Said → Type 0) (line : SeenLine) (m : LineMeaning) : Type 0 where
-  pub one : Said
+-- the answer and data at the line's event number are those of the line's meaning
+pub record SaysIt (At : ℕ → MadeLine → Type 0) (line : SeenLine) (m : LineMeaning) : Type 0 where
+  pub one : MadeLine
   pub is : At line.event one
   pub answer : m.answer ≡ one.answer
   pub shown : m.shown ≡ shown_by one.shows
 
 -- the calls have lawful meanings, with these answers and data
-pub record IsSaid (lists : Lists) (set : Setting) (calls : List Call) (At : ℕ → Said → Type 0) : Type 0 where
+pub record IsSaid (lists : Lists) (set : Setting) (calls : List Call) (At : ℕ → MadeLine → Type 0) : Type 0 where
   pub meanings : List CallMeaning
   pub mean : CallerMeans lists set calls meanings
   pub says : EachLine (SaysIt At) calls meanings
 
--- the calls are made of events with a line each, and all looks are below 2^63
+-- the calls are those of the events, each event has its line, and all looks are below 2^63
 pub record AreCallsOf (events : List Event) (lines : List SeenLine) (calls : List Call) : Type 0 where
   pub caller : ℕ
   pub fit : LinesFit caller 0 events lines

@@ -1,4 +1,4 @@
--- The tables of inferred entries, as lists. Their numbers are in the ranges of all transcripts.
+-- The tables of inferred entries, as lists, and the ranges of the numbers in them.
 use Rattle.std.specs.Prelude.{ℕ, ◌≡◌, ◌<◌, ◌^◌, ◌⊎◌, ⊤, List, map, length, All}
 use Rattle.key_names.specs.declared.notes.PoolNote.{PoolNote}
 use Rattle.key_names.specs.declared.notes.PoolNote.TheVariants.{Mix as MixNote, Device, Input as InputNote}
@@ -8,25 +8,25 @@ use Rattle.key_names.specs.declared.entries.BaseEntry.TheVariants.{Early, Reseed
 use Rattle.key_names.specs.declared.entries.BaseEntry.TheVariants.{Resume, Interrupt, Stall, Unstall}
 use Rattle.key_names.specs.declared.entries.CpuEntry.{CpuEntry}
 use Rattle.key_names.specs.declared.entries.CpuEntry.TheVariants.{Read, Int, Irq, Dump, Prepare, Online}
-use Rattle.judge_lines.specs.declared.told.BaseTold.{BaseTold}
-use Rattle.judge_lines.specs.declared.told.BaseTold.TheVariants.{Is as base_is, Crossed as crossed, Woken as woken}
-use Rattle.judge_lines.specs.declared.told.CpuTold.{CpuTold}
-use Rattle.judge_lines.specs.declared.told.CpuTold.TheVariants.{Is as cpu_is, Batch as batch}
-use Rattle.judge_log.specs.declared.told.ToldPool.{ToldPool}
-use Rattle.judge_log.specs.declared.told.ToldPool.TheVariants.{Is as pool_is, Dumped as dumped}
-use Rattle.judge_log.specs.declared.told.ToldCpu.{ToldCpu}
-use Rattle.judge_log.specs.declared.told.Told.{Told}
+use Rattle.judge_lines.specs.declared.inferred.BaseInferred.{BaseInferred}
+use Rattle.judge_lines.specs.declared.inferred.BaseInferred.TheVariants.{Is as base_is, Crossed as crossed, Woken as woken}
+use Rattle.judge_lines.specs.declared.inferred.CpuInferred.{CpuInferred}
+use Rattle.judge_lines.specs.declared.inferred.CpuInferred.TheVariants.{Is as cpu_is, Batch as batch}
+use Rattle.judge_log.specs.declared.inferred.InferredPool.{InferredPool}
+use Rattle.judge_log.specs.declared.inferred.InferredPool.TheVariants.{Is as pool_is, Dumped as dumped}
+use Rattle.judge_log.specs.declared.inferred.InferredCpu.{InferredCpu}
+use Rattle.judge_log.specs.declared.inferred.InferredEntries.{InferredEntries}
 
 pub record Tables : Type 0 where
-  pub pool : List ToldPool
-  pub base : List BaseTold
-  pub cpus : List (List ToldCpu)
+  pub pool : List InferredPool
+  pub base : List BaseInferred
+  pub cpus : List (List InferredCpu)
 
-abbrev pub tables_of : Told → Tables
-tables_of told = record {
-  pool = told.pool.items;
-  base = told.base.items;
-  cpus = map (λ lane. lane.items) told.cpus.items;
+abbrev pub tables_of : InferredEntries → Tables
+tables_of inferred = record {
+  pool = inferred.pool.items;
+  base = inferred.base.items;
+  cpus = map (λ lane. lane.items) inferred.cpus.items;
 }
 
 -- ---- ranges
@@ -39,7 +39,7 @@ NoteIsNear (Device word text) = ⊤
 NoteIsNear BitsNote = ⊤
 NoteIsNear (ExtractNote hw base_place) = ⊤
 
-abbrev pub PoolIsNear : ToldPool → Type 0
+abbrev pub PoolIsNear : InferredPool → Type 0
 PoolIsNear (pool_is note) = NoteIsNear note
 PoolIsNear (dumped cpu place) = ⊤
 
@@ -58,7 +58,7 @@ EntryIsNear Interrupt = ⊤
 EntryIsNear Stall = ⊤
 EntryIsNear Unstall = ⊤
 
-abbrev pub BaseIsNear : BaseTold → Type 0
+abbrev pub BaseIsNear : BaseInferred → Type 0
 BaseIsNear (base_is e) = EntryIsNear e
 BaseIsNear (crossed root now credit) = now < 2 ^ 40
 BaseIsNear woken = ⊤
@@ -75,13 +75,13 @@ EntryIsWide (Dump now) = ⊤
 EntryIsWide Prepare = ⊤
 EntryIsWide Online = ⊤
 
-abbrev pub CpuIsWide : CpuTold → Type 0
+abbrev pub CpuIsWide : CpuInferred → Type 0
 CpuIsWide (cpu_is e) = EntryIsWide e
 CpuIsWide (batch look width) = IsWidth width
 
 -- the ranges of a transcript's tables: fewer than 2^32 CPUs, moments below 2^40, and the widths of integers
-pub record InRange (told : Tables) : Type 0 where
-  pub cpus_count : length told.cpus < 2 ^ 32
-  pub notes : All PoolIsNear told.pool
-  pub moments : All BaseIsNear told.base
-  pub widths : All (λ lane. All (λ (t : ToldCpu). CpuIsWide t.entry) lane) told.cpus
+pub record InRange (inferred : Tables) : Type 0 where
+  pub cpus_count : length inferred.cpus < 2 ^ 32
+  pub notes : All PoolIsNear inferred.pool
+  pub moments : All BaseIsNear inferred.base
+  pub widths : All (λ lane. All (λ (t : InferredCpu). CpuIsWide t.entry) lane) inferred.cpus

@@ -1,20 +1,20 @@
-//! The base's list.
+//! Replays the base's list.
 ghost use Rattle.std.specs.Prelude.{◌≡◌, ◌↔◌, ◌<◌, ◌^◌, ℕ, All, IsTrue, IfOk, IfSome, IsSome, MatchOption};
 ghost use Rattle.std.specs.Prelude.{Some, None, if◌then◌else◌};
 ghost use Rattle.base_gen.specs.BaseValue.{after_entry, key_in_use};
 ghost use Rattle.key_names.specs.Lanes.BaseList.{base_erases, root_of};
-ghost use Rattle.judge_log.specs.BaseLane.{Fits, RootStandsIn, root_value_in, state_of, crossed_of, AllBaseMay};
+ghost use Rattle.judge_log.specs.BaseLane.{Fits, RootConformsIn, root_value_in, state_of, crossed_of, AllBaseMay};
 ghost use Rattle.judge_log.specs.Closed.{base_entry, closed};
 ghost use Rattle.judge_log.specs.Kept.{KeepsPoolLane, KeepsBaseLane};
 ghost use Rattle.judge_log.specs.Tables.{tables_of, EntryIsNear, BaseIsNear};
-ghost use Rattle.input_pool.specs.PoolStands.{crossing_of};
+ghost use Rattle.input_pool.specs.PoolConforms.{crossing_of};
 
+use crate::inferred::InferredEntries;
 use crate::kept::{KeptBase, KeptPool};
 use crate::names::root_of;
-use crate::told::Told;
 use base_gen::{Base, Phase};
 use input_pool::Crossing;
-use judge_lines::told::BaseTold;
+use judge_lines::inferred::BaseInferred;
 use key_names::BaseEntry;
 use std::alloc::{AllocError, Global};
 
@@ -64,7 +64,7 @@ fn enter(base: &mut Base, entry: BaseEntry, root: [u8; 32]) -> Option<[u8; 32]>
     None
 }
 
-/// The crossing of the entry at a place of the pool.
+/// The crossing that the entry at a place of the pool makes.
 fn crossed_at(pool: &[KeptPool], place: u64) -> Crossing
     ensures { crossing_of result ≡ crossed_of pool.now place }
 {
@@ -74,17 +74,17 @@ fn crossed_at(pool: &[KeptPool], place: u64) -> Crossing
     }
 }
 
-/// The inferred entry, completed.
-fn close(base: &Base, told: BaseTold, pool: &[KeptPool]) -> BaseEntry
-    ensures { result ≡ base_entry (crossed_of pool.now) (state_of base.now) told }
+/// Completes an inferred entry from the base before this entry and from the data kept of the pool.
+fn close(base: &Base, inferred: BaseInferred, pool: &[KeptPool]) -> BaseEntry
+    ensures { result ≡ base_entry (crossed_of pool.now) (state_of base.now) inferred }
 {
-    match told {
-        BaseTold::Is(entry) => entry,
-        BaseTold::Crossed { root, now, credit } => match crossed_at(pool, credit) {
+    match inferred {
+        BaseInferred::Is(entry) => entry,
+        BaseInferred::Crossed { root, now, credit } => match crossed_at(pool, credit) {
             Crossing::Ready => BaseEntry::Reseed { root, now },
             Crossing::Early | Crossing::None => BaseEntry::Early { root: Some(root) },
         },
-        BaseTold::Woken => {
+        BaseInferred::Woken => {
             if base.generation() >= 1 {
                 BaseEntry::Resume
             } else {
@@ -94,11 +94,11 @@ fn close(base: &Base, told: BaseTold, pool: &[KeptPool]) -> BaseEntry
     }
 }
 
-/// The value of the named root, or zeros if no root is named. `None` if the root is below `least`, or if its extraction
-/// does not name this place.
+/// The value of the named root, or zeros if no root is named. `None` if the root's place is below `least`, or if the
+/// pool has no extraction there for this place of the base.
 fn root_value(pool: &[KeptPool], least: u64, place: u64, named: Option<u64>) -> Option<[u8; 32]>
-    ensures { MatchOption result (RootStandsIn pool.now least place named → ⊥) (λ value.
-        RootStandsIn pool.now least place named × ((r : ℕ) → named ≡ Some r → root_value_in pool.now r ≡ Some value)) }
+    ensures { MatchOption result (RootConformsIn pool.now least place named → ⊥) (λ value.
+        RootConformsIn pool.now least place named × ((r : ℕ) → named ≡ Some r → root_value_in pool.now r ≡ Some value)) }
 {
     let Some(r) = named else {
         return Some([0; 32]);
@@ -111,22 +111,22 @@ fn root_value(pool: &[KeptPool], least: u64, place: u64, named: Option<u64>) -> 
     }
 }
 
-/// The data kept of the base's list, if it is lawful.
+/// Replays the base's list, and returns the data kept of it. `None` if the list is not lawful.
 pub(crate) fn replay_base(
     alloc: Global,
-    told: &Told,
+    inferred: &InferredEntries,
     pool: &[KeptPool],
 ) -> Result<Option<Vec<KeptBase>>, AllocError>
-    requires moments { All BaseIsNear told.now.base.items }
-    requires pool { KeepsPoolLane pool.now (closed (tables_of told.now)) }
-    ensures some { IfOk result (λ o. IfSome o (λ kept. AllBaseMay (closed (tables_of told.now))
-        × KeepsBaseLane kept.items (closed (tables_of told.now)))) }
-    ensures none { IfOk result (λ o. AllBaseMay (closed (tables_of told.now)) → IsSome o) }
+    requires moments { All BaseIsNear inferred.now.base.items }
+    requires pool { KeepsPoolLane pool.now (closed (tables_of inferred.now)) }
+    ensures some { IfOk result (λ o. IfSome o (λ kept. AllBaseMay (closed (tables_of inferred.now))
+        × KeepsBaseLane kept.items (closed (tables_of inferred.now)))) }
+    ensures none { IfOk result (λ o. AllBaseMay (closed (tables_of inferred.now)) → IsSome o) }
 {
     let mut base = Base::start();
     let mut least = 0;
-    let mut kept = Vec::with_capacity(alloc, told.base.len())?;
-    for (place, one) in told.base.iter().enumerate() {
+    let mut kept = Vec::with_capacity(alloc, inferred.base.len())?;
+    for (place, one) in inferred.base.iter().enumerate() {
         let entry = close(&base, *one, pool);
         let named = root_of(entry);
         let Some(root) = root_value(pool, least, place as u64, named) else {

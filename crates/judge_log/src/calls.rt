@@ -1,4 +1,5 @@
-//! A caller's calls in order: the answer and data of each line, and the caller's vgetrandom states.
+//! Goes through a caller's calls in order. Makes the answer and data of each line, and keeps the caller's vgetrandom
+//! states.
 ghost use Rattle.std.specs.Prelude.{◌≡◌, List, [], map, IfOk, IfSome, IsSome, MatchOption};
 ghost use Rattle.std.specs.List.{AllByRecursion};
 ghost use Rattle.key_names.specs.declared.events.Event.{Event};
@@ -17,24 +18,24 @@ ghost use Rattle.judge_log.specs.Writes.{Write, Written};
 ghost use Rattle.judge_log.specs.CallSays.{VStates, first_states, IsCallSaid, CallsSaid};
 
 use crate::Lists;
-use crate::events::{alone_said, end_stands, unused};
-use crate::met::Room;
+use crate::events::{alone_said, end_conforms, unused};
+use crate::met::LineSpace;
 use crate::notes::Notes;
-use crate::said::{Note, Said, Shows};
-use crate::states::States;
+use crate::said::{MadeLine, Note, ShownRecipe};
+use crate::states::ReplayedStates;
 use crate::vreads::Asked;
-use crate::walk::Walk;
+use crate::walk::CallerWalk;
 use judge_lines::bare::BareLine;
-use judge_lines::called::{ActLine, Called};
-use judge_lines::setting::Setting;
+use judge_lines::called::{ActLine, CalledLines};
+use judge_lines::setting::LineSetting;
 use key_names::{Answer, Event};
 use std::alloc::{AllocError, Global};
 
-impl<N: Note> Walk<'_, N> {
-    // Takes a single event. Returns whether its steps are a form of it.
+impl<N: Note> CallerWalk<'_, N> {
+    // Takes a single event. Returns whether the steps of its line are a form of the event.
     fn alone(
         &mut self,
-        set: &Setting,
+        set: &LineSetting,
         event: &Event,
         line: BareLine<'_>,
     ) -> Result<bool, AllocError>
@@ -53,14 +54,14 @@ impl<N: Note> Walk<'_, N> {
         Ok(true)
     }
 
-    // An act that no `vread` follows is not done, and has no steps.
+    // Takes an act that no `vread` follows. Such an act is not done. Returns whether its line has no steps.
     fn unbound(&mut self, bound: &ActLine<'_>) -> Result<bool, AllocError>
         ensures lists { self.new.lists ≡ self.old.lists }
         ensures notes { self.new.notes ≡ record self.old.notes { noted = self.new.notes.noted } }
-        ensures said { IfOk result (λ stands. (set : CallSetting) →
+        ensures said { IfOk result (λ conforms. (set : CallSetting) →
             IsCallSaid (N.IsNoted self.old.notes.how.now self.old.notes.caller)
             self.old.lists.now set (unbound (seen_act bound.now))
-            self.old.states self.new.states self.old.notes.noted.items self.new.notes.noted.items stands) }
+            self.old.states self.new.states self.old.notes.noted.items self.new.notes.noted.items conforms) }
     {
         if !bound.line.steps.is_empty() {
             return Ok(false);
@@ -69,29 +70,29 @@ impl<N: Note> Walk<'_, N> {
         Ok(true)
     }
 
-    // A caller's last line.
-    fn ending(&mut self, set: &Setting, line: BareLine<'_>) -> Result<bool, AllocError>
+    // Takes a caller's last line. Returns whether its steps are a form of the end.
+    fn ending(&mut self, set: &LineSetting, line: BareLine<'_>) -> Result<bool, AllocError>
         ensures lists { self.new.lists ≡ self.old.lists }
         ensures notes { self.new.notes ≡ record self.old.notes { noted = self.new.notes.noted } }
         ensures said { IfOk result (IsCallSaid (N.IsNoted self.old.notes.how.now self.old.notes.caller)
             self.old.lists.now set.now (ending (seen_bare line.entry))
             self.old.states self.new.states self.old.notes.noted.items self.new.notes.noted.items) }
     {
-        if !end_stands(&mut self.room, self.lists, set, line.steps)? {
+        if !end_conforms(&mut self.room, self.lists, set, line.steps)? {
             return Ok(false);
         }
         self.notes.put(
             line.event,
-            Said {
+            MadeLine {
                 answer: Answer::Ok,
-                shows: Shows::Nothing,
+                shows: ShownRecipe::Nothing,
             },
         )?;
         Ok(true)
     }
 
     // Takes one call. Returns whether its steps are those of a form of the call.
-    fn call(&mut self, set: &Setting, call: &Called<'_>) -> Result<bool, AllocError>
+    fn call(&mut self, set: &LineSetting, call: &CalledLines<'_>) -> Result<bool, AllocError>
         requires { CallInRange (seen_call call.now) }
         ensures lists { self.new.lists ≡ self.old.lists }
         ensures notes { self.new.notes ≡ record self.old.notes { noted = self.new.notes.noted } }
@@ -100,8 +101,8 @@ impl<N: Note> Walk<'_, N> {
             self.old.states self.new.states self.old.notes.noted.items self.new.notes.noted.items) }
     {
         match call {
-            Called::Alone { event, line } => self.alone(set, event, *line),
-            Called::Vread {
+            CalledLines::Alone { event, line } => self.alone(set, event, *line),
+            CalledLines::Vread {
                 len,
                 flags,
                 line,
@@ -115,17 +116,17 @@ impl<N: Note> Walk<'_, N> {
                 *line,
                 acts,
             ),
-            Called::Unbound(bound) => self.unbound(bound),
-            Called::Ending(line) => self.ending(set, *line),
+            CalledLines::Unbound(bound) => self.unbound(bound),
+            CalledLines::Ending(line) => self.ending(set, *line),
         }
     }
 }
 
-// Takes the calls in sequence, from the caller's first one.
+// Takes the calls in sequence, beginning with the caller's first.
 fn calls_said<N: Note>(
     alloc: Global,
-    calls: &[Called<'_>],
-    settings: &[Setting],
+    calls: &[CalledLines<'_>],
+    settings: &[LineSetting],
     lists: &Lists,
     how: &N,
     caller: u32,
@@ -138,10 +139,10 @@ fn calls_said<N: Note>(
         × CallsSaid lists.now settings.now (map seen_call calls.now) first_states t writes
         × Written (N.IsNoted how.now caller) writes [] noted.items)) }
 {
-    let mut walk = Walk {
+    let mut walk = CallerWalk {
         lists,
-        states: States::new(alloc)?,
-        room: Room::new(alloc),
+        states: ReplayedStates::new(alloc)?,
+        room: LineSpace::new(alloc),
         notes: Notes {
             how,
             caller,
@@ -156,15 +157,15 @@ fn calls_said<N: Note>(
     Ok(Some(walk.notes.noted))
 }
 
-/// Notes of each line of a caller, by the numbers of its events. `None` if some line's steps are no form of its call.
+/// The notes of a caller's lines, indexed by event number. `None` if the steps of some line are no form of its call.
 ///
 /// # Errors
 ///
 /// `AllocError` if there is no memory for them.
 pub fn caller_said<N: Note>(
     alloc: Global,
-    calls: &[Called<'_>],
-    settings: &[Setting],
+    calls: &[CalledLines<'_>],
+    settings: &[LineSetting],
     lists: &Lists,
     how: &N,
     caller: u32,

@@ -1,24 +1,24 @@
-//! The list of a CPU.
+//! Replays the list of a CPU.
 ghost use Rattle.key_names.specs.Kernel.Keystream.{keystream};
 ghost use Rattle.std.specs.Prelude.{ℕ, List, slice_get, ◌≡◌, ◌↔◌, ◌<◌, ◌^◌, All, IsTrue, IfOk, IfSome, IsSome};
 ghost use Rattle.std.specs.Prelude.{MatchOption, length, map};
 ghost use Rattle.key_names.specs.Lanes.Book.{cpu_list, list_at};
 ghost use Rattle.judge_log.specs.Closed.{closed};
 ghost use Rattle.judge_log.specs.CpuLane.{KeysKept, NamesIn, slot, put, one_more_kept, source_kept, RoomFor};
-ghost use Rattle.judge_log.specs.CpuLane.{key_used, RefillStandsIn, HandedStands, FitsKept, HasRoom, cpu_closed};
+ghost use Rattle.judge_log.specs.CpuLane.{key_used, RefillConformsIn, HandedConforms, FitsKept, HasRoom, cpu_closed};
 ghost use Rattle.judge_log.specs.CpuLane.{cpu_entered, fills_entered, source_entered, AllCpuMay, AllCpusMay};
 ghost use Rattle.judge_log.specs.CpuLane.{refill_named};
 ghost use Rattle.judge_log.specs.Kept.{KeepsBaseLane, KeepsCpuLane};
 ghost use Rattle.judge_log.specs.Places.{AllKept};
 ghost use Rattle.judge_log.specs.Tables.{tables_of, EntryIsWide, CpuIsWide};
-ghost use Rattle.judge_log.specs.declared.told.ToldCpu.{ToldCpu};
+ghost use Rattle.judge_log.specs.declared.inferred.InferredCpu.{InferredCpu};
 
-use crate::kept::{KeptBase, KeptCpu, Source};
+use crate::inferred::InferredEntries;
+use crate::kept::{BytesSource, KeptBase, KeptCpu};
 use crate::last_fills::{LastFill, LastFills};
-use crate::told::Told;
 use chacha_blocks::derive_key;
 use cpu_gen::Cpu;
-use judge_lines::told::CpuTold;
+use judge_lines::inferred::CpuInferred;
 use key_names::{BaseEntry, CpuEntry};
 use std::alloc::{AllocError, Global};
 
@@ -61,7 +61,7 @@ fn kept_at(base: &[KeptBase], place: u64) -> Option<KeptBase>
     base.get(place as usize).copied()
 }
 
-/// The key and generation that the base hands over. `None` if its visit has no kept key.
+/// The key and generation that the base hands over at this visit. `None` if no key was kept of the visit.
 fn hand_over(kept: &KeptBase) -> Option<Cpu>
     ensures { MatchOption result (kept.now.key ≡ None) (λ handed. (key : List ℕ) → kept.now.key ≡ Some key
         → handed ≡ record { key = keystream key 32 32; generation = kept.now.generation }) }
@@ -70,12 +70,13 @@ fn hand_over(kept: &KeptBase) -> Option<Cpu>
     Some(Cpu::with(derive_key(&mut key), kept.generation))
 }
 
-/// The key and generation from the refill that the entry names, if it names one. The entry is at this place of the CPU.
-/// `None` if that refill does not name the place, or has a generation below the look.
+/// The key and generation that an entry at this place of the CPU gets from the refill that it names, or `Some(None)` if
+/// it names no refill. `None` if the named visit of the base is no refill for this place, or has a generation below the
+/// look.
 fn handed(base: &[KeptBase], cpu: u32, place: u64, entry: CpuEntry) -> Option<Option<Cpu>>
     requires { KeysKept base.now }
-    ensures { MatchOption result (RefillStandsIn base.now cpu place (refill_named entry) → ⊥) (λ handed.
-        RefillStandsIn base.now cpu place (refill_named entry) × HandedStands base.now (refill_named entry) handed) }
+    ensures { MatchOption result (RefillConformsIn base.now cpu place (refill_named entry) → ⊥) (λ handed.
+        RefillConformsIn base.now cpu place (refill_named entry) × HandedConforms base.now (refill_named entry) handed) }
 {
     let Some((look, refill)) = refill_named(entry) else {
         return Some(None);
@@ -89,20 +90,20 @@ fn handed(base: &[KeptBase], cpu: u32, place: u64, entry: CpuEntry) -> Option<Op
 
 /// A CPU's generator, and the last fills of its batches.
 #[derive(Drop)]
-pub(crate) struct Lane {
+pub(crate) struct CpuReplay {
     pub(crate) cpu: Cpu,
     pub(crate) fills: LastFills,
 }
 
-impl Lane {
-    /// The inferred entry, completed.
-    fn close(&self, told: CpuTold) -> CpuEntry
-        requires { CpuIsWide told }
-        ensures { result ≡ cpu_closed self.now.fills told }
+impl CpuReplay {
+    /// Completes an inferred entry, from the last fills of the batches.
+    fn close(&self, inferred: CpuInferred) -> CpuEntry
+        requires { CpuIsWide inferred }
+        ensures { result ≡ cpu_closed self.now.fills inferred }
     {
-        match told {
-            CpuTold::Is(entry) => entry,
-            CpuTold::Batch { look, width } => CpuEntry::Int {
+        match inferred {
+            CpuInferred::Is(entry) => entry,
+            CpuInferred::Batch { look, width } => CpuEntry::Int {
                 look,
                 refill: None,
                 width,
@@ -138,14 +139,14 @@ impl Lane {
     }
 
     /// Serves an integer from a batch that has bytes left.
-    fn serve(&mut self, width: u8) -> Source
+    fn serve(&mut self, width: u8) -> BytesSource
         requires { HasRoom (slot self.old.fills width) }
         ensures fills { self.new.fills ≡ put width (one_more_kept (slot self.old.fills width)) self.old.fills }
         ensures cpu { self.new.cpu ≡ self.old.cpu }
         ensures source { result ≡ source_kept (slot self.old.fills width) }
     {
         match self.fills.last(width) {
-            None => Source::none(),
+            None => BytesSource::none(),
             Some(fill) => {
                 self.fills.put(
                     width,
@@ -154,7 +155,7 @@ impl Lane {
                         ..fill
                     }),
                 );
-                Source {
+                BytesSource {
                     key: Some(fill.key),
                     served: fill.count,
                 }
@@ -164,7 +165,7 @@ impl Lane {
 
     /// Changes the lane by an entry that fits it. `handed` is the key and generation from the refill that the entry
     /// names. Returns the source of the entry's bytes.
-    fn enter(&mut self, entry: CpuEntry, handed: Option<Cpu>) -> Source
+    fn enter(&mut self, entry: CpuEntry, handed: Option<Cpu>) -> BytesSource
         requires wide { EntryIsWide entry }
         requires room { RoomFor self.old.fills entry }
         ensures cpu { self.new.cpu ≡ cpu_entered entry handed self.old.cpu }
@@ -175,7 +176,7 @@ impl Lane {
             self.cpu = handed;
         }
         match entry {
-            CpuEntry::Read { .. } => Source {
+            CpuEntry::Read { .. } => BytesSource {
                 key: Some(self.cpu.front(&mut []).key),
                 served: 0,
             },
@@ -188,7 +189,7 @@ impl Lane {
                 let key = self.cpu.front(&mut []).key;
                 let count = 1;
                 self.fills.put(width, Some(LastFill { look, key, count }));
-                Source {
+                BytesSource {
                     key: Some(key),
                     served: 0,
                 }
@@ -201,33 +202,33 @@ impl Lane {
             CpuEntry::Prepare => {
                 self.cpu.prepare();
                 self.fills = LastFills::none();
-                Source::none()
+                BytesSource::none()
             }
-            CpuEntry::Irq { .. } | CpuEntry::Dump { .. } | CpuEntry::Online => Source::none(),
+            CpuEntry::Irq { .. } | CpuEntry::Dump { .. } | CpuEntry::Online => BytesSource::none(),
         }
     }
 }
 
-/// The data kept of a CPU's list, if it is lawful.
+/// Replays a CPU's list, and returns the data kept of it. `None` if the list is not lawful.
 fn replay_cpu(
     alloc: Global,
-    told: &Told,
+    inferred: &InferredEntries,
     cpu: usize,
     base: &[KeptBase],
 ) -> Result<Option<Vec<KeptCpu>>, AllocError>
-    requires cpu { cpu < length told.now.cpus.items }
-    requires cpus { length told.now.cpus.items < 2 ^ 32 }
-    requires widths { All (λ (t : ToldCpu). CpuIsWide t.entry) (list_at (tables_of told.now).cpus cpu) }
-    requires base { KeepsBaseLane base.now (closed (tables_of told.now)) }
-    ensures some { IfOk result (λ o. IfSome o (λ kept. AllCpuMay (closed (tables_of told.now)) cpu
-        × KeepsCpuLane (closed (tables_of told.now)) cpu kept.items (cpu_list (closed (tables_of told.now)) cpu))) }
-    ensures none { IfOk result (λ o. AllCpuMay (closed (tables_of told.now)) cpu → IsSome o) }
+    requires cpu { cpu < length inferred.now.cpus.items }
+    requires cpus { length inferred.now.cpus.items < 2 ^ 32 }
+    requires widths { All (λ (t : InferredCpu). CpuIsWide t.entry) (list_at (tables_of inferred.now).cpus cpu) }
+    requires base { KeepsBaseLane base.now (closed (tables_of inferred.now)) }
+    ensures some { IfOk result (λ o. IfSome o (λ kept. AllCpuMay (closed (tables_of inferred.now)) cpu
+        × KeepsCpuLane (closed (tables_of inferred.now)) cpu kept.items (cpu_list (closed (tables_of inferred.now)) cpu))) }
+    ensures none { IfOk result (λ o. AllCpuMay (closed (tables_of inferred.now)) cpu → IsSome o) }
 {
-    let mut lane = Lane {
+    let mut lane = CpuReplay {
         cpu: Cpu::start(),
         fills: LastFills::none(),
     };
-    let rows = &told.cpus[cpu];
+    let rows = &inferred.cpus[cpu];
     let mut kept = Vec::with_capacity(alloc, rows.len())?;
     for (place, one) in rows.iter().enumerate() {
         let entry = lane.close(one.entry);
@@ -247,23 +248,23 @@ fn replay_cpu(
     Ok(Some(kept))
 }
 
-/// The data kept of the lists of all CPUs, if they are lawful.
+/// Replays the lists of all CPUs, and returns the data kept of them. `None` if some list is not lawful.
 pub(crate) fn replay_cpus(
     alloc: Global,
-    told: &Told,
+    inferred: &InferredEntries,
     base: &[KeptBase],
 ) -> Result<Option<Vec<Vec<KeptCpu>>>, AllocError>
-    requires cpus { length (tables_of told.now).cpus < 2 ^ 32 }
-    requires widths { All (λ lane. All (λ (t : ToldCpu). CpuIsWide t.entry) lane) (tables_of told.now).cpus }
-    requires base { KeepsBaseLane base.now (closed (tables_of told.now)) }
-    ensures some { IfOk result (λ o. IfSome o (λ kept. AllCpusMay (closed (tables_of told.now))
-        × AllKept (KeepsCpuLane (closed (tables_of told.now))) (map (λ lane. lane.items) kept.items)
-        (closed (tables_of told.now)).cpus)) }
-    ensures none { IfOk result (λ o. AllCpusMay (closed (tables_of told.now)) → IsSome o) }
+    requires cpus { length (tables_of inferred.now).cpus < 2 ^ 32 }
+    requires widths { All (λ lane. All (λ (t : InferredCpu). CpuIsWide t.entry) lane) (tables_of inferred.now).cpus }
+    requires base { KeepsBaseLane base.now (closed (tables_of inferred.now)) }
+    ensures some { IfOk result (λ o. IfSome o (λ kept. AllCpusMay (closed (tables_of inferred.now))
+        × AllKept (KeepsCpuLane (closed (tables_of inferred.now))) (map (λ lane. lane.items) kept.items)
+        (closed (tables_of inferred.now)).cpus)) }
+    ensures none { IfOk result (λ o. AllCpusMay (closed (tables_of inferred.now)) → IsSome o) }
 {
     let mut all = Vec::new(alloc);
-    for cpu in 0..told.cpus.len() {
-        match replay_cpu(alloc, told, cpu, base)? {
+    for cpu in 0..inferred.cpus.len() {
+        match replay_cpu(alloc, inferred, cpu, base)? {
             Some(kept) => all.push(kept)?,
             None => return Ok(None),
         }

@@ -1,22 +1,22 @@
-//! The answer and data of a single event, or of an act inside a `vread`.
+//! Makes the answer and data of a single event, or of an act inside a `vread`.
 ghost use Rattle.std.specs.Prelude.{◌≡◌, ◌↔◌, IfOk, IsTrue};
 ghost use Rattle.judge_lines.specs.Rows.{cpu_for};
 ghost use Rattle.judge_log.specs.EventSays.{first_crossing, taken_recipe, batch_recipe, base_recipe, cpu_recipe};
 ghost use Rattle.judge_log.specs.EventSays.{recipe_met, last_recipe, found_unready, was_interrupted, system_says};
 ghost use Rattle.judge_log.specs.EventSays.{reseed_says, tick_says, event_says, bits_shown, event_shows, act_says};
-ghost use Rattle.judge_log.specs.EventSays.{unused, IsAloneSaid, IsActSaid, EndStands};
+ghost use Rattle.judge_log.specs.EventSays.{unused, IsAloneSaid, IsActSaid, EndConforms};
 
-use crate::met::{Met, Room, put_kinds, put_met};
-use crate::said::{Said, Shows};
+use crate::met::{LineSpace, Met, put_kinds, put_met};
+use crate::said::{MadeLine, ShownRecipe};
 use crate::{KeptBase, KeptCpu, Lists};
 use input_pool::Crossing;
 use judge_lines::rows::{is_act_row, is_end, is_row};
-use judge_lines::setting::Setting;
+use judge_lines::setting::LineSetting;
 use judge_vread::served::Served;
 use key_names::{Answer, BaseEntry, CpuEntry, Event, InsideAct, Step, Taken, flags};
 use std::alloc::AllocError;
 
-// The crossing of the first visit of the pool.
+// The crossing of the first visit of the pool, if there is one.
 fn first_crossing(met: &[Met]) -> Crossing
     ensures { result ≡ first_crossing met.now }
 {
@@ -154,16 +154,16 @@ fn event_says(event: &Event, met: &[Met]) -> Answer
 }
 
 // The pool's bits before the visit that reads them.
-fn bits_shown(met: &[Met]) -> Shows
+fn bits_shown(met: &[Met]) -> ShownRecipe
     ensures { result ≡ bits_shown met.now }
 {
     match met {
-        [Met::InPool(kept)] => Shows::Count(kept.before),
-        _ => Shows::Nothing,
+        [Met::InPool(kept)] => ShownRecipe::Count(kept.before),
+        _ => ShownRecipe::Nothing,
     }
 }
 
-fn event_shows(event: &Event, met: &[Met]) -> Shows
+fn event_shows(event: &Event, met: &[Met]) -> ShownRecipe
     ensures { result ≡ event_shows event.now met.now }
 {
     match event {
@@ -175,13 +175,13 @@ fn event_shows(event: &Event, met: &[Met]) -> Shows
         | Event::Int8
         | Event::Int16
         | Event::Int32
-        | Event::Int64 => Shows::Served(last_served(met)),
-        _ => Shows::Nothing,
+        | Event::Int64 => ShownRecipe::Served(last_served(met)),
+        _ => ShownRecipe::Nothing,
     }
 }
 
 // The CPU that an event's line visits.
-fn event_cpu(event: &Event, set: &Setting) -> u32
+fn event_cpu(event: &Event, set: &LineSetting) -> u32
     ensures { result ≡ cpu_for set.now event.now }
 {
     match event {
@@ -190,18 +190,18 @@ fn event_cpu(event: &Event, set: &Setting) -> u32
     }
 }
 
-/// The answer and data of a single event. `None` if its steps are no form of it.
+/// The answer and data of a single event. `None` if the steps of its line are no form of the event.
 ///
 /// # Errors
 ///
 /// `AllocError` if there is no memory for the data of its steps.
 pub fn alone_said(
-    room: &mut Room,
+    room: &mut LineSpace,
     lists: &Lists,
-    set: &Setting,
+    set: &LineSetting,
     event: &Event,
     steps: &[Step],
-) -> Result<Option<Said>, AllocError>
+) -> Result<Option<MadeLine>, AllocError>
     ensures { IfOk result (λ said. IsAloneSaid lists.now set.now event.now steps.now said) }
 {
     put_met(&mut room.met, lists, steps)?;
@@ -209,55 +209,55 @@ pub fn alone_said(
     if !is_row(event, first_crossing(&room.met), &room.kinds) {
         return Ok(None);
     }
-    Ok(Some(Said {
+    Ok(Some(MadeLine {
         answer: event_says(event, &room.met),
         shows: event_shows(event, &room.met),
     }))
 }
 
-fn act_says(act: InsideAct, met: &[Met]) -> Said
+fn act_says(act: InsideAct, met: &[Met]) -> MadeLine
     ensures { result ≡ act_says act met.now }
 {
     match act {
-        InsideAct::Wipe => Said {
+        InsideAct::Wipe => MadeLine {
             answer: Answer::Ok,
-            shows: Shows::Nothing,
+            shows: ShownRecipe::Nothing,
         },
-        InsideAct::Vread(_) => Said {
+        InsideAct::Vread(_) => MadeLine {
             answer: system_says(0, met),
-            shows: Shows::Served(last_served(met)),
+            shows: ShownRecipe::Served(last_served(met)),
         },
-        InsideAct::Reseed => Said {
+        InsideAct::Reseed => MadeLine {
             answer: reseed_says(met),
-            shows: Shows::Nothing,
+            shows: ShownRecipe::Nothing,
         },
     }
 }
 
 /// The answer and data of an act that was not done.
-pub fn unused() -> Said
+pub fn unused() -> MadeLine
     ensures { result ≡ unused }
 {
-    Said {
+    MadeLine {
         answer: Answer::Unused,
-        shows: Shows::Nothing,
+        shows: ShownRecipe::Nothing,
     }
 }
 
-/// The answer and data of an act inside a `vread`. `None` if its steps are no form of it. If its point was not reached,
-/// its only form has no steps.
+/// The answer and data of an act inside a `vread`. `None` if the steps of its line are no form of the act. An act whose
+/// point was not reached must have no steps.
 ///
 /// # Errors
 ///
 /// `AllocError` if there is no memory for the data of its steps.
 pub fn act_said(
-    room: &mut Room,
+    room: &mut LineSpace,
     lists: &Lists,
-    set: &Setting,
+    set: &LineSetting,
     reached: bool,
     act: InsideAct,
     steps: &[Step],
-) -> Result<Option<Said>, AllocError>
+) -> Result<Option<MadeLine>, AllocError>
     ensures { IfOk result (λ said. IsActSaid lists.now set.now reached act steps.now said) }
 {
     if !reached {
@@ -275,18 +275,18 @@ pub fn act_said(
     Ok(Some(act_says(act, &room.met)))
 }
 
-/// Whether the steps of a caller's last line are a form of it.
+/// Whether the steps of a caller's last line are a form of the caller's end.
 ///
 /// # Errors
 ///
 /// `AllocError` if there is no memory for the data of its steps.
-pub fn end_stands(
-    room: &mut Room,
+pub fn end_conforms(
+    room: &mut LineSpace,
     lists: &Lists,
-    set: &Setting,
+    set: &LineSetting,
     steps: &[Step],
 ) -> Result<bool, AllocError>
-    ensures { IfOk result (λ stands. IsTrue stands ↔ EndStands lists.now set.now steps.now) }
+    ensures { IfOk result (λ conforms. IsTrue conforms ↔ EndConforms lists.now set.now steps.now) }
 {
     put_met(&mut room.met, lists, steps)?;
     put_kinds(&mut room.kinds, set.cpu(), &room.met)?;

@@ -1,33 +1,33 @@
-//! A row for each mark of a transcript. First the tables have an unfilled row for each mark. Then, call by call, each
-//! line puts the inferred entries of its visits at their places.
+//! Makes a table row for each mark of a transcript. At first all rows are unfilled. Then, call by call, the entry
+//! inferred for each visit is put into the row at the visit's place.
 ghost use Rattle.std.specs.Prelude.{◌≡◌, ◌≢◌, ◌<◌, ℕ, ⊤, Some, List, [], ◌∷◌, length, drop, map, slice_get, Any, IfOk, IfSome, MatchBool, MatchOption};
 ghost use Rattle.key_names.specs.declared.entries.Taken.TheVariants.{User};
 ghost use Rattle.key_names.specs.Lanes.Book.{Book, list_at};
 ghost use Rattle.key_names.specs.Lanes.PoolNotes.{entry_of};
 ghost use Rattle.key_names.specs.Texts.ScriptGrammar.{WellFormed};
 ghost use Rattle.key_names.specs.Transcripts.SeenLine.{SeenLine};
-ghost use Rattle.judge_lines.specs.declared.told.PoolTold.TheVariants.{Extracted};
-ghost use Rattle.judge_lines.specs.Told as forms;
-ghost use Rattle.judge_lines.specs.Begun.{PartsStand};
+ghost use Rattle.judge_lines.specs.declared.inferred.PoolInferred.TheVariants.{Extracted};
+ghost use Rattle.judge_lines.specs.Inferred as forms;
+ghost use Rattle.judge_lines.specs.Begun.{PartsConform};
 ghost use Rattle.judge_lines.specs.Called.{seen_act, seen_call, seen_calls};
 ghost use Rattle.judge_lines.specs.Marks.{seen_mark};
 ghost use Rattle.judge_lines.specs.Settings.{AreSettings};
 ghost use Rattle.judge_log.specs.Tables.{tables_of};
 ghost use Rattle.judge_log.specs.Gathered.{IsBookOf, IsGathered};
-ghost use Rattle.judge_log.specs.Rows.{IsPoolRow, dumps_told, cpu_row, step_sign, first_shown};
+ghost use Rattle.judge_log.specs.Rows.{IsPoolRow, dumps_inferred, cpu_row, step_sign, first_shown};
 ghost use Rattle.judge_log.specs.Spots.{tells_by, line_spots, acts_spots, call_spots, calls_spots, callers_spots};
 ghost use Rattle.judge_log.specs.Spots.{Changes, IsLonger, IsAbsent, HasRows};
 
-use crate::{Told, ToldCpu, ToldPool};
+use crate::{InferredCpu, InferredEntries, InferredPool};
 use event_script::Script;
-use judge_lines::begin::Parts;
-use judge_lines::called::{ActLine, Called};
-use judge_lines::marks::MarkOf;
-use judge_lines::setting::Setting;
-use judge_lines::told::{
-    Around, BaseTold, CpuTold, PoolTold, Sign, base_place_in, base_told, cpu_read_told, cpu_told,
-    pool_told, read_told,
+use judge_lines::begin::TranscriptParts;
+use judge_lines::called::{ActLine, CalledLines};
+use judge_lines::inferred::{
+    BaseInferred, CpuInferred, Neighbours, PoolInferred, Sign, base_inferred, base_place_in,
+    cpu_inferred, cpu_read_inferred, pool_inferred, read_inferred,
 };
+use judge_lines::marks::MarkOf;
+use judge_lines::setting::LineSetting;
 use key_names::{BaseEntry, CpuEntry, Event, InsideAct, LaneId, PoolNote, Step, Taken};
 use std::alloc::{AllocError, Global};
 
@@ -37,7 +37,7 @@ const KEY_BYTES: u32 = 32;
 /// The kind of a line, from which its entries are inferred: a single event, an act inside a `vread`, or a `vread` of
 /// this many bytes. `Nothing` is for a caller's end, and for an act that no `vread` follows.
 #[derive(Clone, Copy)]
-pub(crate) enum Teller<'a> {
+pub(crate) enum LineKind<'a> {
     Event(&'a Event),
     Act(InsideAct),
     Vread(u32),
@@ -57,7 +57,7 @@ fn sign(step: Step) -> Sign
     }
 }
 
-// The visible part of the step with this number, or `Nowhere` if there is none.
+// The visible part of the step with this number, or `Nowhere` if there is no such step.
 fn sign_at(steps: &[Step], number: usize) -> Sign
     ensures { result ≡ first_shown (drop number steps.now) }
 {
@@ -68,7 +68,7 @@ fn sign_at(steps: &[Step], number: usize) -> Sign
 }
 
 // The event's own entry of the pool.
-fn own_note<'a>(set: &Setting, event: &'a Event) -> PoolNote<'a>
+fn own_note<'a>(set: &LineSetting, event: &'a Event) -> PoolNote<'a>
     ensures { entry_of result ≡ forms.own_entry (forms.telling set.now event.now) }
 {
     match event {
@@ -104,95 +104,117 @@ fn own_note<'a>(set: &Setting, event: &'a Event) -> PoolNote<'a>
     }
 }
 
-fn extraction<'a>(set: &Setting, base_place: u64) -> ToldPool<'a>
+fn extraction<'a>(set: &LineSetting, base_place: u64) -> InferredPool<'a>
     ensures { IsPoolRow set.now forms.silent (Extracted base_place) result }
 {
-    ToldPool::Is(PoolNote::Extract {
+    InferredPool::Is(PoolNote::Extract {
         hw: set.hw(),
         base_place,
     })
 }
 
-fn event_pool_row<'a>(set: &Setting, event: &'a Event, around: Around) -> ToldPool<'a>
+fn event_pool_row<'a>(
+    set: &LineSetting,
+    event: &'a Event,
+    neighbours: Neighbours,
+) -> InferredPool<'a>
     ensures { IsPoolRow set.now (forms.telling set.now event.now)
-        (forms.pool_told (forms.telling set.now event.now) around) result }
+        (forms.pool_inferred (forms.telling set.now event.now) neighbours) result }
 {
-    match pool_told(set, event, around) {
-        PoolTold::Own => ToldPool::Is(own_note(set, event)),
-        PoolTold::Extracted(base_place) => extraction(set, base_place),
-        PoolTold::Dumped(cpu, place) => ToldPool::Dumped { cpu, place },
+    match pool_inferred(set, event, neighbours) {
+        PoolInferred::Own => InferredPool::Is(own_note(set, event)),
+        PoolInferred::Extracted(base_place) => extraction(set, base_place),
+        PoolInferred::Dumped(cpu, place) => InferredPool::Dumped { cpu, place },
     }
 }
 
-fn pool_row<'a>(set: &Setting, teller: Teller<'a>, around: Around) -> ToldPool<'a>
-    ensures { IsPoolRow set.now (tells_by set.now teller.entry around)
-        (forms.pool_told (tells_by set.now teller.entry around) around) result }
+fn pool_row<'a>(
+    set: &LineSetting,
+    line_kind: LineKind<'a>,
+    neighbours: Neighbours,
+) -> InferredPool<'a>
+    ensures { IsPoolRow set.now (tells_by set.now line_kind.entry neighbours)
+        (forms.pool_inferred (tells_by set.now line_kind.entry neighbours) neighbours) result }
 {
-    match teller {
-        Teller::Event(event) => event_pool_row(set, event, around),
-        Teller::Act(_) | Teller::Vread(_) | Teller::Nothing => {
-            extraction(set, base_place_in(around.behind))
+    match line_kind {
+        LineKind::Event(event) => event_pool_row(set, event, neighbours),
+        LineKind::Act(_) | LineKind::Vread(_) | LineKind::Nothing => {
+            extraction(set, base_place_in(neighbours.following))
         }
     }
 }
 
-// The bytes that a read of a `vread` takes. The last read takes the wanted bytes, and an earlier one takes a key.
-fn taken(len: u32, behind: Sign) -> Taken
-    ensures { result ≡ forms.taken_by (User 32) (User len) behind }
+// What a read inside a `vread` of `len` bytes takes: `len` bytes if no step follows, and otherwise a key.
+fn taken(len: u32, following: Sign) -> Taken
+    ensures { result ≡ forms.taken_by (User 32) (User len) following }
 {
-    match behind {
+    match following {
         Sign::Nowhere => Taken::User(len),
         _ => Taken::User(KEY_BYTES),
     }
 }
 
-fn base_row(set: &Setting, teller: Teller<'_>, around: Around) -> BaseTold
-    ensures { result ≡ forms.base_told set.now (tells_by set.now teller.entry around) around }
+fn base_row(set: &LineSetting, line_kind: LineKind<'_>, neighbours: Neighbours) -> BaseInferred
+    ensures { result ≡ forms.base_inferred set.now (tells_by set.now line_kind.entry neighbours) neighbours }
 {
-    match teller {
-        Teller::Event(event) => base_told(set, event, around),
-        Teller::Act(InsideAct::Vread(len)) => read_told(set, Taken::User(len), around),
-        Teller::Act(InsideAct::Reseed) => base_told(set, &Event::Reseed, around),
-        Teller::Vread(len) => read_told(set, taken(len, around.behind), around),
-        Teller::Act(InsideAct::Wipe) | Teller::Nothing => BaseTold::Is(BaseEntry::End),
+    match line_kind {
+        LineKind::Event(event) => base_inferred(set, event, neighbours),
+        LineKind::Act(InsideAct::Vread(len)) => read_inferred(set, Taken::User(len), neighbours),
+        LineKind::Act(InsideAct::Reseed) => base_inferred(set, &Event::Reseed, neighbours),
+        LineKind::Vread(len) => read_inferred(set, taken(len, neighbours.following), neighbours),
+        LineKind::Act(InsideAct::Wipe) | LineKind::Nothing => BaseInferred::Is(BaseEntry::End),
     }
 }
 
-fn cpu_entry(set: &Setting, teller: Teller<'_>, first: Sign, around: Around) -> CpuTold
-    ensures { result ≡ forms.cpu_told set.now (tells_by set.now teller.entry around) first around }
+fn cpu_entry(
+    set: &LineSetting,
+    line_kind: LineKind<'_>,
+    first: Sign,
+    neighbours: Neighbours,
+) -> CpuInferred
+    ensures { result ≡ forms.cpu_inferred set.now (tells_by set.now line_kind.entry neighbours) first neighbours }
 {
-    match teller {
-        Teller::Event(event) => cpu_told(set, event, first, around),
-        Teller::Act(InsideAct::Vread(len)) => {
-            cpu_read_told(Taken::User(len), around.second_before, around.before)
+    match line_kind {
+        LineKind::Event(event) => cpu_inferred(set, event, first, neighbours),
+        LineKind::Act(InsideAct::Vread(len)) => {
+            cpu_read_inferred(
+                Taken::User(len),
+                neighbours.second_before,
+                neighbours.before,
+            )
         }
-        Teller::Vread(len) => cpu_read_told(
-            taken(len, around.behind),
-            around.second_before,
-            around.before,
+        LineKind::Vread(len) => cpu_read_inferred(
+            taken(len, neighbours.following),
+            neighbours.second_before,
+            neighbours.before,
         ),
-        Teller::Act(InsideAct::Wipe | InsideAct::Reseed) | Teller::Nothing => {
-            CpuTold::Is(CpuEntry::Prepare)
+        LineKind::Act(InsideAct::Wipe | InsideAct::Reseed) | LineKind::Nothing => {
+            CpuInferred::Is(CpuEntry::Prepare)
         }
     }
 }
 
 // Whether the line dumps a CPU's fast pool after this visit.
-fn dumps(set: &Setting, teller: Teller<'_>, around: Around) -> bool
-    ensures { result ≡ dumps_told (tells_by set.now teller.entry around) around }
+fn dumps(set: &LineSetting, line_kind: LineKind<'_>, neighbours: Neighbours) -> bool
+    ensures { result ≡ dumps_inferred (tells_by set.now line_kind.entry neighbours) neighbours }
 {
-    match (teller, around.behind) {
-        (Teller::Event(Event::Irq { .. }), Sign::InCpu(..)) => true,
+    match (line_kind, neighbours.following) {
+        (LineKind::Event(Event::Irq { .. }), Sign::InCpu(..)) => true,
         _ => false,
     }
 }
 
-fn cpu_row(set: &Setting, teller: Teller<'_>, first: Sign, around: Around) -> ToldCpu
-    ensures { result ≡ cpu_row set.now (tells_by set.now teller.entry around) first around }
+fn cpu_row(
+    set: &LineSetting,
+    line_kind: LineKind<'_>,
+    first: Sign,
+    neighbours: Neighbours,
+) -> InferredCpu
+    ensures { result ≡ cpu_row set.now (tells_by set.now line_kind.entry neighbours) first neighbours }
 {
-    ToldCpu {
-        entry: cpu_entry(set, teller, first, around),
-        dumps: dumps(set, teller, around),
+    InferredCpu {
+        entry: cpu_entry(set, line_kind, first, neighbours),
+        dumps: dumps(set, line_kind, neighbours),
     }
 }
 
@@ -207,103 +229,134 @@ fn put<T: Copy>(rows: &mut Vec<T>, place: u64, row: T)
     }
 }
 
-// Puts the row of a step at the place that it visits, if it is a visit.
+// If the step is a visit, puts its row at the place that the step visits.
 fn put_row<'a>(
-    told: &mut Told<'a>,
+    inferred: &mut InferredEntries<'a>,
     step: Step,
-    set: &Setting,
-    teller: Teller<'a>,
+    set: &LineSetting,
+    line_kind: LineKind<'a>,
     first: Sign,
-    around: Around,
+    neighbours: Neighbours,
 )
     ensures { Changes (record {
       set = set.now;
-      tells = tells_by set.now teller.entry around;
+      tells = tells_by set.now line_kind.entry neighbours;
       first = first;
-      around = around;
+      neighbours = neighbours;
       step = step;
-    } ∷ []) (tables_of told.old) (tables_of told.new) }
+    } ∷ []) (tables_of inferred.old) (tables_of inferred.new) }
 {
     let Step::Visit(mark) = step else {
         return;
     };
     match mark.lane {
-        LaneId::Pool => put(&mut told.pool, mark.place, pool_row(set, teller, around)),
-        LaneId::Base => put(&mut told.base, mark.place, base_row(set, teller, around)),
+        LaneId::Pool => put(
+            &mut inferred.pool,
+            mark.place,
+            pool_row(set, line_kind, neighbours),
+        ),
+        LaneId::Base => put(
+            &mut inferred.base,
+            mark.place,
+            base_row(set, line_kind, neighbours),
+        ),
         LaneId::Cpu(cpu) => {
-            if let Some(lane) = told.cpus.get_mut(cpu as usize) {
-                put(lane, mark.place, cpu_row(set, teller, first, around));
+            if let Some(lane) = inferred.cpus.get_mut(cpu as usize) {
+                put(lane, mark.place, cpu_row(set, line_kind, first, neighbours));
             }
         }
     }
 }
 
 // Puts the rows of a line's visits at their places.
-fn tell_line<'a>(told: &mut Told<'a>, set: &Setting, teller: Teller<'a>, steps: &[Step])
-    ensures { Changes (line_spots set.now (tells_by set.now teller.entry) steps.now) (tables_of told.old) (tables_of told.new) }
+fn tell_line<'a>(
+    inferred: &mut InferredEntries<'a>,
+    set: &LineSetting,
+    line_kind: LineKind<'a>,
+    steps: &[Step],
+)
+    ensures { Changes (line_spots set.now (tells_by set.now line_kind.entry) steps.now) (tables_of inferred.old) (tables_of inferred.new) }
 {
     let first = sign_at(steps, 0);
     let mut second_before = Sign::Nowhere;
     let mut before = Sign::Nowhere;
     for (number, step) in steps.iter().enumerate() {
-        let around = Around {
+        let neighbours = Neighbours {
             second_before,
             before,
-            behind: sign_at(steps, number + 1),
+            following: sign_at(steps, number + 1),
         };
-        put_row(told, *step, set, teller, first, around);
+        put_row(inferred, *step, set, line_kind, first, neighbours);
         second_before = before;
         before = sign(*step);
     }
 }
 
-fn tell_acts<'a>(told: &mut Told<'a>, set: &Setting, acts: &[ActLine<'a>])
-    ensures { Changes (acts_spots set.now (map seen_act acts.now)) (tables_of told.old) (tables_of told.new) }
+fn tell_acts<'a>(inferred: &mut InferredEntries<'a>, set: &LineSetting, acts: &[ActLine<'a>])
+    ensures { Changes (acts_spots set.now (map seen_act acts.now)) (tables_of inferred.old) (tables_of inferred.new) }
 {
     for bound in acts {
-        tell_line(told, set, Teller::Act(bound.act), bound.line.steps);
+        tell_line(inferred, set, LineKind::Act(bound.act), bound.line.steps);
     }
 }
 
-fn tell_call<'a>(told: &mut Told<'a>, set: &Setting, call: &Called<'a>)
-    ensures { Changes (call_spots set.now (seen_call call.now)) (tables_of told.old) (tables_of told.new) }
+fn tell_call<'a>(inferred: &mut InferredEntries<'a>, set: &LineSetting, call: &CalledLines<'a>)
+    ensures { Changes (call_spots set.now (seen_call call.now)) (tables_of inferred.old) (tables_of inferred.new) }
 {
     match call {
-        Called::Alone { event, line } => tell_line(told, set, Teller::Event(event), line.steps),
-        Called::Vread {
+        CalledLines::Alone { event, line } => tell_line(
+            inferred,
+            set,
+            LineKind::Event(event),
+            line.steps,
+        ),
+        CalledLines::Vread {
             len,
             line,
             acts,
             ..
         } => {
-            tell_acts(told, set, acts);
-            tell_line(told, set, Teller::Vread(*len), line.steps);
+            tell_acts(inferred, set, acts);
+            tell_line(inferred, set, LineKind::Vread(*len), line.steps);
         }
-        Called::Unbound(bound) => tell_line(told, set, Teller::Nothing, bound.line.steps),
-        Called::Ending(line) => tell_line(told, set, Teller::Nothing, line.steps),
+        CalledLines::Unbound(bound) => tell_line(
+            inferred,
+            set,
+            LineKind::Nothing,
+            bound.line.steps,
+        ),
+        CalledLines::Ending(line) => tell_line(inferred, set, LineKind::Nothing, line.steps),
     }
 }
 
-// Puts the rows of a caller's calls, each with its setting.
-fn tell_calls<'a>(told: &mut Told<'a>, calls: &[Called<'a>], settings: &[Setting])
-    ensures { Changes (calls_spots (map seen_call calls.now) settings.now) (tables_of told.old) (tables_of told.new) }
+// Puts the rows of a caller's calls. Each call has its setting.
+fn tell_calls<'a>(
+    inferred: &mut InferredEntries<'a>,
+    calls: &[CalledLines<'a>],
+    settings: &[LineSetting],
+)
+    ensures { Changes (calls_spots (map seen_call calls.now) settings.now) (tables_of inferred.old) (tables_of inferred.new) }
 {
     for (call, set) in calls.iter().zip(settings) {
-        tell_call(told, set, call);
+        tell_call(inferred, set, call);
     }
 }
 
-fn tell_callers<'a>(told: &mut Told<'a>, callers: &[Vec<Called<'a>>], settings: &[Vec<Setting>])
+fn tell_callers<'a>(
+    inferred: &mut InferredEntries<'a>,
+    callers: &[Vec<CalledLines<'a>>],
+    settings: &[Vec<LineSetting>],
+)
     ensures { Changes (callers_spots (seen_calls callers.now) (map (λ sets. sets.items) settings.now))
-        (tables_of told.old) (tables_of told.new) }
+        (tables_of inferred.old) (tables_of inferred.new) }
 {
     for (calls, sets) in callers.iter().zip(settings) {
-        tell_calls(told, calls, sets);
+        tell_calls(inferred, calls, sets);
     }
 }
 
-// This many lanes, without rows.
-fn bare_lanes(alloc: Global, cpus: u32) -> Result<Vec<Vec<ToldCpu>>, AllocError>
+// Tables without rows, for this many CPUs.
+fn bare_lanes(alloc: Global, cpus: u32) -> Result<Vec<Vec<InferredCpu>>, AllocError>
     ensures long { IfOk result (λ lanes. length lanes.items ≡ cpus) }
     ensures bare { IfOk result (λ lanes. (c : ℕ) → list_at (map (λ lane. lane.items) lanes.items) c ≡ []) }
 {
@@ -315,19 +368,19 @@ fn bare_lanes(alloc: Global, cpus: u32) -> Result<Vec<Vec<ToldCpu>>, AllocError>
 }
 
 // Adds an unfilled row to a lane. Returns whether the lane exists.
-fn add_row(told: &mut Told<'_>, lane: LaneId) -> Result<bool, AllocError>
-    ensures { IfOk result (λ added. MatchBool added (IsLonger lane (tables_of told.old) (tables_of told.new))
-        (IsAbsent (length told.old.cpus.items) lane)) }
+fn add_row(inferred: &mut InferredEntries<'_>, lane: LaneId) -> Result<bool, AllocError>
+    ensures { IfOk result (λ added. MatchBool added (IsLonger lane (tables_of inferred.old) (tables_of inferred.new))
+        (IsAbsent (length inferred.old.cpus.items) lane)) }
 {
     match lane {
-        LaneId::Pool => told.pool.push(ToldPool::Is(PoolNote::Bits))?,
-        LaneId::Base => told.base.push(BaseTold::Is(BaseEntry::End))?,
+        LaneId::Pool => inferred.pool.push(InferredPool::Is(PoolNote::Bits))?,
+        LaneId::Base => inferred.base.push(BaseInferred::Is(BaseEntry::End))?,
         LaneId::Cpu(cpu) => {
-            let Some(rows) = told.cpus.get_mut(cpu as usize) else {
+            let Some(rows) = inferred.cpus.get_mut(cpu as usize) else {
                 return Ok(false);
             };
-            rows.push(ToldCpu {
-                entry: CpuTold::Is(CpuEntry::Prepare),
+            rows.push(InferredCpu {
+                entry: CpuInferred::Is(CpuEntry::Prepare),
                 dumps: false,
             })?;
         }
@@ -335,22 +388,26 @@ fn add_row(told: &mut Told<'_>, lane: LaneId) -> Result<bool, AllocError>
     Ok(true)
 }
 
-// Tables with an unfilled row for each mark. `None` if a mark is on a CPU that does not exist.
-fn bare_rows<'a>(alloc: Global, cpus: u32, marks: &[MarkOf]) -> Result<Option<Told<'a>>, AllocError>
-    ensures some { IfOk result (λ o. IfSome o (λ told. HasRows cpus (map seen_mark marks.now) (tables_of told))) }
-    ensures none { IfOk result (λ o. MatchOption o (Any (λ of. IsAbsent cpus of.mark.lane) marks.now) (λ told. ⊤)) }
+// Tables with an unfilled row for each mark. `None` if a mark is of a CPU that the script does not have.
+fn bare_rows<'a>(
+    alloc: Global,
+    cpus: u32,
+    marks: &[MarkOf],
+) -> Result<Option<InferredEntries<'a>>, AllocError>
+    ensures some { IfOk result (λ o. IfSome o (λ inferred. HasRows cpus (map seen_mark marks.now) (tables_of inferred))) }
+    ensures none { IfOk result (λ o. MatchOption o (Any (λ of. IsAbsent cpus of.mark.lane) marks.now) (λ inferred. ⊤)) }
 {
-    let mut told = Told {
+    let mut inferred = InferredEntries {
         pool: Vec::new(alloc),
         base: Vec::new(alloc),
         cpus: bare_lanes(alloc, cpus)?,
     };
     for of in marks {
-        if !add_row(&mut told, of.mark.lane)? {
+        if !add_row(&mut inferred, of.mark.lane)? {
             return Ok(None);
         }
     }
-    Ok(Some(told))
+    Ok(Some(inferred))
 }
 
 /// The inferred entry of each visit of all lines. `None` if a line visits a CPU that the script does not have.
@@ -361,19 +418,19 @@ fn bare_rows<'a>(alloc: Global, cpus: u32, marks: &[MarkOf]) -> Result<Option<To
 pub fn gather<'a>(
     alloc: Global,
     script: &Script,
-    parts: &Parts<'a>,
-    settings: &[Vec<Setting>],
-) -> Result<Option<Told<'a>>, AllocError>
+    parts: &TranscriptParts<'a>,
+    settings: &[Vec<LineSetting>],
+) -> Result<Option<InferredEntries<'a>>, AllocError>
     requires well { WellFormed script.now }
     requires found { AreSettings (seen_calls parts.now.calls.items) settings.now }
-    ensures some { (t : List (List SeenLine)) → PartsStand script.now t parts.now →
-        IfOk result (λ o. IfSome o (λ told. IsGathered script.now t (tables_of told))) }
-    ensures none { (t : List (List SeenLine)) → PartsStand script.now t parts.now →
-        IfOk result (λ o. MatchOption o ((book : Book) → IsBookOf script.now t book → ⊥) (λ told. ⊤)) }
+    ensures some { (t : List (List SeenLine)) → PartsConform script.now t parts.now →
+        IfOk result (λ o. IfSome o (λ inferred. IsGathered script.now t (tables_of inferred))) }
+    ensures none { (t : List (List SeenLine)) → PartsConform script.now t parts.now →
+        IfOk result (λ o. MatchOption o ((book : Book) → IsBookOf script.now t book → ⊥) (λ inferred. ⊤)) }
 {
-    let Some(mut told) = bare_rows(alloc, script.cpus(), &parts.marks)? else {
+    let Some(mut inferred) = bare_rows(alloc, script.cpus(), &parts.marks)? else {
         return Ok(None);
     };
-    tell_callers(&mut told, &parts.calls, settings);
-    Ok(Some(told))
+    tell_callers(&mut inferred, &parts.calls, settings);
+    Ok(Some(inferred))
 }

@@ -1,4 +1,4 @@
-//! The data kept of the lanes' lists. Answers and bytes are made from them.
+//! The data kept of the lanes' lists. Answers and bytes are made from these data.
 ghost use Rattle.std.specs.Prelude.{◌≡◌};
 ghost use Rattle.judge_log.specs.Kept.{no_source};
 
@@ -7,7 +7,7 @@ use key_names::{BaseEntry, CpuEntry};
 
 /// A root from the pool, and the base's place that its extraction names.
 #[derive(Clone, Copy, Debug, PartialEq, Eq)]
-pub struct Root {
+pub struct KeptRoot {
     pub value: [u8; 32],
     pub base_place: u64,
 }
@@ -17,10 +17,10 @@ pub struct Root {
 pub struct KeptPool {
     /// The pool's bits before the visit, 0 to 256.
     pub before: u32,
-    /// The crossing of the visit's change of the bits.
+    /// The crossing of 128 or 256 bits by this visit, if it makes one.
     pub crossing: Crossing,
     /// The root, if the entry is an extraction.
-    pub root: Option<Root>,
+    pub root: Option<KeptRoot>,
 }
 
 /// The data kept of a visit of the base.
@@ -33,21 +33,21 @@ pub struct KeptBase {
     pub key: Option<[u8; 32]>,
 }
 
-/// The source of a CPU entry's bytes, if it serves any.
+/// What the bytes of a CPU's entry are made from, if the entry serves any.
 #[derive(Clone, Copy, Debug, PartialEq, Eq)]
-pub struct Source {
-    /// The key in use: for a read at the visit, for an integer when its batch was filled.
+pub struct BytesSource {
+    /// The key in use: for a read, at the visit; for an integer, when its batch was filled.
     pub key: Option<[u8; 32]>,
     /// How many integers the batch had served before, if the entry is an integer.
     pub served: u32,
 }
 
-impl Source {
+impl BytesSource {
     /// No bytes are served.
-    pub(crate) fn none() -> Source
+    pub(crate) fn none() -> BytesSource
         ensures { result ≡ no_source }
     {
-        Source {
+        BytesSource {
             key: None,
             served: 0,
         }
@@ -60,7 +60,7 @@ pub struct KeptCpu {
     pub entry: CpuEntry,
     /// The CPU's generation after the visit.
     pub generation: u64,
-    pub source: Source,
+    pub source: BytesSource,
 }
 
 /// The data kept of the lanes' lists, by place.

@@ -63,8 +63,8 @@ impl LastFills {
         }
     }
 
-    /// Whether an integer of this width fills its batch first. It does if the batch was never filled, is used up, or
-    /// has another look.
+    /// Whether an integer of this width fills its batch first. The integer does if the batch was never filled, is used
+    /// up, or was filled with another look.
     pub(crate) fn wants(&self, look: u64, width: u8) -> bool
         requires { IsWidth width }
         ensures { result ≡ wants_kept look width (slot self.now width) }

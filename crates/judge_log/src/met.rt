@@ -1,4 +1,4 @@
-//! The data kept of a line's steps, and its seen steps.
+//! Looks up the data kept of a line's steps, and makes the line's seen steps and kinds from them.
 ghost use Rattle.std.specs.Prelude.{◌≡◌, ℕ, List, [], OnOk, slice_get, unwrap_or};
 ghost use Rattle.key_names.specs.Keys.KeyInUse.{zero_key};
 ghost use Rattle.judge_lines.specs.Kinds.{is_resume};
@@ -8,7 +8,7 @@ ghost use Rattle.judge_log.specs.Met.{seen_in, kind_met, kinds_met};
 
 use crate::{KeptBase, KeptCpu, KeptPool, Lists};
 use judge_lines::kind::Kind;
-use judge_vread::seen::Seen;
+use judge_vread::seen::SeenStep;
 use key_names::{BaseEntry, LaneId, Step};
 use std::alloc::{AllocError, Global};
 
@@ -68,22 +68,22 @@ fn met_at(lists: &Lists, step: Step) -> Met
     }
 }
 
-/// Room for the steps of one line at a time: their kept data, the seen steps, and their kinds.
+/// Memory for one line at a time: the kept data, the seen steps and the kinds of its steps.
 #[derive(Drop)]
-pub struct Room {
+pub struct LineSpace {
     pub met: Vec<Met>,
-    pub seen: Vec<Seen>,
+    pub seen: Vec<SeenStep>,
     pub kinds: Vec<Kind>,
 }
 
-impl Room {
-    /// Empty room.
-    pub fn new(alloc: Global) -> Room
+impl LineSpace {
+    /// Memory without any content yet.
+    pub fn new(alloc: Global) -> LineSpace
         ensures met { result.met.items ≡ [] }
         ensures seen { result.seen.items ≡ [] }
         ensures kinds { result.kinds.items ≡ [] }
     {
-        Room {
+        LineSpace {
             met: Vec::new(alloc),
             seen: Vec::new(alloc),
             kinds: Vec::new(alloc),
@@ -91,7 +91,7 @@ impl Room {
     }
 }
 
-/// Replaces the content by the steps of a line, with their kept data.
+/// Replaces the content of `met` by the steps of a line, with their kept data.
 ///
 /// # Errors
 ///
@@ -106,35 +106,35 @@ pub fn put_met(met: &mut Vec<Met>, lists: &Lists, steps: &[Step]) -> Result<(), 
     Ok(())
 }
 
-fn base_seen(kept: &KeptBase) -> Seen
+fn base_seen(kept: &KeptBase) -> SeenStep
     ensures { result ≡ base_seen (is_resume kept.now.entry) (unwrap_or kept.now.key zero_key) }
 {
     match kept.entry {
-        BaseEntry::Resume => Seen::Resumed,
-        _ => Seen::Base(kept.key.unwrap_or([0; 32])),
+        BaseEntry::Resume => SeenStep::Resumed,
+        _ => SeenStep::Base(kept.key.unwrap_or([0; 32])),
     }
 }
 
-// The seen step, with `cpu` as the line's CPU.
-fn seen_of(cpu: u32, met: &Met) -> Seen
+// The seen step; `cpu` is the line's CPU.
+fn seen_of(cpu: u32, met: &Met) -> SeenStep
     ensures { result ≡ seen_of cpu met.now }
 {
     match met {
-        Met::Looked(0) => Seen::Unready,
-        Met::Looked(found) => Seen::Ready(*found),
-        Met::InPool(_) => Seen::Pool,
+        Met::Looked(0) => SeenStep::Unready,
+        Met::Looked(found) => SeenStep::Ready(*found),
+        Met::InPool(_) => SeenStep::Pool,
         Met::InBase(kept) => base_seen(kept),
-        Met::InCpu(on, kept) if *on == cpu => Seen::Cpu(kept.source.key.unwrap_or([0; 32])),
-        Met::InCpu(..) | Met::Nothing => Seen::Elsewhere,
+        Met::InCpu(on, kept) if *on == cpu => SeenStep::Cpu(kept.source.key.unwrap_or([0; 32])),
+        Met::InCpu(..) | Met::Nothing => SeenStep::Elsewhere,
     }
 }
 
-/// Replaces the content by the seen steps of a line on this CPU.
+/// Replaces the content of `seen` by the seen steps of a line on this CPU.
 ///
 /// # Errors
 ///
 /// `AllocError` if there is no memory for them.
-pub fn put_seen(seen: &mut Vec<Seen>, cpu: u32, met: &[Met]) -> Result<(), AllocError>
+pub fn put_seen(seen: &mut Vec<SeenStep>, cpu: u32, met: &[Met]) -> Result<(), AllocError>
     ensures { OnOk result (seen.new.items ≡ seen_in cpu met.now) }
 {
     seen.clear();
@@ -167,7 +167,7 @@ fn kind_met(cpu: u32, met: &Met) -> Kind
     }
 }
 
-/// Replaces the content by the kinds of the steps of a line on this CPU.
+/// Replaces the content of `kinds` by the kinds of the steps of a line on this CPU.
 ///
 /// # Errors
 ///

@@ -1,5 +1,5 @@
-//! Names in both directions. An extraction names the base's entry that takes its root, and a refill names the CPU's
-//! entry that takes its key. Each named entry must name it back.
+//! Checks that entries name each other. An extraction names the base's entry that takes its root, and a refill names
+//! the CPU's entry that takes its key. The named entry must name the extraction or refill back.
 ghost use Rattle.std.specs.Prelude.{◌≡◌, ◌↔◌, ◌<◌, ◌^◌, IsTrue, map, option_and_then};
 ghost use Rattle.key_names.specs.Lanes.BaseList.{root_of, refill_of};
 ghost use Rattle.key_names.specs.Lanes.CpuList.{base_refill_of};
@@ -38,7 +38,7 @@ fn root_at(base: &[KeptBase], place: u64) -> Option<u64>
     root_of(base.get(place as usize)?.entry)
 }
 
-/// Whether each extraction is named by the base's entry that it names.
+/// Whether each extraction is named back by the base's entry that it names.
 pub(crate) fn extractions_answered(pool: &[KeptPool], base: &[KeptBase]) -> bool
     ensures { IsTrue result ↔ AllExtractionsAnswered pool.now base.now }
 {
@@ -59,7 +59,7 @@ fn refill_at(cpus: &[Vec<KeptCpu>], cpu: u32, place: u64) -> Option<u64>
     base_refill_of(cpus.get(cpu as usize)?.get(place as usize)?.entry)
 }
 
-/// Whether the visit of the base is no refill, or is named by the CPU's entry that it names.
+/// Whether this visit of the base is no refill, or is named back by the CPU's entry that it names.
 fn refill_answered(kept: &KeptBase, place: u64, cpus: &[Vec<KeptCpu>]) -> bool
     ensures { IsTrue result ↔ AnsweredBy (map (λ lane. lane.items) cpus.now) place (refill_of kept.now.entry) }
 {
@@ -69,7 +69,7 @@ fn refill_answered(kept: &KeptBase, place: u64, cpus: &[Vec<KeptCpu>]) -> bool
     }
 }
 
-/// Whether each refill is named by the CPU's entry that it names.
+/// Whether each refill is named back by the CPU's entry that it names.
 pub(crate) fn refills_answered(base: &[KeptBase], cpus: &[Vec<KeptCpu>]) -> bool
     ensures { IsTrue result ↔ AllRefillsAnswered base.now (map (λ lane. lane.items) cpus.now) }
 {

@@ -3,10 +3,10 @@ ghost use Rattle.std.specs.Prelude.{◌≡◌, IfOk};
 ghost use Rattle.judge_log.specs.Writes.{IsPut};
 
 use crate::events::unused;
-use crate::said::{Note, Said};
+use crate::said::{MadeLine, Note};
 use std::alloc::AllocError;
 
-/// The notes of a caller's lines, by the numbers of their events, and how they are made.
+/// The notes of a caller's lines, indexed by event number, and how they are made.
 #[derive(Drop)]
 pub struct Notes<'a, N: Note> {
     pub how: &'a N,
@@ -17,19 +17,19 @@ pub struct Notes<'a, N: Note> {
 
 impl<N: Note> Notes<'_, N> {
     #[inline(always)]
-    fn note(&self, event: u32, said: Said) -> N::Noted
+    fn note(&self, event: u32, said: MadeLine) -> N::Noted
         ensures { N.IsNoted self.now.how.now self.now.caller event said result }
     {
         self.how.note(self.caller, event, said)
     }
 
-    /// Notes the answer and data of an event at its number.
+    /// Makes the note of an event's answer and data, and puts it at the event's number.
     ///
     /// # Errors
     ///
     /// `AllocError` if there is no memory for the note.
     #[inline(always)]
-    pub fn put(&mut self, event: u32, said: Said) -> Result<(), AllocError>
+    pub fn put(&mut self, event: u32, said: MadeLine) -> Result<(), AllocError>
         ensures same { self.new ≡ record self.old { noted = self.new.noted } }
         ensures put { IfOk result (λ _. IsPut (N.IsNoted self.old.how.now self.old.caller) event said
             self.old.noted.items self.new.noted.items) }
@@ -40,7 +40,8 @@ impl<N: Note> Notes<'_, N> {
             self.noted.push(one)?;
             return Ok(());
         }
-        // The events before this one that have no note yet get their own notes later.
+        // An earlier event without a note gets the note of an act that was not done. Its own note replaces this note
+        // later.
         while self.noted.len() <= place {
             let none = self.note(self.noted.len() as u32, unused());
             self.noted.push(none)?;

@@ -1,18 +1,18 @@
-//! The pool's list.
+//! Replays the pool's list.
 ghost use Rattle.std.specs.Prelude.{◌≡◌, ◌↔◌, ◌<◌, ◌^◌, All, IfOk, IfSome, IsSome, map};
 ghost use Rattle.key_names.specs.declared.entries.PoolEntry.{PoolEntry};
 ghost use Rattle.key_names.specs.declared.entries.PoolEntry.TheVariants.{Input as InputEntry};
 ghost use Rattle.key_names.specs.Lanes.PoolList.{PoolState, crossing, pool_start, pool_step};
 ghost use Rattle.key_names.specs.Lanes.PoolNotes.{entry_of};
-ghost use Rattle.input_pool.specs.PoolStands.{crossing_of};
+ghost use Rattle.input_pool.specs.PoolConforms.{crossing_of};
 ghost use Rattle.judge_log.specs.Closed.{closed};
 ghost use Rattle.judge_log.specs.Dumps.{AllDumps};
 ghost use Rattle.judge_log.specs.Kept.{root_kept, KeepsPoolLane};
-ghost use Rattle.judge_log.specs.PoolLane.{LaneStands, dump_in, entry_found, AllMixed};
+ghost use Rattle.judge_log.specs.PoolLane.{LaneConforms, dump_in, entry_found, AllMixed};
 ghost use Rattle.judge_log.specs.Tables.{tables_of, NoteIsNear, PoolIsNear};
 
-use crate::kept::{KeptPool, Root};
-use crate::told::{Told, ToldPool};
+use crate::inferred::{InferredEntries, InferredPool};
+use crate::kept::{KeptPool, KeptRoot};
 use input_pool::{Crossing, Pool};
 use key_names::PoolNote;
 use sample_credit::{Dump, InputTimer, input_sample};
@@ -24,7 +24,7 @@ const READY_BITS: u32 = 256;
 /// At this number of bits the core is seeded early (`POOL_EARLY_BITS`).
 const EARLY_BITS: u32 = 128;
 
-/// The crossing of a change of the bits.
+/// The crossing that a change of the bits from `before` to `after` makes.
 fn crossed(before: u32, after: u32) -> Crossing
     ensures { crossing_of result ≡ crossing before after }
 {
@@ -39,16 +39,16 @@ fn crossed(before: u32, after: u32) -> Crossing
 
 /// The input pool, and the timer of input events.
 #[derive(Drop)]
-pub(crate) struct Lane {
+pub(crate) struct PoolReplay {
     pub(crate) pool: Pool,
     pub(crate) timer: InputTimer,
 }
 
-impl Lane {
-    fn start() -> Lane
-        ensures { LaneStands result pool_start }
+impl PoolReplay {
+    fn start() -> PoolReplay
+        ensures { LaneConforms result pool_start }
     {
-        Lane {
+        PoolReplay {
             pool: Pool::start(),
             timer: InputTimer::start(),
         }
@@ -58,8 +58,8 @@ impl Lane {
     /// its moment determines a credit unless the pool is full.
     fn input(&mut self, word: u64, kind: u16, code: u16, value: u8, now: u64)
         requires { now < 2 ^ 40 }
-        ensures { (s : PoolState) → LaneStands self.old s
-            → LaneStands self.new (pool_step s (InputEntry word kind code value now)) }
+        ensures { (s : PoolState) → LaneConforms self.old s
+            → LaneConforms self.new (pool_step s (InputEntry word kind code value now)) }
     {
         if !self.timer.fresh(value) {
             return;
@@ -73,10 +73,10 @@ impl Lane {
     }
 
     /// Changes the pool by an entry, and returns the root if the entry is an extraction.
-    fn enter(&mut self, note: PoolNote) -> Option<Root>
+    fn enter(&mut self, note: PoolNote) -> Option<KeptRoot>
         requires { NoteIsNear note }
-        ensures state { (s : PoolState) → LaneStands self.old s → LaneStands self.new (pool_step s (entry_of note.entry)) }
-        ensures root { (s : PoolState) → LaneStands self.old s → result ≡ root_kept s (entry_of note.entry) }
+        ensures state { (s : PoolState) → LaneConforms self.old s → LaneConforms self.new (pool_step s (entry_of note.entry)) }
+        ensures root { (s : PoolState) → LaneConforms self.old s → result ≡ root_kept s (entry_of note.entry) }
     {
         match note {
             PoolNote::Mix { text, bits } => {
@@ -100,7 +100,7 @@ impl Lane {
                 None
             }
             PoolNote::Bits => None,
-            PoolNote::Extract { hw, base_place } => Some(Root {
+            PoolNote::Extract { hw, base_place } => Some(KeptRoot {
                 value: self.pool.extract(&hw),
                 base_place,
             }),
@@ -115,18 +115,22 @@ fn dump_at(dumps: &[Vec<Option<Dump>>], cpu: u32, place: u64) -> Option<Dump>
     *dumps.get(cpu as usize)?.get(place as usize)?
 }
 
-/// Takes the pool past a visit, and returns the root of an extraction. `None` if the visit mixes a dump that its CPU
-/// does not have at the named place.
-fn visit(lane: &mut Lane, told: &ToldPool, dumps: &[Vec<Option<Dump>>]) -> Option<Option<Root>>
-    requires { PoolIsNear told.now }
-    ensures none { (result ≡ None) ↔ (entry_found (map (λ lane. lane.items) dumps.now) told.now ≡ None) }
-    ensures some { (s : PoolState) (e : PoolEntry) → LaneStands lane.old s
-        → entry_found (map (λ lane. lane.items) dumps.now) told.now ≡ Some e
-        → LaneStands lane.new (pool_step s e) × (result ≡ Some (root_kept s e)) }
+/// Changes the pool by a visit, and returns the root if the visit is an extraction. `None` if the visit mixes a dump
+/// that its CPU does not have at the named place.
+fn visit(
+    lane: &mut PoolReplay,
+    inferred: &InferredPool,
+    dumps: &[Vec<Option<Dump>>],
+) -> Option<Option<KeptRoot>>
+    requires { PoolIsNear inferred.now }
+    ensures none { (result ≡ None) ↔ (entry_found (map (λ lane. lane.items) dumps.now) inferred.now ≡ None) }
+    ensures some { (s : PoolState) (e : PoolEntry) → LaneConforms lane.old s
+        → entry_found (map (λ lane. lane.items) dumps.now) inferred.now ≡ Some e
+        → LaneConforms lane.new (pool_step s e) × (result ≡ Some (root_kept s e)) }
 {
-    match *told {
-        ToldPool::Is(note) => Some(lane.enter(note)),
-        ToldPool::Dumped { cpu, place } => {
+    match *inferred {
+        InferredPool::Is(note) => Some(lane.enter(note)),
+        InferredPool::Dumped { cpu, place } => {
             let dump = dump_at(dumps, cpu, place)?;
             Some(lane.enter(PoolNote::Mix {
                 text: &dump.bytes,
@@ -136,21 +140,22 @@ fn visit(lane: &mut Lane, told: &ToldPool, dumps: &[Vec<Option<Dump>>]) -> Optio
     }
 }
 
-/// The data kept of the pool's list. `None` if a visit mixes a dump that its CPU does not have at the named place.
+/// Replays the pool's list, and returns the data kept of it. `None` if a visit mixes a dump that its CPU does not have
+/// at the named place.
 pub(crate) fn replay_pool(
     alloc: Global,
-    told: &Told,
+    inferred: &InferredEntries,
     dumps: &[Vec<Option<Dump>>],
 ) -> Result<Option<Vec<KeptPool>>, AllocError>
-    requires notes { All PoolIsNear told.now.pool.items }
-    requires dumps { AllDumps (closed (tables_of told.now)) (map (λ lane. lane.items) dumps.now) }
-    ensures some { IfOk result (λ o. IfSome o (λ kept. AllMixed (tables_of told.now)
-        × KeepsPoolLane kept.items (closed (tables_of told.now)))) }
-    ensures none { IfOk result (λ o. AllMixed (tables_of told.now) → IsSome o) }
+    requires notes { All PoolIsNear inferred.now.pool.items }
+    requires dumps { AllDumps (closed (tables_of inferred.now)) (map (λ lane. lane.items) dumps.now) }
+    ensures some { IfOk result (λ o. IfSome o (λ kept. AllMixed (tables_of inferred.now)
+        × KeepsPoolLane kept.items (closed (tables_of inferred.now)))) }
+    ensures none { IfOk result (λ o. AllMixed (tables_of inferred.now) → IsSome o) }
 {
-    let mut lane = Lane::start();
-    let mut kept = Vec::with_capacity(alloc, told.pool.len())?;
-    for one in &told.pool {
+    let mut lane = PoolReplay::start();
+    let mut kept = Vec::with_capacity(alloc, inferred.pool.len())?;
+    for one in &inferred.pool {
         let before = lane.pool.bits();
         let Some(root) = visit(&mut lane, one, dumps) else {
             return Ok(None);

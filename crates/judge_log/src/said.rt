@@ -1,13 +1,13 @@
 //! The answer and data of a line, and notes of them.
 ghost use Rattle.std.specs.Prelude.{◌≡◌, ℕ};
-ghost use Rattle.judge_log.specs.declared.said.Said.{Said as SaidOfLine};
+ghost use Rattle.judge_log.specs.declared.said.MadeLine.{MadeLine as SaidOfLine};
 
 use judge_vread::served::Served;
 use key_names::Answer;
 
 /// The data of a line: nothing, a number, or the bytes of a recipe, if it makes any.
 #[derive(Drop)]
-pub enum Shows {
+pub enum ShownRecipe {
     Nothing,
     Count(u32),
     Served(Served),
@@ -15,9 +15,9 @@ pub enum Shows {
 
 /// The answer of a line, and its data.
 #[derive(Drop)]
-pub struct Said {
+pub struct MadeLine {
     pub answer: Answer,
-    pub shows: Shows,
+    pub shows: ShownRecipe,
 }
 
 /// How the answer and data of a line are noted: whole, or only the part that is needed.
@@ -28,7 +28,7 @@ pub trait Note {
     ghost IsNoted: { Self → ℕ → ℕ → SaidOfLine → Self.Noted → Type 0 };
 
     /// Makes the note of this event of this caller.
-    fn note(&self, caller: u32, event: u32, said: Said) -> Self::Noted
+    fn note(&self, caller: u32, event: u32, said: MadeLine) -> Self::Noted
         ensures { IsNoted self.now caller event said result };
 }
 
@@ -37,12 +37,12 @@ pub trait Note {
 pub struct Whole;
 
 impl Note for Whole {
-    type Noted = Said;
+    type Noted = MadeLine;
 
     ghost IsNoted = { λ _ _ _ said noted. noted ≡ said };
 
     #[inline(always)]
-    fn note(&self, _caller: u32, _event: u32, said: Said) -> Said {
+    fn note(&self, _caller: u32, _event: u32, said: MadeLine) -> MadeLine {
         said
     }
 }

@@ -1,70 +1,74 @@
-//! The fast pools of the CPUs: the bytes of each dump, and whether each interrupt makes a dump due exactly if its line
-//! dumps.
+//! Replays the fast pools of the CPUs. Makes the bytes of each dump, and checks that an interrupt makes a dump due
+//! exactly if its line dumps.
 ghost use Rattle.std.specs.Prelude.{◌≡◌, ◌↔◌, ◌<◌, IsTrue, IfOk, IfSome, IsSome, map, length};
 ghost use Rattle.key_names.specs.Lanes.Book.{list_at, cpu_list};
-ghost use Rattle.judge_log.specs.Closed.{closed, fast_told};
+ghost use Rattle.judge_log.specs.Closed.{closed, fast_inferred};
 ghost use Rattle.judge_log.specs.Places.{AllPlaces, AllKept};
 ghost use Rattle.judge_log.specs.Tables.{tables_of};
-ghost use Rattle.judge_log.specs.Dumps.{DueTold, DueAt, DumpIs, dump_told, AllDue, AllDumps};
+ghost use Rattle.judge_log.specs.Dumps.{DueInferred, DueAt, DumpIs, dump_inferred, AllDue, AllDumps};
 
-use crate::told::{Told, ToldCpu};
-use judge_lines::told::CpuTold;
+use crate::inferred::{InferredCpu, InferredEntries};
+use judge_lines::inferred::CpuInferred;
 use key_names::CpuEntry;
 use sample_credit::{Dump, FastPool};
 use std::alloc::{AllocError, Global};
 
 /// The effect of a CPU's visit on its fast pool.
 #[derive(Drop)]
-pub(crate) struct Sample {
-    /// The visit is no interrupt, or it makes a dump due exactly if its line dumps.
+pub(crate) struct SampleEffect {
+    /// Whether, if the visit is an interrupt, its line dumps if and only if the interrupt makes a dump due.
     pub(crate) fits: bool,
     /// The dump, if the visit is one.
     pub(crate) dump: Option<Dump>,
 }
 
-/// Takes the fast pool past a visit.
-fn take_sample(fast: &mut FastPool, told: &ToldCpu) -> Sample
-    ensures state { fast.new ≡ fast_told fast.old told.now.entry }
-    ensures fits { IsTrue result.fits ↔ DueTold fast.old told.now.dumps told.now.entry }
-    ensures dump { result.dump ≡ dump_told fast.old told.now.entry }
+/// Changes the fast pool by a visit.
+fn take_sample(fast: &mut FastPool, inferred: &InferredCpu) -> SampleEffect
+    ensures state { fast.new ≡ fast_inferred fast.old inferred.now.entry }
+    ensures fits { IsTrue result.fits ↔ DueInferred fast.old inferred.now.dumps inferred.now.entry }
+    ensures dump { result.dump ≡ dump_inferred fast.old inferred.now.entry }
 {
-    match told.entry {
-        CpuTold::Is(CpuEntry::Irq { v1, v2, now }) => Sample {
-            fits: fast.mix(v1, v2, now) == told.dumps,
+    match inferred.entry {
+        CpuInferred::Is(CpuEntry::Irq { v1, v2, now }) => SampleEffect {
+            fits: fast.mix(v1, v2, now) == inferred.dumps,
             dump: None,
         },
-        CpuTold::Is(CpuEntry::Dump { now }) => Sample {
+        CpuInferred::Is(CpuEntry::Dump { now }) => SampleEffect {
             fits: true,
             dump: Some(fast.dump(now)),
         },
-        CpuTold::Is(CpuEntry::Online) => {
+        CpuInferred::Is(CpuEntry::Online) => {
             fast.online();
-            Sample {
+            SampleEffect {
                 fits: true,
                 dump: None,
             }
         }
-        CpuTold::Is(CpuEntry::Read { .. } | CpuEntry::Int { .. } | CpuEntry::Prepare)
-        | CpuTold::Batch { .. } => Sample {
+        CpuInferred::Is(CpuEntry::Read { .. } | CpuEntry::Int { .. } | CpuEntry::Prepare)
+        | CpuInferred::Batch { .. } => SampleEffect {
             fits: true,
             dump: None,
         },
     }
 }
 
-/// The dump of each visit of a CPU. `None` if some interrupt makes a dump due and its line does not dump, or the other
-/// way round.
-fn dumps_of(alloc: Global, told: &Told, cpu: usize) -> Result<Option<Vec<Option<Dump>>>, AllocError>
-    requires { cpu < length told.now.cpus.items }
-    ensures some { IfOk result (λ o. IfSome o (λ dumps. AllPlaces (DueAt (tables_of told.now) cpu)
-        (cpu_list (closed (tables_of told.now)) cpu)
-        × AllKept (DumpIs (closed (tables_of told.now)) cpu) dumps.items (cpu_list (closed (tables_of told.now)) cpu))) }
-    ensures none { IfOk result (λ o. AllPlaces (DueAt (tables_of told.now) cpu)
-        (cpu_list (closed (tables_of told.now)) cpu) → IsSome o) }
+/// The dump of each visit of a CPU. `None` if some interrupt makes a dump due but its line does not dump, or if its
+/// line dumps but no dump is due.
+fn dumps_of(
+    alloc: Global,
+    inferred: &InferredEntries,
+    cpu: usize,
+) -> Result<Option<Vec<Option<Dump>>>, AllocError>
+    requires { cpu < length inferred.now.cpus.items }
+    ensures some { IfOk result (λ o. IfSome o (λ dumps. AllPlaces (DueAt (tables_of inferred.now) cpu)
+        (cpu_list (closed (tables_of inferred.now)) cpu)
+        × AllKept (DumpIs (closed (tables_of inferred.now)) cpu) dumps.items (cpu_list (closed (tables_of inferred.now)) cpu))) }
+    ensures none { IfOk result (λ o. AllPlaces (DueAt (tables_of inferred.now) cpu)
+        (cpu_list (closed (tables_of inferred.now)) cpu) → IsSome o) }
 {
     let mut fast = FastPool::start();
     let mut dumps = Vec::new(alloc);
-    for one in &told.cpus[cpu] {
+    for one in &inferred.cpus[cpu] {
         let sample = take_sample(&mut fast, one);
         if !sample.fits {
             return Ok(None);
@@ -74,19 +78,19 @@ fn dumps_of(alloc: Global, told: &Told, cpu: usize) -> Result<Option<Vec<Option<
     Ok(Some(dumps))
 }
 
-/// The dump of each visit of each CPU. `None` if some interrupt makes a dump due and its line does not dump, or the
-/// other way round.
+/// The dump of each visit of each CPU. `None` if some interrupt makes a dump due but its line does not dump, or if its
+/// line dumps but no dump is due.
 pub(crate) fn all_dumps(
     alloc: Global,
-    told: &Told,
+    inferred: &InferredEntries,
 ) -> Result<Option<Vec<Vec<Option<Dump>>>>, AllocError>
-    ensures some { IfOk result (λ o. IfSome o (λ dumps. AllDue (tables_of told.now)
-        × AllDumps (closed (tables_of told.now)) (map (λ lane. lane.items) dumps.items))) }
-    ensures none { IfOk result (λ o. AllDue (tables_of told.now) → IsSome o) }
+    ensures some { IfOk result (λ o. IfSome o (λ dumps. AllDue (tables_of inferred.now)
+        × AllDumps (closed (tables_of inferred.now)) (map (λ lane. lane.items) dumps.items))) }
+    ensures none { IfOk result (λ o. AllDue (tables_of inferred.now) → IsSome o) }
 {
     let mut all = Vec::new(alloc);
-    for cpu in 0..told.cpus.len() {
-        match dumps_of(alloc, told, cpu)? {
+    for cpu in 0..inferred.cpus.len() {
+        match dumps_of(alloc, inferred, cpu)? {
             Some(dumps) => all.push(dumps)?,
             None => return Ok(None),
         }

@@ -1,9 +1,9 @@
 //! The vgetrandom states of a caller.
 ghost use Rattle.judge_log.specs.CallSays.{VStates};
 
-use judge_vread::follow::{Course, follow};
+use judge_vread::follow::{VreadPath, follow};
 use judge_vread::inside::Inside;
-use judge_vread::seen::Seen;
+use judge_vread::seen::SeenStep;
 use key_names::Event;
 use std::alloc::{AllocError, Global};
 use std::marker::Model;
@@ -13,12 +13,12 @@ const STATES: usize = 16;
 
 /// The sixteen vgetrandom states of a caller, one of which is the current one.
 #[derive(Drop)]
-pub struct States {
+pub struct ReplayedStates {
     all: Vec<VState>,
     current: usize,
 }
 
-impl Model for States {
+impl Model for ReplayedStates {
     ghost use Rattle.std.specs.Prelude.{◌≡◌, ◌<◌, length};
     ghost use Rattle.judge_log.specs.CallSays.{VStates};
 
@@ -29,9 +29,9 @@ impl Model for States {
     ghost invariant = { λ s. (length s.all.items ≡ 16) × (s.current < 16) };
 }
 
-impl States {
+impl ReplayedStates {
     ghost use Rattle.std.specs.Prelude.{◌≡◌, ◌^◌, ◌≤◌, None, Some, IfOk, MatchOption};
-    ghost use Rattle.judge_vread.specs.Course.{Followed, followed};
+    ghost use Rattle.judge_vread.specs.Path.{Followed, followed};
     ghost use Rattle.judge_log.specs.Said.{StateInRange};
     ghost use Rattle.judge_log.specs.CallSays.{first_states, state_of, with_state, states_after};
 
@@ -40,14 +40,14 @@ impl States {
     /// # Errors
     ///
     /// `AllocError` if there is no memory for them.
-    pub fn new(alloc: Global) -> Result<States, AllocError>
+    pub fn new(alloc: Global) -> Result<ReplayedStates, AllocError>
         ensures { IfOk result (λ states. states ≡ first_states) }
     {
         let mut all = Vec::with_capacity(alloc, STATES)?;
         while all.len() < STATES {
             all.push(VState::wiped())?;
         }
-        Ok(States { all, current: 0 })
+        Ok(ReplayedStates { all, current: 0 })
     }
 
     /// Changes the states as a single event does.
@@ -63,11 +63,17 @@ impl States {
     }
 
     /// Follows a `vread` on the current state, as [`follow`] does.
-    pub fn follow(&mut self, len: u32, flags: u32, inside: Inside, seen: &[Seen]) -> Option<Course>
+    pub fn follow(
+        &mut self,
+        len: u32,
+        flags: u32,
+        inside: Inside,
+        seen: &[SeenStep],
+    ) -> Option<VreadPath>
         requires short { len ≤ 2 ^ 20 }
         ensures { MatchOption result (followed len flags inside (state_of self.old) seen.now ≡ None)
-            (λ course. (f : Followed) × (followed len flags inside (state_of self.old) seen.now ≡ Some f)
-            × (course ≡ f.course) × (self.new ≡ with_state self.old f.state)) }
+            (λ path. (f : Followed) × (followed len flags inside (state_of self.old) seen.now ≡ Some f)
+            × (path ≡ f.path) × (self.new ≡ with_state self.old f.state)) }
     {
         follow(&mut self.all[self.current], len, flags, inside, seen)
     }

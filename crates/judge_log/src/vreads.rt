@@ -1,4 +1,4 @@
-//! A `vread` with the acts inside it.
+//! Takes a `vread` with the acts inside it.
 ghost use Rattle.std.specs.Prelude.{◌≡◌, ◌^◌, ◌≤◌, IfOk, MatchBool, map};
 ghost use Rattle.std.specs.List.{AllByRecursion};
 ghost use Rattle.key_names.specs.Callers.Calls.{vread_call};
@@ -10,11 +10,11 @@ ghost use Rattle.judge_log.specs.CallSays.{ActDone, act_write, IsCallSaid};
 
 use crate::events::act_said;
 use crate::met::{put_met, put_seen};
-use crate::said::{Note, Said, Shows};
-use crate::walk::Walk;
+use crate::said::{MadeLine, Note, ShownRecipe};
+use crate::walk::CallerWalk;
 use judge_lines::bare::BareLine;
 use judge_lines::called::ActLine;
-use judge_lines::setting::Setting;
+use judge_lines::setting::LineSetting;
 use judge_vread::inside::{Inside, Reached};
 use std::alloc::AllocError;
 
@@ -25,7 +25,7 @@ pub struct Asked {
     pub flags: u32,
 }
 
-// The effect of the acts inside a `vread` on its state.
+// What the acts inside a `vread` do to its state.
 fn inside_of(acts: &[ActLine<'_>]) -> Inside
     ensures { result ≡ inside_of (map seen_act acts.now) }
 {
@@ -36,19 +36,19 @@ fn inside_of(acts: &[ActLine<'_>]) -> Inside
     inside
 }
 
-impl<N: Note> Walk<'_, N> {
-    // Notes the answer and data of each act, which depend on the points that the `vread` reached. Returns whether each
-    // act's steps are a form of it.
+impl<N: Note> CallerWalk<'_, N> {
+    // Notes the answer and data of each act, which depend on the points that the `vread` reached. Returns whether the
+    // steps of each act are a form of the act.
     fn acts(
         &mut self,
-        set: &Setting,
+        set: &LineSetting,
         reached: Reached,
         acts: &[ActLine<'_>],
     ) -> Result<bool, AllocError>
         ensures lists { self.new.lists ≡ self.old.lists }
         ensures states { self.new.states ≡ self.old.states }
         ensures notes { self.new.notes ≡ record self.old.notes { noted = self.new.notes.noted } }
-        ensures said { IfOk result (λ stand. MatchBool stand
+        ensures said { IfOk result (λ conform. MatchBool conform
             (AllByRecursion (ActDone self.old.lists.now set.now reached) (map seen_act acts.now)
             × Written (N.IsNoted self.old.notes.how.now self.old.notes.caller)
             (map (act_write self.old.lists.now set.now reached) (map seen_act acts.now))
@@ -72,14 +72,14 @@ impl<N: Note> Walk<'_, N> {
         Ok(true)
     }
 
-    /// Takes a `vread`. Returns whether its steps, and those of the acts inside it, are the steps of one call.
+    /// Takes a `vread`. Returns whether the steps of the `vread`, and of the acts inside it, are the steps of one call.
     ///
     /// # Errors
     ///
     /// `AllocError` if there is no memory for it.
     pub fn vread(
         &mut self,
-        set: &Setting,
+        set: &LineSetting,
         asked: Asked,
         line: BareLine<'_>,
         acts: &[ActLine<'_>],
@@ -94,20 +94,20 @@ impl<N: Note> Walk<'_, N> {
         put_met(&mut self.room.met, self.lists, line.steps)?;
         put_seen(&mut self.room.seen, set.cpu(), &self.room.met)?;
         let inside = inside_of(acts);
-        let Some(course) = self
+        let Some(path) = self
             .states
             .follow(asked.len, asked.flags, inside, &self.room.seen)
         else {
             return Ok(false);
         };
-        if !self.acts(set, course.reached, acts)? {
+        if !self.acts(set, path.reached, acts)? {
             return Ok(false);
         }
         self.notes.put(
             line.event,
-            Said {
-                answer: course.answer,
-                shows: Shows::Served(course.served),
+            MadeLine {
+                answer: path.answer,
+                shows: ShownRecipe::Served(path.served),
             },
         )?;
         Ok(true)

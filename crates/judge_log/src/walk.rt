@@ -1,16 +1,16 @@
-//! A caller while its calls are taken.
+//! The state of a caller between its calls.
 use crate::Lists;
-use crate::met::Room;
+use crate::met::LineSpace;
 use crate::notes::Notes;
 use crate::said::Note;
-use crate::states::States;
+use crate::states::ReplayedStates;
 
-/// The state while a caller's calls are taken: the replayed lists, the caller's vgetrandom states, room for the steps
-/// of a line, and the notes of its lines.
+/// What changes from call to call, and what the calls need: the replayed lists, the caller's vgetrandom states, memory
+/// for the steps of a line, and the notes of the caller's lines.
 #[derive(Drop)]
-pub struct Walk<'a, N: Note> {
+pub struct CallerWalk<'a, N: Note> {
     pub lists: &'a Lists,
-    pub states: States,
-    pub room: Room,
+    pub states: ReplayedStates,
+    pub room: LineSpace,
     pub notes: Notes<'a, N>,
 }

@@ -6,33 +6,33 @@ use Rattle.key_names.specs.declared.events.Answer.TheVariants.{Ok as Done, Again
 use Rattle.key_names.specs.Kernel.Flags.{is_bad, is_nonblock, is_insecure}
 use Rattle.judge_lines.specs.declared.kind.Kind.{Kind}
 use Rattle.judge_lines.specs.declared.kind.Kind.TheVariants.{Unready as UnreadyKind, Ready as ReadyKind}
-use Rattle.judge_lines.specs.Rows.{IsDraw, IsCpuRead, IsRead, GoesOn, IsWait, IsBehindLook, IsSystemCall}
-use Rattle.judge_vread.specs.declared.seen.Seen.{Seen}
-use Rattle.judge_vread.specs.declared.seen.Seen.TheVariants.{Unready, Ready, Pool, Base, Resumed, Cpu}
-use Rattle.judge_vread.specs.declared.system_call.Called.{Called}
+use Rattle.judge_lines.specs.Rows.{IsDraw, IsCpuRead, IsRead, GoesOn, IsWait, IsAfterLook, IsSystemCall}
+use Rattle.judge_vread.specs.declared.seen.SeenStep.{SeenStep}
+use Rattle.judge_vread.specs.declared.seen.SeenStep.TheVariants.{Unready, Ready, Pool, Base, Resumed, Cpu}
+use Rattle.judge_vread.specs.declared.system_call.SystemCallResult.{SystemCallResult}
 use Rattle.judge_vread.specs.Seen.{seen_kind}
-use Rattle.judge_vread.specs.Called.{no_more, cpu_read, unready_read, read, waited, behind_look, by_look, called}
+use Rattle.judge_vread.specs.Called.{no_more, cpu_read, unready_read, read, waited, after_look, by_look, called}
 
-abbrev kinds : List Seen → List Kind
+abbrev kinds : List SeenStep → List Kind
 kinds seen = map seen_kind seen
 
-none_row : (answer : Answer) (seen : List Seen) (c : Called) → no_more answer seen ≡ Some c → kinds seen ≡ []
+none_row : (answer : Answer) (seen : List SeenStep) (c : SystemCallResult) → no_more answer seen ≡ Some c → kinds seen ≡ []
 none_row answer [] c e = refl
 none_row answer (x ∷ xs) c e = absurd cc
 
-cpu_row : (n : ℕ) (seen : List Seen) (c : Called) → cpu_read n seen ≡ Some c → IsCpuRead (kinds seen)
+cpu_row : (n : ℕ) (seen : List SeenStep) (c : SystemCallResult) → cpu_read n seen ≡ Some c → IsCpuRead (kinds seen)
 cpu_row n (Ready a ∷ Cpu key ∷ []) c e = inl refl
 cpu_row n (Ready a ∷ Base other ∷ Cpu key ∷ []) c e = inr refl
 cpu_row n _ c e = absurd cc
 
-draw_row : (n : ℕ) (seen : List Seen) (c : Called) → unready_read n seen ≡ Some c →
+draw_row : (n : ℕ) (seen : List SeenStep) (c : SystemCallResult) → unready_read n seen ≡ Some c →
     IsDraw (kinds seen) ⊎ IsCpuRead (kinds seen)
 draw_row n (Base key ∷ []) c e = inl (inr refl)
 draw_row n (Pool ∷ Base key ∷ []) c e = inl (inl refl)
 draw_row n (Ready a ∷ seen) c e = inr (cpu_row n (Ready a ∷ seen) c e)
 draw_row n _ c e = absurd cc
 
-read_row : (n : ℕ) (ready : Bool) (seen : List Seen) (c : Called) → read n ready seen ≡ Some c →
+read_row : (n : ℕ) (ready : Bool) (seen : List SeenStep) (c : SystemCallResult) → read n ready seen ≡ Some c →
     MatchBool (n == 0) (kinds seen ≡ []) (IsRead ready (kinds seen))
 read_row n true seen c e = go (n == 0) e
   where
@@ -51,7 +51,7 @@ read_row n false seen c e = go (n == 0) e
     go true e = none_row Done seen c e
     go false e = split (draw_row n seen c e)
 
-on_row : (n : ℕ) (seen : List Seen) (c : Called) → read n true seen ≡ Some c → GoesOn n (kinds seen)
+on_row : (n : ℕ) (seen : List SeenStep) (c : SystemCallResult) → read n true seen ≡ Some c → GoesOn n (kinds seen)
 on_row n seen c e = go (n == 0) e
   where
     go : (b : Bool) → (if b then no_more Done seen else cpu_read n seen) ≡ Some c →
@@ -59,15 +59,15 @@ on_row n seen c e = go (n == 0) e
     go true e = none_row Done seen c e
     go false e = cpu_row n seen c e
 
-wait_row : (n : ℕ) (seen : List Seen) (c : Called) → waited n seen ≡ Some c → IsWait n (kinds seen)
+wait_row : (n : ℕ) (seen : List SeenStep) (c : SystemCallResult) → waited n seen ≡ Some c → IsWait n (kinds seen)
 wait_row n (Base wait ∷ Base interrupt ∷ []) c e = inl refl
 wait_row n (Base wait ∷ Resumed ∷ seen) c e = inr (kinds seen, refl, on_row n seen c e)
 wait_row n _ c e = absurd cc
 
 -- if the code recognizes the steps after a look, their kinds are a row
-behind_row : (n flags : ℕ) (ready : Bool) (seen : List Seen) (c : Called) → behind_look n flags ready seen ≡ Some c →
-    IsBehindLook n flags ready (kinds seen)
-behind_row n flags ready seen c e = go ready (is_insecure flags) (is_nonblock flags) e
+after_row : (n flags : ℕ) (ready : Bool) (seen : List SeenStep) (c : SystemCallResult) → after_look n flags ready seen ≡ Some c →
+    IsAfterLook n flags ready (kinds seen)
+after_row n flags ready seen c e = go ready (is_insecure flags) (is_nonblock flags) e
   where
     go : (r i b : Bool) →
         (if r || i then read n ready seen else (if b then no_more Again seen else waited n seen)) ≡ Some c →
@@ -79,106 +79,106 @@ behind_row n flags ready seen c e = go ready (is_insecure flags) (is_nonblock fl
     go false false false e = wait_row n seen c e
 
 abbrev Row : ℕ → ℕ → List Kind → Type 0
-Row n flags kinds = ((rest : List Kind) × (kinds ≡ UnreadyKind ∷ rest) × IsBehindLook n flags false rest)
-    ⊎ ((rest : List Kind) × (kinds ≡ ReadyKind ∷ rest) × IsBehindLook n flags true rest)
+Row n flags kinds = ((rest : List Kind) × (kinds ≡ UnreadyKind ∷ rest) × IsAfterLook n flags false rest)
+    ⊎ ((rest : List Kind) × (kinds ≡ ReadyKind ∷ rest) × IsAfterLook n flags true rest)
 
-pub called_row : (n flags : ℕ) (seen : List Seen) (c : Called) → called n flags seen ≡ Some c →
+pub called_row : (n flags : ℕ) (seen : List SeenStep) (c : SystemCallResult) → called n flags seen ≡ Some c →
     IsSystemCall n flags (kinds seen)
 called_row n flags seen c e = go (is_bad flags) seen e
   where
-    go : (b : Bool) (seen : List Seen) → (if b then no_more Invalid seen else by_look n flags seen) ≡ Some c →
+    go : (b : Bool) (seen : List SeenStep) → (if b then no_more Invalid seen else by_look n flags seen) ≡ Some c →
         MatchBool b (kinds seen ≡ []) (Row n flags (kinds seen))
     go true seen e = none_row Invalid seen c e
-    go false (Unready ∷ seen) e = inl (kinds seen, refl, behind_row n flags false seen c e)
-    go false (Ready g ∷ seen) e = inr (kinds seen, refl, behind_row n flags true seen c e)
+    go false (Unready ∷ seen) e = inl (kinds seen, refl, after_row n flags false seen c e)
+    go false (Ready g ∷ seen) e = inr (kinds seen, refl, after_row n flags true seen c e)
     go false _ e = absurd cc
 
 -- ---- from a row to the test in the code
 
-abbrev Told : Option Called → Type 0
-Told o = (c : Called) × (o ≡ Some c)
+abbrev Inferred : Option SystemCallResult → Type 0
+Inferred o = (c : SystemCallResult) × (o ≡ Some c)
 
-none_told : (answer : Answer) (seen : List Seen) → kinds seen ≡ [] → Told (no_more answer seen)
-none_told answer [] row = (_, refl)
-none_told answer (x ∷ xs) row = absurd cc
+none_inferred : (answer : Answer) (seen : List SeenStep) → kinds seen ≡ [] → Inferred (no_more answer seen)
+none_inferred answer [] row = (_, refl)
+none_inferred answer (x ∷ xs) row = absurd cc
 
-cpu_told : (n : ℕ) (seen : List Seen) → IsCpuRead (kinds seen) → Told (cpu_read n seen)
-cpu_told n (Ready a ∷ Cpu key ∷ []) row = (_, refl)
-cpu_told n (Ready a ∷ Base other ∷ Cpu key ∷ []) row = (_, refl)
-cpu_told n _ (inl row) = absurd cc
-cpu_told n _ (inr row) = absurd cc
+cpu_inferred : (n : ℕ) (seen : List SeenStep) → IsCpuRead (kinds seen) → Inferred (cpu_read n seen)
+cpu_inferred n (Ready a ∷ Cpu key ∷ []) row = (_, refl)
+cpu_inferred n (Ready a ∷ Base other ∷ Cpu key ∷ []) row = (_, refl)
+cpu_inferred n _ (inl row) = absurd cc
+cpu_inferred n _ (inr row) = absurd cc
 
-draw_told : (n : ℕ) (seen : List Seen) → IsDraw (kinds seen) ⊎ IsCpuRead (kinds seen) → Told (unready_read n seen)
-draw_told n (Base key ∷ []) row = (_, refl)
-draw_told n (Pool ∷ Base key ∷ []) row = (_, refl)
-draw_told n (Ready a ∷ seen) (inr row) = cpu_told n (Ready a ∷ seen) row
-draw_told n _ (inl (inl row)) = absurd cc
-draw_told n _ (inl (inr row)) = absurd cc
-draw_told n _ (inr (inl row)) = absurd cc
-draw_told n _ (inr (inr row)) = absurd cc
+draw_inferred : (n : ℕ) (seen : List SeenStep) → IsDraw (kinds seen) ⊎ IsCpuRead (kinds seen) → Inferred (unready_read n seen)
+draw_inferred n (Base key ∷ []) row = (_, refl)
+draw_inferred n (Pool ∷ Base key ∷ []) row = (_, refl)
+draw_inferred n (Ready a ∷ seen) (inr row) = cpu_inferred n (Ready a ∷ seen) row
+draw_inferred n _ (inl (inl row)) = absurd cc
+draw_inferred n _ (inl (inr row)) = absurd cc
+draw_inferred n _ (inr (inl row)) = absurd cc
+draw_inferred n _ (inr (inr row)) = absurd cc
 
-read_told : (n : ℕ) (ready : Bool) (seen : List Seen) →
-    MatchBool (n == 0) (kinds seen ≡ []) (IsRead ready (kinds seen)) → Told (read n ready seen)
-read_told n true seen row = go (n == 0) row
+read_inferred : (n : ℕ) (ready : Bool) (seen : List SeenStep) →
+    MatchBool (n == 0) (kinds seen ≡ []) (IsRead ready (kinds seen)) → Inferred (read n ready seen)
+read_inferred n true seen row = go (n == 0) row
   where
-    split : IsRead true (kinds seen) → Told (cpu_read n seen)
+    split : IsRead true (kinds seen) → Inferred (cpu_read n seen)
     split (inl row) = absurd (let e = row.0 in cc)
-    split (inr row) = cpu_told n seen row
+    split (inr row) = cpu_inferred n seen row
 
     go : (b : Bool) → MatchBool b (kinds seen ≡ []) (IsRead true (kinds seen)) →
-        Told (if b then no_more Done seen else cpu_read n seen)
-    go true row = none_told Done seen row
+        Inferred (if b then no_more Done seen else cpu_read n seen)
+    go true row = none_inferred Done seen row
     go false row = split row
-read_told n false seen row = go (n == 0) row
+read_inferred n false seen row = go (n == 0) row
   where
-    split : IsRead false (kinds seen) → Told (unready_read n seen)
-    split (inl row) = draw_told n seen (inl row.1)
-    split (inr row) = draw_told n seen (inr row)
+    split : IsRead false (kinds seen) → Inferred (unready_read n seen)
+    split (inl row) = draw_inferred n seen (inl row.1)
+    split (inr row) = draw_inferred n seen (inr row)
 
     go : (b : Bool) → MatchBool b (kinds seen ≡ []) (IsRead false (kinds seen)) →
-        Told (if b then no_more Done seen else unready_read n seen)
-    go true row = none_told Done seen row
+        Inferred (if b then no_more Done seen else unready_read n seen)
+    go true row = none_inferred Done seen row
     go false row = split row
 
-on_told : (n : ℕ) (seen : List Seen) → GoesOn n (kinds seen) → Told (read n true seen)
-on_told n seen row = go (n == 0) row
+on_inferred : (n : ℕ) (seen : List SeenStep) → GoesOn n (kinds seen) → Inferred (read n true seen)
+on_inferred n seen row = go (n == 0) row
   where
     go : (b : Bool) → MatchBool b (kinds seen ≡ []) (IsCpuRead (kinds seen)) →
-        Told (if b then no_more Done seen else cpu_read n seen)
-    go true row = none_told Done seen row
-    go false row = cpu_told n seen row
+        Inferred (if b then no_more Done seen else cpu_read n seen)
+    go true row = none_inferred Done seen row
+    go false row = cpu_inferred n seen row
 
-wait_told : (n : ℕ) (seen : List Seen) → IsWait n (kinds seen) → Told (waited n seen)
-wait_told n (Base wait ∷ Base interrupt ∷ []) row = (_, refl)
-wait_told n (Base wait ∷ Resumed ∷ seen) (inr (rest, is, row)) =
-    let e : rest ≡ kinds seen = cc in on_told n seen (subst (λ ks. GoesOn n ks) e row)
-wait_told n _ (inl row) = absurd cc
-wait_told n _ (inr (rest, is, row)) = absurd cc
+wait_inferred : (n : ℕ) (seen : List SeenStep) → IsWait n (kinds seen) → Inferred (waited n seen)
+wait_inferred n (Base wait ∷ Base interrupt ∷ []) row = (_, refl)
+wait_inferred n (Base wait ∷ Resumed ∷ seen) (inr (rest, is, row)) =
+    let e : rest ≡ kinds seen = cc in on_inferred n seen (subst (λ ks. GoesOn n ks) e row)
+wait_inferred n _ (inl row) = absurd cc
+wait_inferred n _ (inr (rest, is, row)) = absurd cc
 
-behind_told : (n flags : ℕ) (ready : Bool) (seen : List Seen) → IsBehindLook n flags ready (kinds seen) →
-    Told (behind_look n flags ready seen)
-behind_told n flags ready seen row = go ready (is_insecure flags) (is_nonblock flags) row
+after_inferred : (n flags : ℕ) (ready : Bool) (seen : List SeenStep) → IsAfterLook n flags ready (kinds seen) →
+    Inferred (after_look n flags ready seen)
+after_inferred n flags ready seen row = go ready (is_insecure flags) (is_nonblock flags) row
   where
     go : (r i b : Bool) →
         MatchBool (not r && not i) (MatchBool b (kinds seen ≡ []) (IsWait n (kinds seen)))
         (MatchBool (n == 0) (kinds seen ≡ []) (IsRead ready (kinds seen))) →
-        Told (if r || i then read n ready seen else (if b then no_more Again seen else waited n seen))
-    go true i b row = read_told n ready seen row
-    go false true b row = read_told n ready seen row
-    go false false true row = none_told Again seen row
-    go false false false row = wait_told n seen row
+        Inferred (if r || i then read n ready seen else (if b then no_more Again seen else waited n seen))
+    go true i b row = read_inferred n ready seen row
+    go false true b row = read_inferred n ready seen row
+    go false false true row = none_inferred Again seen row
+    go false false false row = wait_inferred n seen row
 
-pub row_called : (n flags : ℕ) (seen : List Seen) → IsSystemCall n flags (kinds seen) → Told (called n flags seen)
+pub row_called : (n flags : ℕ) (seen : List SeenStep) → IsSystemCall n flags (kinds seen) → Inferred (called n flags seen)
 row_called n flags seen row = go (is_bad flags) seen row
   where
-    go : (b : Bool) (seen : List Seen) → MatchBool b (kinds seen ≡ []) (Row n flags (kinds seen)) →
-        Told (if b then no_more Invalid seen else by_look n flags seen)
-    go true seen row = none_told Invalid seen row
+    go : (b : Bool) (seen : List SeenStep) → MatchBool b (kinds seen ≡ []) (Row n flags (kinds seen)) →
+        Inferred (if b then no_more Invalid seen else by_look n flags seen)
+    go true seen row = none_inferred Invalid seen row
     go false (Unready ∷ seen) (inl (rest, is, row)) =
         let e : rest ≡ kinds seen = cc in
-        behind_told n flags false seen (subst (λ ks. IsBehindLook n flags false ks) e row)
+        after_inferred n flags false seen (subst (λ ks. IsAfterLook n flags false ks) e row)
     go false (Ready g ∷ seen) (inr (rest, is, row)) =
         let e : rest ≡ kinds seen = cc in
-        behind_told n flags true seen (subst (λ ks. IsBehindLook n flags true ks) e row)
+        after_inferred n flags true seen (subst (λ ks. IsAfterLook n flags true ks) e row)
     go false _ (inl (rest, is, row)) = absurd cc
     go false _ (inr (rest, is, row)) = absurd cc

@@ -3,9 +3,9 @@ pub mod SeenShapes
 pub mod CalledRows
 pub mod CalledSays
 pub mod AttemptShapes
-pub mod AttemptsTold
+pub mod AttemptsInferred
 pub mod CallPoints
-pub mod CallsTold
+pub mod CallsInferred
 pub mod CallsFollowed
 pub mod Vreads
-pub mod VreadTold
+pub mod VreadInferred

@@ -3,14 +3,14 @@ use Rattle.std.proofs.Common.{◌≡◌, ℕ, ◌≤◌, true, false, List, [], 
 use Rattle.std.specs.Prelude.{◌==◌, ⊤, map}
 use Rattle.std.proofs.lemmas.Bool.Decides.{nat_tests}
 use Rattle.key_names.specs.declared.entries.BaseEntry.TheVariants.{Resume}
-use Rattle.key_names.specs.Callers.Deeds.{Deed, looked, at_pool, at_base, at_cpu, nothing_there, PoolVisit, BaseVisit, CpuVisit}
-use Rattle.key_names.specs.Callers.Deeds.{base_serves}
+use Rattle.key_names.specs.Callers.Effects.{Effect, looked, at_pool, at_base, at_cpu, nothing_there, PoolVisit, BaseVisit, CpuVisit}
+use Rattle.key_names.specs.Callers.Effects.{base_serves}
 use Rattle.key_names.proofs.Unique.UniqueAttempts.{not_zero}
 use Rattle.judge_lines.specs.declared.kind.Kind.TheVariants.{Base as BaseKind}
 use Rattle.judge_lines.specs.Kinds.{base_kind, cpu_kind, kind_of, kinds_of}
 use Rattle.judge_lines.proofs.RowShapes.{is_zero, look_kind_is}
-use Rattle.judge_vread.specs.declared.seen.Seen.{Seen}
-use Rattle.judge_vread.specs.declared.seen.Seen.TheVariants.{Unready, Ready, Pool, Base, Resumed, Cpu, Elsewhere}
+use Rattle.judge_vread.specs.declared.seen.SeenStep.{SeenStep}
+use Rattle.judge_vread.specs.declared.seen.SeenStep.TheVariants.{Unready, Ready, Pool, Base, Resumed, Cpu, Elsewhere}
 use Rattle.judge_vread.specs.Seen.{seen_kind, ServesBy, IsSeen, AllSeen}
 
 module _ (cpu : ℕ) where
@@ -30,33 +30,33 @@ module _ (cpu : ℕ) where
     pub serves : ServesBy key v.entry v.serves
 
   -- the look or visit of a seen step
-  abbrev pub One : Seen → Type 0
+  abbrev pub One : SeenStep → Type 0
   One Unready = ⊤
   One (Ready g) = 1 ≤ g
   One Pool = PoolVisit
   One (Base key) = InBase key
   One Resumed = Resuming
   One (Cpu key) = OnCpu key
-  One Elsewhere = (d : Deed) × IsSeen cpu Elsewhere d
+  One Elsewhere = (d : Effect) × IsSeen cpu Elsewhere d
 
-  abbrev pub deed : (x : Seen) → One x → Deed
-  deed Unready p = looked 0
-  deed (Ready g) p = looked g
-  deed Pool p = at_pool p
-  deed (Base key) p = at_base p.v
-  deed Resumed p = at_base p.v
-  deed (Cpu key) p = at_cpu p.v
-  deed Elsewhere p = p.0
+  abbrev pub effect : (x : SeenStep) → One x → Effect
+  effect Unready p = looked 0
+  effect (Ready g) p = looked g
+  effect Pool p = at_pool p
+  effect (Base key) p = at_base p.v
+  effect Resumed p = at_base p.v
+  effect (Cpu key) p = at_cpu p.v
+  effect Elsewhere p = p.0
 
-  abbrev pub Shape : List Seen → Type 0
+  abbrev pub Shape : List SeenStep → Type 0
   Shape [] = ⊤
   Shape (x ∷ xs) = One x × Shape xs
 
-  abbrev pub deeds_in : (seen : List Seen) → Shape seen → List Deed
-  deeds_in [] s = []
-  deeds_in (x ∷ xs) s = deed x s.0 ∷ deeds_in xs s.1
+  abbrev pub effects_in : (seen : List SeenStep) → Shape seen → List Effect
+  effects_in [] s = []
+  effects_in (x ∷ xs) s = effect x s.0 ∷ effects_in xs s.1
 
-  one : (x : Seen) (d : Deed) → IsSeen cpu x d → (p : One x) × (d ≡ deed x p)
+  one : (x : SeenStep) (d : Effect) → IsSeen cpu x d → (p : One x) × (d ≡ effect x p)
   one Unready (looked g) h = (tt, ap looked h)
   one (Ready found) (looked g) h = (h.1, ap looked h.0)
   one Pool (at_pool v) h = (v, refl)
@@ -66,18 +66,18 @@ module _ (cpu : ℕ) where
   one Elsewhere d h = ((d, h), refl)
   one _ _ h = absurd h
 
-  both : (x y : Deed) (xs ys : List Deed) → x ≡ y → xs ≡ ys → x ∷ xs ≡ y ∷ ys
+  both : (x y : Effect) (xs ys : List Effect) → x ≡ y → xs ≡ ys → x ∷ xs ≡ y ∷ ys
   both x y xs ys p q = cc
 
-  pub shaped : (seen : List Seen) (ds : List Deed) → AllSeen cpu seen ds → (s : Shape seen) × (ds ≡ deeds_in seen s)
+  pub shaped : (seen : List SeenStep) (ds : List Effect) → AllSeen cpu seen ds → (s : Shape seen) × (ds ≡ effects_in seen s)
   shaped [] [] h = (tt, refl)
   shaped [] (d ∷ ds) h = absurd h
   shaped (x ∷ xs) [] h = absurd h
   shaped (x ∷ xs) (d ∷ ds) h =
       let p = one x d h.0 in
-      let r = shaped xs ds h.1 in ((p.0, r.0), both d (deed x p.0) ds (deeds_in xs r.0) p.1 r.1)
+      let r = shaped xs ds h.1 in ((p.0, r.0), both d (effect x p.0) ds (effects_in xs r.0) p.1 r.1)
 
-  kind_seen : (x : Seen) (d : Deed) → IsSeen cpu x d → kind_of cpu d ≡ seen_kind x
+  kind_seen : (x : SeenStep) (d : Effect) → IsSeen cpu x d → kind_of cpu d ≡ seen_kind x
   kind_seen Unready (looked g) h = look_kind_is cpu g true (is_zero g h)
   kind_seen (Ready found) (looked g) h =
       let P : ℕ → Type 0 = λ n. 1 ≤ n in look_kind_is cpu g false (not_zero g (subst P (sym h.0) h.1))
@@ -90,14 +90,14 @@ module _ (cpu : ℕ) where
   kind_seen Elsewhere nothing_there h = refl
   kind_seen _ _ h = absurd h
 
-  pub kinds_seen : (seen : List Seen) (ds : List Deed) → AllSeen cpu seen ds → kinds_of cpu ds ≡ map seen_kind seen
+  pub kinds_seen : (seen : List SeenStep) (ds : List Effect) → AllSeen cpu seen ds → kinds_of cpu ds ≡ map seen_kind seen
   kinds_seen [] [] h = refl
   kinds_seen [] (d ∷ ds) h = absurd h
   kinds_seen (x ∷ xs) [] h = absurd h
   kinds_seen (x ∷ xs) (d ∷ ds) h = let p = kind_seen x d h.0 in let q = kinds_seen xs ds h.1 in cc
 
   -- a seen step shows the look or visit that its shape has
-  one_seen : (x : Seen) (p : One x) → IsSeen cpu x (deed x p)
+  one_seen : (x : SeenStep) (p : One x) → IsSeen cpu x (effect x p)
   one_seen Unready p = refl
   one_seen (Ready g) p = (refl, p)
   one_seen Pool p = tt
@@ -106,58 +106,58 @@ module _ (cpu : ℕ) where
   one_seen (Cpu key) p = (p.on, p.serves)
   one_seen Elsewhere p = p.1
 
-  pub shape_seen : (seen : List Seen) (s : Shape seen) → AllSeen cpu seen (deeds_in seen s)
+  pub shape_seen : (seen : List SeenStep) (s : Shape seen) → AllSeen cpu seen (effects_in seen s)
   shape_seen [] s = tt
   shape_seen (x ∷ xs) s = (one_seen x s.0, shape_seen xs s.1)
 
   -- ---- from a look or visit to its seen step
 
-  pub record SeenLook (g : ℕ) (seen : List Seen) (rest : List Deed) : Type 0 where
-    pub behind : List Seen
-    pub is : seen ≡ Ready g ∷ behind
-    pub sees : AllSeen cpu behind rest
+  pub record SeenLook (g : ℕ) (seen : List SeenStep) (rest : List Effect) : Type 0 where
+    pub following : List SeenStep
+    pub is : seen ≡ Ready g ∷ following
+    pub sees : AllSeen cpu following rest
 
-  pub look_seen : (g : ℕ) (seen : List Seen) (rest : List Deed) → 1 ≤ g → AllSeen cpu seen (looked g ∷ rest) →
+  pub look_seen : (g : ℕ) (seen : List SeenStep) (rest : List Effect) → 1 ≤ g → AllSeen cpu seen (looked g ∷ rest) →
       SeenLook g seen rest
   look_seen g [] rest some h = absurd h
   look_seen g (Unready ∷ xs) rest some h =
       let none : g ≡ 0 = h.0 in absurd (omega arith)
   look_seen g (Ready found ∷ xs) rest some h =
-      record { behind = xs; is = ap (λ n. Ready n ∷ xs) (sym h.0.0); sees = h.1 }
+      record { following = xs; is = ap (λ n. Ready n ∷ xs) (sym h.0.0); sees = h.1 }
   look_seen g (x ∷ xs) rest some h = absurd h.0
 
-  pub record SeenCpu (v : CpuVisit) (seen : List Seen) (rest : List Deed) : Type 0 where
+  pub record SeenCpu (v : CpuVisit) (seen : List SeenStep) (rest : List Effect) : Type 0 where
     pub key : List ℕ
-    pub behind : List Seen
-    pub is : seen ≡ Cpu key ∷ behind
+    pub following : List SeenStep
+    pub is : seen ≡ Cpu key ∷ following
     pub serves : ServesBy key v.entry v.serves
-    pub sees : AllSeen cpu behind rest
+    pub sees : AllSeen cpu following rest
 
-  pub cpu_seen : (v : CpuVisit) (seen : List Seen) (rest : List Deed) → v.cpu ≡ cpu →
+  pub cpu_seen : (v : CpuVisit) (seen : List SeenStep) (rest : List Effect) → v.cpu ≡ cpu →
       AllSeen cpu seen (at_cpu v ∷ rest) → SeenCpu v seen rest
   cpu_seen v [] rest on h = absurd h
-  cpu_seen v (Cpu key ∷ xs) rest on h = record { key = key; behind = xs; is = refl; serves = h.0.1; sees = h.1 }
+  cpu_seen v (Cpu key ∷ xs) rest on h = record { key = key; following = xs; is = refl; serves = h.0.1; sees = h.1 }
   cpu_seen v (Elsewhere ∷ xs) rest on h =
       (let other : (v.cpu == cpu) ≡ false = h.0 in
       let same : (v.cpu == cpu) ≡ true = grind (arith, nat_tests) in absurd cc)
   cpu_seen v (x ∷ xs) rest on h = absurd h.0
 
-  pub record SeenBase (seen : List Seen) (rest : List Deed) : Type 0 where
+  pub record SeenBase (seen : List SeenStep) (rest : List Effect) : Type 0 where
     pub key : List ℕ
-    pub behind : List Seen
-    pub is : seen ≡ Base key ∷ behind
-    pub sees : AllSeen cpu behind rest
+    pub following : List SeenStep
+    pub is : seen ≡ Base key ∷ following
+    pub sees : AllSeen cpu following rest
 
-  pub base_seen : (v : BaseVisit) (seen : List Seen) (rest : List Deed) → base_kind v.entry ≡ BaseKind →
+  pub base_seen : (v : BaseVisit) (seen : List SeenStep) (rest : List Effect) → base_kind v.entry ≡ BaseKind →
       AllSeen cpu seen (at_base v ∷ rest) → SeenBase seen rest
   base_seen v [] rest kind h = absurd h
-  base_seen v (Base key ∷ xs) rest kind h = record { key = key; behind = xs; is = refl; sees = h.1 }
+  base_seen v (Base key ∷ xs) rest kind h = record { key = key; following = xs; is = refl; sees = h.1 }
   base_seen v (Resumed ∷ xs) rest kind h = let other = ap base_kind h.0.0 in absurd cc
   base_seen v (x ∷ xs) rest kind h = absurd h.0
 
-  pub seen_nothing : (seen : List Seen) → AllSeen cpu seen [] → seen ≡ []
+  pub seen_nothing : (seen : List SeenStep) → AllSeen cpu seen [] → seen ≡ []
   seen_nothing [] h = refl
   seen_nothing (x ∷ xs) h = absurd h
 
-  pub see_at : (seen : List Seen) {ds xs : List Deed} → ds ≡ xs → AllSeen cpu seen ds → AllSeen cpu seen xs
-  see_at seen {ds = ds} {xs = xs} p h = let P : List Deed → Type 0 = λ x. AllSeen cpu seen x in subst P p h
+  pub see_at : (seen : List SeenStep) {ds xs : List Effect} → ds ≡ xs → AllSeen cpu seen ds → AllSeen cpu seen xs
+  see_at seen {ds = ds} {xs = xs} p h = let P : List Effect → Type 0 = λ x. AllSeen cpu seen x in subst P p h

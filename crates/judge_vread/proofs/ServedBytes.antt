@@ -1,4 +1,4 @@
--- The bytes of a recipe are made in parts.
+-- The bytes of a recipe can be made piece by piece.
 use Rattle.std.proofs.Common.{◌≡◌, ℕ, ◌+◌, ◌-◌, ◌≤◌, ◌<◌, ◌^◌, List, ◌++◌, length, take, drop, refl, sym, subst, ap, ◌∙◌, append_assoc, Ok, Err, arith}
 use Rattle.std.specs.Prelude.{Result, OnErr, slice_range}
 use Rattle.std.proofs.Math.Seq.{take-add, take-append-add, drop-append_seam}
@@ -14,13 +14,13 @@ length_made front key k from len within =
     ∙ ap (λ n. length (take k front) + n) (sym (length-keystream key from len))
     ∙ sym (length-append (take k front) (keystream key from len))
 
--- fewer than 2^32 bytes are made
+-- if the two lengths of a recipe add up to fewer than 2^32, the recipe makes fewer than 2^32 bytes
 pub few_made : (front key : List ℕ) (k from len : ℕ) (r : Recipe) → k ≤ length front → k + len < 2 ^ 32 →
     record { front = take k front; key = key; from = from; len = len } ≡ r → length (bytes_made r) < 2 ^ 32
 few_made front key k from len r within few is =
     subst (λ n. n < 2 ^ 32) (length_made front key k from len within ∙ ap (λ r. length (bytes_made r)) is) few
 
--- one more piece of the stream follows the pieces that are made
+-- appending the stream's first `done` bytes and then its next `next` bytes appends its first done + next bytes
 pub put_more : (old items more part key : List ℕ) (from done next : ℕ) → items ≡ old ++ keystream key from done →
     part ≡ keystream key (from + done) next → more ≡ items ++ part → more ≡ old ++ keystream key from (done + next)
 put_more old items more part key from done next were is made =
@@ -32,7 +32,7 @@ pub on_err : {T E : Type 0} (result : Result T E) (P : Type 0) → P → OnErr r
 on_err (Ok value) P p = tt
 on_err (Err error) P p = p
 
--- if a part is put of the rest, a part is put of the whole
+-- if a failed put appended `front` and a prefix of `made`, the put appended a prefix of front ++ made
 pub put_some : {T E : Type 0} (result : Result T E) (old mid items front made : List ℕ) → mid ≡ old ++ front →
     OnErr result ((n : ℕ) × (items ≡ mid ++ take n made)) →
     OnErr result ((n : ℕ) × (items ≡ old ++ take n (front ++ made)))
@@ -50,7 +50,7 @@ same_more bytes key from done next were is =
     ∙ ap (λ x. keystream key from done ++ x) is
     ∙ keystream-append key from done (from + done) next (done + next) refl (λ some. refl)
 
--- if all bytes equal the stream, each piece of them does
+-- if all bytes equal the stream, each piece of the bytes equals its piece of the stream
 pub piece_same : (bytes key : List ℕ) (from done next : ℕ) → done + next ≤ length bytes →
     bytes ≡ keystream key from (length bytes) → take next (drop done bytes) ≡ keystream key (from + done) next
 piece_same bytes key from done next within is =

@@ -1,4 +1,4 @@
--- Steps can be followed as a vread exactly if they are a vread.
+-- Steps can be followed as a vread exactly if the steps are a vread of the definitions.
 use Rattle.std.proofs.Common.{◌≡◌, ℕ, suc, ◌≤◌, Bool, true, false, List, [], ◌∷◌, ◌++◌, length, Some, None, Option, refl, sym, subst, ap, ◌∙◌, arith}
 use Rattle.std.specs.Prelude.{◌==◌, ◌&&◌, ◌||◌, not, nat_le, MatchBool, if◌then◌else◌}
 use Rattle.std.specs.List.{AllByRecursion, list_any}
@@ -9,7 +9,7 @@ use Rattle.key_names.specs.Kernel.Flags.{is_bad}
 use Rattle.key_names.specs.declared.point.Point.TheVariants.{Start, Written, Serve, End}
 use Rattle.key_names.specs.Kernel.Points.{is_same_point}
 use Rattle.key_names.specs.Callers.Calls.{Setting, BoundAct}
-use Rattle.key_names.specs.Callers.Deeds.{Deed, looked, at_cpu, nothing_there}
+use Rattle.key_names.specs.Callers.Effects.{Effect, looked, at_cpu, nothing_there}
 use Rattle.key_names.specs.Callers.Forms.{Looked}
 use Rattle.key_names.specs.Kernel.VgetrandomState.{VgetrandomState}
 use Rattle.key_names.specs.Kernel.BatchCopy.{copy_entries, state_after_copy, serves_locally}
@@ -22,22 +22,22 @@ use Rattle.key_names.specs.declared.entries.Taken.TheVariants.{User}
 use Rattle.key_names.specs.Callers.Answers.{system_answer, served_bytes}
 use Rattle.std.proofs.lemmas.Bool.{and_parts}
 use Rattle.key_names.proofs.Unique.UniqueAttempts.{not_zero}
-use Rattle.judge_lines.specs.Told.{AllFill, FillsPart, first_sign}
-use Rattle.judge_lines.specs.declared.told.Sign.TheVariants.{Nowhere as nowhere}
+use Rattle.judge_lines.specs.Inferred.{AllFill, FillsPart, first_sign}
+use Rattle.judge_lines.specs.declared.inferred.Sign.TheVariants.{Nowhere as nowhere}
 use Rattle.judge_lines.proofs.RowShapes.{is_zero}
-use Rattle.judge_vread.specs.declared.seen.Seen.{Seen}
-use Rattle.judge_vread.specs.declared.seen.Seen.TheVariants.{Unready, Ready, Pool, Base, Resumed, Cpu, Elsewhere}
+use Rattle.judge_vread.specs.declared.seen.SeenStep.{SeenStep}
+use Rattle.judge_vread.specs.declared.seen.SeenStep.TheVariants.{Unready, Ready, Pool, Base, Resumed, Cpu, Elsewhere}
 use Rattle.judge_vread.specs.declared.inside.Reached.TheVariants.{Nothing}
 use Rattle.judge_vread.specs.Recipe.{bytes_made, copy_recipe}
 use Rattle.judge_vread.specs.Seen.{AllSeen, LookFits, rises}
 use Rattle.judge_vread.specs.Inside.{inside_of, includes}
-use Rattle.judge_vread.specs.Course.{published, Followed, leaving, at_end, by_vgetrandom, copy_or_call, followed}
+use Rattle.judge_vread.specs.Path.{published, Followed, leaving, at_end, by_vgetrandom, copy_or_call, followed}
 use Rattle.judge_vread.specs.Laws.{VreadFills, meaning_of, FollowedIsVread, IsFollowed, VreadIsFollowed, CalledSays, ActJoins}
-use Rattle.judge_vread.proofs.SeenShapes.{Shape, deeds_in, shaped, seen_nothing, see_at}
+use Rattle.judge_vread.proofs.SeenShapes.{Shape, effects_in, shaped, seen_nothing, see_at}
 use Rattle.judge_vread.proofs.AttemptShapes.{published_is, Known}
 use Rattle.judge_vread.proofs.CalledSays.{called_says}
 use Rattle.judge_vread.proofs.CallPoints.{acts_by}
-use Rattle.judge_vread.proofs.CallsTold.{Call, vgetrandom_told}
+use Rattle.judge_vread.proofs.CallsInferred.{Call, vgetrandom_inferred}
 use Rattle.judge_vread.proofs.CallsFollowed.{vgetrandom_followed}
 
 -- ---- looks
@@ -54,17 +54,17 @@ le_is a b e = grind (arith, nat_tests)
 zero_of : (a : ℕ) → (a == 0) ≡ true → a ≡ 0
 zero_of a e = grind (arith, nat_tests)
 
--- no look is below the one before it; the first is not below last
+-- the looks never fall, and the first look is not below `last`
 abbrev From : ℕ → List ℕ → Type 0
 From last looks = NeverFall (last ∷ looks)
 
-rise_looks : (cpu last : ℕ) (seen : List Seen) (s : Shape cpu seen) → rises last seen ≡ true →
-    From last (looks_of (deeds_in cpu seen s))
+rise_looks : (cpu last : ℕ) (seen : List SeenStep) (s : Shape cpu seen) → rises last seen ≡ true →
+    From last (looks_of (effects_in cpu seen s))
 rise_looks cpu last [] s e = tt
 rise_looks cpu last (Unready ∷ seen) s e =
     let p = and_parts (last == 0) (rises last seen) e in
     let none : last ≡ 0 = zero_of last p.0 in
-    let P : ℕ → Type 0 = λ x. From x (looks_of (deeds_in cpu seen s.1)) in
+    let P : ℕ → Type 0 = λ x. From x (looks_of (effects_in cpu seen s.1)) in
     (omega arith, subst P none (rise_looks cpu last seen s.1 p.1))
 rise_looks cpu last (Ready g ∷ seen) s e =
     let p = and_parts (nat_le last g) (rises g seen) e in (le_of last g p.0, rise_looks cpu g seen s.1 p.1)
@@ -76,12 +76,12 @@ rise_looks cpu last (Elsewhere ∷ seen) (((at_cpu v), h), s) e = rise_looks cpu
 rise_looks cpu last (Elsewhere ∷ seen) ((nothing_there, h), s) e = rise_looks cpu last seen s e
 rise_looks cpu last (Elsewhere ∷ seen) ((d, h), s) e = absurd h
 
-looks_rise : (cpu last : ℕ) (seen : List Seen) (s : Shape cpu seen) → From last (looks_of (deeds_in cpu seen s)) →
+looks_rise : (cpu last : ℕ) (seen : List SeenStep) (s : Shape cpu seen) → From last (looks_of (effects_in cpu seen s)) →
     rises last seen ≡ true
 looks_rise cpu last [] s h = refl
 looks_rise cpu last (Unready ∷ seen) s h =
     let none : last ≡ 0 = omega (arith, h.0) in
-    let P : ℕ → Type 0 = λ x. From x (looks_of (deeds_in cpu seen s.1)) in
+    let P : ℕ → Type 0 = λ x. From x (looks_of (effects_in cpu seen s.1)) in
     true_both (last == 0) (rises last seen) (is_zero last none) (looks_rise cpu last seen s.1 (subst P (sym none) h.1))
 looks_rise cpu last (Ready g ∷ seen) s h =
     true_both (nat_le last g) (rises g seen) (le_is last g h.0) (looks_rise cpu g seen s.1 h.1)
@@ -101,8 +101,8 @@ without_zero : (last : ℕ) (looks : List ℕ) → From last looks → NeverFall
 without_zero last [] h = tt
 without_zero last (g ∷ looks) h = h.1
 
-known_from : (cpu last : ℕ) → 1 ≤ last → (seen : List Seen) (s : Shape cpu seen) →
-    From last (looks_of (deeds_in cpu seen s)) → AllByRecursion LookFits seen → Known (deeds_in cpu seen s)
+known_from : (cpu last : ℕ) → 1 ≤ last → (seen : List SeenStep) (s : Shape cpu seen) →
+    From last (looks_of (effects_in cpu seen s)) → AllByRecursion LookFits seen → Known (effects_in cpu seen s)
 known_from cpu last some [] s h fits = tt
 known_from cpu last some (Unready ∷ seen) s h fits = (let low : last ≤ 0 = h.0 in absurd (omega arith))
 known_from cpu last some (Ready g ∷ seen) s h fits = (s.0, fits.0, known_from cpu g s.0 seen s.1 h.1 fits.1)
@@ -127,7 +127,7 @@ no_acts_left set f [] (m ∷ ms) none h = absurd h
 no_acts_left set f (act ∷ acts) ms none h =
     (let p : (suc (length acts) == 0) ≡ false = not_zero (suc (length acts)) (omega arith) in absurd cc)
 
--- if there are no acts, no act is done
+-- if there are no acts, an empty list of meanings is the meaning of the acts
 none_done : (set : Setting) (f : BoundAct → Bool) (acts : List BoundAct) (ms : List LineMeaning) →
     (length acts == 0) ≡ true → ms ≡ [] → ActsMean set f acts ms
 none_done set f [] ms none is = let P : List LineMeaning → Type 0 = λ x. ActsMean set f [] x in subst P (sym is) tt
@@ -142,14 +142,14 @@ module _ (cf : LaneFacts) (n flags : ℕ) (acts : List BoundAct) (before : Calle
   s = current_state before
 
   abbrev Inside_ : Followed → Type 0
-  Inside_ f = ActsMean set (λ act. includes f.course.reached act.point) acts ms
+  Inside_ f = ActsMean set (λ act. includes f.path.reached act.point) acts ms
 
-  abbrev Is : (deeds : List Deed) → Followed → Type 0
-  Is deeds f = (entries : List VEntry) × ByVgetrandom n flags acts (meaning_of before deeds ms entries f)
+  abbrev Is : (effects : List Effect) → Followed → Type 0
+  Is effects f = (entries : List VEntry) × ByVgetrandom n flags acts (meaning_of before effects ms entries f)
 
-  called_is : (deeds : List Deed) (f : Followed) → Inside_ f →
-      Call cf set n flags (first_sign deeds) acts (IsCall n flags s) deeds f → Is deeds f
-  called_is deeds f inside k = (
+  called_is : (effects : List Effect) (f : Followed) → Inside_ f →
+      Call cf set n flags (first_sign effects) acts (IsCall n flags s) effects f → Is effects f
+  called_is effects f inside k = (
     k.outcome.entries,
     record {
       steps = k.steps;
@@ -157,7 +157,7 @@ module _ (cf : LaneFacts) (n flags : ℕ) (acts : List BoundAct) (before : Calle
       is_call = k.leads;
       shows = k.shows;
       wipes = k.wipes;
-      inside = acts_by set (λ act. includes f.course.reached act.point) (is_reached (points_of k.steps))
+      inside = acts_by set (λ act. includes f.path.reached act.point) (is_reached (points_of k.steps))
           (λ act. sym (k.which act)) acts ms inside;
       answer = k.answer;
       shown = k.shown;
@@ -166,25 +166,25 @@ module _ (cf : LaneFacts) (n flags : ℕ) (acts : List BoundAct) (before : Calle
     },
   )
 
-  abbrev Tried : (deeds : List Deed) → Followed → Type 0
-  Tried deeds f = (entries : List VEntry)
-      × Looked (LocalOrCall n flags acts (meaning_of before deeds ms entries f)) deeds
+  abbrev AttemptResult : (effects : List Effect) → Followed → Type 0
+  AttemptResult effects f = (entries : List VEntry)
+      × Looked (LocalOrCall n flags acts (meaning_of before effects ms entries f)) effects
 
-  -- a look that does not allow a copy starts a call
-  not_local : (g : ℕ) (rest : List Deed) (f : Followed) → serves_locally (published_by g) s n ≡ false →
-      Is (looked g ∷ rest) f → Tried (looked g ∷ rest) f
+  -- if the first look does not allow a copy without a call, the followed steps are a call
+  not_local : (g : ℕ) (rest : List Effect) (f : Followed) → serves_locally (published_by g) s n ≡ false →
+      Is (looked g ∷ rest) f → AttemptResult (looked g ∷ rest) f
   not_local g rest f other k =
       let m = meaning_of before (looked g ∷ rest) ms k.0 f in
       let P : Bool → Type 0 = λ b. MatchBool b (ByLocalCopy n rest m) (ByVgetrandom n flags acts m) in
       (k.0, (g, rest, refl, subst P (sym other) k.1))
 
-  by_copy : (g : ℕ) (seen : List Seen) (sh : Shape set.cpu seen) (f : Followed) →
+  by_copy : (g : ℕ) (seen : List SeenStep) (sh : Shape set.cpu seen) (f : Followed) →
       serves_locally (published_by g) s n ≡ true → (length acts == 0) ≡ true → Inside_ f →
       leaving (state_after_copy s 0 n) (at_end (copy_recipe s 0 n) Nothing seen) ≡ Some f →
-      Tried (looked g ∷ deeds_in set.cpu seen sh) f
+      AttemptResult (looked g ∷ effects_in set.cpu seen sh) f
   by_copy g [] sh f serves none inside e =
       let is : record {
-        course = record { answer = Done; served = copy_recipe s 0 n; reached = Nothing };
+        path = record { answer = Done; served = copy_recipe s 0 n; reached = Nothing };
         state = state_after_copy s 0 n;
       } ≡ f = cc in
       let m : Followed → CallMeaning = λ x. meaning_of before (looked g ∷ []) ms (copy_entries s 0 n) x in
@@ -200,7 +200,7 @@ module _ (cf : LaneFacts) (n flags : ℕ) (acts : List BoundAct) (before : Calle
             no_more = refl;
             answer = refl;
             shown = refl;
-            no_acts = no_acts_left set (λ act. includes f.course.reached act.point) acts ms none inside;
+            no_acts = no_acts_left set (λ act. includes f.path.reached act.point) acts ms none inside;
             entries = refl;
             after = refl;
           })),
@@ -208,9 +208,9 @@ module _ (cf : LaneFacts) (n flags : ℕ) (acts : List BoundAct) (before : Calle
       )
   by_copy g (x ∷ seen) sh f serves none inside e = absurd cc
 
-  tried_is : (seen : List Seen) (sh : Shape set.cpu seen) (f : Followed) → AllByRecursion LookFits seen →
-      VreadFills cf set n (deeds_in set.cpu seen sh) → is_bad flags ≡ false → (length acts == 0) ≡ true → Inside_ f →
-      copy_or_call n flags (inside_of acts) s seen ≡ Some f → Tried (deeds_in set.cpu seen sh) f
+  tried_is : (seen : List SeenStep) (sh : Shape set.cpu seen) (f : Followed) → AllByRecursion LookFits seen →
+      VreadFills cf set n (effects_in set.cpu seen sh) → is_bad flags ≡ false → (length acts == 0) ≡ true → Inside_ f →
+      copy_or_call n flags (inside_of acts) s seen ≡ Some f → AttemptResult (effects_in set.cpu seen sh) f
   tried_is (Ready g ∷ seen) sh f fits fill good none inside e = go (serves_locally (published g) s n) refl e
     where
       same : published g ≡ published_by g
@@ -219,49 +219,49 @@ module _ (cf : LaneFacts) (n flags : ℕ) (acts : List BoundAct) (before : Calle
       go : (b : Bool) → serves_locally (published g) s n ≡ b →
           (if b then leaving (state_after_copy s 0 n) (at_end (copy_recipe s 0 n) Nothing seen)
           else by_vgetrandom n flags (inside_of acts) s (Ready g ∷ seen)) ≡ Some f →
-          Tried (deeds_in set.cpu (Ready g ∷ seen) sh) f
+          AttemptResult (effects_in set.cpu (Ready g ∷ seen) sh) f
       go true is e =
           by_copy g seen sh.1 f (ap (λ x. serves_locally x s n) (sym same) ∙ is) none inside e
       go false is e =
-          not_local g (deeds_in set.cpu seen sh.1) f (ap (λ x. serves_locally x s n) (sym same) ∙ is)
-          (called_is (looked g ∷ deeds_in set.cpu seen sh.1) f inside
-          (vgetrandom_told cf set n flags (first_sign (deeds_in set.cpu (Ready g ∷ seen) sh)) acts s (Ready g ∷ seen) sh f
+          not_local g (effects_in set.cpu seen sh.1) f (ap (λ x. serves_locally x s n) (sym same) ∙ is)
+          (called_is (looked g ∷ effects_in set.cpu seen sh.1) f inside
+          (vgetrandom_inferred cf set n flags (first_sign (effects_in set.cpu (Ready g ∷ seen) sh)) acts s (Ready g ∷ seen) sh f
           nowhere nowhere fill fits e))
   tried_is (Unready ∷ seen) sh f fits fill good none inside e =
-      not_local 0 (deeds_in set.cpu seen sh.1) f refl (called_is (looked 0 ∷ deeds_in set.cpu seen sh.1) f inside
-      (vgetrandom_told cf set n flags (first_sign (deeds_in set.cpu (Unready ∷ seen) sh)) acts s (Unready ∷ seen) sh f
+      not_local 0 (effects_in set.cpu seen sh.1) f refl (called_is (looked 0 ∷ effects_in set.cpu seen sh.1) f inside
+      (vgetrandom_inferred cf set n flags (first_sign (effects_in set.cpu (Unready ∷ seen) sh)) acts s (Unready ∷ seen) sh f
       nowhere nowhere fill fits e))
   tried_is _ sh f fits fill good none inside e = absurd (refused (is_bad flags) _ f good e)
 
 pub vread_of_followed : FollowedIsVread
-vread_of_followed cf n flags acts before deeds seen f ms sees fits fill e inside =
-    let P : List Deed → Type 0 = λ d.
+vread_of_followed cf n flags acts before effects seen f ms sees fits fill e inside =
+    let P : List Effect → Type 0 = λ d.
     (entries : List VEntry) × VreadMeans n flags acts (meaning_of before d ms entries f) in
     subst P (sym w.1) (go (rises 0 seen) refl e)
   where
     set : Setting
     set = before.setting
 
-    w : (sh : Shape before.setting.cpu seen) × (deeds ≡ deeds_in before.setting.cpu seen sh)
-    w = shaped before.setting.cpu seen deeds sees
+    w : (sh : Shape before.setting.cpu seen) × (effects ≡ effects_in before.setting.cpu seen sh)
+    w = shaped before.setting.cpu seen effects sees
 
-    ds : List Deed
-    ds = deeds_in before.setting.cpu seen w.0
+    ds : List Effect
+    ds = effects_in before.setting.cpu seen w.0
 
-    fill' : VreadFills cf before.setting n (deeds_in before.setting.cpu seen w.0)
-    fill' = let P : List Deed → Type 0 = λ d. VreadFills cf before.setting n d in subst P w.1 fill
+    fill' : VreadFills cf before.setting n (effects_in before.setting.cpu seen w.0)
+    fill' = let P : List Effect → Type 0 = λ d. VreadFills cf before.setting n d in subst P w.1 fill
 
     called : by_vgetrandom n flags (inside_of acts) (current_state before) seen ≡ Some f →
         (entries : List VEntry) × ByVgetrandom n flags acts
-        (meaning_of before (deeds_in before.setting.cpu seen w.0) ms entries f)
+        (meaning_of before (effects_in before.setting.cpu seen w.0) ms entries f)
     called e =
-        called_is cf n flags acts before ms (deeds_in before.setting.cpu seen w.0) f inside
-        (vgetrandom_told cf before.setting n flags (first_sign (deeds_in before.setting.cpu seen w.0)) acts
+        called_is cf n flags acts before ms (effects_in before.setting.cpu seen w.0) f inside
+        (vgetrandom_inferred cf before.setting n flags (first_sign (effects_in before.setting.cpu seen w.0)) acts
         (current_state before) seen w.0 f nowhere nowhere fill' fits e)
 
     Ways : Bool → List VEntry → Type 0
-    Ways t entries = let m = meaning_of before (deeds_in before.setting.cpu seen w.0) ms entries f in
-        MatchBool t (Looked (LocalOrCall n flags acts m) (deeds_in before.setting.cpu seen w.0))
+    Ways t entries = let m = meaning_of before (effects_in before.setting.cpu seen w.0) ms entries f in
+        MatchBool t (Looked (LocalOrCall n flags acts m) (effects_in before.setting.cpu seen w.0))
         (ByVgetrandom n flags acts m)
 
     ways : (a z b : Bool) → (length acts == 0) ≡ a → is_bad flags ≡ b →
@@ -279,12 +279,12 @@ vread_of_followed cf n flags acts before deeds seen f ms sees fits fill e inside
         then by_vgetrandom n flags (inside_of acts) (current_state before) seen
         else copy_or_call n flags (inside_of acts) (current_state before) seen) else None) ≡ Some f →
         (entries : List VEntry) × VreadMeans n flags acts
-        (meaning_of before (deeds_in before.setting.cpu seen w.0) ms entries f)
+        (meaning_of before (effects_in before.setting.cpu seen w.0) ms entries f)
     go true r e =
         let k = ways (length acts == 0) (n == 0) (is_bad flags) refl refl e in (
           k.0,
           record {
-            looks = without_zero 0 (looks_of (deeds_in before.setting.cpu seen w.0))
+            looks = without_zero 0 (looks_of (effects_in before.setting.cpu seen w.0))
                 (rise_looks before.setting.cpu 0 seen w.0 r);
             ways = k.1;
           },
@@ -293,35 +293,35 @@ vread_of_followed cf n flags acts before deeds seen f ms sees fits fill e inside
 
 -- ---- a vread can be followed
 
-module _ (cf : LaneFacts) (n flags : ℕ) (acts : List BoundAct) (m : CallMeaning) (looks : NeverFall (looks_of m.own.deeds))
-    (fit : AllFit cf m.own.deeds) where
+module _ (cf : LaneFacts) (n flags : ℕ) (acts : List BoundAct) (m : CallMeaning) (looks : NeverFall (looks_of m.own.effects))
+    (fit : AllFit cf m.own.effects) where
   abbrev cpu : ℕ
   cpu = m.before.setting.cpu
 
   abbrev st : VgetrandomState
   st = current_state m.before
 
-  known_behind : (seen : List Seen) → AllSeen cpu seen m.own.deeds → AllByRecursion LookFits seen → (g : ℕ)
-      (rest : List Deed) → m.own.deeds ≡ looked g ∷ rest → 1 ≤ g → Known rest
-  known_behind seen sees fits g rest is some = go seen (see_at cpu seen is sees) fits
+  known_after : (seen : List SeenStep) → AllSeen cpu seen m.own.effects → AllByRecursion LookFits seen → (g : ℕ)
+      (rest : List Effect) → m.own.effects ≡ looked g ∷ rest → 1 ≤ g → Known rest
+  known_after seen sees fits g rest is some = go seen (see_at cpu seen is sees) fits
     where
       rising : From g (looks_of rest)
-      rising = let P : List Deed → Type 0 = λ d. NeverFall (looks_of d) in subst P is looks
+      rising = let P : List Effect → Type 0 = λ d. NeverFall (looks_of d) in subst P is looks
 
-      go : (seen : List Seen) → AllSeen cpu seen (looked g ∷ rest) → AllByRecursion LookFits seen → Known rest
+      go : (seen : List SeenStep) → AllSeen cpu seen (looked g ∷ rest) → AllByRecursion LookFits seen → Known rest
       go [] h fits = absurd h
       go (x ∷ xs) h fits =
           let w = shaped cpu xs rest h.1 in
-          let P : List Deed → Type 0 = λ d. From g (looks_of d) in
-          let K : List Deed → Type 0 = λ d. Known d in
+          let P : List Effect → Type 0 = λ d. From g (looks_of d) in
+          let K : List Effect → Type 0 = λ d. Known d in
           subst K (sym w.1) (known_from cpu g some xs w.0 (subst P w.1 rising) fits.1)
 
-  by_call : (seen : List Seen) → AllSeen cpu seen m.own.deeds → AllByRecursion LookFits seen →
+  by_call : (seen : List SeenStep) → AllSeen cpu seen m.own.effects → AllByRecursion LookFits seen →
       ByVgetrandom n flags acts m → followed n flags (inside_of acts) st seen
       ≡ by_vgetrandom n flags (inside_of acts) st seen → IsFollowed n flags acts m seen
   by_call seen sees fits v p =
-      let k = vgetrandom_followed cf m.before.setting n flags acts st seen m.own.deeds v.steps v.outcome v.is_call v.shows
-      fit sees v.wipes (known_behind seen sees fits) in
+      let k = vgetrandom_followed cf m.before.setting n flags acts st seen m.own.effects v.steps v.outcome v.is_call v.shows
+      fit sees v.wipes (known_after seen sees fits) in
       record {
         f = k.follows.f;
         is = p ∙ k.follows.is;
@@ -329,12 +329,12 @@ module _ (cf : LaneFacts) (n flags : ℕ) (acts : List BoundAct) (m : CallMeanin
         shown = v.shown ∙ sym k.follows.shown;
         after = v.after ∙ ap (with_state m.before) k.follows.state_is;
         inside = acts_by m.before.setting (is_reached (points_of v.steps))
-            (λ act. includes k.follows.f.course.reached act.point)
+            (λ act. includes k.follows.f.path.reached act.point)
             (λ act. k.which act ∙ ap (λ r. includes r act.point) (sym k.follows.reached)) acts m.acts v.inside;
       }
 
-  by_look : (seen : List Seen) → AllSeen cpu seen m.own.deeds → AllByRecursion LookFits seen →
-      (length acts == 0) ≡ true → Looked (LocalOrCall n flags acts m) m.own.deeds →
+  by_look : (seen : List SeenStep) → AllSeen cpu seen m.own.effects → AllByRecursion LookFits seen →
+      (length acts == 0) ≡ true → Looked (LocalOrCall n flags acts m) m.own.effects →
       followed n flags (inside_of acts) st seen ≡ copy_or_call n flags (inside_of acts) st seen →
       IsFollowed n flags acts m seen
   by_look [] sees fits none l p = absurd (see_at cpu [] l.2 sees)
@@ -364,7 +364,7 @@ module _ (cf : LaneFacts) (n flags : ℕ) (acts : List BoundAct) (m : CallMeanin
       go true is c =
           let nothing : xs ≡ [] = seen_nothing cpu xs (see_at cpu xs c.no_more h.1) in record {
             f = record {
-              course = record { answer = Done; served = copy_recipe st 0 n; reached = Nothing };
+              path = record { answer = Done; served = copy_recipe st 0 n; reached = Nothing };
               state = state_after_copy st 0 n;
             };
             is = test true is ∙ ap (λ x. leaving (state_after_copy st 0 n) (at_end (copy_recipe st 0 n) Nothing x)) nothing;
@@ -376,22 +376,22 @@ module _ (cf : LaneFacts) (n flags : ℕ) (acts : List BoundAct) (m : CallMeanin
       go false is v = by_call (Ready g ∷ xs) sees fits v (test false is)
   by_look (x ∷ xs) sees fits none l p = absurd (see_at cpu (x ∷ xs) l.2 sees).0
 
-  by_ways : (seen : List Seen) → AllSeen cpu seen m.own.deeds → AllByRecursion LookFits seen → rises 0 seen ≡ true →
-      MatchBool (tries_local n flags acts) (Looked (LocalOrCall n flags acts m) m.own.deeds) (ByVgetrandom n flags acts m) →
+  by_ways : (seen : List SeenStep) → AllSeen cpu seen m.own.effects → AllByRecursion LookFits seen → rises 0 seen ≡ true →
+      MatchBool (tries_local n flags acts) (Looked (LocalOrCall n flags acts m) m.own.effects) (ByVgetrandom n flags acts m) →
       IsFollowed n flags acts m seen
-  by_ways seen sees fits r v = go (length acts == 0) (n == 0) (is_bad flags) refl told v
+  by_ways seen sees fits r v = go (length acts == 0) (n == 0) (is_bad flags) refl inferred v
     where
-      told : followed n flags (inside_of acts) st seen
+      inferred : followed n flags (inside_of acts) st seen
           ≡ (if not (length acts == 0) || (n == 0 || is_bad flags) then by_vgetrandom n flags (inside_of acts) st seen
           else copy_or_call n flags (inside_of acts) st seen)
-      told = ap (λ x. if x then (if (inside_of acts).any || (n == 0 || is_bad flags)
+      inferred = ap (λ x. if x then (if (inside_of acts).any || (n == 0 || is_bad flags)
           then by_vgetrandom n flags (inside_of acts) st seen
           else copy_or_call n flags (inside_of acts) st seen) else None) r
 
       go : (a z b : Bool) → (length acts == 0) ≡ a → followed n flags (inside_of acts) st seen
           ≡ (if not a || (z || b) then by_vgetrandom n flags (inside_of acts) st seen
           else copy_or_call n flags (inside_of acts) st seen) →
-          MatchBool (a && (not z && not b)) (Looked (LocalOrCall n flags acts m) m.own.deeds) (ByVgetrandom n flags acts m) →
+          MatchBool (a && (not z && not b)) (Looked (LocalOrCall n flags acts m) m.own.effects) (ByVgetrandom n flags acts m) →
           IsFollowed n flags acts m seen
       go true false false none p v = by_look seen sees fits none v p
       go true false true none p v = by_call seen sees fits v p
@@ -400,22 +400,22 @@ module _ (cf : LaneFacts) (n flags : ℕ) (acts : List BoundAct) (m : CallMeanin
 
 pub followed_of_vread : VreadIsFollowed
 followed_of_vread cf n flags acts m seen v sees fits fit =
-    let w = shaped m.before.setting.cpu seen m.own.deeds sees in
-    let P : List Deed → Type 0 = λ d. NeverFall (looks_of d) in
+    let w = shaped m.before.setting.cpu seen m.own.effects sees in
+    let P : List Effect → Type 0 = λ d. NeverFall (looks_of d) in
     by_ways cf n flags acts m v.looks fit seen sees fits (looks_rise m.before.setting.cpu 0 seen w.0
-    (from_zero (looks_of (deeds_in m.before.setting.cpu seen w.0)) (subst P w.1 v.looks))) v.ways
+    (from_zero (looks_of (effects_in m.before.setting.cpu seen w.0)) (subst P w.1 v.looks))) v.ways
 
 -- ---- the rest
 
 pub call_says : CalledSays
-call_says c set n flags deeds seen told sees fill e =
-    let w = shaped set.cpu seen deeds sees in
-    let P : List Deed → Type 0 = λ d. (told.answer ≡ system_answer flags d) × (bytes_made told.served ≡ served_bytes d) in
-    let F : List Deed → Type 0 = λ d. AllFill (FillsPart c set (User n) (User n) (first_sign deeds)) nowhere nowhere d in
-    let k = called_says c set (User n) n flags (first_sign deeds) nowhere nowhere seen w.0 told (subst F w.1 fill) e in
+call_says c set n flags effects seen inferred sees fill e =
+    let w = shaped set.cpu seen effects sees in
+    let P : List Effect → Type 0 = λ d. (inferred.answer ≡ system_answer flags d) × (bytes_made inferred.served ≡ served_bytes d) in
+    let F : List Effect → Type 0 = λ d. AllFill (FillsPart c set (User n) (User n) (first_sign effects)) nowhere nowhere d in
+    let k = called_says c set (User n) n flags (first_sign effects) nowhere nowhere seen w.0 inferred (subst F w.1 fill) e in
     subst P (sym w.1) (k.answer, k.bytes)
 
--- the effect of a list of acts with one more at its end
+-- One more act at the end of a list changes the effect of the list as `inside_after` does.
 or_false : (b : Bool) → (b || false) ≡ (false || b)
 or_false true = refl
 or_false false = refl

@@ -1,4 +1,4 @@
--- The effect of the acts inside a call on its state, and the points that the call reached.
+-- What the acts inside a call do to its state, and the points that the first attempt reached.
 use Rattle.std.specs.Prelude.{◌==◌, not, Bool, true, false, List, [], ◌∷◌, length}
 use Rattle.std.specs.List.{list_any}
 use Rattle.key_names.specs.declared.point.Point.{Point}
@@ -25,11 +25,11 @@ points_in Nothing = []
 points_in AllButWritten = Start ∷ Serve ∷ End ∷ []
 points_in All = Start ∷ Written ∷ Serve ∷ End ∷ []
 
--- whether the first attempt reached the point
+-- whether the first attempt reached this point
 abbrev pub includes : Reached → Point → Bool
 includes reached point = list_any (λ p. is_same_point p point) (points_in reached)
 
--- the points of an attempt, which reached Written if it read a key
+-- the points that an attempt reached; Written is one of them only if the attempt read a key
 abbrev pub reached_by : Bool → Reached
 reached_by true = All
 reached_by false = AllButWritten

@@ -3,5 +3,5 @@ pub mod Seen
 pub mod Inside
 pub mod InsideSteps
 pub mod Called
-pub mod Course
+pub mod Path
 pub mod Laws

@@ -1,11 +1,11 @@
--- How the bytes of a read are made: a few exist already, and the others are a piece of a key's stream.
+-- How the bytes of a read are made: at first come bytes that exist already, and then a piece of a key's stream.
 use Rattle.std.specs.Prelude.{ℕ, ◌+◌, ◌-◌, ◌*◌, min, List, [], ◌++◌, take, drop, nat_lt, if◌then◌else◌}
 use Rattle.key_names.specs.Kernel.Keystream.{keystream}
 use Rattle.key_names.specs.Keys.KeyInUse.{zero_key}
 use Rattle.key_names.specs.Kernel.VgetrandomState.{VgetrandomState}
 use Rattle.key_names.specs.Kernel.BatchCopy.{bytes_left}
 
--- the bytes that exist already, and len bytes of the key's stream from a position on
+-- the bytes `front` that exist already, and then `len` bytes of the key's stream from position `from` on
 pub record Recipe : Type 0 where
   pub front : List ℕ
   pub key : List ℕ
@@ -27,11 +27,12 @@ user_recipe key n =
 abbrev pub kernel_recipe : List ℕ → ℕ → Recipe
 kernel_recipe key n = record { front = []; key = key; from = 32; len = n }
 
--- the integer of this width that a batch serves after count others; the batch was filled with this key in use
+-- the integer of this width that a batch serves after `count` other integers; `key` was in use when the batch was
+-- filled
 abbrev pub int_recipe : List ℕ → ℕ → ℕ → Recipe
 int_recipe key width count = record { front = []; key = key; from = 32 + width * count; len = width }
 
--- the bytes of a copy out of a state; c is the key's next block
+-- the bytes of a copy of n bytes out of a state; `c` is the key's next block
 abbrev pub copy_recipe : VgetrandomState → ℕ → ℕ → Recipe
 copy_recipe s c n = record {
   front = take (min n (bytes_left s)) (drop s.pos s.batch);

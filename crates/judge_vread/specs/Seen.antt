@@ -4,16 +4,16 @@ use Rattle.key_names.specs.declared.entries.BaseEntry.TheVariants.{Resume}
 use Rattle.key_names.specs.declared.entries.CpuEntry.{CpuEntry}
 use Rattle.key_names.specs.declared.entries.CpuEntry.TheVariants.{Read, Int, Irq, Dump, Prepare, Online}
 use Rattle.key_names.specs.Keys.KeyInUse.{taken_bytes}
-use Rattle.key_names.specs.Callers.Deeds.{Deed, looked, at_pool, at_base, at_cpu, nothing_there, base_serves}
+use Rattle.key_names.specs.Callers.Effects.{Effect, looked, at_pool, at_base, at_cpu, nothing_there, base_serves}
 use Rattle.judge_lines.specs.declared.kind.Kind.{Kind}
 use Rattle.judge_lines.specs.declared.kind.Kind.TheVariants.{Unready as UnreadyKind, Ready as ReadyKind, Pool as PoolKind}
 use Rattle.judge_lines.specs.declared.kind.Kind.TheVariants.{Base as BaseKind, Resumed as ResumedKind, Cpu as CpuKind}
 use Rattle.judge_lines.specs.declared.kind.Kind.TheVariants.{OtherCpu}
 use Rattle.judge_lines.specs.Kinds.{base_kind}
-use Rattle.judge_vread.specs.declared.seen.Seen.{Seen}
-use Rattle.judge_vread.specs.declared.seen.Seen.TheVariants.{Unready, Ready, Pool, Base, Resumed, Cpu, Elsewhere}
+use Rattle.judge_vread.specs.declared.seen.SeenStep.{SeenStep}
+use Rattle.judge_vread.specs.declared.seen.SeenStep.TheVariants.{Unready, Ready, Pool, Base, Resumed, Cpu, Elsewhere}
 
-abbrev pub seen_kind : Seen → Kind
+abbrev pub seen_kind : SeenStep → Kind
 seen_kind Unready = UnreadyKind
 seen_kind (Ready g) = ReadyKind
 seen_kind Pool = PoolKind
@@ -22,7 +22,7 @@ seen_kind Resumed = ResumedKind
 seen_kind (Cpu key) = CpuKind
 seen_kind Elsewhere = OtherCpu
 
--- a read of a CPU serves the bytes that the key in use gives; the bytes of other entries may be any
+-- a read of a CPU serves the bytes that the key in use gives; a visit with an entry of another kind may serve any bytes
 abbrev pub ServesBy : List ℕ → CpuEntry → List ℕ → Type 0
 ServesBy key (Read look refill taken) serves = serves ≡ taken_bytes key taken
 ServesBy key (Int look refill width filled) serves = ⊤
@@ -31,8 +31,8 @@ ServesBy key (Dump now) serves = ⊤
 ServesBy key Prepare serves = ⊤
 ServesBy key Online serves = ⊤
 
--- the seen step shows this look or visit, with cpu as the caller's CPU
-abbrev pub IsSeen : ℕ → Seen → Deed → Type 0
+-- the seen step shows this look or visit; `cpu` is the caller's CPU
+abbrev pub IsSeen : ℕ → SeenStep → Effect → Type 0
 IsSeen cpu Unready (looked g) = g ≡ 0
 IsSeen cpu (Ready found) (looked g) = (g ≡ found) × (1 ≤ found)
 IsSeen cpu Pool (at_pool v) = ⊤
@@ -43,13 +43,13 @@ IsSeen cpu Elsewhere (at_cpu v) = (v.cpu == cpu) ≡ false
 IsSeen cpu Elsewhere nothing_there = ⊤
 IsSeen _ _ _ = ⊥
 
-abbrev pub AllSeen : ℕ → List Seen → List Deed → Type 0
+abbrev pub AllSeen : ℕ → List SeenStep → List Effect → Type 0
 AllSeen cpu [] [] = ⊤
-AllSeen cpu (x ∷ seen) (d ∷ deeds) = IsSeen cpu x d × AllSeen cpu seen deeds
+AllSeen cpu (x ∷ seen) (d ∷ effects) = IsSeen cpu x d × AllSeen cpu seen effects
 AllSeen cpu _ _ = ⊥
 
--- whether no look finds less than the look before it; last is the generation before the first
-abbrev pub rises : ℕ → List Seen → Bool
+-- whether the generation never falls from one look to the next; `last` is the generation before the first look
+abbrev pub rises : ℕ → List SeenStep → Bool
 rises last [] = true
 rises last (Unready ∷ seen) = last == 0 && rises last seen
 rises last (Ready found ∷ seen) = nat_le last found && rises found seen
@@ -59,8 +59,8 @@ rises last (Resumed ∷ seen) = rises last seen
 rises last (Cpu key ∷ seen) = rises last seen
 rises last (Elsewhere ∷ seen) = rises last seen
 
--- a look of a transcript is below 2^63
-abbrev pub LookFits : Seen → Type 0
+-- the look found a generation below 2^63, as in each transcript
+abbrev pub LookFits : SeenStep → Type 0
 LookFits Unready = ⊤
 LookFits (Ready found) = found < 2 ^ 63
 LookFits Pool = ⊤

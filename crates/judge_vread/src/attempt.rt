@@ -1,25 +1,25 @@
-//! One attempt of a vgetrandom call, followed over its steps.
+//! Follows one attempt of a vgetrandom call over its steps.
 ghost use Rattle.std.specs.Prelude.{◌≡◌, ◌+◌, ◌^◌, ◌≤◌, IfSome, MatchOption, Some, None};
 ghost use Rattle.key_names.specs.Kernel.VgetrandomState.{state_left};
-ghost use Rattle.judge_vread.specs.Course.{published, copied, from_serve, key_in_front, from_start, attempted};
+ghost use Rattle.judge_vread.specs.Path.{published, copied, from_serve, key_in_front, from_start, attempted};
 
 use crate::inside::Inside;
-use crate::seen::Seen;
+use crate::seen::SeenStep;
 use crate::served::Served;
 use chacha_blocks::derive_key;
 use vdso_state::VState;
 
-/// The result of an attempt: the bytes that it copied, whether it read a key, whether the generation published at its
-/// end is still the state's, and the key's next block.
+/// The result of an attempt: the bytes that it copied, whether it read a key, whether the state has the generation that
+/// is published at the attempt's end, and the key's next block.
 #[derive(Drop)]
-pub struct Tried {
+pub struct AttemptResult {
     pub served: Served,
     pub keyed: bool,
     pub holds: bool,
     pub next_block: u64,
 }
 
-/// The published generation at a look, from the base's generation that the look found.
+/// The generation that is published at a look, from the base's generation that the look found.
 pub(crate) fn published(found: u64) -> u64
     ensures { result ≡ published found }
 {
@@ -40,8 +40,8 @@ fn copied<'a>(
     len: u32,
     next_block: u64,
     keyed: bool,
-    seen: &'a [Seen],
-) -> Option<(Tried, &'a [Seen])>
+    seen: &'a [SeenStep],
+) -> Option<(AttemptResult, &'a [SeenStep])>
     requires near { next_block ≤ 2 ^ 20 }
     requires short { len ≤ 2 ^ 20 }
     ensures tries { MatchOption result (copied inside len next_block keyed st.old seen.now ≡ None)
@@ -50,10 +50,10 @@ fn copied<'a>(
     ensures near { IfSome result (λ r. r.0.next_block ≤ next_block + 2 ^ 14 + 2) }
 {
     match seen {
-        [Seen::Ready(found), rest @ ..] => {
+        [SeenStep::Ready(found), rest @ ..] => {
             let (served, next_block) = Served::of_copy(st, next_block, len);
             pass_point(st, inside.end);
-            let tried = Tried {
+            let tried = AttemptResult {
                 served,
                 keyed,
                 holds: st.generation() == published(*found),
@@ -71,8 +71,8 @@ fn from_serve<'a>(
     len: u32,
     next_block: u64,
     keyed: bool,
-    seen: &'a [Seen],
-) -> Option<(Tried, &'a [Seen])>
+    seen: &'a [SeenStep],
+) -> Option<(AttemptResult, &'a [SeenStep])>
     requires near { next_block ≤ 2 ^ 20 }
     requires short { len ≤ 2 ^ 20 }
     ensures tries { MatchOption result (from_serve inside len next_block keyed st.old seen.now ≡ None)
@@ -84,18 +84,23 @@ fn from_serve<'a>(
     copied(st, inside, len, next_block, keyed, seen)
 }
 
-/// The key that a system call of 32 bytes reads at the start of these steps, and the seen steps after the call.
-fn key_in_front(seen: &[Seen]) -> Option<([u8; 32], &[Seen])>
+/// The key that the system call of 32 bytes at the front of these steps reads, and the seen steps after the call.
+fn key_in_front(seen: &[SeenStep]) -> Option<([u8; 32], &[SeenStep])>
     ensures { MatchOption result (key_in_front seen.now ≡ None)
         (λ r. key_in_front seen.now ≡ Some (record { key = r.0; rest = r.1.now })) }
 {
     match seen {
-        [Seen::Ready(_), Seen::Ready(_), Seen::Cpu(key), rest @ ..]
+        [
+            SeenStep::Ready(_),
+            SeenStep::Ready(_),
+            SeenStep::Cpu(key),
+            rest @ ..,
+        ]
         | [
-            Seen::Ready(_),
-            Seen::Ready(_),
-            Seen::Base(_),
-            Seen::Cpu(key),
+            SeenStep::Ready(_),
+            SeenStep::Ready(_),
+            SeenStep::Base(_),
+            SeenStep::Cpu(key),
             rest @ ..,
         ] => {
             let mut erased = *key;
@@ -111,8 +116,8 @@ fn from_start<'a>(
     len: u32,
     next_block: u64,
     generation: u64,
-    seen: &'a [Seen],
-) -> Option<(Tried, &'a [Seen])>
+    seen: &'a [SeenStep],
+) -> Option<(AttemptResult, &'a [SeenStep])>
     requires near { next_block ≤ 2 ^ 20 }
     requires short { len ≤ 2 ^ 20 }
     ensures tries { MatchOption result (from_start inside len next_block st.old generation seen.now ≡ None)
@@ -131,16 +136,16 @@ fn from_start<'a>(
     }
 }
 
-/// Follows an attempt to copy `len` bytes. `next_block` is the next block of the state's key; both are at most 2^20.
-/// Returns the attempt's result and the seen steps after it. If the steps are not those of an attempt, returns `None`
-/// and leaves the state unspecified.
+/// Follows an attempt to copy `len` bytes. `next_block` is the next block of the state's key. Both `len` and
+/// `next_block` are at most 2^20. Returns the attempt's result and the seen steps after the attempt. If the steps are
+/// not those of an attempt, returns `None` and leaves the state unspecified.
 pub(crate) fn attempt<'a>(
     st: &mut VState,
     inside: Inside,
     len: u32,
     next_block: u64,
-    seen: &'a [Seen],
-) -> Option<(Tried, &'a [Seen])>
+    seen: &'a [SeenStep],
+) -> Option<(AttemptResult, &'a [SeenStep])>
     requires near { next_block ≤ 2 ^ 20 }
     requires short { len ≤ 2 ^ 20 }
     ensures tries { MatchOption result (attempted inside len next_block st.old seen.now ≡ None)
@@ -149,7 +154,7 @@ pub(crate) fn attempt<'a>(
     ensures near { IfSome result (λ r. r.0.next_block ≤ next_block + 2 ^ 14 + 2) }
 {
     match seen {
-        [Seen::Ready(found), rest @ ..] => {
+        [SeenStep::Ready(found), rest @ ..] => {
             pass_point(st, inside.start);
             from_start(st, inside, len, next_block, published(*found), rest)
         }

@@ -1,13 +1,13 @@
-//! The course of a `vread` over the steps of its line.
+//! Follows a `vread` over the steps of its line.
 ghost use Rattle.std.specs.Prelude.{◌≡◌, ◌^◌, ◌≤◌, []};
-ghost use Rattle.judge_vread.specs.Course.{published, leaving, at_end, by_system, from_ready, from_look, by_vgetrandom};
+ghost use Rattle.judge_vread.specs.Path.{published, leaving, at_end, by_system, from_ready, from_look, by_vgetrandom};
 ghost use Rattle.key_names.specs.Kernel.BatchCopy.{serves_locally};
 ghost use Rattle.judge_vread.specs.Inside.{inside_of};
-ghost use Rattle.judge_vread.specs.Course.{attempted, tried_once, tried_again, copy_or_call, followed};
+ghost use Rattle.judge_vread.specs.Path.{attempted, tried_once, tried_again, copy_or_call, followed};
 
 use crate::attempt::{attempt, published};
 use crate::inside::{Inside, Reached};
-use crate::seen::{Seen, rises};
+use crate::seen::{SeenStep, rises};
 use crate::served::Served;
 use crate::system_call::system_call;
 use key_names::{Answer, flags};
@@ -15,17 +15,17 @@ use vdso_state::VState;
 
 /// The result of a call: its answer, the bytes that it served, and the points that its first attempt reached.
 #[derive(Drop)]
-pub struct Course {
+pub struct VreadPath {
     pub answer: Answer,
     pub served: Served,
     pub reached: Reached,
 }
 
-fn at_end(served: Served, reached: Reached, seen: &[Seen]) -> Option<Course>
+fn at_end(served: Served, reached: Reached, seen: &[SeenStep]) -> Option<VreadPath>
     ensures { result ≡ at_end served reached seen.now }
 {
     match seen {
-        [] => Some(Course {
+        [] => Some(VreadPath {
             answer: Answer::Ok,
             served,
             reached,
@@ -34,11 +34,11 @@ fn at_end(served: Served, reached: Reached, seen: &[Seen]) -> Option<Course>
     }
 }
 
-fn by_system(len: u32, flags: u32, reached: Reached, seen: &[Seen]) -> Option<Course>
+fn by_system(len: u32, flags: u32, reached: Reached, seen: &[SeenStep]) -> Option<VreadPath>
     ensures { result ≡ by_system len flags reached seen.now }
 {
     let called = system_call(len, flags, seen)?;
-    Some(Course {
+    Some(VreadPath {
         answer: called.answer,
         served: called.served,
         reached,
@@ -51,8 +51,8 @@ fn try_again(
     flags: u32,
     next_block: u64,
     reached: Reached,
-    seen: &[Seen],
-) -> Option<Course>
+    seen: &[SeenStep],
+) -> Option<VreadPath>
     requires near { next_block ≤ 2 ^ 20 }
     requires short { len ≤ 2 ^ 20 }
     ensures { leaving st.new result
@@ -67,7 +67,13 @@ fn try_again(
     }
 }
 
-fn try_twice(st: &mut VState, len: u32, flags: u32, inside: Inside, seen: &[Seen]) -> Option<Course>
+fn try_twice(
+    st: &mut VState,
+    len: u32,
+    flags: u32,
+    inside: Inside,
+    seen: &[SeenStep],
+) -> Option<VreadPath>
     requires short { len ≤ 2 ^ 20 }
     ensures { leaving st.new result ≡ tried_once len flags (attempted inside len 0 st.old seen.now) }
 {
@@ -90,8 +96,8 @@ fn from_ready(
     len: u32,
     flags: u32,
     inside: Inside,
-    seen: &[Seen],
-) -> Option<Course>
+    seen: &[SeenStep],
+) -> Option<VreadPath>
     requires short { len ≤ 2 ^ 20 }
     ensures { leaving st.new result ≡ from_ready len flags inside st.old seen.now }
 {
@@ -110,8 +116,8 @@ fn by_vgetrandom(
     len: u32,
     flags: u32,
     inside: Inside,
-    seen: &[Seen],
-) -> Option<Course>
+    seen: &[SeenStep],
+) -> Option<VreadPath>
     requires short { len ≤ 2 ^ 20 }
     ensures { leaving st.new result ≡ by_vgetrandom len flags inside st.old seen.now }
 {
@@ -119,13 +125,13 @@ fn by_vgetrandom(
         return by_system(len, flags, Reached::Nothing, seen);
     }
     match seen {
-        [Seen::Unready, rest @ ..] => by_system(len, flags, Reached::Nothing, rest),
-        [Seen::Ready(_), rest @ ..] => from_ready(st, len, flags, inside, rest),
+        [SeenStep::Unready, rest @ ..] => by_system(len, flags, Reached::Nothing, rest),
+        [SeenStep::Ready(_), rest @ ..] => from_ready(st, len, flags, inside, rest),
         _ => None,
     }
 }
 
-// Whether a copy may be made without a call.
+// Whether the state allows a copy of `len` bytes without a vgetrandom call.
 fn serves_locally(st: &VState, found: u64, len: u32) -> bool
     ensures { result ≡ serves_locally (published found) st.now len }
 {
@@ -137,13 +143,13 @@ fn copy_or_call(
     len: u32,
     flags: u32,
     inside: Inside,
-    seen: &[Seen],
-) -> Option<Course>
+    seen: &[SeenStep],
+) -> Option<VreadPath>
     requires short { len ≤ 2 ^ 20 }
     ensures { leaving st.new result ≡ copy_or_call len flags inside st.old seen.now }
 {
     match seen {
-        [Seen::Ready(found), rest @ ..] if serves_locally(st, *found, len) => {
+        [SeenStep::Ready(found), rest @ ..] if serves_locally(st, *found, len) => {
             let (served, _) = Served::of_copy(st, 0, len);
             at_end(served, Reached::Nothing, rest)
         }
@@ -151,16 +157,16 @@ fn copy_or_call(
     }
 }
 
-/// Follows a `vread` of `len` bytes, at most 2^20, with these flags. It goes over the seen steps of its line on the
-/// caller's current state. Returns the result and changes the state as the call does. If the steps are not those of
-/// such a call on this state, returns `None` and leaves the state unspecified.
+/// Follows a `vread` of `len` bytes, at most 2^20, with these flags, over the seen steps of its line. Returns the
+/// result, and changes the caller's current state as the call does. If the steps are not those of such a call on this
+/// state, returns `None` and leaves the state unspecified.
 pub fn follow(
     st: &mut VState,
     len: u32,
     flags: u32,
     inside: Inside,
-    seen: &[Seen],
-) -> Option<Course>
+    seen: &[SeenStep],
+) -> Option<VreadPath>
     requires short { len ≤ 2 ^ 20 }
     ensures { leaving st.new result ≡ followed len flags inside st.old seen.now }
 {

@@ -7,8 +7,8 @@ ghost use Rattle.judge_vread.specs.InsideSteps.{inside_after};
 
 use key_names::{InsideAct, Point};
 
-/// The effect of the acts inside a call on its state: whether there are acts, and at which points of the first attempt
-/// one wipes the state.
+/// What the acts inside a call do: whether there are any, and at which points of the first attempt an act wipes the
+/// state.
 #[derive(Clone, Copy, Debug, PartialEq, Eq)]
 pub struct Inside {
     pub any: bool,
@@ -44,7 +44,7 @@ impl Inside {
     }
 }
 
-// Whether an act wipes the state at point `here`, with one more act at `point`.
+// Whether an act wipes the state at the point `here`, after one more act at `point` was added.
 fn is_wiped(wiped: bool, here: Point, point: Point, act: InsideAct) -> bool
     ensures { result ≡ (wiped || (is_same_point point here && is_wipe act)) }
 {

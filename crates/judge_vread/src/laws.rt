@@ -1,17 +1,17 @@
-//! The laws of courses, each as the contract of a function without code.
+//! The laws of following a `vread`, each as the contract of a function without code.
 //!
-//! If the visits of steps have the inferred entries and the steps can be followed, they are a `vread`. If the entries
-//! of a `vread` fit, it can be followed, with the same answer, bytes and state.
+//! If each visit of some steps has the inferred entry and the steps can be followed, they are a `vread`. If the entries
+//! of a `vread` fit, it can be followed, and the result has the same answer, bytes and state.
 ghost use Rattle.judge_vread.specs.Laws.{FollowedIsVread, VreadIsFollowed, CalledIsRow, RowIsCalled, CalledSays};
-ghost use Rattle.judge_vread.specs.Laws.{ActJoins, VreadIsTold};
+ghost use Rattle.judge_vread.specs.Laws.{ActJoins, VreadIsInferred};
 
-/// If the visits of steps have the inferred entries and the steps can be followed, they are a `vread`.
+/// If each visit of some steps has the inferred entry and the steps can be followed, the steps are a `vread`.
 #[tactic(auto, using(crate::proofs::Vreads::vread_of_followed))]
 pub fn followed_is_vread()
     ensures { FollowedIsVread }
 {}
 
-/// If the entries of a `vread` fit, it can be followed, and the course has the answer, bytes and state of its meaning.
+/// If the entries of a `vread` fit, it can be followed, and the result has the answer, bytes and state of its meaning.
 pub fn vread_is_followed()
     ensures { VreadIsFollowed }
 {}
@@ -28,18 +28,19 @@ pub fn row_is_called()
     ensures { RowIsCalled }
 {}
 
-/// If the visits of a recognized system call have the inferred entries, it has the answer and the bytes of its steps.
+/// If each visit of a recognized system call has the inferred entry, the code returns the answer and bytes of its
+/// steps.
 pub fn called_says()
     ensures { CalledSays }
 {}
 
-/// One more act changes the effect of a call's acts as `Inside::add` does.
+/// One more act at the end of a list of acts changes the list's effect as `Inside::add` does.
 #[tactic(auto, using(crate::proofs::Vreads::act_joins))]
 pub fn act_joins()
     ensures { ActJoins }
 {}
 
 /// If all entries of a `vread` fit, each visit has the entry that is inferred from the steps around it.
-pub fn vread_is_told()
-    ensures { VreadIsTold }
+pub fn vread_is_inferred()
+    ensures { VreadIsInferred }
 {}

@@ -8,14 +8,14 @@ use std::marker::Model;
 use vdso_state::VState;
 use vdso_state::state::Passed;
 
-/// Bytes are made in pieces of this length.
+/// The bytes are made in pieces of this length.
 const PIECE_BYTES: usize = 4096;
 
 /// Up to this many bytes are made in one shorter piece.
 const SHORT_BYTES: usize = 512;
 
-/// The bytes of a read, as a recipe. At most 96 bytes are made already. The others are a piece of a key's stream, which
-/// is made only when it is needed. There are fewer than 2^32 bytes.
+/// A recipe for the bytes of a read. There are fewer than 2^32 bytes, and at most the first 96 of them exist already.
+/// The others are a piece of a key's stream, and are made only when they are needed.
 #[derive(Drop)]
 pub struct Served {
     front: [u8; 96],
@@ -80,8 +80,8 @@ impl Served {
         Served::of_key(*key, 32, len)
     }
 
-    /// The integer of `width` bytes that a batch serves after `count` others. The batch was filled with this key in
-    /// use. `width * count` must be below 2^31.
+    /// The integer of `width` bytes that a batch serves after `count` other integers. `key` was in use when the batch
+    /// was filled. `width * count` must be below 2^31.
     pub fn of_int(key: &[u8; 32], width: u8, count: u32) -> Served
         requires { width * count < 2 ^ 31 }
         ensures { result ≡ int_recipe key.now width count }
@@ -93,9 +93,8 @@ impl Served {
         )
     }
 
-    /// The bytes that a copy of `len` bytes out of a state serves, and the key's next block after the copy.
-    /// `next_block` is the next block before it. Both `next_block` and `len` are at most 2^20. The state changes as the
-    /// copy changes it.
+    /// Copies `len` bytes out of a state, and changes the state as the copy does. Returns the bytes, and the key's next
+    /// block after the copy. `next_block` is the next block before it. Both `next_block` and `len` are at most 2^20.
     pub fn of_copy(st: &mut VState, next_block: u64, len: u32) -> (Served, u64)
         requires near { next_block ≤ 2 ^ 20 }
         requires short { len ≤ 2 ^ 20 }
@@ -108,7 +107,7 @@ impl Served {
             front,
             taken,
             key,
-            next_block: behind,
+            next_block: following,
         } = st.pass(next_block, len);
         let served = Served {
             front,
@@ -117,7 +116,7 @@ impl Served {
             from: 64 * next_block,
             len: len - u32::from(taken),
         };
-        (served, behind)
+        (served, following)
     }
 
     /// The number of bytes.
@@ -142,7 +141,7 @@ impl Served {
         put_key(&self.key, self.from, self.len as usize, out)
     }
 
-    /// Whether the bytes equal these.
+    /// Whether the recipe's bytes equal `bytes`.
     pub fn is(&self, bytes: &[u8]) -> bool
         ensures { IsTrue result ↔ (bytes.now ≡ bytes_made self.now) }
     {
@@ -161,8 +160,8 @@ fn are_same(a: &[u8], b: &[u8]) -> bool
     a == b
 }
 
-/// Appends bytes of the key's stream to `out`. The buffer in which they are made is no longer than needed, since it is
-/// cleared for each read.
+/// Appends `len` bytes of the key's stream to `out`, from position `from` of the stream on. The buffer in which they
+/// are made is no longer than needed, since it is cleared for each read.
 fn put_key(key: &[u8; 32], from: u64, len: usize, out: &mut Vec<u8>) -> Result<(), AllocError>
     requires { from + len < 2 ^ 40 }
     ensures made { IfOk result (λ _. out.new.items ≡ out.old.items ++ keystream key.now from len) }
@@ -175,7 +174,7 @@ fn put_key(key: &[u8; 32], from: u64, len: usize, out: &mut Vec<u8>) -> Result<(
     }
 }
 
-/// Appends bytes of the key's stream as `put_key` does, in pieces of the buffer's length.
+/// Appends bytes of the key's stream as `put_key` does, in pieces that have the buffer's length.
 fn put_key_by(
     key: &[u8; 32],
     from: u64,
@@ -199,7 +198,7 @@ fn put_key_by(
     Ok(())
 }
 
-/// Whether the bytes equal the key's stream from this position on.
+/// Whether `bytes` equal the key's stream from position `from` on.
 fn is_key(key: &[u8; 32], from: u64, bytes: &[u8]) -> bool
     requires { from + length bytes.now < 2 ^ 40 }
     ensures { IsTrue result ↔ (bytes.now ≡ keystream key.now from (length bytes.now)) }
@@ -211,7 +210,7 @@ fn is_key(key: &[u8; 32], from: u64, bytes: &[u8]) -> bool
     }
 }
 
-/// Compares bytes with the key's stream as `is_key` does, in pieces of the buffer's length.
+/// Compares bytes with the key's stream as `is_key` does, in pieces that have the buffer's length.
 fn is_key_by(key: &[u8; 32], from: u64, bytes: &[u8], piece: &mut [u8]) -> bool
     requires near { from + length bytes.now < 2 ^ 40 }
     requires room { 0 < length piece.old }

@@ -1,34 +1,34 @@
-//! A system call, recognized by its seen steps.
+//! Recognizes a system call by its seen steps.
 ghost use Rattle.std.specs.Prelude.{◌≡◌};
-ghost use Rattle.judge_vread.specs.Called.{serving, no_more, cpu_read, unready_read, read, waited, behind_look, called};
+ghost use Rattle.judge_vread.specs.Called.{serving, no_more, cpu_read, unready_read, read, waited, after_look, called};
 
-use crate::seen::Seen;
+use crate::seen::SeenStep;
 use crate::served::Served;
 use key_names::{Answer, flags};
 
 /// The answer and the bytes of a system call.
 #[derive(Drop)]
-pub struct Called {
+pub struct SystemCallResult {
     pub answer: Answer,
     pub served: Served,
 }
 
-impl Called {
-    fn serving(served: Served) -> Called
+impl SystemCallResult {
+    fn serving(served: Served) -> SystemCallResult
         ensures { result ≡ serving served }
     {
-        Called {
+        SystemCallResult {
             answer: Answer::Ok,
             served,
         }
     }
 }
 
-fn no_more(answer: Answer, seen: &[Seen]) -> Option<Called>
+fn no_more(answer: Answer, seen: &[SeenStep]) -> Option<SystemCallResult>
     ensures { result ≡ no_more answer seen.now }
 {
     match seen {
-        [] => Some(Called {
+        [] => Some(SystemCallResult {
             answer,
             served: Served::none(),
         }),
@@ -36,29 +36,30 @@ fn no_more(answer: Answer, seen: &[Seen]) -> Option<Called>
     }
 }
 
-fn cpu_read(len: u32, seen: &[Seen]) -> Option<Called>
+fn cpu_read(len: u32, seen: &[SeenStep]) -> Option<SystemCallResult>
     ensures { result ≡ cpu_read len seen.now }
 {
     match seen {
-        [Seen::Ready(_), Seen::Cpu(key)] | [Seen::Ready(_), Seen::Base(_), Seen::Cpu(key)] => {
-            Some(Called::serving(Served::of_user(key, len)))
+        [SeenStep::Ready(_), SeenStep::Cpu(key)]
+        | [SeenStep::Ready(_), SeenStep::Base(_), SeenStep::Cpu(key)] => {
+            Some(SystemCallResult::serving(Served::of_user(key, len)))
         }
         _ => None,
     }
 }
 
-fn unready_read(len: u32, seen: &[Seen]) -> Option<Called>
+fn unready_read(len: u32, seen: &[SeenStep]) -> Option<SystemCallResult>
     ensures { result ≡ unready_read len seen.now }
 {
     match seen {
-        [Seen::Base(key)] | [Seen::Pool, Seen::Base(key)] => {
-            Some(Called::serving(Served::of_user(key, len)))
+        [SeenStep::Base(key)] | [SeenStep::Pool, SeenStep::Base(key)] => {
+            Some(SystemCallResult::serving(Served::of_user(key, len)))
         }
         _ => cpu_read(len, seen),
     }
 }
 
-fn read(len: u32, ready: bool, seen: &[Seen]) -> Option<Called>
+fn read(len: u32, ready: bool, seen: &[SeenStep]) -> Option<SystemCallResult>
     ensures { result ≡ read len ready seen.now }
 {
     if len == 0 {
@@ -70,21 +71,21 @@ fn read(len: u32, ready: bool, seen: &[Seen]) -> Option<Called>
     }
 }
 
-fn waited(len: u32, seen: &[Seen]) -> Option<Called>
+fn waited(len: u32, seen: &[SeenStep]) -> Option<SystemCallResult>
     ensures { result ≡ waited len seen.now }
 {
     match seen {
-        [Seen::Base(_), Seen::Base(_)] => Some(Called {
+        [SeenStep::Base(_), SeenStep::Base(_)] => Some(SystemCallResult {
             answer: Answer::Interrupted,
             served: Served::none(),
         }),
-        [Seen::Base(_), Seen::Resumed, rest @ ..] => read(len, true, rest),
+        [SeenStep::Base(_), SeenStep::Resumed, rest @ ..] => read(len, true, rest),
         _ => None,
     }
 }
 
-fn behind_look(len: u32, flags: u32, ready: bool, seen: &[Seen]) -> Option<Called>
-    ensures { result ≡ behind_look len flags ready seen.now }
+fn after_look(len: u32, flags: u32, ready: bool, seen: &[SeenStep]) -> Option<SystemCallResult>
+    ensures { result ≡ after_look len flags ready seen.now }
 {
     if ready || flags::is_insecure(flags) {
         read(len, ready, seen)
@@ -95,17 +96,17 @@ fn behind_look(len: u32, flags: u32, ready: bool, seen: &[Seen]) -> Option<Calle
     }
 }
 
-/// The answer and the bytes of a system call of `len` bytes with these flags (getrandom(2)). `None` if these are not
-/// its steps.
-pub fn system_call(len: u32, flags: u32, seen: &[Seen]) -> Option<Called>
+/// The answer and the bytes of a system call of `len` bytes with these flags (getrandom(2)). `None` if the seen steps
+/// are not those of such a call.
+pub fn system_call(len: u32, flags: u32, seen: &[SeenStep]) -> Option<SystemCallResult>
     ensures { result ≡ called len flags seen.now }
 {
     if flags::are_bad(flags) {
         return no_more(Answer::Invalid, seen);
     }
     match seen {
-        [Seen::Unready, rest @ ..] => behind_look(len, flags, false, rest),
-        [Seen::Ready(_), rest @ ..] => behind_look(len, flags, true, rest),
+        [SeenStep::Unready, rest @ ..] => after_look(len, flags, false, rest),
+        [SeenStep::Ready(_), rest @ ..] => after_look(len, flags, true, rest),
         _ => None,
     }
 }

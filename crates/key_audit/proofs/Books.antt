@@ -1,4 +1,5 @@
--- The kept parts of a transcript are those of the book that the transcript's steps make.
+-- The kept book of a transcript has the data of the book that the transcript's steps make. The first proof is for bare
+-- lines, which have no answers or data. The second proof is for the lines themselves.
 use Rattle.std.proofs.Common.{◌≡◌, ℕ, List, map, sym, ap, subst, ◌∙◌}
 use Rattle.std.specs.Prelude.{IsPermutation}
 use Rattle.std.specs.Global.{Vec}
@@ -14,9 +15,9 @@ use Rattle.key_names.proofs.Unique.BareLines.{bare_marks}
 use Rattle.key_names.proofs.Unique.BareMeanings.{steps_make_the_book}
 use Rattle.judge_lines.specs.Called.{seen_calls}
 use Rattle.judge_lines.specs.Marks.{seen_mark}
-use Rattle.judge_lines.proofs.BareStands.{same_bare}
+use Rattle.judge_lines.proofs.BareConforms.{same_bare}
 use Rattle.serial_replay.specs.declared.lists.Basis.{Basis}
-use Rattle.serial_replay.specs.Found.{BasisStands}
+use Rattle.serial_replay.specs.Found.{BasisConforms}
 use Rattle.serial_replay.proofs.RemadeLines.{keeps_made}
 use Rattle.audit_keys.specs.Moments.{first_calls}
 use Rattle.audit_keys.specs.StateCut.{AreCut}
@@ -26,33 +27,33 @@ use Rattle.audit_keys.specs.Entries.{all_lists_in}
 use Rattle.audit_keys.specs.Laws.{AreStateLists}
 use Rattle.audit_keys.specs.LineEnds.{AreLineEnds}
 use Rattle.audit_keys.specs.Stamped.{all_kept}
-use Rattle.audit_keys.specs.ToldEnds.{AreToldEnds}
+use Rattle.audit_keys.specs.ListedEnds.{AreListedEnds}
 use Rattle.key_audit.specs.declared.book.KeptBook.{KeptBook}
 use Rattle.key_audit.specs.Kept.{KeepsBook}
 use Rattle.key_audit.proofs.CutStates.{cut_bare, cut_states, ends_bare, lines_bare}
 use Rattle.key_audit.proofs.VisitMarks.{marks_visits}
 
--- the kept data are those of the book's lists, which are lawful
-pub keeps_book : (script : Script) (t : List (List SeenLine)) (basis : Basis) → BasisStands script t basis →
+-- if the states and lines are right for the calls, the kept book has the data of the book that the steps make
+pub keeps_book : (script : Script) (t : List (List SeenLine)) (basis : Basis) → BasisConforms script t basis →
     (m : MadeBook script t) (states : Vec (Vec (Vec StateEntry))) (lines : Vec (Vec LineEnd)) →
     AreStateLists (seen_calls basis.parts.calls.items) (all_lists_in states.items) →
-    AreCut (script_calls script t) states.items → AreToldEnds (script_calls script t) (all_kept states.items) →
+    AreCut (script_calls script t) states.items → AreListedEnds (script_calls script t) (all_kept states.items) →
     AreLineEnds (script_calls script t) lines.items →
     KeepsBook (record { lanes = basis.lists; states = states; lines = lines; marks = basis.parts.marks }) t
     (script_calls script t) m.book m.meanings
-keeps_book script t basis stand m states lines are cut ends told = record {
-  lanes = keeps_made script t basis stand m;
+keeps_book script t basis conform m states lines are cut ends listed = record {
+  lanes = keeps_made script t basis conform m;
   states = are (lists_of m.book) (start_setting (script_calls script t)) m.meanings
       (subst (λ (calls : List (List Call)).
       EachCaller (λ c calls ms. CallerMeans (lists_of m.book) (start_setting (script_calls script t) c) calls ms) 0 calls
-      m.meanings) (sym stand.parts.calls) m.forms.callers) ∙ sym m.forms.states;
+      m.meanings) (sym conform.parts.calls) m.forms.callers) ∙ sym m.forms.states;
   cut = cut_states (lists_of m.book) (start_setting (script_calls script t)) (script_calls script t) m.meanings
       states.items m.forms.callers cut;
   ends = ends (lists_of m.book) (start_setting (script_calls script t)) m.meanings m.forms.callers;
-  lines = told;
-  marks = stand.parts.all_marks;
-  sorted = stand.parts.sorted;
-  visits = marks_visits m.book (all_marks t) basis.parts.marks.items stand.parts.all_marks stand.parts.sorted m.marks.lanes
+  lines = listed;
+  marks = conform.parts.all_marks;
+  sorted = conform.parts.sorted;
+  visits = marks_visits m.book (all_marks t) basis.parts.marks.items conform.parts.all_marks conform.parts.sorted m.marks.lanes
       m.forms.visits;
 }
 
@@ -90,7 +91,7 @@ module _ (script : Script) (t : List (List SeenLine)) (book : Book) (ms : List (
         visits = of.visits;
       }
 
-  -- the kept book of the bare lines is the kept book of the lines
+  -- a kept book that is right for the bare lines is also right for the lines themselves
   pub kept_of_bare : (kept : KeptBook) →
       ((made : MadeBook script (map (map bare) t)) → KeepsBare kept made.book made.meanings) →
       KeepsBook kept t (script_calls script t) book ms

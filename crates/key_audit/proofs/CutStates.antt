@@ -1,5 +1,5 @@
--- A cut keeps the first calls of each caller, and the entries of these calls are those of the book at that moment.
--- Answers and data do not matter: bare lines have the same first calls, the same ends, and the same call for each line.
+-- A cut at a stamp, or after a call, keeps the first calls of each caller. The cut book has exactly the entries that
+-- these calls left. Lines without answers and data (bare lines) give the same cuts and ends.
 use Rattle.std.proofs.Common.{◌≡◌, ℕ, zero, suc, ◌+◌, ◌<◌, ◌≤◌, List, [], ◌∷◌, ◌++◌, length, map, inl, inr, refl, sym, subst, ap, ◌∙◌, arith}
 use Rattle.std.specs.Prelude.{◌==◌, if◌then◌else◌, nat_le, take}
 use Rattle.std.specs.List.{range_with_len}
@@ -29,9 +29,9 @@ use Rattle.audit_keys.specs.declared.entry.StateEntry.{StateEntry}
 use Rattle.audit_keys.specs.declared.line_ends.LineEnd.{LineEnd}
 use Rattle.audit_keys.specs.StateCut.{AreCut, all_lists_by, calls_by, lists_made}
 use Rattle.audit_keys.specs.Ends.{end_of}
-use Rattle.audit_keys.specs.LineEnds.{act_ends, all_line_ends, call_ends, line_ends, line_of_call, told_lines}
+use Rattle.audit_keys.specs.LineEnds.{act_ends, all_line_ends, call_ends, line_ends, line_of_call, listed_lines}
 use Rattle.audit_keys.specs.Stamps.{latest_of, made_by, over_at, start_stamp}
-use Rattle.audit_keys.specs.ToldEnds.{all_ends, ends_of_state, state_ends, told_ends}
+use Rattle.audit_keys.specs.ListedEnds.{all_ends, ends_of_state, state_ends, listed_ends}
 use Rattle.audit_keys.proofs.CallersLeave.{calls_leave, map_same}
 use Rattle.std.specs.Global.{Vec}
 use Rattle.key_audit.specs.Live.{calls_cut}
@@ -39,7 +39,7 @@ use Rattle.key_audit.specs.Live.{calls_cut}
 -- ---- the first calls
 
 module _ (lists : Lists) (settings : ℕ → Setting) (cuts : ℕ → Cut) (starts made : ℕ → ℕ) where
-  -- the entries that the kept calls left are those of their meanings
+  -- the entries that the kept calls left are the entries in the meanings of these calls
   made_mean : (c : ℕ) (callers : List (List Call)) (mss : List (List CallMeaning)) →
       ((j : ℕ) → made (c + j) ≡ calls_by (cuts (c + j)) (starts (c + j)) (list_at callers j)) →
       EachCaller (λ c calls ms. CallerMeans lists (settings c) calls ms) c callers mss →
@@ -54,7 +54,7 @@ module _ (lists : Lists) (settings : ℕ → Setting) (cuts : ℕ → Cut) (star
       ap (λ n. lists_left (take n calls)) (sym here)
       ∙ calls_leave lists (settings c) (take (made c) calls) (take (made c) ms) (record {
         follows = calls_front _ (made c) calls ms each.0.follows;
-        deeds = lines_front _ (made c) calls ms each.0.deeds;
+        effects = lines_front _ (made c) calls ms each.0.effects;
       }) in
       let rest : lists_made cuts starts (suc c) callers ≡ map state_lists (first_calls made (suc c) mss) =
       made_mean (suc c) callers mss
@@ -110,7 +110,7 @@ start_alike stamp callers c = elim (lt_or_le c (length callers)) [
       ∙ sym (ap (λ (cs : List Call). made_by stamp (start_stamp callers c) cs) (list_beyond callers c le))
 ]
 
--- a cut keeps as many bare calls as calls
+-- a cut keeps the same number of calls for the bare lines as for the lines themselves
 cut_alike : (cut : Cut) (callers : List (List Call)) (c : ℕ) →
     calls_by cut (start_stamp (map (map bare_call) callers) c) (list_at (map (map bare_call) callers) c)
     ≡ calls_by cut (start_stamp callers c) (list_at callers c)
@@ -126,7 +126,7 @@ cut_bare cuts script t =
     ap (λ (callers : List (List Call)). calls_cut cuts callers) (bare_all script.callers t)
     ∙ (λ i c. cut_alike (cuts c) (script_calls script t) c i)
 
--- ---- ends of bare calls
+-- ---- the ends of bare calls are those of the calls themselves
 
 end_alike : (before : ℕ) (call : Call) → end_of before (bare_call call) ≡ end_of before call
 end_alike before (alone event line) = refl
@@ -168,14 +168,14 @@ starts_same : (callers : List (List Call)) (c : ℕ) → c < length callers →
 starts_same callers c lt = ap (latest_of 0) (starts_alike callers c lt)
 
 pub ends_bare : (script : Script) (t : List (List SeenLine)) (mss : List (List CallMeaning)) →
-    told_ends (script_calls script (map (map bare) t)) mss ≡ told_ends (script_calls script t) mss
+    listed_ends (script_calls script (map (map bare) t)) mss ≡ listed_ends (script_calls script t) mss
 ends_bare script t mss =
     let callers : List (List Call) = script_calls script t in
-    ap (λ (cs : List (List Call)). told_ends cs mss) (bare_all script.callers t)
+    ap (λ (cs : List (List Call)). listed_ends cs mss) (bare_all script.callers t)
     ∙ ends_alike (start_stamp (map (map bare_call) callers)) (start_stamp callers) 0 callers mss
     (λ c low high. starts_same callers c (omega arith))
 
--- ---- lines of bare calls
+-- ---- the line ends of bare calls are those of the calls themselves
 
 acts_alike : (i stamp : ℕ) (acts : List BoundAct) → act_ends i stamp (map bare_act acts) ≡ act_ends i stamp acts
 acts_alike i stamp [] = refl
@@ -206,9 +206,9 @@ all_lines_alike starts others c (cs ∷ callers) same =
     λ i. one i ∷ more i
 
 pub lines_bare : (script : Script) (t : List (List SeenLine)) →
-    told_lines (script_calls script (map (map bare) t)) ≡ told_lines (script_calls script t)
+    listed_lines (script_calls script (map (map bare) t)) ≡ listed_lines (script_calls script t)
 lines_bare script t =
     let callers : List (List Call) = script_calls script t in
-    ap told_lines (bare_all script.callers t)
+    ap listed_lines (bare_all script.callers t)
     ∙ all_lines_alike (start_stamp (map (map bare_call) callers)) (start_stamp callers) 0 callers
     (λ c low high. starts_same callers c (omega arith))

@@ -1,4 +1,5 @@
--- The outputs for a script and a transcript are those for their text.
+-- An output is right for an input's text if it is right for the script and the transcript in the input, or for the
+-- reason why the input has none.
 use Rattle.std.proofs.Common.{◌≡◌, ℕ, List, refl, sym, subst, ◌∙◌, inl, inr}
 use Rattle.std.specs.Prelude.{Option, Some, None, true, Result, Ok, Err, IfOk}
 use Rattle.std.specs.Option.{is_some}
@@ -18,23 +19,23 @@ use Rattle.tool_ends.proofs.Inputs.{IsLimited}
 use Rattle.tool_ends.proofs.Pairs.{too_long}
 use Rattle.key_audit.specs.declared.ask.Ask.{Ask}
 use Rattle.audit_keys.specs.declared.line_ends.LineEnd.{LineEnd}
-use Rattle.audit_keys.specs.declared.moments.Line.{Line}
+use Rattle.audit_keys.specs.declared.moments.LineOf.{LineOf}
 use Rattle.key_audit.specs.Asked.{line_end}
 use Rattle.key_audit.specs.Live.{lists_after}
-use Rattle.key_audit.specs.Outcome.{Calls, TellsAfter, TellsHeld, TellsLive, ToldOf}
+use Rattle.key_audit.specs.Outcome.{Calls, TellsAfter, TellsHeld, TellsLive, ListedOf}
 
--- an output for a transcript is one for its text
+-- an output that is right for a script and a transcript is right for the input that spells these two
 pub of_pair : (ask : Ask) (input : List ℕ) (script : Script) (t : List (List SeenLine)) → IsPair input script t →
-    (s : Status) (o : List ℕ) → ToldOf ask script t s o → Calls ask input s o
-of_pair ask input script t pair Done o told = record { script = script; t = t; pair = pair; told = told }
-of_pair ask input script t pair No o told = inl (record { script = script; t = t; pair = pair; told = told })
-of_pair ask input script t pair Refused o told = absurd told
-of_pair ask input script t pair Usage o told = absurd told
-of_pair ask input script t pair ReadFault o told = absurd told
-of_pair ask input script t pair WriteFault o told = absurd told
-of_pair ask input script t pair NoMemory o told = absurd told
+    (s : Status) (o : List ℕ) → ListedOf ask script t s o → Calls ask input s o
+of_pair ask input script t pair Done o listed = record { script = script; t = t; pair = pair; listed = listed }
+of_pair ask input script t pair No o listed = inl (record { script = script; t = t; pair = pair; listed = listed })
+of_pair ask input script t pair Refused o listed = absurd listed
+of_pair ask input script t pair Usage o listed = absurd listed
+of_pair ask input script t pair ReadFault o listed = absurd listed
+of_pair ask input script t pair WriteFault o listed = absurd listed
+of_pair ask input script t pair NoMemory o listed = absurd listed
 
--- the refusal of an input that is not read is an output for its text
+-- if the input is not a script with a transcript, the refusal is a right output for this input
 pub of_none : (ask : Ask) (input : List ℕ) (why : NotRead) → IsNoPair input why → (s : Status) (o : List ℕ) →
     RefusalOf why s o → Calls ask input s o
 of_none ask input SourceFails is s o said = absurd is
@@ -57,24 +58,24 @@ is_limited ask = record {
   };
 }
 
--- an output of held keys and rests is one of live ones, if they were not used
-pub live_told : {E : Type 0} (lists : Lists) (callers : List (List Call)) (book : Book) (ms : List (List CallMeaning))
+-- if no held key or rest was used, `TellsHeld` gives `TellsLive`
+pub live_listed : {E : Type 0} (lists : Lists) (callers : List (List Call)) (book : Book) (ms : List (List CallMeaning))
     (r : Result (Vec ℕ) E) → HoldsUnused lists → IfOk r (λ text. TellsHeld lists callers book ms text.items) →
     IfOk r (λ text. TellsLive lists callers book ms text.items)
-live_told lists callers book ms (Ok text) unused told = record { told = told; unused = unused }
-live_told lists callers book ms (Err e) unused told = tt
+live_listed lists callers book ms (Ok text) unused listed = record { listed = listed; unused = unused }
+live_listed lists callers book ms (Err e) unused listed = tt
 
--- an output after a line is one of live keys and rests, if they were not used
-pub after_told : {E : Type 0} (line : Line) (end : LineEnd) (callers : List (List Call)) (book : Book)
+-- if no held key or rest was used, `TellsHeld` of the lists after a line gives `TellsAfter`
+pub after_listed : {E : Type 0} (line : LineOf) (end : LineEnd) (callers : List (List Call)) (book : Book)
     (ms : List (List CallMeaning)) (r : Result (Vec ℕ) E) → line_end callers line ≡ Some end →
     HoldsUnused (lists_after line end callers book ms) →
     IfOk r (λ text. TellsHeld (lists_after line end callers book ms) callers book ms text.items) →
     IfOk r (λ text. TellsAfter line callers book ms text.items)
-after_told line end callers book ms (Ok text) is unused told =
-    record { end = end; is = is; live = record { told = told; unused = unused } }
-after_told line end callers book ms (Err e) is unused told = tt
+after_listed line end callers book ms (Ok text) is unused listed =
+    record { end = end; is = is; live = record { listed = listed; unused = unused } }
+after_listed line end callers book ms (Err e) is unused listed = tt
 
--- a line that exists has an end
+-- if an end was found for a line, there is a `LineEnd` that was found
 pub found_end : (o : Option LineEnd) → is_some o ≡ true → (end : LineEnd) × (o ≡ Some end)
 found_end None there = absurd cc
 found_end (Some end) there = (end, refl)

@@ -1,4 +1,5 @@
--- The rows of a book, found by the names of their keys.
+-- If the number of one more row is inserted, the index stays right. A search for a key in the whole index finds a row
+-- of this key.
 use Rattle.std.proofs.Common.{◌≡◌, ◌<◌, ◌+◌, ◌⊎◌, ℕ, true, true≢false, List, inl, inr, refl, sym, ap, subst, ◌∙◌, arith, rules}
 use Rattle.std.specs.Option.{is_some}
 use Rattle.std.specs.Prelude.{Some, None, IsSome, IfSome, Option, ◌≢◌, length, map}
@@ -10,7 +11,7 @@ use Rattle.std.proofs.lemmas.List.{length-map}
 use Rattle.std.proofs.lemmas.Option.{slice_get_within, slice_get-map, same_Some}
 use Rattle.key_names.specs.declared.names.KeyName.{KeyName}
 use Rattle.key_names.specs.contracts.names.KeyNameOrd.TheImpl.{ghosts as names}
-use Rattle.audit_keys.specs.declared.rows.Row.{Row}
+use Rattle.audit_keys.specs.declared.rows.KeyRow.{KeyRow}
 use Rattle.key_names.proofs.Transcripts.TranscriptBooks.{lt_or_le}
 use Rattle.key_audit.specs.Index.{IsIndexTo}
 use Rattle.key_audit.specs.Live.{name_at}
@@ -21,15 +22,15 @@ equal_names a b e = search rules
 pub found_name : (a b : KeyName) → is_at (names.cmp a) b ≡ true → a ≡ b
 found_name a b e = equal_names a b ((Equal-is (names.cmp a b)).0 e)
 
-named_within : (rows : List Row) (n : ℕ) (key : KeyName) → name_at rows n ≡ Some key → n < length rows
+named_within : (rows : List KeyRow) (n : ℕ) (key : KeyName) → name_at rows n ≡ Some key → n < length rows
 named_within rows n key there =
     subst (λ len. n < len) (length-map rows (λ row. row.key))
     (slice_get_within (map (λ row. row.key) rows) n key (slice_get-map (λ row. row.key) rows n ∙ there))
 
-module _ (rows : List Row) (before after : BTreeMap KeyName ℕ) (n : ℕ) (key : KeyName)
+module _ (rows : List KeyRow) (before after : BTreeMap KeyName ℕ) (n : ℕ) (key : KeyName)
     (there : name_at rows n ≡ Some key) (updates : Updates names.cmp before after key (Some n))
     (indexed : IsIndexTo n rows before) where
-  -- with one more key, the new key has the new number, and any other key has the number that it had before
+  -- after one more key is inserted, this key has the number `n`; any other key has the same number as before
   known : (k : KeyName) → (get names.cmp after k ≡ Some n) × (key ≡ k) ⊎ (get names.cmp after k ≡ get names.cmp before k)
   known k = elim (cases_Bool (is_at (names.cmp key) k)) [
     | inl same ↦ inl (updates.0 k ∙ rw same refl, found_name key k same)
@@ -60,7 +61,7 @@ module _ (rows : List Row) (before after : BTreeMap KeyName ℕ) (n : ℕ) (key 
   pub added : IsIndexTo (n + 1) rows after
   added = record { named = named; all = all }
 
-module _ (rows : List Row) (numbers : BTreeMap KeyName ℕ) (indexed : IsIndexTo (length rows) rows numbers)
+module _ (rows : List KeyRow) (numbers : BTreeMap KeyName ℕ) (indexed : IsIndexTo (length rows) rows numbers)
     (key : KeyName) where
   pub found : (o : Option ℕ) → o ≡ get names.cmp numbers key → IfSome o (λ n. name_at rows n ≡ Some key)
   found None e = tt

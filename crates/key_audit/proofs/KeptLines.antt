@@ -1,4 +1,4 @@
--- The kept lines and stamps are those of the transcript.
+-- The lines of a caller are found at the caller's number, and the kept marks have the stamps of the transcript.
 use Rattle.std.proofs.Common.{◌≡◌, ℕ, zero, suc, ◌<◌, ◌≤◌, List, [], ◌∷◌, length, map, refl, sym, ap, ◌∙◌, arith, get_or}
 use Rattle.std.specs.Prelude.{◌||◌, nat_le, IsPermutation}
 use Rattle.std.specs.Global.{Vec}

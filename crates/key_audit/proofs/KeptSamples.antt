@@ -1,4 +1,4 @@
--- The samples and bits of the kept visits of the pool are those of a book.
+-- The samples and bits that the code counts from the kept visits of the pool are those of the book's pool.
 use Rattle.std.proofs.Common.{◌≡◌, ℕ, zero, suc, ◌+◌, ◌<◌, Bool, true, false, Option, Some, None, List, [], ◌∷◌, length, take, refl, ap, ◌∙◌, arith}
 use Rattle.std.specs.Prelude.{filter, not, ◌&&◌, if◌then◌else◌, option_map, slice_get}
 use Rattle.std.specs.Option.{is_some}

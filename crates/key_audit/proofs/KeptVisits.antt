@@ -1,4 +1,5 @@
--- The kept visits of a book, with their moments.
+-- Moments that are made of a book's kept marks are those of the book's visits. The kept visits have these moments'
+-- stamps.
 use Rattle.std.proofs.Common.{◌≡◌, ℕ, suc, ◌<◌, List, [], ◌∷◌, length, map, refl, sym, ap, ◌∙◌, arith}
 use Rattle.std.specs.Global.{Vec}
 use Rattle.std.proofs.lemmas.List.{length-map}
@@ -9,7 +10,7 @@ use Rattle.key_names.specs.Transcripts.SeenLine.{SeenLine}
 use Rattle.judge_lines.specs.Marks.{seen_mark}
 use Rattle.audit_keys.specs.declared.entry.StateEntry.{StateEntry}
 use Rattle.audit_keys.specs.Stamped.{all_kept, kept_lists}
-use Rattle.audit_keys.specs.ToldEnds.{all_ends_in, ends_in}
+use Rattle.audit_keys.specs.ListedEnds.{all_ends_in, ends_in}
 use Rattle.audit_keys.proofs.UseMoments.{mapped_at}
 use Rattle.audit_keys.specs.declared.moments.Moments.{Moments}
 use Rattle.audit_keys.specs.Cut.{KeepsVisits, moment_lists, stamps_of, visit_stamps}
@@ -57,7 +58,7 @@ all_ends_are (lists ∷ callers) = λ i. caller_ends lists.items i ∷ all_ends_
 
 module _ (kept : KeptBook) (t : List (List SeenLine)) (callers : List (List Call)) (book : Book)
     (ms : List (List CallMeaning)) (keeps : KeepsBook kept t callers book ms) (moments : Moments) where
-  -- if moments are made of a book's kept marks, they are those of its visits
+  -- moments that are made of a book's kept marks are those of the book's visits
   pub kept_moments : HasMarks (length kept.lanes.cpus.items) (map seen_mark kept.marks.items) moments →
       state_moments_in moments.callers.items ≡ all_moments kept.states.items → AreMoments callers book ms moments
   kept_moments has states =

@@ -1,4 +1,4 @@
--- Walks go along edges from known keys, until one finds no new key.
+-- A walk follows each edge that begins at a known key. If a walk finds no new key, all reached keys are known after it.
 use Rattle.std.proofs.Common.{◌≡◌, ◌<◌, ◌≤◌, ◌+◌, ◌⊎◌, ℕ, zero, suc, Bool, true, false, true≢false, cond, List, [], ◌∷◌, length, take, get_or, inl, inr, refl, sym, ap, subst, ◌∙◌, arith}
 use Rattle.std.specs.Prelude.{Contains, IsTrue, not, ◌↔◌, ◌||◌}
 use Rattle.std.specs.List.{list_any}
@@ -63,9 +63,10 @@ unfollowed edge old none = record {
   some = λ e. absurd (true≢false (sym e));
 }
 
--- ---- along some of them
+-- ---- along the first edges
 
--- a walk along the first i edges led from the old keys to the new ones; more is whether it found a new key
+-- a walk along the first `i` edges led from the known keys `old` to the known keys `new`; `more` is whether the walk
+-- found a new key
 pub record PassedTo (edges : List Edge) (i : ℕ) (old new : BTreeSet KeyName) (more : Bool) : Type 0 where
   pub stays : (key : KeyName) → Has old key → Has new key
   pub reached : (start : List KeyName) → ((key : KeyName) → Has old key → IsReached edges start key) →
@@ -98,7 +99,7 @@ module _ (edges : List Edge) (i : ℕ) (d : Edge) (low : i < length edges) (firs
         (Contains-get_or edges i d low))
   ]
 
-  -- if edge i leads to a new key, the walk along the first i + 1 edges found one
+  -- if edge `i` leads to a new key, the walk along the first `i + 1` edges found a new key
   pub one_new : (before : Bool) → PassedTo edges i first old before → Follows (get_or edges i d) old new true →
       PassedTo edges (i + 1) first new true
   one_new before passed follows = record {
@@ -117,7 +118,8 @@ module _ (edges : List Edge) (i : ℕ) (d : Edge) (low : i < length edges) (firs
     );
   }
 
-  -- if edge i leads to no new key, the walk found one only if it had found one before
+  -- if edge `i` leads to no new key, the walk along the first `i + 1` edges found a new key exactly if the walk along
+  -- the first `i` edges did
   pub none_new : (before : Bool) → PassedTo edges i first old before → Follows (get_or edges i d) old new false →
       PassedTo edges (i + 1) first new before
   none_new before passed follows = record {
@@ -187,7 +189,7 @@ module _ (old new : BTreeSet KeyName) (stays : (key : KeyName) → Has old key �
       go false true up rest = omega arith
       go false false up rest = omega arith
 
--- each known key is reached, and after a walk that finds no new key, each reached key is known
+-- each known key is reached. If the last walk found no new key, each reached key is known
 pub record ClosesUp (edges : List Edge) (start : List KeyName) (known : BTreeSet KeyName) (more : Bool) : Type 0 where
   pub begins : (key : KeyName) → Contains start key → Has known key
   pub reached : (key : KeyName) → Has known key → IsReached edges start key

@@ -1,4 +1,4 @@
--- In the order of their stamps, the marks of a lane are those of its visits.
+-- If the marks of a lane are sorted by stamp, they are the marks of the lane's visits in the order of places.
 use Rattle.std.proofs.Common.{◌≡◌, ℕ, suc, ◌+◌, Bool, true, false, cond, Some, List, [], ◌∷◌, length, map, refl, sym, subst, ap, ◌∙◌, arith}
 use Rattle.std.specs.Prelude.{IsPermutation, unwrap_or}
 use Rattle.std.specs.List.{AllByRecursion}
@@ -9,7 +9,7 @@ use Rattle.key_names.specs.declared.names.LaneId.{LaneId}
 use Rattle.key_names.specs.declared.names.LaneId.TheVariants.{Pool as PoolLane, Base as BaseLane, Cpu as CpuLane}
 use Rattle.key_names.specs.declared.names.Who.{Who}
 use Rattle.key_names.specs.Lanes.Book.{Book, Visit, list_at}
-use Rattle.key_names.specs.Transcripts.IsTranscript.{MarkBy, PlacesStand, VisitsAre, is_same_lane, lane_marks, stamped, stamped_at}
+use Rattle.key_names.specs.Transcripts.IsTranscript.{MarkBy, PlacesConform, VisitsAre, is_same_lane, lane_marks, stamped, stamped_at}
 use Rattle.key_names.specs.Transcripts.PlacesInOrder.{InOrder}
 use Rattle.key_names.proofs.Transcripts.LaneCounts.{lane_counts, same_lane}
 use Rattle.key_names.proofs.Transcripts.PlacesInOrder.{places_count_up}
@@ -19,22 +19,22 @@ use Rattle.judge_lines.proofs.MarksMoved.{lane_moved, same_long}
 use Rattle.judge_lines.proofs.Runs.{lane_sorted}
 use Rattle.key_audit.specs.Moments.{MarksVisits, marks_on, moment_by, moments_on, visit_moment, visit_moments}
 
--- the mark is that of the visit at its place
-abbrev StandsIn : {E : Type 0} → List (Visit E) → MarkBy → Type 0
-StandsIn visits by = stamped visits by.mark.place ≡ Some (by.mark.stamp, by.who)
+-- the visit at the mark's place has the mark's stamp, and the same maker
+abbrev ConformsIn : {E : Type 0} → List (Visit E) → MarkBy → Type 0
+ConformsIn visits by = stamped visits by.mark.place ≡ Some (by.mark.stamp, by.who)
 
--- if the places of marks count up from i, they are the marks of the visits from place i on
+-- if the places of the marks `bys` count up from `i`, these are the marks of the visits from place `i` on
 counted : {E : Type 0} (i : ℕ) (whole rest : List (Visit E)) (bys : List MarkBy) →
     ((j : ℕ) → stamped rest j ≡ stamped whole (i + j)) → length bys ≡ length rest →
-    InOrder i (map (λ by. by.mark) bys) → AllByRecursion (StandsIn whole) bys → map moment_by bys ≡ visit_moments rest
-counted i whole [] [] at long order stand = refl
-counted i whole (v ∷ rest) [] at long order stand = absurd (omega arith)
-counted i whole [] (by ∷ bys) at long order stand = absurd (omega arith)
-counted i whole (v ∷ rest) (by ∷ bys) at long order stand =
+    InOrder i (map (λ by. by.mark) bys) → AllByRecursion (ConformsIn whole) bys → map moment_by bys ≡ visit_moments rest
+counted i whole [] [] at long order conform = refl
+counted i whole (v ∷ rest) [] at long order conform = absurd (omega arith)
+counted i whole [] (by ∷ bys) at long order conform = absurd (omega arith)
+counted i whole (v ∷ rest) (by ∷ bys) at long order conform =
     let place : i + 0 ≡ by.mark.place = (let p : by.mark.place ≡ i = order.0 in omega arith) in
     let there : ℕ × Who = (v.stamp, v.who) in
     let here : Some there ≡ Some (by.mark.stamp, by.who) =
-    at 0 ∙ ap (λ n. stamped whole n) place ∙ stand.0 in
+    at 0 ∙ ap (λ n. stamped whole n) place ∙ conform.0 in
     let mark : there ≡ (by.mark.stamp, by.who) = ap (λ o. unwrap_or o there) here in
     let first : visit_moment v ≡ moment_by by = λ j. record {
       stamp = (mark j).0;
@@ -43,7 +43,7 @@ counted i whole (v ∷ rest) (by ∷ bys) at long order stand =
     let more : map moment_by bys ≡ visit_moments rest =
     counted (suc i) whole rest bys
     (λ j. at (suc j) ∙ ap (λ n. stamped whole n) (let p : i + suc j ≡ suc i + j = omega arith in p))
-    (omega arith) order.2 stand.1 in
+    (omega arith) order.2 conform.1 in
     λ j. sym first j ∷ more j
 
 module _ (lane : LaneId) where
@@ -57,7 +57,7 @@ module _ (lane : LaneId) where
       go true rest = ap (λ ms. by.mark ∷ ms) rest
       go false rest = rest
 
-  -- a fact of each mark and its lane holds of this lane's marks
+  -- if `Q` holds of each mark and that mark's own lane, then `Q` holds of `lane` and each mark of `lane`
   all_on : (Q : LaneId → MarkBy → Type 0) (marks : List MarkBy) → AllByRecursion (λ by. Q by.mark.lane by) marks →
       AllByRecursion (λ by. Q lane by) (marks_on lane marks)
   all_on Q [] all = tt
@@ -70,22 +70,22 @@ module _ (lane : LaneId) where
       go false is rest = rest
 
 module _ (book : Book) (all : List MarkBy) (marks : List MarkOf) (same : IsPermutation all (map seen_mark marks))
-    (sorted : IsSortedByLane marks) (places : (lane : LaneId) → PlacesStand (lane_marks lane all))
+    (sorted : IsSortedByLane marks) (places : (lane : LaneId) → PlacesConform (lane_marks lane all))
     (visits : VisitsAre book all) where
   abbrev here : LaneId → List MarkBy
   here lane = marks_on lane (map seen_mark marks)
 
-  stand : AllByRecursion (λ by. stamped_at book by.mark.lane by.mark.place ≡ Some (by.mark.stamp, by.who))
+  conform : AllByRecursion (λ by. stamped_at book by.mark.lane by.mark.place ≡ Some (by.mark.stamp, by.who))
       (map seen_mark marks)
-  stand =
+  conform =
       let P : MarkBy → Type 0 = λ by. stamped_at book by.mark.lane by.mark.place ≡ Some (by.mark.stamp, by.who) in
       recursion_from_All P (map seen_mark marks)
-      (All-permutation P all (map seen_mark marks) same (All-from_recursion P all visits.stand))
+      (All-permutation P all (map seen_mark marks) same (All-from_recursion P all visits.conform))
 
-  lane_stand : (lane : LaneId) →
+  lane_conform : (lane : LaneId) →
       AllByRecursion (λ by. stamped_at book lane by.mark.place ≡ Some (by.mark.stamp, by.who)) (here lane)
-  lane_stand lane =
-      all_on lane (λ l by. stamped_at book l by.mark.place ≡ Some (by.mark.stamp, by.who)) (map seen_mark marks) stand
+  lane_conform lane =
+      all_on lane (λ l by. stamped_at book l by.mark.place ≡ Some (by.mark.stamp, by.who)) (map seen_mark marks) conform
 
   in_order : (lane : LaneId) → InOrder 0 (map (λ by. by.mark) (here lane))
   in_order lane = subst (InOrder 0) (sym (marks_alone lane (map seen_mark marks)))
@@ -97,16 +97,16 @@ module _ (book : Book) (all : List MarkBy) (marks : List MarkOf) (same : IsPermu
       ∙ ap length (marks_alone lane (map seen_mark marks)) ∙ same_long lane all (map seen_mark marks) same
 
   one_lane : {E : Type 0} (lane : LaneId) (list : List (Visit E)) →
-      AllByRecursion (StandsIn list) (here lane) → length (lane_marks lane all) ≡ length list →
+      AllByRecursion (ConformsIn list) (here lane) → length (lane_marks lane all) ≡ length list →
       moments_on lane (map seen_mark marks) ≡ visit_moments list
-  one_lane lane list stand count =
+  one_lane lane list conform count =
       counted 0 list list (here lane)
-      (λ j. ap (λ n. stamped list n) (let p : j ≡ 0 + j = omega arith in p)) (long lane ∙ count) (in_order lane) stand
+      (λ j. ap (λ n. stamped list n) (let p : j ≡ 0 + j = omega arith in p)) (long lane ∙ count) (in_order lane) conform
 
   pub marks_visits : MarksVisits book (map seen_mark marks)
   marks_visits = record {
-    pool = one_lane PoolLane book.pool (lane_stand PoolLane) (lane_counts book all places visits PoolLane);
-    base = one_lane BaseLane book.base (lane_stand BaseLane) (lane_counts book all places visits BaseLane);
-    cpus = λ c. one_lane (CpuLane c) (list_at book.cpus c) (lane_stand (CpuLane c))
+    pool = one_lane PoolLane book.pool (lane_conform PoolLane) (lane_counts book all places visits PoolLane);
+    base = one_lane BaseLane book.base (lane_conform BaseLane) (lane_counts book all places visits BaseLane);
+    cpus = λ c. one_lane (CpuLane c) (list_at book.cpus c) (lane_conform (CpuLane c))
         (lane_counts book all places visits (CpuLane c));
   }

@@ -1,4 +1,4 @@
--- Whether a transcript has the stamp or the line of a command.
+-- Whether a transcript has the stamp, or the line, that a command names.
 use Rattle.std.specs.Prelude.{ℕ, ◌==◌, Bool, true, Option, Some, None, List, [], ◌∷◌, ◌++◌, codes, if◌then◌else◌, nat_le}
 use Rattle.std.specs.List.{list_any}
 use Rattle.std.specs.Option.{is_some}
@@ -8,8 +8,8 @@ use Rattle.key_names.specs.Transcripts.IsTranscript.{all_marks}
 use Rattle.key_names.specs.Transcripts.SeenLine.{SeenLine}
 use Rattle.judge_lines.specs.declared.marks.MarkOf.{MarkOf}
 use Rattle.audit_keys.specs.declared.line_ends.LineEnd.{LineEnd}
-use Rattle.audit_keys.specs.LineEnds.{told_lines}
-use Rattle.audit_keys.specs.declared.moments.Line.{Line}
+use Rattle.audit_keys.specs.LineEnds.{listed_lines}
+use Rattle.audit_keys.specs.declared.moments.LineOf.{LineOf}
 use Rattle.key_audit.specs.declared.ask.Ask.{Ask}
 use Rattle.key_audit.specs.declared.ask.Ask.TheVariants.{Keys, Live, LiveAfter, Line as OneLine}
 
@@ -18,9 +18,9 @@ abbrev pub line_in : ℕ → List LineEnd → Option LineEnd
 line_in event [] = None
 line_in event (line ∷ lines) = if line.event == event then Some line else line_in event lines
 
--- a line of the callers with its call, if there is such a line
-abbrev pub line_end : List (List Call) → Line → Option LineEnd
-line_end callers line = line_in line.event (list_at (told_lines callers) line.caller)
+-- if the callers have the line: the line's call, and the stamp when this call was over
+abbrev pub line_end : List (List Call) → LineOf → Option LineEnd
+line_end callers line = line_in line.event (list_at (listed_lines callers) line.caller)
 
 -- whether some visit has this stamp or a higher one
 abbrev pub has_stamp : List (List SeenLine) → ℕ → Bool
@@ -36,7 +36,7 @@ is_there (Live stamp) callers t = has_stamp t stamp
 is_there (LiveAfter line) callers t = is_some (line_end callers line)
 is_there (OneLine line) callers t = is_some (line_end callers line)
 
--- the output if the transcript does not have the stamp or the line
+-- the output if the transcript lacks the stamp, or the line, that the command names
 abbrev pub missing_text : Ask → List ℕ
 missing_text (Live stamp) = codes "no stamp" ++ 10 ∷ []
 missing_text _ = codes "no line" ++ 10 ∷ []

@@ -1,4 +1,4 @@
--- The verdict on a transcript, with its book if it is lawful.
+-- The verdict on a transcript, and the kept book if the transcript is lawful.
 use Rattle.std.specs.Prelude.{List}
 use Rattle.key_names.specs.Transcripts.IsTranscript.{FirstFails, script_calls}
 use Rattle.key_names.specs.Transcripts.SeenLine.{SeenLine}
@@ -10,7 +10,7 @@ use Rattle.key_audit.specs.declared.book.AuditedBook.{AuditedBook}
 use Rattle.key_audit.specs.declared.book.AuditedBook.TheVariants.{Lawful, Unlawful}
 use Rattle.key_audit.specs.declared.book.KeptBook.{KeptBook}
 
--- the transcript is lawful, and this is its kept book
+-- the transcript is lawful, and `kept` is its kept book
 pub record KeepsLawful (script : Script) (t : List (List SeenLine)) (kept : KeptBook) : Type 0 where
   pub sound : IsSound script t
   pub keeps : KeepsBook kept t (script_calls script t) sound.book sound.meanings

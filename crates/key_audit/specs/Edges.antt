@@ -1,5 +1,5 @@
--- An edge leads from a key to each key that its bytes became. Following edges from some keys gives all keys that can be
--- reached.
+-- If bytes of a key became another key, an edge leads from the first key to the second. The keys that can be reached
+-- from some keys are found by following edges.
 use Rattle.std.specs.Prelude.{◌≡◌, ◌⊎◌, Bool, true, false, List, [], ◌∷◌, Contains, IsTrue}
 use Rattle.std.specs.List.{flat_map}
 use Rattle.std.specs.BTreeSet.{BTreeSet, contains}
@@ -7,39 +7,40 @@ use Rattle.key_names.specs.declared.names.KeyName.{KeyName}
 use Rattle.key_names.specs.contracts.names.KeyNameOrd.TheImpl.{ghosts as names}
 use Rattle.audit_keys.specs.declared.rows.Fate.{Fate}
 use Rattle.audit_keys.specs.declared.rows.Fate.TheVariants.{Became, Served, GivenUp, Held}
-use Rattle.audit_keys.specs.declared.rows.Row.{Row}
+use Rattle.audit_keys.specs.declared.rows.KeyRow.{KeyRow}
 use Rattle.key_audit.specs.declared.edges.Edge.{Edge}
 
 -- ---- edges
 
--- the edge from a key to the key that some of its bytes became, if they became one
+-- if bytes of `key` became a key, the edge from `key` to that key
 abbrev pub fate_edges : KeyName → Fate → List Edge
 fate_edges key (Became next) = record { from = key; to = next } ∷ []
 fate_edges key (Served by) = []
 fate_edges key (GivenUp by) = []
 fate_edges key Held = []
 
-abbrev pub row_edges : Row → List Edge
+abbrev pub row_edges : KeyRow → List Edge
 row_edges row = flat_map (λ piece. fate_edges row.key piece.fate) row.pieces.items
 
-abbrev pub edges_of : List Row → List Edge
+abbrev pub edges_of : List KeyRow → List Edge
 edges_of rows = flat_map row_edges rows
 
 abbrev pub turned : Edge → Edge
 turned edge = record { from = edge.to; to = edge.from }
 
--- a key is reached if the list has it, or if an edge leads to it from a reached key
+-- a key is reached if `start` has the key, or if an edge leads to the key from a reached key
 pub data IsReached (edges : List Edge) (start : List KeyName) : KeyName → Type 0 where
   first : {key : KeyName} → Contains start key → IsReached edges start key
   along : {from to : KeyName} → IsReached edges start from → Contains edges (record { from = from; to = to }) →
       IsReached edges start to
 
--- ---- steps towards all of them
+-- ---- following edges
 
 abbrev pub Has : BTreeSet KeyName → KeyName → Type 0
 Has known key = IsTrue (contains names.cmp known key)
 
--- new has the old keys and what one edge from them leads to; more is whether this is a new key
+-- `edge` is followed if it begins at a known key. `old` has the known keys before this, and `new` has the known keys
+-- after it. `more` is whether the edge led to a new key
 pub record Follows (edge : Edge) (old new : BTreeSet KeyName) (more : Bool) : Type 0 where
   pub stays : (key : KeyName) → Has old key → Has new key
   pub only : (key : KeyName) → Has new key → Has old key ⊎ ((edge.to ≡ key) × Has old edge.from)
@@ -47,7 +48,8 @@ pub record Follows (edge : Edge) (old new : BTreeSet KeyName) (more : Bool) : Ty
   pub none : more ≡ false → (key : KeyName) → Has new key → Has old key
   pub some : more ≡ true → (contains names.cmp old edge.to ≡ false) × Has new edge.to
 
--- new has the old keys, and otherwise only keys that edges reach from old ones; more is whether one is new
+-- each edge is followed once if it begins at a known key. `new` has the keys of `old`, and otherwise only keys that are
+-- reached from these. `more` is whether `new` has a key that `old` lacks
 pub record HasPassed (edges : List Edge) (old new : BTreeSet KeyName) (more : Bool) : Type 0 where
   pub stays : (key : KeyName) → Has old key → Has new key
   pub reached : (start : List KeyName) → ((key : KeyName) → Has old key → IsReached edges start key) →

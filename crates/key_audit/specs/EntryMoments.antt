@@ -5,7 +5,7 @@ use Rattle.audit_keys.specs.declared.entry.CallEnd.{CallEnd}
 use Rattle.audit_keys.specs.declared.entry.StateEntry.{StateEntry}
 use Rattle.audit_keys.specs.declared.moments.Moment.{Moment}
 
--- the moment of an entry: the stamp when the call that left it was over, and the line of that call
+-- the moment of an entry that a call left: the stamp when this call was over, and the call's line
 abbrev pub end_moment : CallEnd → Moment
 end_moment end = record { stamp = end.stamp; line = record { caller = end.caller; event = end.event } }
 

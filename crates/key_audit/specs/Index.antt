@@ -1,12 +1,12 @@
--- The rows of a book, found by the names of their keys.
+-- The rows of a book are found by the names of their keys.
 use Rattle.std.specs.Prelude.{ℕ, ◌≡◌, ◌<◌, List, Some, IsSome}
 use Rattle.std.specs.BTreeMap.{BTreeMap, get}
 use Rattle.key_names.specs.declared.names.KeyName.{KeyName}
 use Rattle.key_names.specs.contracts.names.KeyNameOrd.TheImpl.{ghosts as names}
-use Rattle.audit_keys.specs.declared.rows.Row.{Row}
+use Rattle.audit_keys.specs.declared.rows.KeyRow.{KeyRow}
 use Rattle.key_audit.specs.Live.{name_at}
 
--- each of the first n rows' keys has a number, and each key with a number has the row with that number
-pub record IsIndexTo (n : ℕ) (rows : List Row) (numbers : BTreeMap KeyName ℕ) : Type 0 where
+-- each key of the first `n` rows has a number. If a key has a number, it is the key of the row at this number
+pub record IsIndexTo (n : ℕ) (rows : List KeyRow) (numbers : BTreeMap KeyName ℕ) : Type 0 where
   pub named : (key : KeyName) (m : ℕ) → get names.cmp numbers key ≡ Some m → name_at rows m ≡ Some key
   pub all : (key : KeyName) (m : ℕ) → m < n → name_at rows m ≡ Some key → IsSome (get names.cmp numbers key)

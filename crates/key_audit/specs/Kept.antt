@@ -10,31 +10,31 @@ use Rattle.judge_log.specs.Kept.{Keeps}
 use Rattle.audit_keys.specs.Entries.{all_lists_in}
 use Rattle.audit_keys.specs.declared.entry.Cut.{Cut}
 use Rattle.audit_keys.specs.StateCut.{all_lists_by}
-use Rattle.audit_keys.specs.LineEnds.{lines_in, told_lines}
+use Rattle.audit_keys.specs.LineEnds.{lines_in, listed_lines}
 use Rattle.audit_keys.specs.Stamped.{all_kept}
-use Rattle.audit_keys.specs.ToldEnds.{all_ends_in, told_ends}
+use Rattle.audit_keys.specs.ListedEnds.{all_ends_in, listed_ends}
 use Rattle.audit_keys.specs.Moments.{first_calls}
 use Rattle.key_audit.specs.Live.{calls_cut}
 use Rattle.key_audit.specs.Moments.{MarksVisits}
 use Rattle.key_audit.specs.declared.book.KeptBook.{KeptBook}
 
--- the kept book is this book, in which the callers' calls have these meanings
+-- `kept` has the data of this book, in which the callers' calls have these meanings
 pub record KeepsBook (kept : KeptBook) (t : List (List SeenLine)) (callers : List (List Call)) (book : Book)
     (ms : List (List CallMeaning)) : Type 0 where
-  -- lanes has the data of each visit of each lane
+  -- `lanes` has the data of each visit of each lane
   pub lanes : Keeps kept.lanes (lists_of book)
-  -- states has the entries of each vgetrandom state
+  -- `states` has the entries of each vgetrandom state
   pub states : all_lists_in kept.states.items ≡ book.callers
-  -- a cut of each caller keeps the entries of the caller's first calls
+  -- however each caller's lists are cut, the kept entries are those of the caller's first calls
   pub cut : (cuts : ℕ → Cut) →
       all_lists_by cuts 0 kept.states.items ≡ map state_lists (first_calls (calls_cut cuts callers) 0 ms)
-  -- each entry comes with the end of the call that left it
-  pub ends : all_ends_in (all_kept kept.states.items) ≡ told_ends callers ms
-  -- lines has each caller's lines, each with its call
-  pub lines : lines_in kept.lines.items ≡ told_lines callers
-  -- marks has the marks of all visits, each with its maker
+  -- each entry is listed with the end of the call that left the entry
+  pub ends : all_ends_in (all_kept kept.states.items) ≡ listed_ends callers ms
+  -- `lines` has the lines of each caller, and the call of each line
+  pub lines : lines_in kept.lines.items ≡ listed_lines callers
+  -- `marks` has the marks of all visits, and the maker of each mark
   pub marks : IsPermutation (all_marks t) (map seen_mark kept.marks.items)
-  -- the marks are sorted by lane, and in each lane by stamp
+  -- the marks are sorted by lane, and the marks of each lane by stamp
   pub sorted : IsSortedByLane kept.marks.items
-  -- so the marks of a lane are those of its visits, in the order of places
+  -- so the marks of a lane are the marks of the lane's visits, in the order of places
   pub visits : MarksVisits book (map seen_mark kept.marks.items)

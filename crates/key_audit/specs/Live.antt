@@ -15,26 +15,26 @@ use Rattle.audit_keys.specs.StateCut.{calls_by}
 use Rattle.audit_keys.specs.Stamps.{start_stamp}
 use Rattle.audit_keys.specs.declared.held.BatchHolder.{BatchHolder}
 use Rattle.audit_keys.specs.declared.held.BatchHolder.TheVariants.{Cpu as CpuBatch, State as StateBatch}
-use Rattle.audit_keys.specs.declared.held.Held.{Held}
+use Rattle.audit_keys.specs.declared.held.HeldMaterial.{HeldMaterial}
 use Rattle.audit_keys.specs.declared.held.HeldKey.{HeldKey}
 use Rattle.audit_keys.specs.declared.held.HeldRest.{HeldRest}
 use Rattle.audit_keys.specs.declared.held.KeyHolder.TheVariants.{Base, Cpu, State}
 use Rattle.audit_keys.specs.declared.lives.Holder.TheVariants.{Cpu as InCpu, State as InState}
-use Rattle.audit_keys.specs.declared.moments.Line.{Line}
+use Rattle.audit_keys.specs.declared.moments.LineOf.{LineOf}
 use Rattle.audit_keys.specs.declared.moments.Moments.{Moments}
 use Rattle.audit_keys.specs.declared.rows.Fate.{Fate}
 use Rattle.audit_keys.specs.declared.rows.Fate.TheVariants.{Became, Served, GivenUp, Held as HeldFate}
-use Rattle.audit_keys.specs.declared.rows.Row.{Row}
+use Rattle.audit_keys.specs.declared.rows.KeyRow.{KeyRow}
 use Rattle.audit_keys.specs.Held.{held_key, held_rest}
 use Rattle.audit_keys.specs.Rests.{widths}
-use Rattle.audit_keys.specs.Told.{told_below}
+use Rattle.audit_keys.specs.Listed.{listed_below}
 use Rattle.key_audit.specs.declared.until.Until.{Until}
 use Rattle.key_audit.specs.declared.until.Until.TheVariants.{Stamp as ToStamp, Call as ToCall}
 use Rattle.key_audit.specs.Texts.{holder_text, key_text, name_text, piece_text, span_text}
 
 -- ---- a book at a moment
 
--- the cut of each caller's calls: by a stamp, or, for the caller that is named, by a call of its own
+-- the cut of caller `c`'s calls: after call number `call` if `c` is `caller`, and otherwise at the stamp
 abbrev pub cut_at : Until → ℕ → Cut
 cut_at (ToStamp stamp) c = ByStamp stamp
 cut_at (ToCall stamp caller call) c = if caller == c then ByCall call else ByStamp stamp
@@ -47,41 +47,41 @@ until_stamp (ToCall stamp caller call) = stamp
 abbrev pub calls_cut : (ℕ → Cut) → List (List Call) → ℕ → ℕ
 calls_cut cuts callers c = calls_by (cuts c) (start_stamp callers c) (list_at callers c)
 
--- the visits of each lane up to the stamp, and the entries that the kept calls left for each vgetrandom state
+-- the entries of each lane's visits up to the stamp, and the entries that the kept calls left for each vgetrandom state
 abbrev pub lists_until : Until → List (List Call) → Book → List (List CallMeaning) → Lists
 lists_until until callers book ms = lists_of (book_at (until_stamp until) (calls_cut (cut_at until) callers) book ms)
 
--- the lists after a stamp: each caller's calls that were over by it are kept
-abbrev pub lists_behind : ℕ → List (List Call) → Book → List (List CallMeaning) → Lists
-lists_behind stamp callers book ms = lists_until (ToStamp stamp) callers book ms
+-- the lists after a stamp: each caller's calls that were over by the stamp are kept
+abbrev pub lists_at_stamp : ℕ → List (List Call) → Book → List (List CallMeaning) → Lists
+lists_at_stamp stamp callers book ms = lists_until (ToStamp stamp) callers book ms
 
--- the lists after a line: of its caller, the calls up to the line's are kept; of the others, those that were over by
--- the stamp when the line's call was over
-abbrev pub lists_after : Line → LineEnd → List (List Call) → Book → List (List CallMeaning) → Lists
+-- the lists after a line. Of the line's caller, the calls up to the line's call are kept. Let `end.stamp` be the stamp
+-- when that call was over: of any other caller, the calls that were over by this stamp are kept
+abbrev pub lists_after : LineOf → LineEnd → List (List Call) → Book → List (List CallMeaning) → Lists
 lists_after line end callers book ms = lists_until (ToCall end.stamp line.caller end.call) callers book ms
 
--- the keys in memory: of the base, of each CPU, and of each vgetrandom state of each caller
+-- the keys in memory: those of the base, of each CPU, and of each vgetrandom state of each caller
 abbrev pub live_keys : Lists → List HeldKey
 live_keys lists =
     held_key Base (live_key lists base_key)
-    ++ told_below (length lists.cpus) (λ c. held_key (Cpu c) (live_key lists (cpu_key c)))
-    ++ told_below (length lists.callers) (λ caller. told_below (length (list_at lists.callers caller))
+    ++ listed_below (length lists.cpus) (λ c. held_key (Cpu c) (live_key lists (cpu_key c)))
+    ++ listed_below (length lists.callers) (λ caller. listed_below (length (list_at lists.callers caller))
     (λ state. held_key (State (record { caller = caller; state = state })) (live_key lists (state_key caller state))))
 
--- the rests of batches in memory that have bytes: of each width of each CPU, and of each vgetrandom state
+-- the rests in memory that have bytes: those of each CPU's batch for each width, and of each vgetrandom state's batch
 abbrev pub live_rests : Lists → List HeldRest
 live_rests lists =
-    told_below (length lists.cpus)
+    listed_below (length lists.cpus)
     (λ c. flat_map (λ width. held_rest (CpuBatch c width) (live_rest lists (cpu_batch c width))) widths)
-    ++ told_below (length lists.callers) (λ caller. told_below (length (list_at lists.callers caller))
+    ++ listed_below (length lists.callers) (λ caller. listed_below (length (list_at lists.callers caller))
     (λ state. held_rest (StateBatch (record { caller = caller; state = state }))
     (live_rest lists (state_batch caller state))))
 
-pub record IsHeld (lists : Lists) (held : Held) : Type 0 where
+pub record IsHeld (lists : Lists) (held : HeldMaterial) : Type 0 where
   pub keys : held.keys.items ≡ live_keys lists
   pub rests : held.rests.items ≡ live_rests lists
 
--- ---- its text
+-- ---- the text of the keys and rests in memory
 
 abbrev pub became_key : Fate → Bool
 became_key (Became key) = true
@@ -89,18 +89,18 @@ became_key (Served by) = false
 became_key (GivenUp by) = false
 became_key HeldFate = false
 
--- a word, and a row with those of its pieces that became keys
-abbrev pub kept_line : List ℕ → Moments → Row → List ℕ
+-- a word, and then a row; of the row's pieces only those that became keys are shown
+abbrev pub kept_line : List ℕ → Moments → KeyRow → List ℕ
 kept_line word moments row =
     word ++ key_text moments row
     ++ flat_map (piece_text moments) (filter (λ piece. became_key piece.fate) row.pieces.items) ++ 10 ∷ []
 
--- the line of the row at a number
-abbrev pub held_line : Moments → Option Row → List ℕ
+-- the line of a held key's row, if there is such a row
+abbrev pub held_line : Moments → Option KeyRow → List ℕ
 held_line moments None = []
 held_line moments (Some row) = kept_line (codes "held ") moments row
 
-abbrev pub held_lines : Moments → List Row → List ℕ → List ℕ
+abbrev pub held_lines : Moments → List KeyRow → List ℕ → List ℕ
 held_lines moments rows numbers = flat_map (λ n. held_line moments (slice_get rows n)) numbers
 
 abbrev pub batch_holder_text : BatchHolder → List ℕ
@@ -112,9 +112,9 @@ rest_line rest = codes "rest " ++ name_text rest.span.key ++ codes " " ++ batch_
     ++ span_text rest.span ++ 10 ∷ []
 
 -- the name of the key of the row at a number
-abbrev pub name_at : List Row → ℕ → Option KeyName
+abbrev pub name_at : List KeyRow → ℕ → Option KeyName
 name_at rows n = option_map (λ row. row.key) (slice_get rows n)
 
--- numbers has the numbers of the held keys' rows, each once and in order
-abbrev pub AreRowsOf : List Row → List HeldKey → List ℕ → Type 0
+-- `numbers` has for each held key, in order, the number of the key's row
+abbrev pub AreRowsOf : List KeyRow → List HeldKey → List ℕ → Type 0
 AreRowsOf rows keys numbers = map (name_at rows) numbers ≡ map (λ held. Some held.key) keys

@@ -1,5 +1,5 @@
--- The moments of a book's entries: the stamp and the line of each visit. The moment of a vgetrandom state's entry has
--- the stamp when the call that left it was over, and that call's line.
+-- The moments of a book's entries. A visit's moment is the visit's stamp and line. An entry of a vgetrandom state was
+-- left by a call: the entry's moment is the stamp when this call was over, and the call's line.
 use Rattle.std.specs.Prelude.{ℕ, ◌≡◌, ◌<◌, List, [], ◌∷◌, ◌++◌, map, filter, length}
 use Rattle.std.specs.Global.{Vec}
 use Rattle.key_names.specs.declared.names.LaneId.{LaneId}
@@ -8,7 +8,7 @@ use Rattle.key_names.specs.Lanes.Book.{Book, Visit, list_at}
 use Rattle.key_names.specs.Callers.Calls.{Call}
 use Rattle.key_names.specs.Transcripts.IsTranscript.{MarkBy, is_same_lane}
 use Rattle.key_names.specs.Callers.Meaning.{CallMeaning}
-use Rattle.audit_keys.specs.ToldEnds.{told_ends}
+use Rattle.audit_keys.specs.ListedEnds.{listed_ends}
 use Rattle.audit_keys.specs.declared.moments.Moment.{Moment}
 use Rattle.audit_keys.specs.declared.moments.Moments.{Moments}
 use Rattle.audit_keys.specs.Cut.{moment_lists}
@@ -27,14 +27,14 @@ visit_moments visits = map visit_moment visits
 abbrev pub state_moments_in : List (Vec (Vec Moment)) → List (List (List Moment))
 state_moments_in callers = map (λ lists. moment_lists lists.items) callers
 
--- the moments are those of each visit of each lane; for an entry of a vgetrandom state, it is the end of the call that
--- left it
+-- `moments` has for each lane the moments of the lane's visits. For each entry of a vgetrandom state, the moment is the
+-- end of the call that left the entry
 pub record AreMoments (callers : List (List Call)) (book : Book) (ms : List (List CallMeaning))
     (moments : Moments) : Type 0 where
   pub pool : moments.pool.items ≡ visit_moments book.pool
   pub base : moments.base.items ≡ visit_moments book.base
   pub cpus : moment_lists moments.cpus.items ≡ map visit_moments book.cpus
-  pub states : state_moments_in moments.callers.items ≡ map (map (map end_moment)) (told_ends callers ms)
+  pub states : state_moments_in moments.callers.items ≡ map (map (map end_moment)) (listed_ends callers ms)
 
 -- ---- of marks
 
@@ -48,14 +48,14 @@ marks_on lane marks = filter (λ by. is_same_lane by.mark.lane lane) marks
 abbrev pub moments_on : LaneId → List MarkBy → List Moment
 moments_on lane marks = map moment_by (marks_on lane marks)
 
--- there are this many CPUs, and each lane has the moments of its marks among these
+-- `moments` has `many` CPUs, and for each lane the moments of the lane's marks
 pub record HasMarks (many : ℕ) (marks : List MarkBy) (moments : Moments) : Type 0 where
   pub pool : moments.pool.items ≡ moments_on PoolLane marks
   pub base : moments.base.items ≡ moments_on BaseLane marks
   pub count : length moments.cpus.items ≡ many
   pub cpus : (c : ℕ) → c < many → list_at (moment_lists moments.cpus.items) c ≡ moments_on (CpuLane c) marks
 
--- one more mark is added after those of its lane
+-- `new` has one more moment than `old`: the moment of the mark `by`, at the end of the mark's lane
 pub record AddsMark (old : Moments) (by : MarkBy) (new : Moments) : Type 0 where
   pub pool : new.pool.items ≡ old.pool.items ++ moments_on PoolLane (by ∷ [])
   pub base : new.base.items ≡ old.base.items ++ moments_on BaseLane (by ∷ [])
@@ -64,7 +64,7 @@ pub record AddsMark (old : Moments) (by : MarkBy) (new : Moments) : Type 0 where
       list_at (moment_lists new.cpus.items) c
       ≡ list_at (moment_lists old.cpus.items) c ++ moments_on (CpuLane c) (by ∷ [])
 
--- on each lane, the marks are those of the book's visits, in order
+-- on each lane, the moments of the marks are those of the book's visits, in order
 pub record MarksVisits (book : Book) (marks : List MarkBy) : Type 0 where
   pub pool : moments_on PoolLane marks ≡ visit_moments book.pool
   pub base : moments_on BaseLane marks ≡ visit_moments book.base

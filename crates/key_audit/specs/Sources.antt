@@ -14,12 +14,12 @@ use Rattle.key_names.specs.Lanes.Book.{Book, Visit, entries_of}
 use Rattle.key_names.specs.Lanes.PoolList.{pool_after}
 use Rattle.key_names.specs.Texts.ScriptGrammar.{Script}
 use Rattle.audit_keys.specs.declared.used.Origin.TheVariants.{Lane}
-use Rattle.audit_keys.specs.declared.moments.Line.{Line}
-use Rattle.audit_keys.specs.contracts.moments.LinePartialEq.TheImpl.{ghosts as same_lines}
+use Rattle.audit_keys.specs.declared.moments.LineOf.{LineOf}
+use Rattle.audit_keys.specs.contracts.moments.LineOfPartialEq.TheImpl.{ghosts as same_lines}
 use Rattle.audit_keys.specs.declared.moments.Moments.{Moments}
 use Rattle.audit_keys.specs.declared.rows.Fate.{Fate}
 use Rattle.audit_keys.specs.declared.rows.Fate.TheVariants.{Became, Served, GivenUp, Held}
-use Rattle.audit_keys.specs.declared.rows.Row.{Row}
+use Rattle.audit_keys.specs.declared.rows.KeyRow.{KeyRow}
 use Rattle.key_audit.specs.declared.edges.Edge.{Edge}
 use Rattle.key_audit.specs.Edges.{IsReached, edges_of, turned}
 use Rattle.key_audit.specs.Texts.{entry_text, moment_at, name_text, rows_text}
@@ -27,21 +27,21 @@ use Rattle.key_audit.specs.Texts.{entry_text, moment_at, name_text, rows_text}
 -- ---- keys
 
 -- whether bytes with this fate were served for a line
-abbrev pub is_served_for : Moments → Line → Fate → Bool
+abbrev pub is_served_for : Moments → LineOf → Fate → Bool
 is_served_for moments line (Served by) = same_lines.eq (moment_at moments by).line line
 is_served_for moments line (Became key) = false
 is_served_for moments line (GivenUp by) = false
 is_served_for moments line Held = false
 
-abbrev pub serves : Moments → Line → Row → Bool
+abbrev pub serves : Moments → LineOf → KeyRow → Bool
 serves moments line row = list_any (λ piece. is_served_for moments line piece.fate) row.pieces.items
 
 -- the keys with bytes that were served for a line
-abbrev pub serving : Moments → Line → List Row → List KeyName
+abbrev pub serving : Moments → LineOf → List KeyRow → List KeyName
 serving moments line rows = map (λ row. row.key) (filter (serves moments line) rows)
 
--- the edges from each key to the keys that its bytes come from
-abbrev pub edges_back : List Row → List Edge
+-- the edges turned back: each leads from a key to the key whose bytes became it
+abbrev pub edges_back : List KeyRow → List Edge
 edges_back rows = map turned (reverse (edges_of rows))
 
 -- ---- extractions
@@ -49,7 +49,7 @@ edges_back rows = map turned (reverse (edges_of rows))
 abbrev pub event_at : Script → ℕ → ℕ → Option Event
 event_at script caller event = option_and_then (λ events. slice_get events event) (slice_get script.callers caller)
 
--- whether an event hands a sample to the pool; all do but those that ask for bits or credit them
+-- whether an event hands a sample to the pool; all events do so except those that ask for bits or credit bits
 abbrev pub hands_sample : Option Event → Bool
 hands_sample None = false
 hands_sample (Some BitsEvent) = false
@@ -70,7 +70,7 @@ is_sample script v = not (is_extraction v.entry) && hands_sample (event_at scrip
 abbrev pub samples_before : Script → Book → ℕ → ℕ
 samples_before script book place = length (filter (is_sample script) (take place book.pool))
 
--- how many bits the pool had before a place, if it has an entry there
+-- how many bits the pool had before the entry at `place`; 0 if the pool has no entry there
 abbrev pub bits_at : List PoolEntry → ℕ → Option PoolEntry → ℕ
 bits_at pool place None = 0
 bits_at pool place (Some entry) = (pool_after (take place pool)).bits
@@ -85,7 +85,7 @@ root_text moments place =
 abbrev pub counts_text : ℕ → ℕ → List ℕ
 counts_text samples bits = codes " samples " ++ decimal samples ++ codes " bits " ++ decimal bits ++ 10 ∷ []
 
--- the line of the extraction of a root, with these counts of samples and bits
+-- the line of the extraction of a root; the line has the counts of samples and bits before the extraction
 abbrev pub extraction_text : Moments → (ℕ → ℕ) → (ℕ → ℕ) → KeyName → List ℕ
 extraction_text moments samples bits (Root place) =
     root_text moments place ++ counts_text (samples place) (bits place)
@@ -96,11 +96,11 @@ extraction_text moments samples bits (Vdso caller state n) = []
 
 -- ---- the output
 
--- the output has the rows of the keys that a line's bytes come from, newest first, and then the extraction of each root
--- among them
-pub record TellsSources (moments : Moments) (rows : List Row) (line : Line) (samples bits : ℕ → ℕ)
+-- the output has the rows of the keys that a line's bytes come from, newest first. Then it has the extraction of each
+-- root among these keys
+pub record TellsSources (moments : Moments) (rows : List KeyRow) (line : LineOf) (samples bits : ℕ → ℕ)
     (output : List ℕ) : Type 0 where
-  -- is_source is whether bytes of a key were served for the line, or became a source
+  -- `is_source` is whether bytes of a key were served for the line, or became a key that is itself a source
   pub is_source : KeyName → Bool
   pub sources : (key : KeyName) → IsTrue (is_source key) ↔ IsReached (edges_back rows) (serving moments line rows) key
   pub text : output ≡ rows_text moments (filter (λ row. is_source row.key) (reverse rows))

@@ -11,14 +11,14 @@ use Rattle.audit_keys.specs.declared.used.Origin.{Origin}
 use Rattle.audit_keys.specs.declared.used.Origin.TheVariants.{Lane, State}
 use Rattle.audit_keys.specs.declared.lives.Holder.{Holder}
 use Rattle.audit_keys.specs.declared.lives.Holder.TheVariants.{Base as InBase, Cpu as InCpu, State as InState, Read as InRead}
-use Rattle.audit_keys.specs.declared.moments.Line.{Line}
+use Rattle.audit_keys.specs.declared.moments.LineOf.{LineOf}
 use Rattle.audit_keys.specs.declared.moments.Moment.{Moment}
 use Rattle.audit_keys.specs.declared.moments.Moments.{Moments}
 use Rattle.audit_keys.specs.declared.rows.Fate.{Fate}
 use Rattle.audit_keys.specs.declared.rows.Fate.TheVariants.{Became, Served, GivenUp, Held}
-use Rattle.audit_keys.specs.declared.rows.Piece.{Piece}
-use Rattle.audit_keys.specs.declared.rows.Row.{Row}
-use Rattle.audit_keys.specs.MadeOrder.{moment_at as moment_told}
+use Rattle.audit_keys.specs.declared.rows.KeyPiece.{KeyPiece}
+use Rattle.audit_keys.specs.declared.rows.KeyRow.{KeyRow}
+use Rattle.audit_keys.specs.MadeOrder.{moment_at as moment_listed}
 
 -- ---- moments
 
@@ -27,7 +27,7 @@ no_moment = record { stamp = 0; line = record { caller = 0; event = 0 } }
 
 -- the moment of an entry
 abbrev pub moment_at : Moments → Origin → Moment
-moment_at moments at = unwrap_or (moment_told moments at) no_moment
+moment_at moments at = unwrap_or (moment_listed moments at) no_moment
 
 -- ---- texts
 
@@ -50,7 +50,7 @@ holder_text (InCpu c) = codes "cpu" ++ decimal c
 holder_text (InState of) = codes "state" ++ decimal of.caller ++ codes "." ++ decimal of.state
 holder_text InRead = codes "call"
 
-abbrev pub line_text : Line → List ℕ
+abbrev pub line_text : LineOf → List ℕ
 line_text line = decimal line.caller ++ codes "." ++ decimal line.event
 
 abbrev pub origin_text : Origin → List ℕ
@@ -60,7 +60,7 @@ origin_text (Lane (CpuLane c) place) = codes "c" ++ decimal c ++ codes ":" ++ de
 origin_text (State caller state place) =
     codes "v" ++ decimal caller ++ codes "." ++ decimal state ++ codes ":" ++ decimal place
 
--- an entry with its stamp, and with the line that left it
+-- an entry with its stamp; `entry_text` also has the line that left the entry
 abbrev pub at_text : Origin → Moment → List ℕ
 at_text at moment = origin_text at ++ codes "@" ++ decimal moment.stamp
 
@@ -76,7 +76,7 @@ fate_text moments (Served by) = codes ">" ++ line_text (moment_at moments by).li
 fate_text moments (GivenUp by) = codes "!" ++ at_text by (moment_at moments by)
 fate_text moments Held = codes "?"
 
-abbrev pub piece_text : Moments → Piece → List ℕ
+abbrev pub piece_text : Moments → KeyPiece → List ℕ
 piece_text moments piece = codes " " ++ span_text piece.span ++ fate_text moments piece.fate
 
 abbrev pub end_text : Moments → Option Origin → List ℕ
@@ -84,12 +84,12 @@ end_text moments None = codes " held"
 end_text moments (Some by) = codes " " ++ entry_text moments by
 
 -- a row without its pieces
-abbrev pub key_text : Moments → Row → List ℕ
+abbrev pub key_text : Moments → KeyRow → List ℕ
 key_text moments row = name_text row.key ++ codes " " ++ holder_text row.holder ++ codes " "
     ++ entry_text moments row.made ++ end_text moments row.ended
 
-abbrev pub row_text : Moments → Row → List ℕ
+abbrev pub row_text : Moments → KeyRow → List ℕ
 row_text moments row = key_text moments row ++ flat_map (piece_text moments) row.pieces.items ++ 10 ∷ []
 
-abbrev pub rows_text : Moments → List Row → List ℕ
+abbrev pub rows_text : Moments → List KeyRow → List ℕ
 rows_text moments rows = flat_map (row_text moments) rows

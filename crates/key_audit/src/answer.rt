@@ -19,8 +19,8 @@ use audit_keys::use_laws::moments_hold_unused;
 use event_script::Script;
 use std::alloc::{AllocError, Global};
 
-// The output for a book. The book has the stamp or the line of the command.
-fn told_text(
+// The output for a book. The book has the stamp, or the line, that the command names.
+fn listed_text(
     alloc: Global,
     ask: Ask,
     script: &Script,
@@ -40,11 +40,12 @@ fn told_text(
     }
 }
 
-/// The output for a lawful transcript's book. `None` if the transcript lacks the stamp or the line of the command.
+/// The output for a lawful transcript's book. `None` if the transcript lacks the stamp, or the line, that the command
+/// names.
 ///
 /// # Errors
 ///
-/// `AllocError` if there is no memory for it.
+/// `AllocError` if there is no memory for the output.
 pub(crate) fn answer_text(
     alloc: Global,
     ask: Ask,
@@ -53,13 +54,13 @@ pub(crate) fn answer_text(
 ) -> Result<Option<Vec<u8>>, AllocError>
     ensures { (t : List (List SeenLine)) (of : Book) (ms : List (List CallMeaning)) →
         IsTranscriptBy script.now t of ms → KeepsBook book.now t (script_calls script.now t) of ms →
-        IfOk result (λ told. MatchOption told (is_there ask (script_calls script.now t) t ≡ false)
+        IfOk result (λ listed. MatchOption listed (is_there ask (script_calls script.now t) t ≡ false)
         (λ text. (is_there ask (script_calls script.now t) t ≡ true)
         × Tells ask script.now (script_calls script.now t) of ms text.items)) }
 {
     if !is_there(ask, book) {
         return Ok(None);
     }
-    let text = told_text(alloc, ask, script, book)?;
+    let text = listed_text(alloc, ask, script, book)?;
     Ok(Some(text))
 }

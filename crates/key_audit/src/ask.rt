@@ -1,15 +1,15 @@
 //! The commands that the words of a command line name.
 ghost use Rattle.std.specs.Prelude.{◌≡◌, ◌∷◌, ◌++◌, [], true, Some, IfSome, MatchOption};
-ghost use Rattle.audit_keys.specs.declared.moments.Line.{Line as LineName};
+ghost use Rattle.audit_keys.specs.declared.moments.LineOf.{LineOf as LineName};
 ghost use Rattle.transcript_text.specs.Reading.{lacks};
 ghost use Rattle.key_audit.specs.Commands.{AskTexts, Asks, LineFits, LiveText};
 ghost use Rattle.key_audit.specs.Texts.{line_text};
 
-use audit_keys::moments::Line;
+use audit_keys::moments::LineOf;
 use event_script::numbers::number_up_to;
 use memchr::memchr;
 
-/// The forms of the command line, which are printed if the words are of none.
+/// The forms of the command line. This text is printed if the words have none of these forms.
 pub(crate) const USAGE: &str =
     "usage: key_audit keys | key_audit live T | key_audit live C.E | key_audit line C.E";
 
@@ -24,12 +24,12 @@ pub(crate) enum Ask {
     /// `live T`
     Live(u64),
     /// `live C.E`
-    LiveAfter(Line),
+    LiveAfter(LineOf),
     /// `line C.E`
-    Line(Line),
+    Line(LineOf),
 }
 
-/// The parts of a text before and after its first dot.
+/// The part of a text before its first dot, and the part after this dot. None if the text has no dot.
 fn split_at_dot(text: &[u8]) -> Option<(&[u8], &[u8])>
     ensures { MatchOption result (lacks 46 text.now ≡ true)
         (λ both. (text.now ≡ both.0.now ++ 46 ∷ both.1.now) × (lacks 46 both.0.now ≡ true)) }
@@ -38,21 +38,21 @@ fn split_at_dot(text: &[u8]) -> Option<(&[u8], &[u8])>
     Some((&text[..place], &text[place + 1..]))
 }
 
-/// The line that a text names, as `0.4`.
-fn line_of(text: &[u8]) -> Option<Line>
+/// The line that a text names, such as `0.4`.
+fn line_of(text: &[u8]) -> Option<LineOf>
     ensures found { IfSome result (λ line. LineFits line × (text.now ≡ line_text line)) }
     ensures only { (line : LineName) → LineFits line → text.now ≡ line_text line → result ≡ Some line }
 {
     let (caller, event) = split_at_dot(text)?;
     let caller = number_up_to(MOST_NUMBER, caller)?;
     let event = number_up_to(MOST_NUMBER, event)?;
-    Some(Line {
+    Some(LineOf {
         caller: caller as u32,
         event: event as u32,
     })
 }
 
-/// The command if this text is the word after `live`: a line is tried before a stamp.
+/// The command that the word after `live` names. If the word names a line, `live C.E`; if it is a stamp, `live T`.
 fn live_of(text: &[u8]) -> Option<Ask>
     ensures found { IfSome result (LiveText text.now) }
     ensures only { (ask : Ask) → LiveText text.now ask → result ≡ Some ask }
@@ -63,7 +63,7 @@ fn live_of(text: &[u8]) -> Option<Ask>
     }
 }
 
-/// The command of two words.
+/// The command that the two words `word` and `argument` spell.
 fn ask_by(word: &str, argument: &str) -> Option<Ask>
     ensures found { IfSome result (AskTexts (word.now ∷ argument.now ∷ [])) }
     ensures only { (ask : Ask) → AskTexts (word.now ∷ argument.now ∷ []) ask → result ≡ Some ask }
@@ -77,7 +77,7 @@ fn ask_by(word: &str, argument: &str) -> Option<Ask>
     None
 }
 
-/// The command of the words, if they are of one of its forms.
+/// The command that the words spell. None if the words have none of the forms of the command line.
 pub(crate) fn ask_of(words: &[String]) -> Option<Ask>
     ensures found { IfSome result (Asks words.now) }
     ensures only { (ask : Ask) → Asks words.now ask → result ≡ Some ask }

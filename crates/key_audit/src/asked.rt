@@ -1,4 +1,4 @@
-//! Whether a transcript has the stamp or the line of a command.
+//! Whether a transcript has the stamp, or the line, that a command names.
 ghost use Rattle.std.specs.Prelude.{◌≡◌, List, map};
 ghost use Rattle.std.specs.List.{list_any};
 ghost use Rattle.std.specs.Option.{is_some};
@@ -8,13 +8,13 @@ ghost use Rattle.key_names.specs.Callers.Meaning.{CallMeaning};
 ghost use Rattle.key_names.specs.Transcripts.SeenLine.{SeenLine};
 ghost use Rattle.judge_lines.specs.Marks.{seen_mark};
 ghost use Rattle.audit_keys.specs.LineEnds.{lines_in};
-ghost use Rattle.key_audit.specs.Asked.{is_there, line_end as told_end, line_in, missing_text, stamps_reach};
+ghost use Rattle.key_audit.specs.Asked.{is_there, line_end as listed_end, line_in, missing_text, stamps_reach};
 ghost use Rattle.key_audit.specs.Kept.{KeepsBook};
 
 use crate::ask::Ask;
 use crate::book::KeptBook;
 use audit_keys::line_ends::LineEnd;
-use audit_keys::moments::Line;
+use audit_keys::moments::LineOf;
 use judge_lines::marks::MarkOf;
 
 // The first of these lines with this event's number.
@@ -29,8 +29,8 @@ fn line_in(lines: &[LineEnd], event: u32) -> Option<LineEnd>
     None
 }
 
-/// A line with its call, if it exists.
-pub(crate) fn line_end(lines: &[Vec<LineEnd>], line: Line) -> Option<LineEnd>
+/// If a line exists, the line's call and the stamp when this call was over.
+pub(crate) fn line_end(lines: &[Vec<LineEnd>], line: LineOf) -> Option<LineEnd>
     ensures { result ≡ line_in line.event (list_at (lines_in lines.now) line.caller) }
 {
     match lines.get(line.caller as usize) {
@@ -47,14 +47,14 @@ fn has_stamp(marks: &[MarkOf], stamp: u64) -> bool
 }
 
 // Whether a line exists.
-fn has_line(line: Line, book: &KeptBook) -> bool
+fn has_line(line: LineOf, book: &KeptBook) -> bool
     ensures { (t : List (List SeenLine)) (callers : List (List Call)) (of : Book) (ms : List (List CallMeaning)) →
-        KeepsBook book.now t callers of ms → result ≡ is_some (told_end callers line) }
+        KeepsBook book.now t callers of ms → result ≡ is_some (listed_end callers line) }
 {
     line_end(&book.lines, line).is_some()
 }
 
-/// Whether the transcript has the stamp or the line of the command.
+/// Whether the transcript has the stamp, or the line, that the command names.
 pub(crate) fn is_there(ask: Ask, book: &KeptBook) -> bool
     ensures { (t : List (List SeenLine)) (callers : List (List Call)) (of : Book) (ms : List (List CallMeaning)) →
         KeepsBook book.now t callers of ms → result ≡ is_there ask callers t }
@@ -67,7 +67,7 @@ pub(crate) fn is_there(ask: Ask, book: &KeptBook) -> bool
     }
 }
 
-/// The output if the transcript does not have the stamp or the line of the command.
+/// The output if the transcript lacks the stamp, or the line, that the command names.
 pub(crate) fn missing_text(ask: Ask) -> &'static str
     ensures { result.now ≡ missing_text ask }
 {

@@ -4,7 +4,7 @@ ghost use Rattle.io_edges.specs.Faults.{Rose};
 ghost use Rattle.tool_ends.specs.Ends.{CountsReadFault, CountsWriteFault};
 ghost use Rattle.tool_ends.specs.Reads.{WritesEnds};
 ghost use Rattle.key_audit.specs.Commands.{Asks, IsNoForm};
-ghost use Rattle.key_audit.specs.Outcome.{AuditEnds, ToldOf};
+ghost use Rattle.key_audit.specs.Outcome.{AuditEnds, ListedOf};
 
 use crate::answer::answer_text;
 use crate::ask::{Ask, ask_of};
@@ -20,7 +20,7 @@ use transcript_text::Transcript;
 
 // The answer for a transcript. The transcript's memory is freed before the answer is made.
 fn tell<K: Sink>(alloc: Global, ask: Ask, script: &Script, t: Transcript, sink: &mut K) -> Status
-    ensures ends { WritesEnds (ToldOf ask script.now t) result (K.held sink.old) (K.held sink.new) }
+    ensures ends { WritesEnds (ListedOf ask script.now t) result (K.held sink.old) (K.held sink.new) }
     ensures counted { CountsWriteFault result (K.faults sink.old) (K.faults sink.new) }
     ensures silent { result ≡ Status.NoMemory → sink.new ≡ sink.old }
 {
@@ -48,27 +48,27 @@ fn audit_input<S: Source, K: Sink>(alloc: Global, ask: Ask, source: &mut S, sink
     }
 }
 
-/// Runs the command of the words. The input is a script, which ends at its first line `end`, and then a transcript, as
-/// `rng check` takes them.
+/// Runs the command that the words spell. The input is a script and then a transcript, as for `rng check`. The script
+/// ends at its first line `end`.
 ///
 /// - `keys`: a row for each key that the run made.
-/// - `live T`: the keys and rests of batches in memory after stamp T, and the later keys and lines that can be computed
-///   from them.
-/// - `live C.E`: the keys and rests in memory once event E of caller C is over, and what can be computed from them.
+/// - `live T`: the keys and rests of batches in memory after stamp T. Then the later keys, and the bytes of later
+///   lines, that can be computed from these keys and rests.
+/// - `live C.E`: the same output for the moment when event E of caller C is over.
 /// - `line C.E`: the rows that the bytes of event E of caller C come from, and the extractions of their roots.
 ///
-/// T is below 2^64, C and E are below 2^32, all spelt as in a script.
+/// T is below 2^64, and C and E are below 2^32. All three are spelt as in a script.
 ///
 /// - `Usage`: the words are no command. The program reads and writes nothing.
 /// - `ReadFault`: the source failed. Nothing is written.
-/// - `Refused`: the input has a fault, and the line with the first one was written, as `rng check` writes it.
+/// - `Refused`: the input has a fault. The line with the first fault was written, as `rng check` writes it.
 /// - `No`: the transcript is not lawful for the script, and the line with the number of the first clause that fails was
 ///   written. Or the transcript is lawful, but lacks this line, or a visit with this stamp or a higher one: `no line`
 ///   or `no stamp` was written.
-/// - `WriteFault`: the sink failed at a put, or at the flush after the last put. It got a prefix of the output in this
-///   call.
-/// - `NoMemory`: memory ran out. Nothing is written. `live` would also end so if a held key had no row; it is not
-///   proved that each has one.
+/// - `WriteFault`: the sink failed at a put, or at the flush after the last put. In this call the sink got a prefix of
+///   the output.
+/// - `NoMemory`: memory ran out. Nothing is written. `live` would also end with this status if a held key had no row.
+///   It is not proved that each held key has a row.
 /// - `Done`: the input was read to its end, the transcript is lawful and has that stamp or line, and the whole output
 ///   was written.
 ///

@@ -1,9 +1,9 @@
-//! The book of a transcript, from the lists that the check of the transcript hands on.
+//! The book of a transcript, made from the lists that the check of the transcript returns.
 ghost use Rattle.std.specs.Prelude.{List, IfOk};
 ghost use Rattle.key_names.specs.Transcripts.IsTranscript.{MadeBook, script_calls};
 ghost use Rattle.key_names.specs.Transcripts.SeenLine.{SeenLine};
 ghost use Rattle.key_names.specs.Texts.ScriptGrammar.{Script as ScriptLines};
-ghost use Rattle.serial_replay.specs.Found.{BasisStands};
+ghost use Rattle.serial_replay.specs.Found.{BasisConforms};
 ghost use Rattle.key_audit.specs.Audited.{IsAudited};
 ghost use Rattle.key_audit.specs.Kept.{KeepsBook};
 
@@ -24,11 +24,11 @@ use transcript_text::Transcript;
 pub struct KeptBook {
     /// The kept visits of each lane.
     pub lanes: Lists,
-    /// The entries of each of the sixteen vgetrandom states of each caller, each with the call that left it.
+    /// For each caller and each of its sixteen vgetrandom states, the state's entries. Each has the call that left it.
     pub states: Vec<Vec<Vec<StateEntry>>>,
-    /// The lines of each caller, each with its call.
+    /// The lines of each caller, and the call of each line.
     pub lines: Vec<Vec<LineEnd>>,
-    /// The marks of all visits, sorted by lane, and in each lane by stamp.
+    /// The marks of all visits, sorted by lane, and the marks of each lane by stamp.
     pub marks: Vec<MarkOf>,
 }
 
@@ -40,9 +40,9 @@ pub enum AuditedBook {
     Unlawful(Clause),
 }
 
-// The book of the steps from which these lists were made.
+// The kept book, made from the lists that the check of a transcript made of the transcript's steps.
 fn book_of(alloc: Global, basis: Basis<'_>) -> Result<KeptBook, AllocError>
-    ensures { (script : ScriptLines) (t : List (List SeenLine)) → BasisStands script t basis.entry →
+    ensures { (script : ScriptLines) (t : List (List SeenLine)) → BasisConforms script t basis.entry →
         (made : MadeBook script t) →
         IfOk result (λ kept. KeepsBook kept t (script_calls script t) made.book made.meanings) }
 {
@@ -56,12 +56,12 @@ fn book_of(alloc: Global, basis: Basis<'_>) -> Result<KeptBook, AllocError>
     })
 }
 
-/// Judges a transcript, and keeps its book if it is lawful. Frees the transcript and the lists that were made to judge
-/// it.
+/// Judges a transcript, and keeps its book if the transcript is lawful. Frees the transcript, and the lists that were
+/// made to judge the transcript.
 ///
 /// # Errors
 ///
-/// `AllocError` if there is no memory for it.
+/// `AllocError` if there is no memory for the judging or the book.
 pub fn audited_book(
     alloc: Global,
     script: &Script,

@@ -1,12 +1,12 @@
-//! An edge leads from a key to each key that its bytes became. Following edges from some keys gives all keys that can
-//! be reached.
+//! If bytes of a key became another key, an edge leads from the first key to the second. The keys that can be reached
+//! from some keys are found by following edges.
 ghost use Rattle.std.specs.Prelude.{◌≡◌, ◌++◌, ◌↔◌, IfOk, OnOk, IsTrue, Contains, map, reverse};
 ghost use Rattle.std.specs.BTreeSet.{contains};
 ghost use Rattle.key_names.specs.declared.names.KeyName.{KeyName as BookName};
 ghost use Rattle.key_names.specs.contracts.names.KeyNameOrd.TheImpl.{ghosts as names};
 ghost use Rattle.key_audit.specs.Edges.{Follows, HasPassed, IsReached, edges_of, row_edges, turned};
 
-use audit_keys::rows::{Fate, Row};
+use audit_keys::rows::{Fate, KeyRow};
 use key_names::KeyName;
 use std::alloc::{AllocError, Global};
 use std::collections::BTreeSet;
@@ -19,7 +19,7 @@ pub(crate) struct Edge {
 }
 
 // Adds an edge for each key that bytes of a row became.
-fn push_edges(edges: &mut Vec<Edge>, row: &Row) -> Result<(), AllocError>
+fn push_edges(edges: &mut Vec<Edge>, row: &KeyRow) -> Result<(), AllocError>
     ensures { OnOk result (edges.new.items ≡ edges.old.items ++ row_edges row.now) }
 {
     for piece in &row.pieces {
@@ -30,12 +30,12 @@ fn push_edges(edges: &mut Vec<Edge>, row: &Row) -> Result<(), AllocError>
     Ok(())
 }
 
-/// The edges of rows, in order.
+/// The edges of all rows, in the order of the rows.
 ///
 /// # Errors
 ///
 /// `AllocError` if there is no memory for them.
-pub(crate) fn edges_of(alloc: Global, rows: &[Row]) -> Result<Vec<Edge>, AllocError>
+pub(crate) fn edges_of(alloc: Global, rows: &[KeyRow]) -> Result<Vec<Edge>, AllocError>
     ensures { IfOk result (λ edges. edges.items ≡ edges_of rows.now) }
 {
     let mut edges = Vec::new(alloc);
@@ -54,7 +54,7 @@ fn turned(edge: Edge) -> Edge
     }
 }
 
-/// The edges turned back, from each key to the keys that its bytes come from. The last edge comes first.
+/// The edges turned back: each leads from a key to the key whose bytes became it. The last edge comes first.
 ///
 /// # Errors
 ///
@@ -65,7 +65,7 @@ pub(crate) fn edges_back(alloc: Global, edges: &[Edge]) -> Result<Vec<Edge>, All
     edges.iter().rev().map(|edge| turned(*edge)).collect(alloc)
 }
 
-/// The set of some keys.
+/// The set of these keys.
 ///
 /// # Errors
 ///
@@ -80,7 +80,7 @@ pub(crate) fn set_of(alloc: Global, keys: &[KeyName]) -> Result<BTreeSet<KeyName
     Ok(set)
 }
 
-// Follows an edge if it begins at a known key. Returns whether it leads to a new key.
+// Follows an edge if the edge begins at a known key. Returns whether the edge leads to a new key.
 fn follow(known: &mut BTreeSet<KeyName>, edge: Edge) -> Result<bool, AllocError>
     ensures { IfOk result (λ more. Follows edge known.old known.new more) }
 {
@@ -90,7 +90,7 @@ fn follow(known: &mut BTreeSet<KeyName>, edge: Edge) -> Result<bool, AllocError>
     Ok(false)
 }
 
-// Follows each edge that begins at a known key. Returns whether one leads to a new key.
+// Follows each edge that begins at a known key. Returns whether one of these edges leads to a new key.
 fn pass(known: &mut BTreeSet<KeyName>, edges: &[Edge]) -> Result<bool, AllocError>
     ensures { IfOk result (λ more. HasPassed edges.now known.old known.new more) }
 {
@@ -103,7 +103,7 @@ fn pass(known: &mut BTreeSet<KeyName>, edges: &[Edge]) -> Result<bool, AllocErro
     Ok(more)
 }
 
-/// The start keys, and the keys that edges lead to from them, one after another.
+/// The start keys, and all keys to which edges lead from the start keys, directly or through other keys.
 ///
 /// # Errors
 ///

@@ -1,6 +1,6 @@
 //! The entries of vgetrandom states without the calls that left them.
 ghost use Rattle.std.specs.Prelude.{◌≡◌, IfOk, map};
-ghost use Rattle.audit_keys.specs.Told.{caller_lists};
+ghost use Rattle.audit_keys.specs.Listed.{caller_lists};
 ghost use Rattle.audit_keys.specs.Entries.{entries_in, lists_in, all_lists_in};
 ghost use Rattle.audit_keys.specs.StateCut.{all_lists_by, entries_by, lists_by};
 ghost use Rattle.key_audit.specs.Live.{cut_at};

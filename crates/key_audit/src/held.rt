@@ -14,14 +14,14 @@ ghost use Rattle.key_audit.specs.Live.{held_line, held_lines, kept_line, rest_li
 use crate::book::KeptBook;
 use crate::entries::entries_until;
 use crate::row_index::RowIndex;
-use crate::text::Text;
+use crate::text::TextBuffer;
 use crate::until::Until;
 use audit_keys::cut::kept_to;
-use audit_keys::held::{BatchHolder, Held, HeldKey, HeldRest};
+use audit_keys::held::{BatchHolder, HeldKey, HeldMaterial, HeldRest};
 use audit_keys::held_book::hold_book;
 use audit_keys::lives::Holder;
 use audit_keys::moments::Moments;
-use audit_keys::rows::{Fate, Piece, Row};
+use audit_keys::rows::{Fate, KeyPiece, KeyRow};
 use std::alloc::{AllocError, Global};
 
 /// The keys and rests that are held at a moment.
@@ -34,7 +34,7 @@ pub(crate) fn held_at(
     until: Until,
     book: &KeptBook,
     moments: &Moments,
-) -> Result<Held, AllocError>
+) -> Result<HeldMaterial, AllocError>
     ensures { (t : List (List SeenLine)) (callers : List (List Call)) (of : Book) (ms : List (List CallMeaning)) →
         KeepsBook book.now t callers of ms → AreMoments callers of ms moments.now →
         IfOk result (λ held. IsHeld (lists_until until callers of ms) held) }
@@ -45,8 +45,8 @@ pub(crate) fn held_at(
     Ok(held)
 }
 
-/// The numbers of the rows of keys that are held. Each held key has a row, since an entry made it. If one had no row,
-/// the call would fail rather than leave the key out.
+/// For each held key, the number of its row. Each held key has a row, since an entry made the key. If a held key had no
+/// row, the call would fail rather than leave the key out.
 ///
 /// # Errors
 ///
@@ -72,8 +72,12 @@ fn became_key(fate: Fate) -> bool
     matches!(fate, Fate::Became(_))
 }
 
-// Adds those of these pieces that became keys.
-fn put_became(text: &mut Text, moments: &Moments, pieces: &[Piece]) -> Result<(), AllocError>
+// Adds those pieces that became keys.
+fn put_became(
+    text: &mut TextBuffer,
+    moments: &Moments,
+    pieces: &[KeyPiece],
+) -> Result<(), AllocError>
     ensures { OnOk result (text.new.bytes.items ≡ text.old.bytes.items
         ++ flat_map (piece_text moments.now) (filter (λ piece. became_key piece.fate) pieces.now)) }
 {
@@ -85,16 +89,16 @@ fn put_became(text: &mut Text, moments: &Moments, pieces: &[Piece]) -> Result<()
     Ok(())
 }
 
-/// Adds a word, and a row with those of its pieces that became keys.
+/// Adds a word, and then a row. Of the row's pieces only those that became keys are added.
 ///
 /// # Errors
 ///
 /// `AllocError` if there is no memory for the text.
 pub(crate) fn put_kept(
-    text: &mut Text,
+    text: &mut TextBuffer,
     word: &str,
     moments: &Moments,
-    row: &Row,
+    row: &KeyRow,
 ) -> Result<(), AllocError>
     ensures { OnOk result (text.new.bytes.items ≡ text.old.bytes.items ++ kept_line word.now moments.now row.now) }
 {
@@ -104,11 +108,11 @@ pub(crate) fn put_kept(
     text.word("\n")
 }
 
-// Adds the line of a held key, by the number of its row.
+// Adds the line of a held key. The key is given by the number of its row.
 fn put_held_at(
-    text: &mut Text,
+    text: &mut TextBuffer,
     moments: &Moments,
-    rows: &[Row],
+    rows: &[KeyRow],
     number: usize,
 ) -> Result<(), AllocError>
     ensures { OnOk result (text.new.bytes.items
@@ -120,15 +124,15 @@ fn put_held_at(
     }
 }
 
-/// Adds the lines of held keys, by the numbers of their rows.
+/// Adds the lines of held keys. The keys are given by the numbers of their rows.
 ///
 /// # Errors
 ///
 /// `AllocError` if there is no memory for the text.
 pub(crate) fn put_held(
-    text: &mut Text,
+    text: &mut TextBuffer,
     moments: &Moments,
-    rows: &[Row],
+    rows: &[KeyRow],
     numbers: &[usize],
 ) -> Result<(), AllocError>
     ensures { OnOk result (text.new.bytes.items
@@ -140,7 +144,7 @@ pub(crate) fn put_held(
     Ok(())
 }
 
-fn put_batch_holder(text: &mut Text, holder: BatchHolder) -> Result<(), AllocError>
+fn put_batch_holder(text: &mut TextBuffer, holder: BatchHolder) -> Result<(), AllocError>
     ensures { OnOk result (text.new.bytes.items ≡ text.old.bytes.items ++ batch_holder_text holder) }
 {
     match holder {
@@ -149,7 +153,7 @@ fn put_batch_holder(text: &mut Text, holder: BatchHolder) -> Result<(), AllocErr
     }
 }
 
-fn put_rest(text: &mut Text, rest: &HeldRest) -> Result<(), AllocError>
+fn put_rest(text: &mut TextBuffer, rest: &HeldRest) -> Result<(), AllocError>
     ensures { OnOk result (text.new.bytes.items ≡ text.old.bytes.items ++ rest_line rest.now) }
 {
     text.word("rest ")?;
@@ -166,7 +170,7 @@ fn put_rest(text: &mut Text, rest: &HeldRest) -> Result<(), AllocError>
 /// # Errors
 ///
 /// `AllocError` if there is no memory for the text.
-pub(crate) fn put_rests(text: &mut Text, rests: &[HeldRest]) -> Result<(), AllocError>
+pub(crate) fn put_rests(text: &mut TextBuffer, rests: &[HeldRest]) -> Result<(), AllocError>
     ensures { OnOk result (text.new.bytes.items ≡ text.old.bytes.items ++ flat_map rest_line rests.now) }
 {
     for rest in rests {

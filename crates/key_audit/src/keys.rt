@@ -11,10 +11,10 @@ ghost use Rattle.key_audit.specs.Outcome.{AreRows, TellsKeys};
 use crate::book::KeptBook;
 use crate::entries::all_entries;
 use crate::moments::moments_of;
-use crate::text::Text;
+use crate::text::TextBuffer;
+use audit_keys::listed::tell_book;
 use audit_keys::moments::Moments;
-use audit_keys::rows::{Row, make_rows, sort_rows};
-use audit_keys::told::tell_book;
+use audit_keys::rows::{KeyRow, make_rows, sort_rows};
 use std::alloc::{AllocError, Global};
 
 /// The rows of a book in the order in which their keys were made.
@@ -26,14 +26,14 @@ pub(crate) fn rows_of(
     alloc: Global,
     book: &KeptBook,
     moments: &Moments,
-) -> Result<Vec<Row>, AllocError>
+) -> Result<Vec<KeyRow>, AllocError>
     ensures are { (t : List (List SeenLine)) (callers : List (List Call)) (of : Book) (ms : List (List CallMeaning)) →
         KeepsBook book.now t callers of ms → IfOk result (λ rows. AreRows of rows.items) }
     ensures ordered { IfOk result (λ rows. RowsByMaking moments.now rows.items) }
 {
     let entries = all_entries(alloc, &book.states)?;
-    let told = tell_book(alloc, &book.lanes, &entries)?;
-    let mut rows = make_rows(alloc, told)?;
+    let listed = tell_book(alloc, &book.lanes, &entries)?;
+    let mut rows = make_rows(alloc, listed)?;
     sort_rows(&mut rows, moments)?;
     Ok(rows)
 }
@@ -49,7 +49,7 @@ pub(crate) fn keys_text(alloc: Global, book: &KeptBook) -> Result<Vec<u8>, Alloc
 {
     let moments = moments_of(alloc, book)?;
     let rows = rows_of(alloc, book, &moments)?;
-    let mut text = Text::new(alloc);
+    let mut text = TextBuffer::new(alloc);
     text.rows(&moments, &rows)?;
     Ok(text.bytes)
 }

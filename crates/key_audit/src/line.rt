@@ -20,9 +20,9 @@ use crate::book::KeptBook;
 use crate::edges::{edges_back, edges_of, reached_by};
 use crate::keys::rows_of;
 use crate::moments::moments_of;
-use crate::text::{Text, moment_at};
-use audit_keys::moments::{Line, Moment, Moments};
-use audit_keys::rows::{Fate, Row};
+use crate::text::{TextBuffer, moment_at};
+use audit_keys::moments::{LineOf, Moment, Moments};
+use audit_keys::rows::{Fate, KeyRow};
 use audit_keys::used::Origin;
 use event_script::Script;
 use judge_log::KeptPool;
@@ -30,7 +30,7 @@ use key_names::{Event, KeyName, LaneId};
 use std::alloc::{AllocError, Global};
 use std::collections::BTreeSet;
 
-fn is_served_for(moments: &Moments, line: Line, fate: Fate) -> bool
+fn is_served_for(moments: &Moments, line: LineOf, fate: Fate) -> bool
     ensures { result ≡ is_served_for moments.now line fate }
 {
     match fate {
@@ -40,7 +40,7 @@ fn is_served_for(moments: &Moments, line: Line, fate: Fate) -> bool
 }
 
 // Whether bytes of the row's key were served for a line.
-fn serves(moments: &Moments, line: Line, row: &Row) -> bool
+fn serves(moments: &Moments, line: LineOf, row: &KeyRow) -> bool
     ensures { result ≡ serves moments.now line row.now }
 {
     row.pieces
@@ -51,8 +51,8 @@ fn serves(moments: &Moments, line: Line, row: &Row) -> bool
 fn serving(
     alloc: Global,
     moments: &Moments,
-    line: Line,
-    rows: &[Row],
+    line: LineOf,
+    rows: &[KeyRow],
 ) -> Result<Vec<KeyName>, AllocError>
     ensures { IfOk result (λ keys. keys.items ≡ serving moments.now line rows.now) }
 {
@@ -69,8 +69,8 @@ fn serving(
 fn sources(
     alloc: Global,
     moments: &Moments,
-    line: Line,
-    rows: &[Row],
+    line: LineOf,
+    rows: &[KeyRow],
 ) -> Result<BTreeSet<KeyName>, AllocError>
     ensures { (key : BookName) → IfOk result (λ keys. IsTrue (contains names.cmp keys key)
         ↔ IsReached (edges_back rows.now) (serving moments.now line rows.now) key) }
@@ -81,12 +81,12 @@ fn sources(
     reached_by(alloc, &back, &serving)
 }
 
-// The rows of these keys, the last one made first.
+// The rows of these keys. The key made last comes first.
 fn rows_back<'a>(
     alloc: Global,
     keys: &BTreeSet<KeyName>,
-    rows: &'a [Row],
-) -> Result<Vec<&'a Row>, AllocError>
+    rows: &'a [KeyRow],
+) -> Result<Vec<&'a KeyRow>, AllocError>
     ensures { IfOk result (λ chosen. map (λ row. row.now) chosen.items
         ≡ filter (λ row. contains names.cmp keys.now row.key) (reverse rows.now)) }
 {
@@ -96,8 +96,8 @@ fn rows_back<'a>(
         .collect(alloc)
 }
 
-// Whether an event hands a sample to the pool. All events do but those that ask for bits or credit them.
-fn hands_sample(script: &Script, line: Line) -> bool
+// Whether an event hands a sample to the pool. All events do so except those that ask for bits or credit bits.
+fn hands_sample(script: &Script, line: LineOf) -> bool
     ensures { result ≡ hands_sample (event_at script.now line.caller line.event) }
 {
     if line.caller >= script.callers() {
@@ -154,7 +154,7 @@ fn bits_at(pool: &[KeptPool], place: u64) -> u32
     }
 }
 
-fn put_root(text: &mut Text, moments: &Moments, place: u64) -> Result<(), AllocError>
+fn put_root(text: &mut TextBuffer, moments: &Moments, place: u64) -> Result<(), AllocError>
     ensures { OnOk result (text.new.bytes.items ≡ text.old.bytes.items ++ root_text moments.now place) }
 {
     text.word("extraction ")?;
@@ -163,7 +163,7 @@ fn put_root(text: &mut Text, moments: &Moments, place: u64) -> Result<(), AllocE
     text.entry(moments, Origin::Lane(LaneId::Pool, place))
 }
 
-fn put_counts(text: &mut Text, samples: u64, bits: u32) -> Result<(), AllocError>
+fn put_counts(text: &mut TextBuffer, samples: u64, bits: u32) -> Result<(), AllocError>
     ensures { OnOk result (text.new.bytes.items ≡ text.old.bytes.items ++ counts_text samples bits) }
 {
     text.number(" samples ", samples)?;
@@ -173,7 +173,7 @@ fn put_counts(text: &mut Text, samples: u64, bits: u32) -> Result<(), AllocError
 
 // Adds the line of the extraction that made a root.
 fn put_extraction(
-    text: &mut Text,
+    text: &mut TextBuffer,
     script: &Script,
     pool: &[KeptPool],
     moments: &Moments,
@@ -193,7 +193,7 @@ fn put_extraction(
     }
 }
 
-fn put_rows(text: &mut Text, moments: &Moments, rows: &[&Row]) -> Result<(), AllocError>
+fn put_rows(text: &mut TextBuffer, moments: &Moments, rows: &[&KeyRow]) -> Result<(), AllocError>
     ensures { OnOk result (text.new.bytes.items
         ≡ text.old.bytes.items ++ rows_text moments.now (map (λ row. row.now) rows.now)) }
 {
@@ -204,11 +204,11 @@ fn put_rows(text: &mut Text, moments: &Moments, rows: &[&Row]) -> Result<(), All
 }
 
 fn put_extractions(
-    text: &mut Text,
+    text: &mut TextBuffer,
     script: &Script,
     pool: &[KeptPool],
     moments: &Moments,
-    rows: &[&Row],
+    rows: &[&KeyRow],
 ) -> Result<(), AllocError>
     ensures { OnOk result (text.new.bytes.items ≡ text.old.bytes.items ++ flat_map (λ row. extraction_text moments.now
         (λ place. kept_samples script.now 0 (take place pool.now) moments.now.pool.items)
@@ -220,14 +220,14 @@ fn put_extractions(
     Ok(())
 }
 
-// The text for a line, from the kept visits of the pool.
+// The text for a line. Samples and bits are counted from the kept visits of the pool.
 fn origin_text(
     alloc: Global,
-    line: Line,
+    line: LineOf,
     script: &Script,
     pool: &[KeptPool],
     moments: &Moments,
-    rows: &[Row],
+    rows: &[KeyRow],
 ) -> Result<Vec<u8>, AllocError>
     ensures { IfOk result (λ text. TellsSources moments.now rows.now line
         (λ place. kept_samples script.now 0 (take place pool.now) moments.now.pool.items)
@@ -235,20 +235,21 @@ fn origin_text(
 {
     let keys = sources(alloc, moments, line, rows)?;
     let chosen = rows_back(alloc, &keys, rows)?;
-    let mut text = Text::new(alloc);
+    let mut text = TextBuffer::new(alloc);
     put_rows(&mut text, moments, &chosen)?;
     put_extractions(&mut text, script, pool, moments, &chosen)?;
     Ok(text.bytes)
 }
 
-/// The rows that the bytes of a line come from, the last one made first, and the extractions of their roots.
+/// The rows of the keys that the bytes of a line come from, and the extraction of each root among these keys. The row
+/// of the key made last comes first.
 ///
 /// # Errors
 ///
 /// `AllocError` if there is no memory for them.
 pub(crate) fn sources_text(
     alloc: Global,
-    line: Line,
+    line: LineOf,
     script: &Script,
     book: &KeptBook,
 ) -> Result<Vec<u8>, AllocError>

@@ -1,5 +1,5 @@
 //! The commands `live T` and `live C.E`: the keys and rests in memory after a stamp or a line, and the keys and bytes
-//! that can be computed from them.
+//! that can be computed from these keys and rests.
 ghost use Rattle.std.specs.Prelude.{◌≡◌, IfOk, List, Some};
 ghost use Rattle.key_names.specs.Lanes.Book.{Book};
 ghost use Rattle.key_names.specs.Callers.Calls.{Call};
@@ -18,16 +18,17 @@ use crate::keys::rows_of;
 use crate::moments::moments_of;
 use crate::reach::reached_text;
 use crate::row_index::RowIndex;
-use crate::text::Text;
+use crate::text::TextBuffer;
 use crate::until::Until;
-use audit_keys::moments::Line;
+use audit_keys::moments::LineOf;
 use std::alloc::{AllocError, Global};
 
-/// The keys and rests that are held at a moment, and the keys and bytes that can be computed from them.
+/// The lines of the keys and rests that are held at a moment, and the lines of the keys and bytes that can be computed
+/// from these keys and rests.
 ///
 /// # Errors
 ///
-/// `AllocError` if there is no memory for them.
+/// `AllocError` if there is no memory for the text.
 pub(crate) fn live_text(alloc: Global, until: Until, book: &KeptBook) -> Result<Vec<u8>, AllocError>
     ensures { (t : List (List SeenLine)) (callers : List (List Call)) (of : Book) (ms : List (List CallMeaning)) →
         KeepsBook book.now t callers of ms →
@@ -38,7 +39,7 @@ pub(crate) fn live_text(alloc: Global, until: Until, book: &KeptBook) -> Result<
     let held = held_at(alloc, until, book, &moments)?;
     let index = RowIndex::of(alloc, &rows)?;
     let numbers = held_rows(alloc, &index, &held.keys)?;
-    let mut text = Text::new(alloc);
+    let mut text = TextBuffer::new(alloc);
     put_held(&mut text, &moments, &rows, &numbers)?;
     put_rests(&mut text, &held.rests)?;
     let reached = reached_text(alloc, &moments, &rows, &held.keys, &held.rests)?;
@@ -46,13 +47,17 @@ pub(crate) fn live_text(alloc: Global, until: Until, book: &KeptBook) -> Result<
     Ok(text.bytes)
 }
 
-/// The keys and rests that are held after a line, and what can be computed from them. The text is empty if the line
-/// does not exist.
+/// The lines of the keys and rests that are held after a line, and of the keys and bytes that can be computed from
+/// these. The text is empty if the line does not exist.
 ///
 /// # Errors
 ///
 /// `AllocError` if there is no memory for it.
-pub(crate) fn after_text(alloc: Global, line: Line, book: &KeptBook) -> Result<Vec<u8>, AllocError>
+pub(crate) fn after_text(
+    alloc: Global,
+    line: LineOf,
+    book: &KeptBook,
+) -> Result<Vec<u8>, AllocError>
     ensures { (t : List (List SeenLine)) (callers : List (List Call)) (of : Book) (ms : List (List CallMeaning)) →
         KeepsBook book.now t callers of ms → (end : LineEnd) → line_end callers line ≡ Some end →
         IfOk result (λ text. TellsHeld (lists_after line end callers of ms) callers of ms text.items) }

@@ -1,9 +1,31 @@
-//! `key_audit`: the keys that a lawful transcript's run made, the holder of each, and the fates of its bytes.
+//! `key_audit`: the keys that a lawful transcript's run made, the holder of each key, and the fates of its bytes.
+//! `./rng audit keys SCRIPT TRANSCRIPT` at the top of the repository proves, builds and runs this program.
+//! docs/AUDIT.md describes the commands.
 //!
-//! The contract is that of [`audit`]. For every command it states the meaning of each status and of the output. For
-//! `NoMemory` it only states that no output is written. [`book`] makes the book of a transcript, which the check of the
-//! transcript hands on. The functions of this file have no clause and are only tested. They connect the command to
-//! standard streams, standard error and the exit code.
+//! [`book`] makes the book of a transcript from the lists that the check of the transcript returns. The functions of
+//! this file connect the command to standard streams, standard error and the exit code.
+//!
+//! # Example
+//!
+//! ```rust
+//! let Ok(output) = BufWriter::with_capacity(rt.alloc(), GATHERED, rt.stdout()) else {
+//!     return Status::NoMemory;
+//! };
+//! let mut source = StdSource::of(rt.stdin());
+//! let mut sink = StdSink::of(output);
+//! audit(rt.alloc(), words, &mut source, &mut sink)
+//! ```
+//!
+//! From `crates/key_audit/src/main.rt`.
+//!
+//! # Proved
+//!
+//! - [`audit`]: its contract is that of the program. For every command the contract states the meaning of each status
+//!   and of the output. For `NoMemory` it only states that no output is written.
+//!
+//! # Tested only
+//!
+//! The functions of this file, which have no clause, and that each held key has a row: `.ci/audit_checks`.
 #![tactic(auto)]
 
 mod answer;
@@ -45,7 +67,7 @@ fn run(rt: &HostRuntime, words: &[String]) -> Status {
 
 /// Writes one line to standard error if a command ended without an answer. Only tested.
 fn tell<R: Eprint>(rt: &R, status: Status) {
-    let _told = match status {
+    let _listed = match status {
         Status::Done | Status::No => return,
         Status::Usage => eprintln!(rt; "{USAGE}"),
         Status::ReadFault => eprintln!(rt; "key_audit: standard input could not be read"),

@@ -1,4 +1,4 @@
-//! The moments at which the entries of a book were left, and their lines.
+//! The moment at which each entry of a book was left, and the line of the entry.
 ghost use Rattle.std.specs.Prelude.{ℕ, ◌≡◌, ◌<◌, ◌++◌, ◌==◌, ◌∷◌, [], IfOk, OnOk, length, map, if◌then◌else◌};
 ghost use Rattle.key_names.specs.Lanes.Book.{list_at};
 ghost use Rattle.audit_keys.specs.Cut.{moment_lists};
@@ -8,7 +8,7 @@ ghost use Rattle.key_audit.specs.EntryMoments.{all_moments, caller_moments, end_
 
 use crate::book::KeptBook;
 use audit_keys::entry::{CallEnd, StateEntry};
-use audit_keys::moments::{Line, Moment, Moments};
+use audit_keys::moments::{LineOf, Moment, Moments};
 use judge_lines::marks::MarkOf;
 use key_names::LaneId;
 use std::alloc::{AllocError, Global};
@@ -18,14 +18,14 @@ fn moment_by(of: &MarkOf) -> Moment
 {
     Moment {
         stamp: of.mark.stamp,
-        line: Line {
+        line: LineOf {
             caller: of.who.caller,
             event: of.who.event,
         },
     }
 }
 
-// Appends the moment of a visit to those of its CPU. If the book does not have the CPU, no moment is appended.
+// Appends the moment of a visit to the moments of its CPU. If the book lacks this CPU, appends nothing.
 fn push_cpu(cpus: &mut Vec<Vec<Moment>>, cpu: usize, moment: Moment) -> Result<(), AllocError>
     ensures count { length cpus.new.items ≡ length cpus.old.items }
     ensures each { (c : ℕ) → c < length cpus.old.items → OnOk result (list_at (moment_lists cpus.new.items) c
@@ -37,7 +37,7 @@ fn push_cpu(cpus: &mut Vec<Vec<Moment>>, cpu: usize, moment: Moment) -> Result<(
     Ok(())
 }
 
-// Appends the moment of a visit to those of its lane.
+// Appends the moment of a visit to the moments of its lane.
 fn push_mark(moments: &mut Moments, of: &MarkOf) -> Result<(), AllocError>
     ensures { OnOk result (AddsMark moments.old (seen_mark of.now) moments.new) }
 {
@@ -66,7 +66,7 @@ fn no_visits(alloc: Global, cpus: usize) -> Result<Moments, AllocError>
     Ok(moments)
 }
 
-// The moments of the visits that these marks belong to.
+// The moments of the visits that have these marks.
 fn moments_of_marks(alloc: Global, cpus: usize, marks: &[MarkOf]) -> Result<Moments, AllocError>
     ensures { IfOk result (λ moments. HasMarks cpus (map seen_mark marks.now) moments) }
 {
@@ -83,7 +83,7 @@ fn end_moment(end: CallEnd) -> Moment
 {
     Moment {
         stamp: end.stamp,
-        line: Line {
+        line: LineOf {
             caller: end.caller,
             event: end.event,
         },
@@ -124,8 +124,8 @@ fn state_moments(
     Ok(moments)
 }
 
-/// The moments of the entries of a book: the stamp and the line of each visit. The moment of a vgetrandom state's entry
-/// has the stamp when the call that left it was over, and that call's line.
+/// The moments of the entries of a book. A visit's moment is the visit's stamp and line. An entry of a vgetrandom state
+/// was left by a call: the entry's moment is the stamp when this call was over, and the call's line.
 ///
 /// # Errors
 ///

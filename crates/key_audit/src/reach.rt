@@ -1,20 +1,20 @@
-//! The keys and bytes that can be computed from the keys and rests in memory. These are keys that were not made yet,
-//! and bytes of later lines.
+//! The keys and bytes that can be computed from the keys and rests in memory: keys that are made later, and bytes of
+//! later lines.
 ghost use Rattle.std.specs.Prelude.{◌≡◌, ◌++◌, IfOk, OnOk, IsPermutation, IsSortedByKey, map};
 ghost use Rattle.std.specs.BTreeSet.{contains};
 ghost use Rattle.std.specs.List.Sorted.{IsStableByKey};
 ghost use Rattle.key_names.specs.contracts.names.KeyNameOrd.TheImpl.{ghosts as names};
-ghost use Rattle.audit_keys.specs.contracts.moments.LineOrd.TheImpl.{ghosts as lines};
+ghost use Rattle.audit_keys.specs.contracts.moments.LineOfOrd.TheImpl.{ghosts as lines};
 ghost use Rattle.key_audit.specs.Reach.{TellsReached, copied_bytes, copied_lines, copied_piece, copied_row, copied_text};
 ghost use Rattle.key_audit.specs.Reach.{has_piece, is_in_rest, is_line, line_begin, line_end, next_lines, rest_keys};
 ghost use Rattle.key_audit.specs.Reach.{row_rest_keys};
 
 use crate::edges::{edges_of, reached_by, set_of};
 use crate::held::put_kept;
-use crate::text::{Text, moment_at};
+use crate::text::{TextBuffer, moment_at};
 use audit_keys::held::{HeldKey, HeldRest};
-use audit_keys::moments::{Line, Moments};
-use audit_keys::rows::{Fate, Piece, Row};
+use audit_keys::moments::{LineOf, Moments};
+use audit_keys::rows::{Fate, KeyPiece, KeyRow};
 use key_names::{KeyName, Span};
 use std::alloc::{AllocError, Global};
 use std::collections::BTreeSet;
@@ -22,12 +22,12 @@ use std::collections::BTreeSet;
 /// Bytes of a key that were served for a line.
 #[derive(Clone, Copy)]
 struct Copied {
-    line: Line,
+    line: LineOf,
     span: Span,
 }
 
 // Whether the first byte of a piece is in the rest of a batch.
-fn has_piece(rest: &HeldRest, piece: &Piece) -> bool
+fn has_piece(rest: &HeldRest, piece: &KeyPiece) -> bool
     ensures { result ≡ has_piece rest.now piece.now }
 {
     rest.span.key == piece.span.key
@@ -35,14 +35,18 @@ fn has_piece(rest: &HeldRest, piece: &Piece) -> bool
         && piece.span.from - rest.span.from < rest.span.len
 }
 
-fn is_in_rest(rests: &[HeldRest], piece: &Piece) -> bool
+fn is_in_rest(rests: &[HeldRest], piece: &KeyPiece) -> bool
     ensures { result ≡ is_in_rest rests.now piece.now }
 {
     rests.iter().any(|rest| has_piece(rest, piece))
 }
 
-// Adds the keys that bytes of a row became, if the rests have these bytes.
-fn push_rest_keys(keys: &mut Vec<KeyName>, rests: &[HeldRest], row: &Row) -> Result<(), AllocError>
+// Adds each key that a piece of the row became, if a rest has the first byte of this piece.
+fn push_rest_keys(
+    keys: &mut Vec<KeyName>,
+    rests: &[HeldRest],
+    row: &KeyRow,
+) -> Result<(), AllocError>
     ensures { OnOk result (keys.new.items ≡ keys.old.items ++ row_rest_keys rests.now row.now) }
 {
     for piece in &row.pieces {
@@ -60,7 +64,7 @@ fn with_rest_keys(
     alloc: Global,
     keys: &[KeyName],
     rests: &[HeldRest],
-    rows: &[Row],
+    rows: &[KeyRow],
 ) -> Result<Vec<KeyName>, AllocError>
     ensures { IfOk result (λ all. all.items ≡ keys.now ++ rest_keys rests.now rows.now) }
 {
@@ -77,7 +81,7 @@ fn push_piece(
     moments: &Moments,
     is_known: bool,
     rests: &[HeldRest],
-    piece: &Piece,
+    piece: &KeyPiece,
 ) -> Result<(), AllocError>
     ensures { OnOk result (all.new.items
         ≡ all.old.items ++ copied_piece moments.now is_known rests.now piece.now) }
@@ -98,7 +102,7 @@ fn push_row(
     moments: &Moments,
     known: &BTreeSet<KeyName>,
     rests: &[HeldRest],
-    row: &Row,
+    row: &KeyRow,
 ) -> Result<(), AllocError>
     ensures { OnOk result (all.new.items
         ≡ all.old.items ++ copied_row moments.now (contains names.cmp known.now) rests.now row.now) }
@@ -116,7 +120,7 @@ fn copied_bytes(
     moments: &Moments,
     known: &BTreeSet<KeyName>,
     rests: &[HeldRest],
-    rows: &[Row],
+    rows: &[KeyRow],
 ) -> Result<Vec<Copied>, AllocError>
     ensures { IfOk result (λ all. all.items
         ≡ copied_bytes moments.now (contains names.cmp known.now) rests.now rows.now) }
@@ -128,7 +132,7 @@ fn copied_bytes(
     Ok(all)
 }
 
-// Sorts bytes by line. The bytes of a line keep their order.
+// Sorts served bytes by line. The bytes of a line keep their order.
 fn sort_by_line(all: &mut Vec<Copied>) -> Result<(), AllocError>
     ensures each { IsPermutation all.old.items all.new.items }
     ensures ordered { OnOk result (IsSortedByKey (λ one. one.line) lines.cmp all.new.items) }
@@ -138,7 +142,7 @@ fn sort_by_line(all: &mut Vec<Copied>) -> Result<(), AllocError>
     Ok(())
 }
 
-fn end_line(text: &mut Text, last: Option<Line>) -> Result<(), AllocError>
+fn end_line(text: &mut TextBuffer, last: Option<LineOf>) -> Result<(), AllocError>
     ensures { OnOk result (text.new.bytes.items ≡ text.old.bytes.items ++ line_end last) }
 {
     match last {
@@ -147,7 +151,7 @@ fn end_line(text: &mut Text, last: Option<Line>) -> Result<(), AllocError>
     }
 }
 
-fn is_line(last: Option<Line>, line: Line) -> bool
+fn is_line(last: Option<LineOf>, line: LineOf) -> bool
     ensures { result ≡ is_line last line }
 {
     match last {
@@ -156,8 +160,8 @@ fn is_line(last: Option<Line>, line: Line) -> bool
     }
 }
 
-// Begins a line, unless the bytes before are of the same line.
-fn begin_line(text: &mut Text, last: Option<Line>, line: Line) -> Result<(), AllocError>
+// Begins a line of the output, unless the bytes before were served for the same line.
+fn begin_line(text: &mut TextBuffer, last: Option<LineOf>, line: LineOf) -> Result<(), AllocError>
     ensures { OnOk result (text.new.bytes.items ≡ text.old.bytes.items ++ line_begin last line) }
 {
     if is_line(last, line) {
@@ -168,7 +172,7 @@ fn begin_line(text: &mut Text, last: Option<Line>, line: Line) -> Result<(), All
     text.line(line)
 }
 
-fn put_copied(text: &mut Text, one: Copied) -> Result<(), AllocError>
+fn put_copied(text: &mut TextBuffer, one: Copied) -> Result<(), AllocError>
     ensures { OnOk result (text.new.bytes.items ≡ text.old.bytes.items ++ copied_text one) }
 {
     text.word(" ")?;
@@ -177,7 +181,7 @@ fn put_copied(text: &mut Text, one: Copied) -> Result<(), AllocError>
     text.name(one.span.key)
 }
 
-fn put_lines(text: &mut Text, all: &[Copied]) -> Result<(), AllocError>
+fn put_lines(text: &mut TextBuffer, all: &[Copied]) -> Result<(), AllocError>
     ensures { OnOk result (text.new.bytes.items ≡ text.old.bytes.items ++ copied_lines all.now) }
 {
     let mut last = None;
@@ -191,11 +195,11 @@ fn put_lines(text: &mut Text, all: &[Copied]) -> Result<(), AllocError>
 
 // Adds the lines of keys that can be computed and are not held.
 fn put_next(
-    text: &mut Text,
+    text: &mut TextBuffer,
     moments: &Moments,
     held: &BTreeSet<KeyName>,
     known: &BTreeSet<KeyName>,
-    rows: &[Row],
+    rows: &[KeyRow],
 ) -> Result<(), AllocError>
     ensures { OnOk result (text.new.bytes.items ≡ text.old.bytes.items
         ++ next_lines moments.now (contains names.cmp held.now) (contains names.cmp known.now) rows.now) }
@@ -222,7 +226,7 @@ fn names_of(alloc: Global, keys: &[HeldKey]) -> Result<Vec<KeyName>, AllocError>
 pub(crate) fn reached_text(
     alloc: Global,
     moments: &Moments,
-    rows: &[Row],
+    rows: &[KeyRow],
     keys: &[HeldKey],
     rests: &[HeldRest],
 ) -> Result<Vec<u8>, AllocError>
@@ -236,7 +240,7 @@ pub(crate) fn reached_text(
     let known = reached_by(alloc, &edges, &start)?;
     let mut copied = copied_bytes(alloc, moments, &known, rests, rows)?;
     sort_by_line(&mut copied)?;
-    let mut text = Text::new(alloc);
+    let mut text = TextBuffer::new(alloc);
     put_next(&mut text, moments, &held, &known, rows)?;
     put_lines(&mut text, &copied)?;
     Ok(text.bytes)

@@ -1,17 +1,17 @@
-//! The rows of a book, found by the names of their keys.
+//! An index that finds the rows of a book by the names of their keys.
 ghost use Rattle.std.specs.Prelude.{◌≡◌, ◌≢◌, ℕ, IfOk, IfSome, None, Some, length};
 ghost use Rattle.key_audit.specs.Index.{IsIndexTo};
 ghost use Rattle.key_audit.specs.Live.{name_at};
 
-use audit_keys::rows::Row;
+use audit_keys::rows::KeyRow;
 use key_names::KeyName;
 use std::alloc::{AllocError, Global};
 use std::collections::BTreeMap;
 
-/// The rows of a book by the names of their keys.
+/// The rows of a book, with an index by the names of their keys.
 #[derive(Drop)]
 pub(crate) struct RowIndex<'a> {
-    rows: &'a [Row],
+    rows: &'a [KeyRow],
     /// The number of the row of each key.
     by_name: BTreeMap<KeyName, usize>,
     ghost indexed: { IsIndexTo (length rows.now) rows.now by_name },
@@ -23,7 +23,7 @@ impl<'a> RowIndex<'a> {
     /// # Errors
     ///
     /// `AllocError` if there is no memory for it.
-    pub(crate) fn of(alloc: Global, rows: &'a [Row]) -> Result<RowIndex<'a>, AllocError>
+    pub(crate) fn of(alloc: Global, rows: &'a [KeyRow]) -> Result<RowIndex<'a>, AllocError>
         ensures { IfOk result (λ index. index.rows.now ≡ rows.now) }
     {
         let mut by_name = BTreeMap::new(alloc);

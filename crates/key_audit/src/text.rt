@@ -4,25 +4,25 @@ ghost use Rattle.key_audit.specs.Texts.{name_text, call_text, holder_text, line_
 ghost use Rattle.key_audit.specs.Texts.{span_text, fate_text, piece_text, end_text, key_text, row_text, rows_text, moment_at};
 
 use audit_keys::lives::Holder;
-use audit_keys::moments::{Line, Moment, Moments};
-use audit_keys::rows::{Fate, Piece, Row};
+use audit_keys::moments::{LineOf, Moment, Moments};
+use audit_keys::rows::{Fate, KeyPiece, KeyRow};
 use audit_keys::used::Origin;
 use itoa::Buffer;
 use key_names::{KeyName, LaneId, Span};
 use std::alloc::{AllocError, Global};
 
-/// The moment that is shown for an entry without one.
+/// The moment that is shown for an entry that has no moment.
 const NO_MOMENT: Moment = Moment {
     stamp: 0,
-    line: Line {
+    line: LineOf {
         caller: 0,
         event: 0,
     },
 };
 
-/// A text while it is written.
+/// A text that is being written.
 #[derive(Drop)]
-pub(crate) struct Text {
+pub(crate) struct TextBuffer {
     pub(crate) bytes: Vec<u8>,
 }
 
@@ -32,11 +32,11 @@ pub(crate) fn moment_at(moments: &Moments, at: Origin) -> Moment
     moments.at(at).unwrap_or(NO_MOMENT)
 }
 
-impl Text {
-    pub(crate) fn new(alloc: Global) -> Text
+impl TextBuffer {
+    pub(crate) fn new(alloc: Global) -> TextBuffer
         ensures { result.bytes.items ≡ [] }
     {
-        Text {
+        TextBuffer {
             bytes: Vec::new(alloc),
         }
     }
@@ -70,7 +70,7 @@ impl Text {
         self.word(")")
     }
 
-    /// Adds the name of a key, as `Root(3)`, `Cpu(0,2)`, `Call(Base,4)` or `Vdso(0,0,1)`.
+    /// Adds the name of a key, such as `Root(3)`, `Cpu(0,2)`, `Call(Base,4)` or `Vdso(0,0,1)`.
     pub(crate) fn name(&mut self, key: KeyName) -> Result<(), AllocError>
         ensures { OnOk result (self.new.bytes.items ≡ self.old.bytes.items ++ name_text key) }
     {
@@ -91,7 +91,7 @@ impl Text {
         self.word(")")
     }
 
-    /// Adds a key's holder, as `base`, `cpu0`, `state0.3` or `call`.
+    /// Adds a key's holder, such as `base`, `cpu0`, `state0.3` or `call`.
     pub(crate) fn holder(&mut self, holder: Holder) -> Result<(), AllocError>
         ensures { OnOk result (self.new.bytes.items ≡ self.old.bytes.items ++ holder_text holder) }
     {
@@ -106,8 +106,8 @@ impl Text {
         }
     }
 
-    /// Adds a line, as `0.4`.
-    pub(crate) fn line(&mut self, line: Line) -> Result<(), AllocError>
+    /// Adds the caller and the event of a line, such as `0.4`.
+    pub(crate) fn line(&mut self, line: LineOf) -> Result<(), AllocError>
         ensures { OnOk result (self.new.bytes.items ≡ self.old.bytes.items ++ line_text line) }
     {
         self.number("", u64::from(line.caller))?;
@@ -136,7 +136,7 @@ impl Text {
         }
     }
 
-    /// Adds an entry with its stamp, as `c0:3@12` or `v0.3:1@12`.
+    /// Adds an entry with its stamp, such as `c0:3@12` or `v0.3:1@12`.
     pub(crate) fn at(&mut self, at: Origin, moment: Moment) -> Result<(), AllocError>
         ensures { OnOk result (self.new.bytes.items ≡ self.old.bytes.items ++ at_text at moment) }
     {
@@ -154,7 +154,7 @@ impl Text {
         self.line(moment.line)
     }
 
-    /// Adds bytes of a keystream, as `32+8`: the first byte, and how many.
+    /// Adds bytes of a keystream, such as `32+8`: the number of the first byte, and how many bytes there are.
     pub(crate) fn span(&mut self, span: Span) -> Result<(), AllocError>
         ensures { OnOk result (self.new.bytes.items ≡ self.old.bytes.items ++ span_text span) }
     {
@@ -183,7 +183,7 @@ impl Text {
     }
 
     /// Adds a space and a piece.
-    pub(crate) fn piece(&mut self, moments: &Moments, piece: Piece) -> Result<(), AllocError>
+    pub(crate) fn piece(&mut self, moments: &Moments, piece: KeyPiece) -> Result<(), AllocError>
         ensures { OnOk result (self.new.bytes.items ≡ self.old.bytes.items ++ piece_text moments.now piece) }
     {
         self.word(" ")?;
@@ -203,8 +203,8 @@ impl Text {
         }
     }
 
-    /// Adds a row without its pieces: the key, its holder, and the entries that made it and ended it.
-    pub(crate) fn key(&mut self, moments: &Moments, row: &Row) -> Result<(), AllocError>
+    /// Adds a row without its pieces: the key, its holder, and the entries that made and ended the key.
+    pub(crate) fn key(&mut self, moments: &Moments, row: &KeyRow) -> Result<(), AllocError>
         ensures { OnOk result (self.new.bytes.items ≡ self.old.bytes.items ++ key_text moments.now row.now) }
     {
         self.name(row.key)?;
@@ -216,7 +216,7 @@ impl Text {
     }
 
     /// Adds the line of a row.
-    pub(crate) fn row(&mut self, moments: &Moments, row: &Row) -> Result<(), AllocError>
+    pub(crate) fn row(&mut self, moments: &Moments, row: &KeyRow) -> Result<(), AllocError>
         ensures { OnOk result (self.new.bytes.items ≡ self.old.bytes.items ++ row_text moments.now row.now) }
     {
         self.key(moments, row)?;
@@ -227,7 +227,7 @@ impl Text {
     }
 
     /// Adds the lines of rows.
-    pub(crate) fn rows(&mut self, moments: &Moments, rows: &[Row]) -> Result<(), AllocError>
+    pub(crate) fn rows(&mut self, moments: &Moments, rows: &[KeyRow]) -> Result<(), AllocError>
         ensures { OnOk result (self.new.bytes.items ≡ self.old.bytes.items ++ rows_text moments.now rows.now) }
     {
         for row in rows {

@@ -9,8 +9,8 @@ use audit_keys::entry::Cut;
 pub(crate) enum Until {
     /// The visits up to this stamp, and the calls that were over by this stamp.
     Stamp(u64),
-    /// The visits and calls as for `Stamp`. Of this caller, however, the calls up to and including the one with this
-    /// number.
+    /// The visits up to `stamp`. Of the caller `caller`, the calls up to and including number `call`. Of each other
+    /// caller, the calls that were over by `stamp`.
     Call {
         stamp: u64,
         caller: u32,
@@ -19,7 +19,7 @@ pub(crate) enum Until {
 }
 
 impl Until {
-    /// The stamp up to which visits count.
+    /// The stamp up to which visits are kept.
     pub(crate) fn stamp(self) -> u64
         ensures { result ≡ until_stamp self }
     {
@@ -28,7 +28,7 @@ impl Until {
         }
     }
 
-    /// The entries of a caller's vgetrandom states that count.
+    /// The cut that determines which entries of a caller's vgetrandom states are kept.
     pub(crate) fn cut(self, of: usize) -> Cut
         ensures { result ≡ cut_at self of }
     {

@@ -1,4 +1,4 @@
--- All visits in the order of their stamps, cut down to one lane or one caller.
+-- The history of a book in one lane, and the order of one caller.
 pub mod HistoryLanes
 pub mod SortedVisits
 pub mod CallerOrders

@@ -1,4 +1,4 @@
--- Facts about lists, about marks, and about lists that grow.
+-- Lemmas about lists, and about the marks of a lane.
 pub mod Each
 pub mod MarkLists
 pub mod Growing

@@ -1,4 +1,4 @@
--- A point has one number, and no other point has that number.
+-- Each point has one number, and different points have different numbers.
 use Rattle.std.proofs.Common.{ℕ, ◌≡◌, ◌≤◌, ◌==◌, true, Some, [], ◌∷◌, refl, sym, ap, arith, eqb-true}
 use Rattle.key_names.specs.declared.point.Point.{Point}
 use Rattle.key_names.specs.declared.point.Point.TheVariants.{Start, Written, Serve, End}

@@ -1,5 +1,5 @@
--- If a book's visits are the marks of lines, the book's samples follow from those of the lines.
+-- If the samples of each line are correct, then the samples of a book made from these lines are lawful.
 pub mod Lines
-pub mod DeedPlaces
+pub mod EffectPlaces
 pub mod LineVisits
 pub mod SampleLaw

@@ -1,4 +1,4 @@
--- A text is a script exactly if the grammar allows it, and otherwise has its first fault.
+-- A text has no fault if and only if it is the text of a well-formed script.
 pub mod EventLines
 pub mod HexFields
 pub mod HexBytes

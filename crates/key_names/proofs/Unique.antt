@@ -1,4 +1,4 @@
--- The steps of a transcript make one book, so its answers and bytes are the only ones.
+-- The steps of a transcript make at most one book, and give each call at most one meaning.
 pub mod TwoBooks
 pub mod UniqueForms
 pub mod UniqueLanes

@@ -1,4 +1,4 @@
--- No byte of a key is in two uses, and neither a used byte nor a replaced key is still held.
+-- No byte of a key is in two uses. No replaced key is still held, and no used byte is in the rest of a batch.
 pub mod UseLists
 pub mod Walks
 pub mod BaseUses

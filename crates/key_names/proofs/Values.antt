@@ -1,4 +1,5 @@
--- The values of the keys and batches that lists leave are those of their names, and so are the printed bytes.
+-- In a lawful book, each held key and batch has the bytes of its name. In a lawful transcript, the printed bytes are
+-- those of named spans.
 pub mod Named
 pub mod StateNamed
 pub mod HeldBytes

@@ -1,4 +1,4 @@
--- vgetrandom calls, attempt by attempt, and the list of the state that they use.
+-- Lemmas about vgetrandom calls and about the list of the state that the calls use.
 pub mod Attempts
 pub mod CopiesKeep
 pub mod CallsKeep

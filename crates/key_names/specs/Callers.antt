@@ -1,7 +1,7 @@
--- The calls of a caller, in its order: their steps, answers and meaning.
+-- The calls of each caller, in the caller's order: the steps, the answers and the meaning of each call.
 pub mod LineSamples
 pub mod Calls
-pub mod Deeds
+pub mod Effects
 pub mod Forms
 pub mod Answers
 pub mod History

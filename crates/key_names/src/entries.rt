@@ -7,10 +7,10 @@ use crate::text::Text;
 /// Whether a read is for a user or for the kernel, and the number of bytes that its call asked for.
 #[derive(Clone, Copy, Debug, PartialEq, Eq)]
 pub enum Taken {
-    /// For a user. If the read is of more than 32 bytes, the visit takes one key for all of them
+    /// For a user. If the read is of more than 32 bytes, the visit takes one key, which makes all these bytes
     /// (`get_random_bytes_user`).
     User(u32),
-    /// For the kernel. The visit makes its first bytes, at most 32 (`get_random_bytes`).
+    /// For the kernel. The visit itself makes only the read's first bytes, at most 32 (`get_random_bytes`).
     Kernel(u32),
 }
 
@@ -42,7 +42,8 @@ pub enum PoolEntry {
 /// An entry of the base's list. A root is named by the pool place of its extraction.
 #[derive(Clone, Copy, Debug, PartialEq, Eq)]
 pub enum BaseEntry {
-    /// An early key: that of the root, or no new key if the base is no longer empty (`_credit_init_bits`).
+    /// The credited bits reached 128, and the root becomes an early key. If there is no root, the base was no longer
+    /// empty, and the base keeps its key (`_credit_init_bits`).
     Early { root: Option<u64> },
     /// A reseed (`crng_reseed`).
     Reseed { root: u64, now: u64 },
@@ -51,7 +52,7 @@ pub enum BaseEntry {
     /// A read from the base before the core is ready. The root replaces the base's key if the base was
     /// empty (`crng_make_state`).
     Draw { root: Option<u64>, taken: Taken },
-    /// A key for the CPU's entry at this place (`crng_fast_key_erasure` of the base's key).
+    /// The base hands over a key for the CPU's entry at this place (`crng_fast_key_erasure` of the base's key).
     Refill { cpu: u32, cpu_place: u64 },
     /// A caller is forked.
     Fork { child: u32 },
@@ -61,7 +62,7 @@ pub enum BaseEntry {
     Wait,
     /// The read goes on, since the core is ready.
     Resume,
-    /// The read gives up, since no caller is left that could make the core ready.
+    /// The read gives up, since no running caller is left that could make the core ready.
     Interrupt,
     /// A caller stops because its fork got no thread, and runs the child itself.
     Stall,
@@ -69,8 +70,8 @@ pub enum BaseEntry {
     Unstall,
 }
 
-/// An entry of a CPU's list. A look is a generation that was read, a refill is the base place that gave the key,
-/// and a width counts bytes.
+/// An entry of a CPU's list. A look is the generation that the call read, a refill is the base place that gave the CPU
+/// its key, and a width counts bytes.
 #[derive(Clone, Copy, Debug, PartialEq, Eq)]
 pub enum CpuEntry {
     /// A read takes from the CPU's key (`crng_make_state`).
@@ -79,8 +80,8 @@ pub enum CpuEntry {
         refill: Option<u64>,
         taken: Taken,
     },
-    /// An integer of `width` bytes from its batch. The batch is `filled` first if it was used up or of another
-    /// generation (`get_random_u8` to `get_random_u64`).
+    /// An integer of `width` bytes from its batch. The batch is `filled` first if it has no fill, is used up, or is of
+    /// another generation (`get_random_u8` to `get_random_u64`).
     Int {
         look: u64,
         refill: Option<u64>,
@@ -93,7 +94,7 @@ pub enum CpuEntry {
         v2: u64,
         now: u64,
     },
-    /// The fast pool is emptied into the pool (`mix_interrupt_randomness`).
+    /// The fast pool is dumped: two of its words and a credit are for the pool (`mix_interrupt_randomness`).
     Dump {
         now: u64,
     },
@@ -106,7 +107,7 @@ pub enum CpuEntry {
 /// An entry of the list of one vgetrandom state.
 #[derive(Clone, Copy, Debug, PartialEq, Eq)]
 pub enum VEntry {
-    /// The state takes its key from the read at this place of a CPU.
+    /// The read at this place of the CPU gives the state its key.
     Rekey { cpu: u32, cpu_place: u64 },
     /// `count` blocks of the key's keystream, of 64 bytes each, are served from block `from` on.
     Blocks { from: u64, count: u64 },

@@ -21,7 +21,7 @@ pub enum InsideAct {
 /// One event of a script. In a read, `len` counts bytes, at most 2^20, and `flags` are those of getrandom(2).
 #[derive(Drop)]
 pub enum Event {
-    /// The moment is now this one, in milliseconds and below 2^40.
+    /// The caller's moment becomes this one, in milliseconds and below 2^40.
     At {
         moment: u64,
     },

@@ -1,8 +1,9 @@
 //! The faults of a script.
 ghost use Rattle.std.specs.Prelude.{◌≡◌};
 
-/// The kind of a script's fault. If a line has more than one, the earliest in this list counts, with two exceptions:
-/// `Unfinished` is checked right after `TooLong`, and between `BadNumber` and `BadHex` the leftmost bad field decides.
+/// The kind of a script's fault. If a line has several faults, the kind that comes first in this list counts, with two
+/// exceptions. `Unfinished` is checked right after `TooLong`. Of `BadNumber` and `BadHex`, the leftmost bad field
+/// decides.
 #[derive(Clone, Copy, Debug, PartialEq, Eq)]
 pub enum FaultKind {
     /// The script has more than 16 MiB.
@@ -13,7 +14,7 @@ pub enum FaultKind {
     BadHead,
     /// Line 2 is not `cpus N` with a number of CPUs that the version allows.
     BadCpus,
-    /// The word, or the word of an act, is unknown, or has another number of fields, or the line follows `end`.
+    /// The word or the act's word is unknown or has the wrong number of fields, or the line follows `end`.
     UnknownWord,
     /// A field that has to be a number is not spelt as one, or the number is out of range.
     BadNumber,

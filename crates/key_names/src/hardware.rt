@@ -4,10 +4,10 @@ ghost use Rattle.std.specs.Prelude.{◌≡◌, IfOk};
 use std::alloc::{AllocError, Global};
 use std::marker::Model;
 
-/// The 32 bytes that the hardware gives to an extraction (`arch_get_random_seed_longs`), kept through
-/// a pointer, as a text is.
+/// The 32 bytes that the hardware gives to an extraction (`arch_get_random_seed_longs`), kept through a pointer like
+/// the bytes of a `Text`.
 ///
-/// Contracts see them as a list.
+/// In contracts the bytes are a list.
 #[derive(Drop)]
 pub struct HardwareWords {
     bytes: Box<[u8; 32]>,
@@ -26,7 +26,7 @@ impl HardwareWords {
     ///
     /// # Errors
     ///
-    /// `AllocError` if memory for them is refused.
+    /// `AllocError` if memory for the words is refused.
     pub fn of(alloc: Global, bytes: [u8; 32]) -> Result<HardwareWords, AllocError>
         ensures { IfOk result (λ words. words ≡ bytes) }
     {

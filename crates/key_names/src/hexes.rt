@@ -16,7 +16,7 @@ fn is_dash(field: &[u8]) -> bool
     field == dash
 }
 
-/// Whether all bytes are digits of lower-case hexadecimal. `hex` would also read upper case.
+/// Whether all bytes are digits of lower-case hexadecimal. The crate `hex` would also accept upper case.
 fn is_lower_hex(field: &[u8]) -> bool
     ensures { IsTrue result ↔ AllLower field.now }
 {
@@ -28,7 +28,7 @@ fn is_lower_hex(field: &[u8]) -> bool
     lower
 }
 
-/// Whether a field spells bytes: two digits of lower-case hexadecimal each, or a dash for none.
+/// Whether a field spells bytes: two digits of lower-case hexadecimal for each byte, or a dash for no bytes.
 pub fn spells_bytes(field: &[u8]) -> bool
     ensures { result ≡ is_some (bytes_of field.now) }
 {
@@ -44,8 +44,8 @@ pub fn spells_bytes(field: &[u8]) -> bool
     is_lower_hex(field)
 }
 
-/// Writes the bytes that a field spells over all of `out`, and returns whether it spells bytes. If it does not, `out`
-/// is as before. The field is not empty, and has two digits for each byte of `out`.
+/// Decodes a field that is not empty and has two digits for each byte of `out`. Returns whether the field spells bytes.
+/// If it does, they fill `out`; if not, `out` is unchanged.
 pub fn decode(field: &[u8], out: &mut [u8]) -> bool
     requires some { 0 < length field.now }
     requires twice { length field.now ≡ 2 * length out.old }
@@ -61,7 +61,7 @@ pub fn decode(field: &[u8], out: &mut [u8]) -> bool
     true
 }
 
-/// The bytes that a field spells, two digits of lower-case hexadecimal each, or none for a dash.
+/// The bytes that a field spells: two digits of lower-case hexadecimal for each byte, or a dash for no bytes.
 ///
 /// `None` if the field does not spell bytes.
 ///

@@ -17,9 +17,9 @@ pub fn lawful_is_disjoint()
     ensures { LawfulIsDisjoint }
 {}
 
-/// In a lawful book, a key that the base, a CPU or a vgetrandom state still holds was never replaced, and no two of
-/// these keys have the same name. No byte in the unserved rest of a batch was used, no two such rests share a byte, and
-/// served bytes are 0. The law `books_hold_unused` of `audit_keys` adds that no byte of a held key was used.
+/// In a lawful book, a key that the base, a CPU or a vgetrandom state still holds was never replaced. No two held keys
+/// have the same name. No byte in the unserved rest of a batch was used, no two such rests share a byte, and served
+/// bytes are 0. The law `books_hold_unused` of `audit_keys` adds that no byte of a held key was used.
 pub fn lawful_is_erased()
     ensures { LawfulIsErased }
 {}
@@ -46,9 +46,9 @@ pub fn half_finished_holds_named()
     ensures { HalfFinishedHoldsNamed }
 {}
 
-/// A caller may use a wiped vgetrandom state by calls, copies and wipes, in any order and for any host. It
-/// leaves entries in order and a state whose served bytes are 0. The entries are a lawful list if each key
-/// comes from a read of 32 bytes.
+/// A caller may use a wiped vgetrandom state by calls, copies and wipes, in any order and with any host. These uses
+/// leave a list of entries in order, and a state whose served bytes are 0. The list is lawful if each key comes from a
+/// read of 32 bytes.
 pub fn uses_leave_lawful_lists()
     ensures { UsesLeaveLawfulLists }
 {}
@@ -63,79 +63,81 @@ pub fn transcript_book_is_unique()
     ensures { BookIsUnique }
 {}
 
-/// Answers and data do not matter for the book: transcripts that differ only in them make one book from their steps.
+/// The book does not depend on answers and data: if two transcripts differ only in them, the steps of both make one
+/// book.
 #[tactic(auto, using(crate::proofs::Unique::BareMeanings::steps_make_the_book))]
 pub fn steps_make_the_book()
     ensures { StepsMakeTheBook }
 {}
 
-/// At most one clause is the first that fails. In a lawful transcript none is.
+/// At most one clause is the first that fails. In a lawful transcript no clause fails.
 pub fn first_fail_is_unique()
     ensures { FirstFailIsUnique }
 {}
 
-/// A history of a transcript's book, cut down to one lane, is that lane's list in its order.
+/// In a history of a transcript's book, the visits of one lane are that lane's list, in the list's order.
 pub fn history_keeps_lanes()
     ensures { HistoryKeepsLanes }
 {}
 
-/// In lawful lanes each visit of the base or of a CPU serves the bytes of the spans that its entry serves. Each span's
-/// bytes are those of its key's name.
+/// In lawful lanes each visit of the base or of a CPU serves the bytes of the spans that its entry serves. The bytes of
+/// a span follow from the name of its key. A read that a vgetrandom state takes as its key is left out.
 pub fn lawful_serves_named()
     ensures { LawfulServesNamed }
 {}
 
-/// In a lawful transcript, after any number of a caller's calls, each of its vgetrandom states holds the key, the batch
-/// and the position that a replay of its list of entries gives.
+/// In a lawful transcript, each vgetrandom state of a caller holds what a replay of its list gives: the key, the batch
+/// and the position. This holds after any number of the caller's calls.
 pub fn states_are_replayed()
     ensures { StatesAreReplayed }
 {}
 
 /// A lawful transcript of a well-formed script prints the bytes of named spans of keystream, and none of these bytes
-/// twice. Each line shows, one after another, the bytes of the spans that entries of its own serve. No two of all these
-/// entries use the same byte of a key.
+/// twice. Each line shows the bytes of the spans that its own entries serve, one span after another. No two of the
+/// entries that serve the lines use the same byte of a key.
 pub fn transcript_prints_named()
     ensures { TranscriptPrintsNamed }
 {}
 
-/// A script's text gives back that script. A text is a script's if and only if it has no fault.
+/// The text of a script gives back that script. A text is the text of a script if and only if it has no fault.
 pub fn text_is_script_or_faulty()
     ensures { TextIsScriptOrFaulty }
 {}
 
-/// A caller's order is the steps of its ancestors before it, and then its own steps.
+/// A caller's order has the steps of its ancestors up to its fork, and then its own steps.
 #[tactic(auto, using(crate::proofs::History::CallerOrders::order_is_start_and_own))]
 pub fn order_is_start_and_own()
     ensures { OrderIsStartAndOwn }
 {}
 
-/// A child starts with the steps that its parent starts with, and then the parent's own steps up to the fork's visit,
-/// which is included.
+/// A child starts with the steps that its parent starts with, and then the parent's own steps up to and including the
+/// fork's visit.
 #[tactic(auto, using(crate::proofs::History::CallerOrders::start_is_a_front))]
 pub fn start_is_a_front()
     ensures { StartIsAFront }
 {}
 
-/// Of the caller's earlier steps, only the greatest generation seen in them matters to a look.
+/// A look depends on its caller's earlier steps only by the greatest generation seen in them.
 #[tactic(auto, using(crate::proofs::History::CallerOrders::looks_are_counted))]
 pub fn looks_are_counted()
     ensures { LooksAreCounted }
 {}
 
-/// The looks of a list of steps can be checked in two parts, the second with the generation seen in the first.
+/// The looks of a list of steps can be checked in two parts: the front, and then the back, from the greatest generation
+/// seen by the end of the front.
 #[tactic(auto, using(crate::proofs::History::CallerOrders::looks_in_parts))]
 pub fn looks_in_parts()
     ensures { LooksInParts }
 {}
 
-/// A lane's marks, sorted by stamp, satisfy `PlacesStand` exactly if their places count up from 0 and each
+/// A lane's marks, sorted by stamp, satisfy `PlacesConform` exactly if their places count up from 0 and each
 /// stamp is below the next.
 #[tactic(auto, using(crate::proofs::Transcripts::PlacesInOrder::places_count_up))]
 pub fn places_count_up()
     ensures { PlacesCountUp }
 {}
 
-/// Whether marks satisfy `PlacesStand` does not depend on their order.
+/// Whether marks satisfy `PlacesConform` does not depend on their order.
 #[tactic(auto, using(crate::proofs::Transcripts::PlacesInOrder::places_in_any_order))]
 pub fn places_in_any_order()
     ensures { PlacesInAnyOrder }

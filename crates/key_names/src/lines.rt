@@ -5,7 +5,7 @@ use crate::events::{Answer, Word};
 #[derive(Clone, Copy, Debug, PartialEq, Eq)]
 pub enum Data {
     None,
-    /// The `len` bytes from `start` on of the bytes kept for the caller.
+    /// `len` of the bytes kept for the caller, from byte `start` on.
     Bytes { len: u32, start: u64 },
     /// The bits of the pool before the visit that read them.
     Count(u32),
@@ -19,7 +19,7 @@ pub struct Line {
     pub word: Word,
     pub answer: Answer,
     pub step_count: u32,
-    /// The index of its first step among the steps kept for the caller.
+    /// The index of the line's first step among the steps kept for the caller.
     pub first_step: u64,
     pub shown: Data,
 }

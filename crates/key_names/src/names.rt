@@ -23,7 +23,7 @@ pub enum Step {
     Visit(Mark),
 }
 
-/// The maker of a visit: the caller, its event, and the number of the step among those of the event.
+/// The maker of a visit: the caller, its event, and the number of the step among the event's steps.
 #[derive(Clone, Copy, Debug, PartialEq, Eq)]
 pub struct Who {
     pub caller: u32,
@@ -31,14 +31,13 @@ pub struct Who {
     pub step: u32,
 }
 
-/// The only name of a key. A place is the number of a visit in its lane's list, from 0.
+/// The name of a key: where the key was made. A place is the number of a visit in its lane's list, from 0.
 ///
-/// - `Root(p)`: the root that visit `p` of the pool extracted and gave out.
-/// - `Base(i)`: the base's next key, bytes 0 to 32 of the block that the visit at base place `i` erased with.
-/// - `Cpu(c, k)`: the next key of CPU `c`, from bytes 0 to 32 of the block at its place `k`.
-/// - `Call(lane, i)`: the other half of such a block, bytes 32 to 64, if it becomes a key.
-/// - `Vdso(caller, state, n)`: the key that this vgetrandom state kept for itself when it made its `n`-th batch, from
-///   0.
+/// - `Root(p)`: the root that visit `p` of the pool extracted.
+/// - `Base(i)`: the key that visit `i` of the base kept, bytes 0 to 32 of the keystream that it used.
+/// - `Cpu(c, k)`: the key that visit `k` of CPU `c` kept, made in the same way.
+/// - `Call(lane, i)`: bytes 32 to 64 of the keystream that visit `i` of the lane used, if they become a key.
+/// - `Vdso(caller, state, n)`: the key that this vgetrandom state kept when it made its batch `n`, from 0.
 #[derive(Clone, Copy, Debug, PartialEq, Eq, PartialOrd, Ord)]
 pub enum KeyName {
     Root(u64),

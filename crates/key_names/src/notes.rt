@@ -1,7 +1,7 @@
-//! Entries of the pool's list with bytes that stay with the caller.
+//! Notes: entries of the pool's list whose bytes stay with the caller.
 
-/// An entry of the pool's list by reference, which a caller hands over after a visit of the pool. `specs/Lanes/PoolNotes`
-/// defines the entry of each.
+/// A note: an entry of the pool's list that refers to its bytes. The caller hands the note over after a visit of the
+/// pool. `specs/Lanes/PoolNotes` defines the entry of each note.
 #[derive(Clone, Copy)]
 pub enum PoolNote<'a> {
     Mix {

@@ -7,7 +7,7 @@ ghost use Rattle.key_names.specs.Kernel.Points.{is_same_point, point_numbered};
 pub enum Point {
     /// The published generation was read.
     Start = 1,
-    /// The new generation is in the state, and its key was not read yet.
+    /// The state has the new generation, and its key was not read yet.
     Written = 2,
     /// The key is current, and no byte was copied yet.
     Serve = 3,
@@ -29,7 +29,7 @@ impl Point {
         }
     }
 
-    /// Whether it is this point.
+    /// Whether this point is `other`.
     pub fn is(self, other: Point) -> bool
         ensures { result ≡ is_same_point self other }
     {

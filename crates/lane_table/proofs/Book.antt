@@ -2,7 +2,7 @@
 pub mod BookAnswers
 pub mod BookBatches
 pub mod BookCpus
-pub mod BookDeeds
+pub mod BookEffects
 pub mod BookEnds
 pub mod BookEntries
 pub mod BookLawful

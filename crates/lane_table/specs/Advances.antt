@@ -26,7 +26,7 @@ abbrev pub step_of : MadeStep → Step
 step_of (looked g) = Look g
 step_of (visited mark e) = Marked mark
 
--- the view knows a visit with this mark, by this maker, with this entry
+-- the view knows a visit with this mark, this maker and this entry
 pub record IsMarkOf (v : View) (mark : Mark) (who : Who) (e : LaneEntry) : Type 0 where
   pub near : index_of mark.lane < length v.lanes
   pub visit : Visit
@@ -38,12 +38,12 @@ pub record IsMarkOf (v : View) (mark : Mark) (who : Who) (e : LaneEntry) : Type 
 abbrev pub maker : ℕ → ℕ → ℕ → Who
 maker caller event step = record { caller = caller; event = event; step = step }
 
--- the view knows each visit, and its maker is this event of the caller, with the steps numbered from n on
-abbrev pub AllStand : View → ℕ → ℕ → ℕ → List MadeStep → Type 0
-AllStand v caller event n [] = ⊤
-AllStand v caller event n (looked g ∷ made_steps) = AllStand v caller event (suc n) made_steps
-AllStand v caller event n (visited mark e ∷ made_steps) =
-    IsMarkOf v mark (maker caller event n) e × AllStand v caller event (suc n) made_steps
+-- the view knows each visit as one made by this event of the caller; the event's steps are numbered from `n` on
+abbrev pub AllConform : View → ℕ → ℕ → ℕ → List MadeStep → Type 0
+AllConform v caller event n [] = ⊤
+AllConform v caller event n (looked g ∷ made_steps) = AllConform v caller event (suc n) made_steps
+AllConform v caller event n (visited mark e ∷ made_steps) =
+    IsMarkOf v mark (maker caller event n) e × AllConform v caller event (suc n) made_steps
 
 abbrev pub looks_in : List MadeStep → List ℕ
 looks_in [] = []
@@ -61,7 +61,8 @@ stamps_in [] = []
 stamps_in (looked g ∷ made_steps) = stamps_in made_steps
 stamps_in (visited mark e ∷ made_steps) = mark.stamp ∷ stamps_in made_steps
 
--- stamps that rise from above `low`, with `high` as the last
+-- each stamp is above the one before it, the first is above `low`, and the last is `high`; without stamps `high` is
+-- `low`
 abbrev pub Climbs : ℕ → List ℕ → ℕ → Type 0
 Climbs low [] high = low ≡ high
 Climbs low (stamp ∷ stamps) high = (low < stamp) × Climbs stamp stamps high
@@ -74,7 +75,8 @@ floor v = max v.seen (replay (known_of v 1)).base.generation
 abbrev pub generation_of : Model → ℕ
 generation_of s = max s.base.generation s.cpu.cpu.generation
 
--- each look is at least the generation seen before it, and after a visit the generation seen is at least the lane's
+-- each look finds at least the generation seen before it; after a visit the generation seen is at least that of the
+-- visited lane
 abbrev pub Sees : View → ℕ → List MadeStep → ℕ → Type 0
 Sees w low [] high = low ≤ high
 Sees w low (looked g ∷ made_steps) high = (low ≤ g) × Sees w g made_steps high
@@ -86,7 +88,7 @@ Sees w low (visited mark e ∷ made_steps) high = (mid : ℕ) × (low ≤ mid)
 abbrev pub Agrees : BaseValue → Type 0
 Agrees b = (b.phase ≡ ready) ↔ (1 ≤ b.generation)
 
--- from v to w the pass made exactly these steps, in an event of a caller, numbered from n on
+-- from `v` to `w` the pass made exactly these steps, in this event of the caller; they are numbered from `n` on
 pub record Advances (caller event n : ℕ) (v w : View) (made_steps : List MadeStep) : Type 0 where
   pub same : SameView v w
   pub grows : Grows v w
@@ -98,4 +100,4 @@ pub record Advances (caller event n : ℕ) (v w : View) (made_steps : List MadeS
   pub stamps : w.stamps ≡ v.stamps ++ stamps_in made_steps
   pub climbs : Climbs v.stamp (stamps_in made_steps) w.stamp
   pub sees : Sees w (floor v) made_steps (floor w)
-  pub stand : AllStand w caller event n made_steps
+  pub conform : AllConform w caller event n made_steps

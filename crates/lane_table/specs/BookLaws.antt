@@ -1,5 +1,5 @@
--- The laws of the lanes' lists of visits as a book: the lists are lawful, and the models have the values of the
--- entries.
+-- The laws of the lanes' lists of visits as a book: the lists are lawful, and the models have the values that the
+-- entries give.
 use Rattle.std.specs.Prelude.{◌≡◌, ℕ, ◌+◌, ◌*◌, ◌<◌, ◌≤◌, IsTrue, Option, Some, None, List, length, take, replicate, slice_get}
 use Rattle.std.specs.List.{fold}
 use Rattle.key_names.specs.declared.entries.BaseEntry.{BaseEntry}
@@ -25,48 +25,51 @@ use Rattle.lane_table.specs.References.{Closed, LawfulLists, AllAnswered, AllHal
 use Rattle.lane_table.specs.WorldRule.{Begins, known_of}
 use Rattle.lane_table.specs.BookLists.{StateLists, book_lists}
 
--- the lists of a pool, a base and some CPUs are each lawful, and if an entry names a visit of the parent lane, that
--- visit names the entry
+-- the lists are those of a pool, a base and some CPUs, and each is lawful; if an entry names a visit of the parent
+-- lane, that visit names the entry
 pub record ClosedLanes (lanes : ℕ) (visits : ℕ → List Visit) : Type 0 where
   pub low : 2 ≤ lanes
   pub closed : Closed lanes visits
   pub lawful : LawfulLists lanes visits
 
--- these lists continue those that the view knows
+-- each of these lists continues the one that the view knows
 pub record Continues (lanes : ℕ) (v : View) (visits : ℕ → List Visit) : Type 0 where
   pub long : length v.lanes ≡ lanes
   pub begins : (lane : ℕ) → lane < lanes → Begins (known_of v lane) (visits lane)
   pub closed : ClosedLanes lanes visits
 
--- closed lists are lawful as a book, as far as the names of visits in parent lanes go
+-- closed lists make a book in which the lists of the base and the CPUs are lawful, and the roots and refills that they
+-- name fit
 abbrev pub ClosedIsForwardLawful : Type 0
 ClosedIsForwardLawful = (lanes : ℕ) (visits : ℕ → List Visit) (callers : StateLists) →
     ClosedLanes lanes visits →
     ForwardLawful (book_lists lanes visits callers)
 
--- if each name ahead is answered or beyond its list, the book is half finished
+-- an extraction or a refill names the place that takes its key. If the visit at each such place answers the entry, or
+-- the place is beyond the end of its list, the book is half finished
 abbrev pub HalfAnsweredIsHalfFinished : Type 0
 HalfAnsweredIsHalfFinished = (lanes : ℕ) (visits : ℕ → List Visit) (callers : StateLists) →
     ClosedLanes lanes visits → AllHalfAnswered lanes visits →
     HalfFinishedLanes (book_lists lanes visits callers)
 
--- if each name ahead is answered, the book is lawful
+-- an extraction or a refill names the place that takes its key. If the visit at each such place answers the entry, the
+-- book is lawful
 abbrev pub AnsweredIsLawful : Type 0
 AnsweredIsLawful = (lanes : ℕ) (visits : ℕ → List Visit) (callers : StateLists) →
     ClosedLanes lanes visits → AllAnswered lanes visits →
     LawfulLanes (book_lists lanes visits callers)
 
--- the part of a batch's last fill that a lane keeps: neither its key nor its place
+-- a batch's last fill as a lane keeps it: without its key and place
 abbrev pub bare : Option Fill → Option Fill
 bare None = None
 bare (Some fill) = Some (record { key = None; place = 0; count = fill.count; look = fill.look })
 
--- a batch after a fill of CPU c: the served bytes are 0, and the others are keystream of the key in use at the fill
+-- a batch after a fill of CPU `c`: the served bytes are 0, and the others are keystream of the key in use at the fill
 pub record BatchReplays (lists : Lists) (c width : ℕ) (fill : Fill) (b : BatchValue) : Type 0 where
   pub served : take (width * fill.count) b.bytes ≡ replicate (width * fill.count) 0
   pub rest : IsBatchOf width (cpu_used_at lists c fill.place) fill b
 
--- a CPU's model has the values of these entries of its list
+-- a CPU's model has the values that these entries of the CPU's list give
 pub record CpuReplays (lists : Lists) (c : ℕ) (es : List CpuEntry) (m : CpuModel) : Type 0 where
   pub cpu : m.cpu ≡ cpu.after_entries lists c es
   pub fast : m.fast ≡ fast_after es
@@ -77,13 +80,13 @@ pub record CpuReplays (lists : Lists) (c : ℕ) (es : List CpuEntry) (m : CpuMod
       (cpu_after lists.base c es).fills width ≡ Some fill →
       BatchReplays lists c width fill (batch_at width m)
 
--- each lane's model has the values of its list of entries
+-- each lane's model has the values that the entries of the lane's list give
 pub record LanesReplay (lanes : ℕ) (visits : ℕ → List Visit) (lists : Lists) : Type 0 where
   pub pool : (replay (visits 0)).pool ≡ pool_after lists.pool
   pub base : (replay (visits 1)).base ≡ base.after_entries lists.pool lists.base
   pub cpus : (c : ℕ) → c + 2 < lanes → CpuReplays lists c (cpu_list lists c) (replay (visits (c + 2))).cpu
 
--- each visit hands on the value of its place's name
+-- the key that each visit hands on is the one that the book gives for the visit's place
 pub record VisitsGive (lanes : ℕ) (visits : ℕ → List Visit) (lists : Lists) : Type 0 where
   pub roots : (place : ℕ) (x : Visit) → slice_get (visits 0) place ≡ Some x → x.gave.key ≡ root_value lists.pool place
   pub base_keys : (place : ℕ) (x : Visit) (e : BaseEntry) → slice_get (visits 1) place ≡ Some x →
@@ -96,7 +99,8 @@ pub record VisitsGive (lanes : ℕ) (visits : ℕ → List Visit) (lists : Lists
       slice_get (visits (c + 2)) place ≡ Some x → x.entry ≡ CpuVisited (Read look refill taken) →
       x.gave.key ≡ cpu_call_value lists c place
 
--- the models of closed lanes have the values of the book, and their visits hand on the values of the book
+-- in closed lanes, each lane's model is the one that the book gives. By `ClosedGives`, so is the key that each visit
+-- hands on
 abbrev pub ClosedReplays : Type 0
 ClosedReplays = (lanes : ℕ) (visits : ℕ → List Visit) (callers : StateLists) →
     ClosedLanes lanes visits →

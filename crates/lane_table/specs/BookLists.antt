@@ -1,4 +1,4 @@
--- The book of the lanes' lists of visits: each visit without the keys that it received and handed on.
+-- The book of the lanes' lists of visits. Its visits leave out the keys that were received and handed on.
 use Rattle.std.specs.Prelude.{ℕ, ◌+◌, ◌-◌, Option, Some, None, List, map}
 use Rattle.std.specs.List.{filter_map, range_with_len}
 use Rattle.std.specs.Option.{option_map}

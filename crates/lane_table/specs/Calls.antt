@@ -1,5 +1,5 @@
--- The preconditions and effects of the calls: the knowledge of a pass about each lane, before and after. A caller
--- does not need the rule.
+-- The preconditions and effects of the table's calls: what a pass knows about each lane before a call and after it.
+-- Code that makes these calls does not need the rule.
 use Rattle.std.specs.Prelude.{◌≡◌, ◌≢◌, ◌⊎◌, ℕ, ◌+◌, ◌^◌, ◌<◌, ◌≤◌, List, [], ◌∷◌, ◌++◌, length, Option, Some, None, slice_get}
 use Rattle.atomic_table.specs.Table.{rest, Step}
 use Rattle.key_names.specs.declared.names.Who.{Who}
@@ -7,9 +7,9 @@ use Rattle.lane_table.specs.declared.view.Visit.{Visit}
 use Rattle.lane_table.specs.declared.view.LaneEntry.{LaneEntry}
 use Rattle.lane_table.specs.declared.view.LaneView.{LaneView}
 use Rattle.lane_table.specs.declared.view.View.{View}
-use Rattle.lane_table.specs.declared.view.Plan.{Plan}
+use Rattle.lane_table.specs.declared.view.TableSize.{TableSize}
 use Rattle.lane_table.specs.declared.view.Content.{Content}
-use Rattle.lane_table.specs.declared.view.Stage.TheVariants.{Away, Holding}
+use Rattle.lane_table.specs.declared.view.TicketStage.TheVariants.{Away, Holding}
 use Rattle.lane_table.specs.declared.lanes.Lanes.{Lanes}
 use Rattle.lane_table.specs.declared.lanes.Pass.{Pass}
 use Rattle.lane_table.specs.declared.lanes.Held.{Held}
@@ -43,10 +43,10 @@ pub record IsPassOf (t : Lanes) (p : Pass) : Type 0 where
   pub sized : length (view p).lanes ≡ count_of t
   pub first : (view p).first ≡ first_of t
 
-abbrev pub plan_of : ℕ → ℕ → Plan
+abbrev pub plan_of : ℕ → ℕ → TableSize
 plan_of count first = record { count = count; first = first }
 
--- the new pass is of the same table and the same caller
+-- the pass `q` is one of the table, with the caller of `p`
 pub record IsSamePass (t : Lanes) (p q : Pass) : Type 0 where
   pub pass : IsPassOf t q
   pub caller : q.caller ≡ p.caller
@@ -68,7 +68,7 @@ pub record MatchesList (lane : ℕ) (h : Held) (v : View) : Type 0 where
   pub place : h.turn.place ≡ length (known_of v lane)
   pub stamp : h.turn.stamp ≡ last_stamp v.first (known_of v lane)
 
--- this pass holds the lane, and took it last of those that it holds
+-- the pass holds the lane, and took it after all other lanes that it holds
 pub record Holds (t : Lanes) (p : Pass) (h : Held) : Type 0 where
   pub near : h.turn.lane < count_of t
   pub stage : (at h.turn.lane (view p)).stage ≡ Holding h.turn.ticket
@@ -76,7 +76,7 @@ pub record Holds (t : Lanes) (p : Pass) (h : Held) : Type 0 where
   pub place : h.turn.place ≡ length (known_of (view p) h.turn.lane)
   pub stamp : h.turn.stamp ≡ last_stamp (view p).first (known_of (view p) h.turn.lane)
 
--- the entry may come at the held place, and it leads to the held value
+-- the entry may come at the held place, and the held value represents the model after the entry
 pub record CanPut (t : Lanes) (p : Pass) (h : Held) (e : LaneEntry) : Type 0 where
   pub holds : Holds t p h
   pub kind : IsOf h.turn.lane e
@@ -94,27 +94,27 @@ pub record CanLeave (t : Lanes) (p : Pass) (h : Held) : Type 0 where
 
 -- What calls leave as it was
 
--- the part of a view that only split and join change
+-- these fields of a view are as before; only split and join change them
 pub record SameView (v w : View) : Type 0 where
   pub first : w.first ≡ v.first
   pub share : w.share ≡ v.share
   pub halvings : w.halvings ≡ v.halvings
   pub sized : length w.lanes ≡ length v.lanes
 
--- the pass's visits of a lane, and its heard lists, are as before
+-- the pass's visits of lane `j`, and the lists that it heard there, are as before
 pub record SameHistory (j : ℕ) (v w : View) : Type 0 where
   pub made : (at j w).made ≡ (at j v).made
   pub places : (at j w).places ≡ (at j v).places
   pub heard : (at j w).heard ≡ (at j v).heard
 
--- the pass's state at the lane is also as before
+-- at lane `j` the pass's stage, what it owes and raised, its visits and its heard lists are as before
 pub record SameOtherLane (j : ℕ) (v w : View) : Type 0 where
   pub stage : (at j w).stage ≡ (at j v).stage
   pub owed : (at j w).owes ≡ (at j v).owes
   pub raise : (at j w).raised ≡ (at j v).raised
   pub still : SameHistory j v w
 
--- at a lane that the pass holds, all is as before, except that it may owe an answer there now
+-- all is as before at a lane that the pass holds, except that the pass may owe an answer there now
 pub record SameHeldLane (j : ℕ) (v w : View) : Type 0 where
   pub known : known_of w j ≡ known_of v j
   pub stage : (at j w).stage ≡ (at j v).stage
@@ -128,7 +128,7 @@ pub record Taken (lane : ℕ) (h : Held) (m m' : Seated) : Type 0 where
   pub of_lane : h.turn.lane ≡ lane
   pub consistent : Consistent m'.0
   pub same : SameView m.0 m'.0
-  pub stands : MatchesList lane h m'.0
+  pub conforms : MatchesList lane h m'.0
   pub holding : (at lane m'.0).stage ≡ Holding h.turn.ticket
   pub free : OwesNothing lane m'.0
   pub still : SameHistory lane m.0 m'.0
@@ -145,7 +145,7 @@ pub record Taken (lane : ℕ) (h : Held) (m m' : Seated) : Type 0 where
   pub stamps : m'.0.stamps ≡ m.0.stamps
   pub drawn : m'.0.drawn ≡ m.0.drawn + 1
 
--- the pass drew a ticket and got the lane, with a last stamp of 2^62 or more
+-- the pass drew a ticket and got the lane, but the lane's last stamp is 2^62 or more
 abbrev pub DrewTooLate : ℕ → Seated → Seated → Type 0
 DrewTooLate lane m m' = (m'.0.drawn ≡ m.0.drawn + 1) × (2 ^ 62 ≤ last_stamp m'.0.first (known_of m'.0 lane))
 
@@ -153,7 +153,7 @@ DrewTooLate lane m m' = (m'.0.drawn ≡ m.0.drawn + 1) × (2 ^ 62 ≤ last_stamp
 abbrev pub IsSpent : ℕ → Seated → Seated → Type 0
 IsSpent lane m m' = (2 ^ 62 ≤ m.0.stamp) ⊎ (2 ^ 62 ≤ (at lane m'.0).found) ⊎ DrewTooLate lane m m'
 
--- each of these three numbers is below 2^62
+-- the pass's stamp and the ticket that was read are below 2^62, and so is the lane's last stamp if a ticket was drawn
 pub record Unspent (lane : ℕ) (m m' : Seated) : Type 0 where
   pub stamp : m.0.stamp < 2 ^ 62
   pub ticket : (at lane m'.0).found < 2 ^ 62
@@ -171,8 +171,8 @@ abbrev pub Refused : ℕ → Seated → Seated → TakeFault → Type 0
 Refused lane m m' Spent = IsSpent lane m m'
 Refused lane m m' (Busy serving ticket) = IsBusy lane serving ticket m m'
 
--- the pass did not get the lane: it is at each lane as before, and drew no ticket unless the lane's last stamp is
--- 2^62 or more
+-- the pass did not get the lane: its state at each lane is as before, and it drew no ticket unless the lane's last
+-- stamp is 2^62 or more
 pub record Tried (lane : ℕ) (m m' : Seated) : Type 0 where
   pub consistent : Consistent m.0 → Consistent m'.0
   pub same : SameView m.0 m'.0
@@ -186,16 +186,16 @@ pub record Tried (lane : ℕ) (m m' : Seated) : Type 0 where
   pub stamps : m'.0.stamps ≡ m.0.stamps
   pub drawn : (m'.0.drawn ≡ m.0.drawn) ⊎ DrewTooLate lane m m'
 
--- a visit before its received and handed-on keys are filled in
+-- a visit whose received key and handed-on key are not filled in yet
 abbrev pub visit_by : Who → ℕ → LaneEntry → Visit
 visit_by who stamp e = record { who = who; stamp = stamp; entry = e; got = nothing; gave = nothing }
 
--- the pass made the visit
+-- the pass made the visit `x` of the lane
 pub record Added (lane : ℕ) (x : Visit) (m m' : Seated) : Type 0 where
   pub consistent : Consistent m'.0
   pub same : SameView m.0 m'.0
   pub here : at lane m'.0 ≡ visited x (at lane m.0)
-  -- the lane ahead that the entry names now owes the answer
+  -- if the entry names a place ahead, the pass now owes the answer at the lane that takes the entry's key
   pub ahead : (l b : ℕ) → ahead_of x.entry ≡ Some (l, b) → l < length m.0.lanes
       → at l m'.0 ≡ record (at l m.0) { owes = Some (length (known_of m.0 lane)) }
   pub others : (j : ℕ) → j ≢ lane → ((l b : ℕ) → ahead_of x.entry ≡ Some (l, b) → j ≢ l) → at j m'.0 ≡ at j m.0
@@ -225,7 +225,7 @@ pub record Left (lane : ℕ) (m m' : Seated) : Type 0 where
   pub stamps : m'.0.stamps ≡ m.0.stamps
   pub drawn : m'.0.drawn ≡ m.0.drawn
 
--- the pass looked, and found a generation at least as high as each one that it knows from looks, the base or CPUs
+-- the pass looked, and found a generation that is at least each one that it knows from looks, the base or the CPUs
 pub record Looked (g : ℕ) (m m' : Seated) : Type 0 where
   pub consistent : Consistent m'.0
   pub same : SameView m.0 m'.0
@@ -241,7 +241,7 @@ pub record Looked (g : ℕ) (m m' : Seated) : Type 0 where
   pub stamps : m'.0.stamps ≡ m.0.stamps
   pub drawn : m'.0.drawn ≡ m.0.drawn
 
--- the pass stored the generation of this hold of the base
+-- the pass holds the base, and stored `g` in the generation word
 pub record Raised (g : ℕ) (m m' : Seated) : Type 0 where
   pub consistent : Consistent m'.0
   pub same : SameView m.0 m'.0
@@ -255,7 +255,7 @@ pub record Raised (g : ℕ) (m m' : Seated) : Type 0 where
   pub stamps : m'.0.stamps ≡ m.0.stamps
   pub drawn : m'.0.drawn ≡ m.0.drawn
 
--- at the end the pass with the whole share knows each lane's whole list, and counts all of its visits, each once
+-- at the end the pass with the whole share knows each lane's whole list, and has counted each visit of the list once
 pub record Ended (lanes : ℕ) (v : View) : Type 0 where
   pub lawful : LawfulLists lanes (known_of v)
   pub closed : Closed lanes (known_of v)
@@ -272,7 +272,7 @@ settles st m r m' = (m' ≡ m) × (m.0.share ≡ 2 ^ m.0.halvings → IsIdle m.0
 abbrev pub made_in : LaneView → ℕ
 made_in a = a.made
 
--- at the start the slot of each of the first lanes has the value of an empty list
+-- at the start the slots of the first `count` lanes have the values that empty lists give
 abbrev pub AreStarts : ℕ → ℕ → List (Option Content) → Type 0
 AreStarts first count contents = (length contents ≡ count)
     × ((lane : ℕ) → lane < count → (c : Content) × (slice_get contents lane ≡ Some (Some c)) × Replays lane first [] c)

@@ -2,10 +2,10 @@
 use Rattle.std.specs.Prelude.{◌≡◌, ◌≢◌, ℕ, ◌<◌, ⊤, List, [], ◌∷◌, map, Option, None, length}
 use Rattle.lane_table.specs.declared.view.View.{View}
 use Rattle.lane_table.specs.declared.view.Content.{Content}
-use Rattle.lane_table.specs.declared.view.Stage.TheVariants.{Holding}
+use Rattle.lane_table.specs.declared.view.TicketStage.TheVariants.{Holding}
 use Rattle.lane_table.specs.declared.lanes.Lanes.{Lanes}
 use Rattle.lane_table.specs.declared.lanes.Pass.{Pass}
-use Rattle.lane_table.specs.declared.lanes.Turn.{Turn}
+use Rattle.lane_table.specs.declared.lanes.TakenTurn.{TakenTurn}
 use Rattle.lane_table.specs.Meaning.{Model, replay}
 use Rattle.lane_table.specs.WorldRule.{at, known_of, last_stamp}
 use Rattle.lane_table.specs.Calls.{IsPassOf, IsAway, count_of, slots, view}
@@ -21,7 +21,7 @@ pub record HeldLane : Type 0 where
   -- 1 if this hold raised the generation
   pub raised : ℕ
 
-abbrev pub hand : Turn → Option ℕ → ℕ → HeldLane
+abbrev pub hand : TakenTurn → Option ℕ → ℕ → HeldLane
 hand turn owes raised = record {
   lane = turn.lane;
   ticket = turn.ticket;
@@ -43,7 +43,7 @@ abbrev pub NotIn : ℕ → List HeldLane → Type 0
 NotIn lane [] = ⊤
 NotIn lane (h ∷ hands) = (lane ≢ h.lane) × NotIn lane hands
 
--- the pass holds each of them, and no lane is in the list twice
+-- the pass holds each lane of the list, and no lane is in the list twice
 abbrev pub AllInHand : View → List HeldLane → Type 0
 AllInHand v [] = ⊤
 AllInHand v (h ∷ hands) = IsInHand v h × NotIn h.lane hands × AllInHand v hands
@@ -51,7 +51,7 @@ AllInHand v (h ∷ hands) = IsInHand v h × NotIn h.lane hands × AllInHand v ha
 abbrev pub slot_of : HeldLane → ℕ × Option Content
 slot_of h = (h.lane, None)
 
--- the pass is of this table and this caller, holds exactly these lanes, and waits for none
+-- the pass is of this table and this caller, holds exactly these lanes, and waits for no lane
 pub record HoldsLanes (t : Lanes) (caller : ℕ) (hands : List HeldLane) (p : Pass) : Type 0 where
   pub pass : IsPassOf t p
   pub own : p.caller ≡ caller
@@ -59,6 +59,6 @@ pub record HoldsLanes (t : Lanes) (caller : ℕ) (hands : List HeldLane) (p : Pa
   pub held : AllInHand (view p) hands
   pub away : (lane : ℕ) → lane < count_of t → NotIn lane hands → IsAway lane (view p)
 
--- the model of a lane by the list that the pass knows
+-- the model of a lane, from the lane's list as the pass knows it
 abbrev pub model : Pass → ℕ → Model
 model p lane = replay (known_of (view p) lane)

@@ -1,11 +1,11 @@
--- A hold while its value is lent.
+-- A hold while its value is lent to a caller of `state_mut`.
 use Rattle.std.specs.Borrow.{Lends, MutBor, Fml}
 use Rattle.lane_table.specs.declared.values.LaneState.{LaneState}
 use Rattle.lane_table.specs.declared.lanes.Held.{Held}
 use Rattle.lane_table.specs.contracts.lanes.Held.{the_row}
 use Rattle.lane_table.specs.contracts.values.LaneState as value
 
--- the hold with another value
+-- the hold with its value replaced
 abbrev pub with_state : Held → LaneState → Held
 with_state h state = record h { state = state }
 

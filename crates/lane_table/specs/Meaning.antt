@@ -1,6 +1,6 @@
--- The meaning of a lane's list of visits: its value after them, the key that each visit hands on, and the entries
--- that may come next. The list alone determines all of it, since each visit includes the key that it received. A
--- lane's model has a part for each kind of lane, and an entry changes the part of its own kind.
+-- The meaning of a lane's list of visits: the lane's value after the visits, the key that each visit hands on, and the
+-- entries that may come next. The list alone determines all of it, since each visit includes the key that it received.
+-- A lane's model has a part for each kind of lane, and an entry changes the part of its own kind.
 use Rattle.std.specs.Prelude.{◌≡◌, ℕ, suc, ◌+◌, ◌/◌, ◌<◌, ◌≤◌, ◌==◌, ⊤, List, [], Option, Some, None, replicate, slice_index_or, if◌then◌else◌}
 use Rattle.std.specs.List.{fold}
 use Rattle.key_names.specs.declared.names.Who.{Who}
@@ -17,7 +17,7 @@ use Rattle.key_names.specs.Lanes.BaseList.{BaseState, BaseFits, root_of, refill_
 use Rattle.key_names.specs.Lanes.CpuList.{CpuState, CpuFits, base_refill_of}
 use Rattle.key_names.specs.Kernel.Batches.{Fill, fills_after, batch_step}
 use Rattle.key_names.specs.Kernel.FastPool.{FastPool, fast_start, fast_step}
-use Rattle.input_pool.specs.PoolStands.{PoolStands}
+use Rattle.input_pool.specs.PoolConforms.{PoolConforms}
 use Rattle.base_gen.specs.BaseValue.{BaseValue, key_in_use}
 use Rattle.base_gen.specs.BaseValue as base
 use Rattle.cpu_gen.specs.CpuValue.{CpuValue, refilled}
@@ -32,7 +32,7 @@ use Rattle.lane_table.specs.declared.view.LaneEntry.TheVariants.{Pool, Base, Cpu
 use Rattle.lane_table.specs.declared.view.Handed.{Handed}
 use Rattle.lane_table.specs.declared.view.Visit.{Visit}
 
--- the lane of an entry: the pool is lane 0, the base 1, and CPU c is 2 + c
+-- the lane of an entry: the pool is lane 0, the base is lane 1, and CPU `c` is lane 2 + `c`
 abbrev pub IsOf : ℕ → LaneEntry → Type 0
 IsOf lane (Pool e) = lane ≡ 0
 IsOf lane (Base e) = lane ≡ 1
@@ -42,11 +42,11 @@ IsOf lane (Cpu e) = 2 ≤ lane
 abbrev pub parent : ℕ → ℕ
 parent lane = if lane == 1 then 0 else 1
 
--- the place in the parent lane that an entry names: of a root, or of a refill
-abbrev pub behind_of : LaneEntry → Option ℕ
-behind_of (Pool e) = None
-behind_of (Base e) = root_of e
-behind_of (Cpu e) = base_refill_of e
+-- the place in the parent lane that an entry names: the place of its root or of its refill
+abbrev pub after_of : LaneEntry → Option ℕ
+after_of (Pool e) = None
+after_of (Base e) = root_of e
+after_of (Cpu e) = base_refill_of e
 
 abbrev pub base_lane : Option ℕ → Option (ℕ × ℕ)
 base_lane None = None
@@ -56,7 +56,7 @@ abbrev pub cpu_lane : Option (ℕ × ℕ) → Option (ℕ × ℕ)
 cpu_lane None = None
 cpu_lane (Some named) = Some (named.0 + 2, named.1)
 
--- the lane ahead that an entry names, and the place there
+-- the lane that takes the key that an entry hands on, and the place there that the entry names
 abbrev pub ahead_of : LaneEntry → Option (ℕ × ℕ)
 ahead_of (Pool e) = base_lane (base_place_of e)
 ahead_of (Base e) = cpu_lane (refill_of e)
@@ -109,7 +109,7 @@ base_after (Pool e) got b = b
 base_after (Base e) got b = base.after_entry e got.key b
 base_after (Cpu e) got b = b
 
--- a CPU's generator from the base's refill
+-- a CPU's generator as the base's refill makes it
 abbrev pub generator_of : Handed → CpuValue
 generator_of got = record { key = got.key; generation = got.generation }
 
@@ -117,7 +117,7 @@ generator_of got = record { key = got.key; generation = got.generation }
 abbrev pub cpu_used : CpuEntry → Handed → CpuValue → List ℕ
 cpu_used e got c = (refilled (base_refill_of e) (generator_of got) c).key
 
--- a CPU's model after an entry; the fills have no key and no place, since no batch keeps them
+-- a CPU's model after an entry; its fills have no key and no place, since a lane keeps neither with a batch
 abbrev pub cpu_entered : CpuEntry → Handed → CpuModel → CpuModel
 cpu_entered e got c = record {
   cpu = cpu.after_entry e (generator_of got) c.cpu;
@@ -131,7 +131,7 @@ cpu_after (Pool e) got c = c
 cpu_after (Base e) got c = c
 cpu_after (Cpu e) got c = cpu_entered e got c
 
--- the named places of the parent lane rise along the list
+-- the least place that the next entry may name: the named places of the parent lane rise along the list
 abbrev pub least_after : Option ℕ → ℕ → ℕ
 least_after None least = least
 least_after (Some place) least = suc place
@@ -142,7 +142,7 @@ made_of s e got = record {
   pool = pool_after e s.pool;
   base = base_after e got s.base;
   cpu = cpu_after e got s.cpu;
-  least = least_after (behind_of e) s.least;
+  least = least_after (after_of e) s.least;
 }
 
 -- the key that an erasure hands on
@@ -169,8 +169,8 @@ cpu_gives c got (Dump now) = nothing
 cpu_gives c got Prepare = nothing
 cpu_gives c got Online = nothing
 
--- the key that an entry hands on: an extraction hands on its root, a refill a key with the base's generation, and a
--- read the key that serves it if it is long
+-- the key that an entry hands on: an extraction hands on its root, and a refill a key with the base's generation; a
+-- long read hands on the key that serves it
 abbrev pub gave_of : Model → LaneEntry → Handed → Handed
 gave_of s (Pool e) got = pool_gives s.pool e
 gave_of s (Base e) got = base_gives s.base got e
@@ -183,8 +183,8 @@ model_step s x = made_of s x.entry x.got
 abbrev pub replay : List Visit → Model
 replay xs = fold model_step start_model xs
 
--- the state of a list, made from a model for the definitions about the base's and a CPU's list; fields that these do
--- not use are empty
+-- the state of a list, made from a model. So the definitions about the lists of the base and of a CPU can be applied to
+-- the model; the fields that these definitions do not use are empty
 abbrev pub base_state : BaseValue → BaseState
 base_state b = record {
   place = 0;
@@ -200,7 +200,7 @@ base_state b = record {
 abbrev pub cpu_state : CpuModel → CpuState
 cpu_state c = record { place = 0; generation = c.cpu.generation; key = None; fills = c.fills }
 
--- a look with a refill is at most the generation that the refill hands over
+-- if an entry has a refill, the entry's look is at most the generation that the refill hands over
 abbrev pub Reaches : Option ℕ → ℕ → Handed → Type 0
 Reaches None look got = ⊤
 Reaches (Some place) look got = look ≤ got.generation
@@ -223,17 +223,17 @@ abbrev pub IsLater : ℕ → Option ℕ → Type 0
 IsLater least None = ⊤
 IsLater least (Some place) = least ≤ place
 
--- the named lane exists
+-- if a lane is named, it exists
 abbrev pub NamesWithin : ℕ → Option (ℕ × ℕ) → Type 0
 NamesWithin lanes None = ⊤
 NamesWithin lanes (Some named) = named.0 < lanes
 
--- the visit may come next in a lane with the model s
+-- the visit may come next in a lane with the model `s`
 pub record MayCome (lanes lane : ℕ) (s : Model) (x : Visit) : Type 0 where
   pub kind : IsOf lane x.entry
   pub within : NamesWithin lanes (ahead_of x.entry)
   pub gave_is : x.gave ≡ gave_of s x.entry x.got
-  pub later : IsLater s.least (behind_of x.entry)
+  pub later : IsLater s.least (after_of x.entry)
   pub fits : Fits s x.got x.entry
 
 abbrev pub LawfulLane : ℕ → ℕ → List Visit → Type 0
@@ -241,8 +241,8 @@ LawfulLane lanes lane xs = LawfulFrom (MayCome lanes lane) model_step start_mode
 
 -- a value of the pool represents a state of its list; several values can represent one state, since a hash can
 -- represent a text in several ways
-pub record PoolLaneStands (lane : PoolLane) (s : PoolState) : Type 0 where
-  pub pool : PoolStands lane.pool s
+pub record PoolLaneConforms (lane : PoolLane) (s : PoolState) : Type 0 where
+  pub pool : PoolConforms lane.pool s
   pub value : lane.timer.value ≡ s.value
   pub timer : lane.timer.timer ≡ s.timer
 
@@ -254,8 +254,8 @@ batch_of width (Some fill) bytes = record { bytes = bytes; position = fill.count
 abbrev pub batch_at : ℕ → CpuModel → BatchValue
 batch_at width c = batch_of width (c.fills width) (c.bytes width)
 
--- each part of a CPU equals that of the model, zeros of the batches included
-pub record CpuLaneStands (lane : CpuLane) (c : CpuModel) : Type 0 where
+-- each part of a CPU's value equals the model's, including the zeros of the batches
+pub record CpuLaneConforms (lane : CpuLane) (c : CpuModel) : Type 0 where
   pub cpu : lane.cpu ≡ c.cpu
   pub b8 : lane.b8 ≡ batch_at 1 c
   pub b16 : lane.b16 ≡ batch_at 2 c
@@ -265,9 +265,9 @@ pub record CpuLaneStands (lane : CpuLane) (c : CpuModel) : Type 0 where
 
 -- the value is of the lane's kind, and represents the model
 abbrev pub ValueRepresents : ℕ → LaneState → Model → Type 0
-ValueRepresents lane (PoolValue value) s = (lane ≡ 0) × PoolLaneStands value s.pool
+ValueRepresents lane (PoolValue value) s = (lane ≡ 0) × PoolLaneConforms value s.pool
 ValueRepresents lane (BaseLaneValue value) s = (lane ≡ 1) × (value.base ≡ s.base)
-ValueRepresents lane (CpuLaneValue value) s = (2 ≤ lane) × CpuLaneStands value s.cpu
+ValueRepresents lane (CpuLaneValue value) s = (2 ≤ lane) × CpuLaneConforms value s.cpu
 
 abbrev pub no_one : Who
 no_one = record { caller = 0; event = 0; step = 0 }
@@ -277,5 +277,5 @@ no_visit = record { who = no_one; stamp = 0; entry = Pool Bits; got = nothing; g
 
 -- the key that the visit at the named place hands on
 abbrev pub got_of : Option ℕ → List Visit → Handed
-got_of None behind = nothing
-got_of (Some place) behind = (slice_index_or behind place no_visit).gave
+got_of None following = nothing
+got_of (Some place) following = (slice_index_or following place no_visit).gave

@@ -1,35 +1,35 @@
--- References between lanes: an entry of the base and an extraction of the pool name each other, and so do an entry
--- of a CPU and a refill of the base. The visit of the base or the CPU receives the key that the named visit hands
--- on.
+-- References between lanes. An extraction of the pool names a place ahead, the place in the base's list that takes the
+-- root; the base's entry there names the extraction back. A refill of the base and an entry of a CPU name each other in
+-- the same way. The visit of the base or the CPU receives the key that the visit of the parent lane hands on.
 use Rattle.std.specs.Prelude.{◌≡◌, ◌⊎◌, ℕ, ◌<◌, ◌≤◌, List, Some, length}
 use mathlib.Core.Option.{some}
 use lib.ListN.{get_elem?}
 use Rattle.lane_table.specs.declared.view.Visit.{Visit}
-use Rattle.lane_table.specs.Meaning.{LawfulLane, behind_of, ahead_of, parent}
+use Rattle.lane_table.specs.Meaning.{LawfulLane, after_of, ahead_of, parent}
 
 -- if an entry of the lane names a place of the parent lane, the visit there names this entry's place, and this entry
 -- received that visit's key
 abbrev pub Pointed : ℕ → List Visit → List Visit → Type 0
-Pointed lane behind here = (b p : ℕ) (x : Visit) → get_elem? here b ≡ some x → behind_of x.entry ≡ Some p
-    → (y : Visit) × (get_elem? behind p ≡ some y) × (ahead_of y.entry ≡ Some (lane, b)) × (x.got ≡ y.gave)
+Pointed lane following here = (b p : ℕ) (x : Visit) → get_elem? here b ≡ some x → after_of x.entry ≡ Some p
+    → (y : Visit) × (get_elem? following p ≡ some y) × (ahead_of y.entry ≡ Some (lane, b)) × (x.got ≡ y.gave)
 
 -- if an entry of the parent lane names a place of this lane, the visit there names that entry
 abbrev pub Answered : ℕ → List Visit → List Visit → Type 0
-Answered lane behind here = (p b : ℕ) (x : Visit) → get_elem? behind p ≡ some x → ahead_of x.entry ≡ Some (lane, b)
-    → (y : Visit) × (get_elem? here b ≡ some y) × (behind_of y.entry ≡ Some p)
+Answered lane following here = (p b : ℕ) (x : Visit) → get_elem? following p ≡ some x → ahead_of x.entry ≡ Some (lane, b)
+    → (y : Visit) × (get_elem? here b ≡ some y) × (after_of y.entry ≡ Some p)
 
--- all lanes' references to their parent lanes agree
+-- the references of each lane to its parent lane agree
 abbrev pub Closed : ℕ → (ℕ → List Visit) → Type 0
 Closed lanes lists = (lane : ℕ) → 1 ≤ lane → lane < lanes → Pointed lane (lists (parent lane)) (lists lane)
 
--- all references ahead are answered: no visit is half finished
+-- all references ahead are answered, so no visit is half finished
 abbrev pub AllAnswered : ℕ → (ℕ → List Visit) → Type 0
 AllAnswered lanes lists = (lane : ℕ) → 1 ≤ lane → lane < lanes → Answered lane (lists (parent lane)) (lists lane)
 
--- as `Answered`, except that the named place may be beyond the list
+-- as `Answered`, but the named place may also be beyond the end of this lane's list
 abbrev pub HalfAnswered : ℕ → List Visit → List Visit → Type 0
-HalfAnswered lane behind here = (p b : ℕ) (x : Visit) → get_elem? behind p ≡ some x → ahead_of x.entry ≡ Some (lane, b)
-    → ((y : Visit) × (get_elem? here b ≡ some y) × (behind_of y.entry ≡ Some p)) ⊎ (length here ≤ b)
+HalfAnswered lane following here = (p b : ℕ) (x : Visit) → get_elem? following p ≡ some x → ahead_of x.entry ≡ Some (lane, b)
+    → ((y : Visit) × (get_elem? here b ≡ some y) × (after_of y.entry ≡ Some p)) ⊎ (length here ≤ b)
 
 abbrev pub AllHalfAnswered : ℕ → (ℕ → List Visit) → Type 0
 AllHalfAnswered lanes lists = (lane : ℕ) → 1 ≤ lane → lane < lanes
@@ -38,7 +38,8 @@ AllHalfAnswered lanes lists = (lane : ℕ) → 1 ≤ lane → lane < lanes
 abbrev pub LawfulLists : ℕ → (ℕ → List Visit) → Type 0
 LawfulLists lanes lists = (lane : ℕ) → lane < lanes → LawfulLane lanes lane (lists lane)
 
--- the lists of these lanes are lawful, references to parent lanes agree, and those ahead are at most half finished
+-- the lists of these lanes are lawful, references to parent lanes agree, and each reference ahead is answered or half
+-- finished
 pub record ConsistentLists (lanes : ℕ) (lists : ℕ → List Visit) : Type 0 where
   pub closed : Closed lanes lists
   pub lawful : LawfulLists lanes lists

@@ -8,9 +8,9 @@ use Rattle.key_names.specs.Lanes.Book.{HalfFinishedLanes}
 use Rattle.lane_table.specs.declared.view.Visit.{Visit}
 use Rattle.lane_table.specs.declared.view.View.{View}
 use Rattle.lane_table.specs.declared.view.Content.{Content}
-use Rattle.lane_table.specs.declared.view.Stage.{Stage}
-use Rattle.lane_table.specs.declared.view.Stage.TheVariants.{Away, Queued, Holding}
-use Rattle.lane_table.specs.Meaning.{ahead_of, behind_of, parent, replay}
+use Rattle.lane_table.specs.declared.view.TicketStage.{TicketStage}
+use Rattle.lane_table.specs.declared.view.TicketStage.TheVariants.{Away, Queued, Holding}
+use Rattle.lane_table.specs.Meaning.{ahead_of, after_of, parent, replay}
 use Rattle.lane_table.specs.References.{Closed, LawfulLists}
 use Rattle.lane_table.specs.BookLists.{StateLists, book_lists}
 use Rattle.lane_table.specs.WorldRule.{AllBegin, Begins, Carries, IsHolding, Replays, Rising, St, WorldRule, at, column, has_ticket, known_of, once_below, raises, serving_word, ticket_word, times, weight}
@@ -24,18 +24,18 @@ serving_of s lane = slice_index_or s.words (serving_word lane) 0
 abbrev pub generation_word : St → ℕ
 generation_word s = slice_index_or s.words 0 0
 
--- pass number j has this view
+-- pass number `j` has the view `v`
 abbrev pub IsView : St → ℕ → View → Type 0
 IsView s j v = get_elem? s.views j ≡ some v
 
 -- a pass with this stage has this ticket
-abbrev pub HasTicket : Stage → ℕ → Type 0
+abbrev pub HasTicket : TicketStage → ℕ → Type 0
 HasTicket Away t = ⊥
 HasTicket (Queued u) t = u ≡ t
 HasTicket (Holding u) t = u ≡ t
 
--- the tickets from the serving number up to the ticket number are out, each with one pass; the holder of the lane
--- has the served one
+-- the tickets in use are those from the serving number up to the ticket number, and each belongs to one pass; the
+-- holder of the lane has the served ticket
 pub record Tickets (s : St) (lane : ℕ) : Type 0 where
   pub ordered : serving_of s lane ≤ ticket_of s lane
   pub counted : serving_of s lane + sum_by (λ a. has_ticket a.stage) (column lane s.views) ≡ ticket_of s lane
@@ -49,7 +49,7 @@ pub record Tickets (s : St) (lane : ℕ) : Type 0 where
   pub loaded : (j : ℕ) (v : View) → IsView s j v → (at lane v).loaded ≤ serving_of s lane
 
 -- the ticket number is `first` plus the number of tickets that the passes drew; the serving number is lower by the
--- number of tickets that are out
+-- number of tickets in use
 pub record CountsFrom (first : ℕ) (s : St) (lane : ℕ) : Type 0 where
   pub ticket : ticket_of s lane ≡ first + sum_by (λ a. a.tickets) (column lane s.views)
   pub serving : serving_of s lane + sum_by (λ a. has_ticket a.stage) (column lane s.views)
@@ -60,8 +60,9 @@ abbrev pub NumbersAre : ℕ → View → Type 0
 NumbersAre first v = (s : St) (j lane : ℕ) → WorldRule first s → IsView s j v → lane < length s.homes →
     (ticket_of s lane ≡ first) × (serving_of s lane ≡ first)
 
--- each pass knows a prefix of each lane's list, and all of it if it holds the lane; if it knows an entry, it knows the
--- entry of the parent lane that this entry names. The lists that the lane's value carries have the same properties
+-- each pass knows a prefix of each lane's list, and the pass that holds the lane knows the whole list. If a pass knows
+-- an entry that names an entry of the parent lane, the pass knows the named entry too. The lists that the lane's value
+-- carries have the same properties
 pub record KnownLists (s : St) (logs : ℕ → List Visit) : Type 0 where
   pub known : (j lane : ℕ) (v : View) → IsView s j v → lane < length s.homes → Begins (known_of v lane) (logs lane)
   pub heard : (j lane : ℕ) (v : View) → IsView s j v → lane < length s.homes → AllBegin (at lane v).heard (logs lane)
@@ -72,7 +73,7 @@ pub record KnownLists (s : St) (logs : ℕ → List Visit) : Type 0 where
       (lists : ℕ → List Visit) × Carries (length s.homes) logs lane lists
 
 -- a value in its slot is the replay of the lane's list, with the list's next place and last stamp; if the slot is
--- empty, the served pass has the value
+-- empty, the pass with the served ticket has the value
 pub record Values (first : ℕ) (s : St) (logs : ℕ → List Visit) : Type 0 where
   pub replays : (lane : ℕ) (c : Content) → lane < length s.homes → get_elem? s.homes lane ≡ some (some (Some c)) →
       Replays lane first (logs lane) c
@@ -80,8 +81,8 @@ pub record Values (first : ℕ) (s : St) (logs : ℕ → List Visit) : Type 0 wh
       ((c : Content) × (get_elem? s.homes lane ≡ some (some (Some c))))
       ⊎ ((j : ℕ) × (v : View) × IsView s j v × ((at lane v).stage ≡ Holding (serving_of s lane)))
 
--- the visits that the passes count are the visits of the lists, each place once; the shares add up to the whole, and
--- a pass without a share knows no lane
+-- all passes together count each visit of the lists once; the shares add up to the whole, and a pass without a share
+-- knows no lane
 pub record Counts (s : St) (logs : ℕ → List Visit) : Type 0 where
   pub made : (lane : ℕ) → lane < length s.homes → sum_by (λ a. a.made) (column lane s.views) ≡ length (logs lane)
   pub placed : (lane p : ℕ) → lane < length s.homes →
@@ -97,11 +98,11 @@ pub record Stamps (first : ℕ) (s : St) (logs : ℕ → List Visit) : Type 0 wh
   pub rising : (lane : ℕ) → lane < length s.homes → Rising first (logs lane)
   pub passed : (j : ℕ) (v : View) → IsView s j v → All (λ n. n ≤ v.stamp) v.stamps
 
--- if an entry of the parent lane names place b ahead, the visit there answers it; or the reference is half finished:
--- the place is the next one, and a pass that holds the lane owes the answer
+-- if an entry of the parent lane names place `b` of this lane, the visit at `b` answers the entry; or the reference is
+-- half finished: `b` is the next place, and a pass that holds the lane owes the answer
 abbrev pub IsAnswered : St → (ℕ → List Visit) → ℕ → ℕ → ℕ → Type 0
 IsAnswered s logs lane p b =
-    ((y : Visit) × (get_elem? (logs lane) b ≡ some y) × (behind_of y.entry ≡ Some p))
+    ((y : Visit) × (get_elem? (logs lane) b ≡ some y) × (after_of y.entry ≡ Some p))
     ⊎ ((b ≡ length (logs lane))
     × ((j : ℕ) × (v : View) × IsView s j v × ((at lane v).owes ≡ Some p) × IsHolding (at lane v)))
 
@@ -113,8 +114,8 @@ pub record LawfulSoFar (s : St) (logs : ℕ → List Visit) : Type 0 where
       get_elem? (logs (parent lane)) p ≡ some x → ahead_of x.entry ≡ Some (lane, b) → IsAnswered s logs lane p b
   pub book : (callers : StateLists) → HalfFinishedLanes (book_lists (length s.homes) logs callers)
 
--- the generation word is the number of raises in the base's list, plus one from a raise until the put of the base.
--- It is at least each generation that a pass has seen, and each CPU's
+-- the generation word is the number of raises in the base's list, plus one from a raise until the put of the base. The
+-- word is at least each generation that a pass has seen, and at least each CPU's generation
 pub record Generation (s : St) (logs : ℕ → List Visit) : Type 0 where
   pub base : (replay (logs 1)).base.generation ≡ raises (logs 1)
   pub is : ((j : ℕ) (v : View) → IsView s j v → (at 1 v).raised ≡ 0) → generation_word s ≡ raises (logs 1)

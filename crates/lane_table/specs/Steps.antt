@@ -6,22 +6,22 @@ use Rattle.lane_table.specs.declared.view.LaneEntry.{LaneEntry}
 use Rattle.lane_table.specs.declared.view.Handed.{Handed}
 use Rattle.lane_table.specs.declared.view.LaneView.{LaneView}
 use Rattle.lane_table.specs.declared.view.View.{View}
-use Rattle.lane_table.specs.declared.view.Plan.{Plan}
+use Rattle.lane_table.specs.declared.view.TableSize.{TableSize}
 use Rattle.lane_table.specs.declared.view.Content.{Content}
-use Rattle.lane_table.specs.declared.view.Stage.{Stage}
-use Rattle.lane_table.specs.declared.view.Stage.TheVariants.{Away, Queued, Holding}
-use Rattle.lane_table.specs.Meaning.{behind_of, ahead_of, raise_of, parent, replay, got_of, gave_of}
+use Rattle.lane_table.specs.declared.view.TicketStage.{TicketStage}
+use Rattle.lane_table.specs.declared.view.TicketStage.TheVariants.{Away, Queued, Holding}
+use Rattle.lane_table.specs.Meaning.{after_of, ahead_of, raise_of, parent, replay, got_of, gave_of}
 use Rattle.lane_table.specs.WorldRule.{Begins, Rising, Replays, Consistent, at, blank, known_of, IsHolding, raises, ticket_word, serving_word}
 
--- the view of a pass, and the slots that it has taken out, each with its value
+-- the view of a pass, and the slots that it has taken out, each slot with its value
 abbrev pub Seated : Type 0
 Seated = Me (Option Content) View
 
--- v with a as its part of a lane
+-- `v` with `a` as the view's part of the lane
 abbrev pub with_at : ℕ → LaneView → View → View
 with_at lane a v = record v { lanes = slice_set v.lanes lane a }
 
-abbrev pub staged : Stage → LaneView → LaneView
+abbrev pub staged : TicketStage → LaneView → LaneView
 staged g a = record a { stage = g }
 
 abbrev pub with_drawn : View → View
@@ -29,29 +29,29 @@ with_drawn v = record v { drawn = v.drawn + 1 }
 
 -- Tickets
 
--- the pass drew the ticket t and waits with it
+-- the pass drew the ticket `t` and waits with it
 abbrev pub waiting : ℕ → LaneView → LaneView
 waiting t a = record a { stage = Queued t; tickets = a.tickets + 1 }
 
--- after a ticket was drawn
+-- the pass's view and slots after it drew the ticket `t`
 abbrev pub queued : ℕ → ℕ → Seated → Seated
 queued lane t m = (with_at lane (waiting t (at lane m.0)) (with_drawn m.0), m.1)
 
 abbrev pub finding : ℕ → LaneView → LaneView
 finding n a = record a { found = n }
 
--- after n was found in the ticket word
+-- the pass's view and slots after it found `n` in the ticket word
 abbrev pub found : ℕ → ℕ → Seated → Seated
 found lane n m = (with_at lane (finding n (at lane m.0)) m.0, m.1)
 
 abbrev pub loading : ℕ → LaneView → LaneView
 loading n a = record a { loaded = n }
 
--- after n was found in the serving word
+-- the pass's view and slots after it found `n` in the serving word
 abbrev pub loaded : ℕ → ℕ → Seated → Seated
 loaded lane n m = (with_at lane (loading n (at lane m.0)) m.0, m.1)
 
--- a load of the ticket word, which is at least each serving number loaded before
+-- a load of the ticket word; the word is at least each serving number that the pass loaded before
 abbrev pub finds : Step (Option Content) → Seated → ℕ → Seated → Type 0
 finds st m r m' = (lane : ℕ) → st.word ≡ ticket_word lane → ((at lane m.0).loaded ≤ r) × (m' ≡ found lane r m)
 
@@ -60,16 +60,16 @@ abbrev pub draws : Step (Option Content) → Seated → ℕ → Seated → Type 
 draws st m r m' = (lane : ℕ) → st.word ≡ ticket_word lane
     → (r ≡ st.first → m' ≡ queued lane st.first m) × (r ≢ st.first → m' ≡ m)
 
--- after a ticket was drawn and the found number was kept
+-- the pass's view and slots after it drew the ticket `t` and kept it as the number found
 abbrev pub queued_found : ℕ → ℕ → Seated → Seated
 queued_found lane t m = (with_at lane (waiting t (finding t (at lane m.0))) (with_drawn m.0), m.1)
 
--- an exchange of the ticket word that also keeps the number it found
+-- an exchange of the ticket word; the pass also keeps the number that it found
 abbrev pub tries : Step (Option Content) → Seated → ℕ → Seated → Type 0
 tries st m r m' = (lane : ℕ) → st.word ≡ ticket_word lane → ((at lane m.0).loaded ≤ r)
     × (r ≡ st.first → m' ≡ queued_found lane st.first m) × (r ≢ st.first → m' ≡ found lane r m)
 
--- a load of the serving word, with the found number kept
+-- a load of the serving word; the pass keeps the number that it found
 abbrev pub loads : Step (Option Content) → Seated → ℕ → Seated → Type 0
 loads st m r m' = (lane : ℕ) → st.word ≡ serving_word lane → ((at lane m.0).loaded ≤ r) × (m' ≡ loaded lane r m)
 
@@ -84,7 +84,7 @@ holder log t a = record a { known = log; stage = Holding t }
 abbrev pub learn : List Visit → LaneView → LaneView
 learn ys a = record a { known = longer a.known ys }
 
--- for each lane from the k-th on, the longer of its own list and that in lists
+-- from lane `k` on, each lane's known list becomes the longer of itself and the lane's list in `lists`
 abbrev pub learn_from : (ℕ → List Visit) → ℕ → List LaneView → List LaneView
 learn_from lists k [] = []
 learn_from lists k (a ∷ rest) = learn (lists k) a ∷ learn_from lists (suc k) rest
@@ -104,7 +104,8 @@ Grows v w = (j : ℕ) → j < length v.lanes → Begins (known_of v j) (known_of
 abbrev pub OwesNothing : ℕ → View → Type 0
 OwesNothing lane v = ((at lane v).owes ≡ None) × (lane ≡ 1 → (at 1 v).raised ≡ 0)
 
--- the turn came: the pass knows the whole list, and of each other lane at least the list that the value carries
+-- the pass's turn came: it knows the lane's whole list. Of each other lane it knows at least the list that the value of
+-- this lane carries
 pub record Got (lane t : ℕ) (m m' : Seated) : Type 0 where
   pub log : List Visit
   pub content : Content
@@ -119,14 +120,14 @@ pub record Got (lane t : ℕ) (m m' : Seated) : Type 0 where
   pub is : m' ≡ (with_at lane (holder log t (at lane m.0)) (learned lists m.0), (lane, Some content) ∷ m.1)
   pub grows : Grows m.0 m'.0
 
--- a load of the serving word by a pass with the ticket t
+-- a load of the serving word by a pass that waits with the ticket `t`
 abbrev pub serves : Step (Option Content) → Seated → ℕ → Seated → Type 0
 serves st m r m' = (lane : ℕ) → st.word ≡ serving_word lane → (t : ℕ) → (at lane m.0).stage ≡ Queued t
     → ((at lane m.0).loaded ≤ r) × (r ≤ t) × (r ≡ t → Got lane t m m') × (r ≢ t → m' ≡ m)
 
 -- Visits
 
--- a lane's part after a visit
+-- a view's part of a lane after the visit `x` of the lane
 abbrev pub visited : Visit → LaneView → LaneView
 visited x a = record a {
   known = a.known ++ x ∷ [];
@@ -140,17 +141,17 @@ visited x a = record a {
 abbrev pub with_stamp : ℕ → View → View
 with_stamp n v = record v { stamp = n; stamps = v.stamps ++ n ∷ [] }
 
--- if an entry at this place names the held place of a lane ahead, its reference is half finished
+-- the view after an entry at this place: if the entry names a place of another lane, the pass owes the answer there
 abbrev pub owing : Option (ℕ × ℕ) → ℕ → View → View
 owing None place v = v
 owing (Some named) place v = with_at named.0 (record (at named.0 v) { owes = Some place }) v
 
--- the view after a visit
+-- the view after the visit `x` of the lane
 abbrev pub after : ℕ → Visit → View → View
 after lane x v =
     owing (ahead_of x.entry) (length (known_of v lane)) (with_at lane (visited x (at lane v)) (with_stamp x.stamp v))
 
--- the pass holds the lane ahead at the named place, and no other entry names it
+-- the pass holds the lane `ahead`, `place` is the next place there, and no other entry names it
 pub record NamesHeld (lane : ℕ) (v : View) (ahead place : ℕ) : Type 0 where
   pub above : 1 ≤ ahead
   pub near : ahead < length v.lanes
@@ -159,16 +160,16 @@ pub record NamesHeld (lane : ℕ) (v : View) (ahead place : ℕ) : Type 0 where
   pub holding : IsHolding (at ahead v)
   pub free : (at ahead v).owes ≡ None
 
--- an entry names ahead a held place or none; in the parent lane it names the place that this hold owes. It raises the
--- generation if and only if this hold did
+-- an entry may hand a key only to a place that the pass holds. In the parent lane it names the entry that waits for
+-- this hold's answer, or none if no entry waits. It raises the generation if and only if this hold did
 pub record MayName (lane : ℕ) (e : LaneEntry) (v : View) : Type 0 where
   pub ahead : (ahead_of e ≡ None) ⊎ ((l : ℕ) × (b : ℕ) × (ahead_of e ≡ Some (l, b)) × NamesHeld lane v l b)
-  pub behind : behind_of e ≡ (at lane v).owes
+  pub following : after_of e ≡ (at lane v).owes
   pub raise : lane ≡ 1 → (at 1 v).raised ≡ raise_of e
 
 -- the key that an entry of the lane receives
 abbrev pub handed : ℕ → LaneEntry → View → Handed
-handed lane e v = got_of (behind_of e) (known_of v (parent lane))
+handed lane e v = got_of (after_of e) (known_of v (parent lane))
 
 -- a visit with the keys that it receives and hands on
 abbrev pub filled : ℕ → Visit → View → Visit
@@ -181,7 +182,7 @@ abbrev pub puts : Visit → Step (Option Content) → Seated → ℕ → Seated 
 puts x st m r m' = (lane : ℕ) → st.word ≡ serving_word lane
     → (m' ≡ (after lane (filled lane x m.0) m.0, rest m.1)) × Consistent m'.0
 
--- after the lane was given back
+-- the pass's view and slots after it gave the lane back
 abbrev pub left : ℕ → Seated → Seated
 left lane m = (with_at lane (staged Away (at lane m.0)) m.0, rest m.1)
 
@@ -193,7 +194,7 @@ leaves st m r m' = (lane : ℕ) → st.word ≡ serving_word lane → m' ≡ lef
 abbrev pub saw : ℕ → Seated → Seated
 saw g m = (record m.0 { seen = g; looks = m.0.looks ++ g ∷ [] }, m.1)
 
--- a look finds at least each generation that was seen, and at least the one known of the base
+-- a look finds a generation at least as high as each one that the pass has seen, and as the one it knows of the base
 abbrev pub looks : Step (Option Content) → Seated → ℕ → Seated → Type 0
 looks st m r m' = st.word ≡ 0
     → (m.0.seen ≤ r) × (raises (known_of m.0 1) ≤ r) × (r < 2 ^ 63) × (m' ≡ saw r m) × Consistent m'.0
@@ -204,8 +205,8 @@ raising a = record a { raised = 1 }
 abbrev pub raised : ℕ → Seated → Seated
 raised g m = (record (with_at 1 (raising (at 1 m.0)) m.0) { seen = g }, m.1)
 
-abbrev pub lifts : Step (Option Content) → Seated → ℕ → Seated → Type 0
-lifts st m r m' = (m' ≡ raised r m) × Consistent m'.0
+abbrev pub raises_generation : Step (Option Content) → Seated → ℕ → Seated → Type 0
+raises_generation st m r m' = (m' ≡ raised r m) × Consistent m'.0
 
 -- Passes
 
@@ -213,17 +214,17 @@ abbrev pub halved : View → View
 halved v = record v { halvings = v.halvings + 1 }
 
 -- the part of a lane for a pass that is split off: the same knowledge, but no visits and no tickets of its own
-abbrev pub told : LaneView → LaneView
-told a = record a { made = 0; places = []; tickets = 0; stage = Away; owes = None; raised = 0 }
+abbrev pub recorded : LaneView → LaneView
+recorded a = record a { made = 0; places = []; tickets = 0; stage = Away; owes = None; raised = 0 }
 
 abbrev pub child : View → View
-child v = record v { halvings = v.halvings + 1; drawn = 0; lanes = map told v.lanes }
+child v = record v { halvings = v.halvings + 1; drawn = 0; lanes = map recorded v.lanes }
 
 abbrev pub with_list : List Visit → List (List Visit) → List (List Visit)
 with_list [] lists = lists
 with_list (x ∷ xs) lists = (x ∷ xs) ∷ lists
 
--- both known lists are kept in `heard`, since the pass does not learn that the longer begins with the shorter
+-- `heard` keeps both known lists, since the pass does not learn that the longer one begins with the shorter one
 abbrev pub merged : LaneView → LaneView → LaneView
 merged a b = record a {
   known = longer a.known b.known;
@@ -265,7 +266,7 @@ nobody = record {
   lanes = [];
 }
 
-abbrev pub first_view : Plan → View
+abbrev pub first_view : TableSize → View
 first_view plan = record {
   first = plan.first;
   share = 1;

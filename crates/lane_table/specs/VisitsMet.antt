@@ -1,4 +1,4 @@
--- The deed of a visit as its maker met it: it follows from the model before the visit and the key that the visit
+-- The effect of a visit in the book, compared with the model that the visit's maker found and the key that the visit
 -- received.
 use Rattle.std.specs.Prelude.{◌≡◌, ℕ, ◌≤◌, ⊤, true, false, List, []}
 use Rattle.key_names.specs.declared.names.LaneId.TheVariants.{Pool as PoolLane, Base as BaseLane, Cpu as CpuLane}
@@ -10,7 +10,7 @@ use Rattle.key_names.specs.Lanes.PoolList.{PoolState, pool_step}
 use Rattle.key_names.specs.Lanes.BaseList.{root_of}
 use Rattle.key_names.specs.Kernel.Batches.{batched_int}
 use Rattle.key_names.specs.Keys.KeyInUse.{taken_bytes}
-use Rattle.key_names.specs.Callers.Deeds.{deed_at, at_pool, at_base, at_cpu, pool_visit, base_visit, cpu_visit, base_serves}
+use Rattle.key_names.specs.Callers.Effects.{effect_at, at_pool, at_base, at_cpu, pool_visit, base_visit, cpu_visit, base_serves}
 use Rattle.key_names.specs.Lanes.Book.{Lists}
 use Rattle.base_gen.specs.BaseValue.{BaseValue, base_at, key_in_use}
 use Rattle.base_gen.specs.BaseValue as base
@@ -48,22 +48,22 @@ IsIntOfBatch (Dump now) = ⊤
 IsIntOfBatch Prepare = ⊤
 IsIntOfBatch Online = ⊤
 
--- the book's visit of the pool at this place met this state
+-- the book's visit of the pool at this place found the state `s`
 pub record PoolMet (lists : Lists) (place : ℕ) (s : PoolState) (e : PoolEntry) : Type 0 where
-  pub deed : deed_at lists PoolLane place ≡ at_pool (pool_visit lists place e)
+  pub effect : effect_at lists PoolLane place ≡ at_pool (pool_visit lists place e)
   pub before : (pool_visit lists place e).before ≡ s
   pub after : (pool_visit lists place e).after ≡ pool_step s e
 
--- the book's visit of the base at this place met this value
+-- the book's visit of the base at this place found the value `b`
 pub record BaseMet (lists : Lists) (place : ℕ) (b : BaseValue) (got : Handed) (e : BaseEntry) : Type 0 where
-  pub deed : deed_at lists BaseLane place ≡ at_base (base_visit lists place e)
+  pub effect : effect_at lists BaseLane place ≡ at_base (base_visit lists place e)
   pub before : base_at (base_visit lists place e).before b.key ≡ b
   pub after : base_at (base_visit lists place e).after (base.after_entry e got.key b).key ≡ base.after_entry e got.key b
   pub serves : (base_visit lists place e).serves ≡ base_serving b got e
 
--- the book's visit of CPU c at this place met this model
+-- the book's visit of CPU `c` at this place found the model `m`
 pub record CpuMet (lists : Lists) (c place : ℕ) (m : CpuModel) (got : Handed) (e : CpuEntry) : Type 0 where
-  pub deed : deed_at lists (CpuLane c) place ≡ at_cpu (cpu_visit lists c place e)
+  pub effect : effect_at lists (CpuLane c) place ≡ at_cpu (cpu_visit lists c place e)
   pub before : (cpu_visit lists c place e).before.generation ≡ m.cpu.generation
   pub fills : (width : ℕ) → bare ((cpu_visit lists c place e).before.fills width) ≡ m.fills width
   pub after : (cpu_visit lists c place e).after.generation ≡ (cpu.after_entry e (generator_of got) m.cpu).generation

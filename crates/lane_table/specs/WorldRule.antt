@@ -10,9 +10,9 @@ use Rattle.lane_table.specs.declared.view.Visit.{Visit}
 use Rattle.lane_table.specs.declared.view.LaneView.{LaneView}
 use Rattle.lane_table.specs.declared.view.View.{View}
 use Rattle.lane_table.specs.declared.view.Content.{Content}
-use Rattle.lane_table.specs.declared.view.Stage.{Stage}
-use Rattle.lane_table.specs.declared.view.Stage.TheVariants.{Away, Queued, Holding}
-use Rattle.lane_table.specs.Meaning.{behind_of, ahead_of, raise_of, parent, replay, ValueRepresents}
+use Rattle.lane_table.specs.declared.view.TicketStage.{TicketStage}
+use Rattle.lane_table.specs.declared.view.TicketStage.TheVariants.{Away, Queued, Holding}
+use Rattle.lane_table.specs.Meaning.{after_of, ahead_of, raise_of, parent, replay, ValueRepresents}
 use Rattle.lane_table.specs.References.{Closed, LawfulLists, ConsistentLists}
 
 -- Words and slots. A lane's two words have their own 128 bytes, so that lanes share no cache line
@@ -26,7 +26,7 @@ serving_word lane = 16 * lane + 17
 abbrev pub words_of : ℕ → ℕ
 words_of lanes = 16 * lanes + 16
 
--- a lane's slot in the table: it does not exist, is out with a pass, or is at home
+-- a lane's slot in the table: it does not exist, a pass has it, or it is in the table
 abbrev pub Home : Type 0
 Home = maybe.Option (maybe.Option (Option Content))
 
@@ -56,7 +56,7 @@ Rising first (x ∷ xs) = (first < x.stamp) × Rising x.stamp xs
 abbrev pub raises : List Visit → ℕ
 raises xs = sum_by (λ x. raise_of x.entry) xs
 
--- the content of the lane's slot represents its list
+-- the content of the lane's slot represents the lane's list
 pub record Replays (lane first : ℕ) (log : List Visit) (c : Content) : Type 0 where
   pub value : ValueRepresents lane c.state (replay log)
   pub place : c.place ≡ length log
@@ -92,7 +92,7 @@ column lane views = map (at lane) views
 abbrev pub IsHolding : LaneView → Type 0
 IsHolding a = (t : ℕ) × (a.stage ≡ Holding t)
 
-abbrev pub has_ticket : Stage → ℕ
+abbrev pub has_ticket : TicketStage → ℕ
 has_ticket Away = 0
 has_ticket (Queued t) = 1
 has_ticket (Holding t) = 1
@@ -103,29 +103,29 @@ Consistent v = ConsistentLists (length v.lanes) (known_of v)
 
 -- One lane
 
--- the stage of pass number j fits the lane: owner gives the pass of each ticket, and the served pass knows the whole
--- list while the slot is out
+-- the stage of pass number j fits the lane: `owner` maps each ticket to its pass. The pass that holds the lane has
+-- the served ticket and the slot, and knows the whole list
 module _ (ticket serving : ℕ) (owner : ℕ → ℕ) (home : Home) (log : List Visit) (j : ℕ) (known : List Visit) where
-  abbrev pub Stands : Stage → Type 0
-  Stands Away = Unit {0}
-  Stands (Queued t) = (serving ≤ t) × (t < ticket) × (owner t ≡ j)
-  Stands (Holding t) = (t ≡ serving) × (t < ticket) × (owner t ≡ j) × (known ≡ log) × (home ≡ some none)
+  abbrev pub Conforms : TicketStage → Type 0
+  Conforms Away = Unit {0}
+  Conforms (Queued t) = (serving ≤ t) × (t < ticket) × (owner t ≡ j)
+  Conforms (Holding t) = (t ≡ serving) × (t < ticket) × (owner t ≡ j) × (known ≡ log) × (home ≡ some none)
 
 pub record PassOk (ticket serving : ℕ) (owner : ℕ → ℕ) (home : Home) (log : List Visit) (j : ℕ) (a : LaneView)
     : Type 0 where
   pub begins : Begins a.known log
   pub heard : AllBegin a.heard log
-  pub stands : Stands ticket serving owner home log j a.known a.stage
+  pub conforms : Conforms ticket serving owner home log j a.known a.stage
   pub loaded : a.loaded ≤ serving
   pub found : a.found ≤ ticket
 
--- the value is at home and represents the list, or it is out with the served pass
+-- the value is in its slot and represents the list, or the pass with the served ticket has the value
 abbrev pub IsHomeOrHeld : ℕ → ℕ → ℕ → Home → List LaneView → List Visit → Type 0
 IsHomeOrHeld lane first serving home col log =
     ((c : Content) × (home ≡ some (some (Some c))) × Replays lane first log c)
     ⊎ ((j : ℕ) × (a : LaneView) × (get_elem? col j ≡ some a) × (a.stage ≡ Holding serving))
 
--- how often a place is in a list of places; and 1 if a place is below n, else 0
+-- `times`: how often a place is in a list of places. `once_below`: 1 if a place is below `n`, else 0
 abbrev pub times : ℕ → List ℕ → ℕ
 times place places = sum_by (λ p. if p == place then 1 else 0) places
 
@@ -153,33 +153,34 @@ pub record LaneOk (lane first ticket serving : ℕ) (home : Home) (col : List La
 
 -- References
 
--- a pass that owes an answer holds the named place; the entry that names it is in the parent lane's list, and the
--- answer may name that entry
+-- a pass that owes an answer holds the place that was named; the entry that names the place is in the parent lane's
+-- list, and the answer may name that entry
 abbrev pub OwedAt : ℕ → LaneView → List Visit → Type 0
-OwedAt lane a behind = (p : ℕ) → a.owes ≡ Some p → IsHolding a
-    × ((y : Visit) × (get_elem? behind p ≡ some y) × (ahead_of y.entry ≡ Some (lane, length a.known)))
+OwedAt lane a following = (p : ℕ) → a.owes ≡ Some p → IsHolding a
+    × ((y : Visit) × (get_elem? following p ≡ some y) × (ahead_of y.entry ≡ Some (lane, length a.known)))
     × ((replay a.known).least ≤ p)
 
 abbrev pub Owed : ℕ → View → Type 0
 Owed lanes v = (lane : ℕ) → lane < lanes → OwedAt lane (at lane v) (known_of v (parent lane))
 
--- some pass owes the answer to place p
+-- some pass owes an answer at the lane, to the parent lane's entry at place `p`
 abbrev pub Owes : ℕ → ℕ → List View → Type 0
 Owes lane p views = (j : ℕ) × (v : View) × (get_elem? views j ≡ some v) × ((at lane v).owes ≡ Some p)
 
--- if an entry of the parent lane names a place of the lane, the visit there names the entry; or the place is the next
--- one, and a pass owes the answer
+-- if an entry of the parent lane names a place of the lane, the visit at that place names the entry; or the place is
+-- the next one, and a pass owes the answer
 abbrev pub Pending : ℕ → List Visit → List Visit → List View → Type 0
-Pending lane behind here views =
-    (p b : ℕ) (x : Visit) → get_elem? behind p ≡ some x → ahead_of x.entry ≡ Some (lane, b)
-    → ((y : Visit) × (get_elem? here b ≡ some y) × (behind_of y.entry ≡ Some p))
+Pending lane following here views =
+    (p b : ℕ) (x : Visit) → get_elem? following p ≡ some x → ahead_of x.entry ≡ Some (lane, b)
+    → ((y : Visit) × (get_elem? here b ≡ some y) × (after_of y.entry ≡ Some p))
     ⊎ ((b ≡ length here) × Owes lane p views)
 
 abbrev pub AllPending : ℕ → (ℕ → List Visit) → List View → Type 0
 AllPending lanes logs views = (lane : ℕ) → 1 ≤ lane → lane < lanes
     → Pending lane (logs (parent lane)) (logs lane) views
 
--- the lists that the value of a lane carries: the knowledge of the pass that gave it back last
+-- a lane's value carries the lists that its last holder knew when it gave the value back: of each other lane a prefix
+-- of the list, and of this lane the whole list
 pub record Carries (lanes : ℕ) (logs : ℕ → List Visit) (lane : ℕ) (lists : ℕ → List Visit) : Type 0 where
   pub begins : (j : ℕ) → j < lanes → Begins (lists j) (logs j)
   pub own : lists lane ≡ logs lane

@@ -9,8 +9,8 @@ use crate::plays::{Look, Raise};
 
 impl Lanes {
     /// One look at the generation: a load, which takes no lane and never waits. The result is below 2^63. It is at
-    /// least as high as the pass's earlier looks and raises, and as each generation that the pass knows of the base or
-    /// a CPU.
+    /// least each generation that the pass found or raised before, and each generation of the base or a CPU that the
+    /// pass knows.
     pub fn generation(&self, pass: &mut Pass) -> u64
         requires { IsPassOf self.now pass.old }
         ensures pass { IsSamePass self.now pass.old pass.new }
@@ -19,7 +19,8 @@ impl Lanes {
         self.table.shared.load::<Look>(&mut pass.seat, GENERATION)
     }
 
-    /// Stores the generation that the entry of this hold of the base will have, before its `put`.
+    /// Stores `g` in the generation word: the generation that the entry of this hold will give the base. The hold's
+    /// `put` comes after this store.
     pub fn raise(&self, pass: &mut Pass, _held: &Held, g: u64)
         requires pass { IsPassOf self.now pass.old }
         requires held { Holds self.now pass.old _held.now }

@@ -1,7 +1,7 @@
 //! Gives back a lane that is held, with a visit or without.
 ghost use Rattle.std.specs.Prelude.{◌≡◌, ◌+◌, ◌*◌, ◌-◌, ◌^◌, ◌<◌, ◌++◌, ◌∷◌, [], Some, None, max};
 ghost use Rattle.atomic_table.specs.Table.{rest};
-ghost use Rattle.lane_table.specs.declared.view.Stage.TheVariants.{Holding};
+ghost use Rattle.lane_table.specs.declared.view.TicketStage.TheVariants.{Holding};
 ghost use Rattle.lane_table.specs.Meaning.{IsOf, Fits, replay};
 ghost use Rattle.lane_table.specs.WorldRule.{at, known_of, last_stamp, Replays, Consistent};
 ghost use Rattle.lane_table.specs.Steps.{MayName, handed, filled, after};
@@ -9,7 +9,7 @@ ghost use Rattle.lane_table.specs.LaneNumbers.{index_of};
 ghost use Rattle.lane_table.specs.Calls.{view, slots, count_of, visit_by, IsPassOf, IsSamePass, CanPut, CanLeave, Added, Left};
 
 use crate::entry::Entry;
-use crate::lanes::{Held, Lanes, Pass, Turn, lane_at, serving_word};
+use crate::lanes::{Held, Lanes, Pass, TakenTurn, lane_at, serving_word};
 use crate::plays::{Put, Tells};
 use crate::view::Content;
 use key_names::{Mark, Who};
@@ -17,7 +17,7 @@ use std::marker::Brand;
 
 impl Lanes {
     // Puts the value into the slot that the pass took last.
-    pub(crate) fn lay(&self, pass: &mut Pass, lane: usize, content: Content)
+    pub(crate) fn put_content(&self, pass: &mut Pass, lane: usize, content: Content)
         requires pass { IsPassOf self.now pass.old }
         requires out { slots pass.old ≡ (lane, None) ∷ rest (slots pass.old) }
         ensures pass { IsSamePass self.now pass.old pass.new }
@@ -33,7 +33,7 @@ impl Lanes {
         }
     }
 
-    // Makes the visit of `N`: the value goes back into the table, and the visit's stamp becomes that of the pass.
+    // Makes the visit that `N` describes: puts the value back into the table, and gives the visit's stamp to the pass.
     fn decide<N: Tells, E: Entry>(
         &self,
         pass: &mut Pass,
@@ -66,15 +66,15 @@ impl Lanes {
         ensures consistent { Consistent (view pass.new) }
     {
         let stamp = content.stamp;
-        self.lay(pass, lane, content);
+        self.put_content(pass, lane, content);
         self.table
             .shared
             .store::<Put<N>>(&mut pass.seat, serving_word(lane), ticket + 1);
         pass.stamp = stamp;
     }
 
-    /// Releases the lane with a visit at the held place. The visit gets the first stamp that is above those of the pass
-    /// and the lane, and both take it over.
+    /// Releases the lane with a visit at the held place. The visit's stamp is the first one above the pass's and the
+    /// lane's, and becomes the stamp of both.
     pub fn put<E: Entry>(&self, pass: &mut Pass, held: Held, who: Who, entry: E) -> Mark
         requires pass { IsPassOf self.now pass.old }
         requires entry { CanPut self.now pass.old held (E.entry entry) }
@@ -88,7 +88,7 @@ impl Lanes {
             (view pass.old)) pass.old.seat.me pass.new.seat.me }
     {
         let Held { turn, state } = held;
-        let Turn {
+        let TakenTurn {
             lane,
             ticket,
             place,
@@ -116,7 +116,7 @@ impl Lanes {
         ensures left { Left held.turn.lane pass.old.seat.me pass.new.seat.me }
     {
         let Held { turn, state } = held;
-        let Turn {
+        let TakenTurn {
             lane,
             ticket,
             place,

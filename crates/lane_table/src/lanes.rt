@@ -6,12 +6,12 @@ ghost use Rattle.lane_table.specs.WorldRule.{ticket_word, serving_word};
 use crate::plays::World;
 use crate::slot::Slot;
 use crate::values::{Boxed, LaneState};
-use crate::view::{Plan, View};
+use crate::view::{TableSize, View};
 use atomic_table::{Seat, Table};
 use key_names::LaneId;
 use std::alloc::Global;
 
-// The words of the table: the generation, and a line of 128 bytes for each lane's ticket and serving number.
+// The words of the table: the generation, and for each lane a ticket word and a serving word on their own 128 bytes.
 pub(crate) const GENERATION: usize = 0;
 
 pub(crate) const LINE: usize = 16;
@@ -32,11 +32,10 @@ pub(crate) fn serving_word(lane: usize) -> usize
 
 /// The pool, the base and some CPUs, each a lane with its own ticket lock, and the generation word.
 ///
-/// In contracts the knowledge of a pass is its view, and the clauses of a call compare the view before with the view
-/// after.
+/// In contracts a pass's knowledge is its view. The clauses of a call compare the view before with the view after.
 #[derive(Drop)]
 pub struct Lanes {
-    pub(crate) table: Table<Slot, View, Plan, World, Global>,
+    pub(crate) table: Table<Slot, View, TableSize, World, Global>,
     pub(crate) cpus: u32,
     ghost sized: { (table.shared.table_id.words ≡ 16 * (cpus + 2) + 16) × (table.shared.table_id.slots ≡ cpus + 2) },
     ghost few: { (1 ≤ cpus) × (cpus ≤ 256) },
@@ -50,9 +49,9 @@ pub struct Pass {
     pub(crate) caller: u32,
 }
 
-/// The hold of a lane: the lane's number, the ticket, and the lane's next place and last stamp when it was taken.
+/// One hold of a lane: the lane's number, the pass's ticket, and the lane's next place and last stamp at the take.
 #[derive(Drop)]
-pub struct Turn {
+pub struct TakenTurn {
     pub(crate) lane: usize,
     pub(crate) ticket: u64,
     pub(crate) place: u64,
@@ -63,22 +62,23 @@ pub struct Turn {
 
 /// A lane that a pass holds. It must be given to `put` or `back`.
 pub struct Held {
-    pub(crate) turn: Turn,
+    pub(crate) turn: TakenTurn,
     pub(crate) state: Boxed,
 }
 
-/// Why `try_take` did not get a lane. It checks for the reasons in this order, except that it reads the lane's last
+/// Why `try_take` did not get a lane. `try_take` checks for these reasons in this order, but reads the lane's last
 /// stamp only after it got the lane.
 #[derive(Clone, Copy, Debug, PartialEq, Eq)]
 pub enum TakeFault {
     /// A number that would have to grow is 2^62 or more: the lane's tickets, its last stamp, or the stamp of the
     /// pass.
     Spent,
-    /// The lane serves another ticket: the ticket word was read as `ticket`, above the loaded `serving`.
+    /// Another pass has the lane or waits for it: `try_take` loaded `serving` from the serving word, and then read
+    /// the higher number `ticket` from the ticket word.
     Busy { serving: u64, ticket: u64 },
 }
 
-// The number of a lane, and the lane with a number.
+// `index_of` is the number of a lane, and `lane_at` is the lane with a number.
 pub(crate) fn index_of(lane: LaneId) -> usize
     ensures { result ≡ index_of lane }
 {
@@ -110,14 +110,14 @@ impl Lanes {
 }
 
 impl Pass {
-    /// The pass's stamp: an upper bound for the stamps of the visits that it made or inherited at its split.
+    /// The pass's stamp: an upper bound for the stamps of the visits that the pass made, or inherited at its split.
     pub fn stamp(&self) -> u64
         ensures { result ≡ self.now.stamp }
     {
         self.stamp
     }
 
-    /// The number of its caller.
+    /// The number of the pass's caller.
     pub fn caller(&self) -> u32
         ensures { result ≡ self.now.caller }
     {
@@ -129,7 +129,8 @@ impl Held {
     ghost use Rattle.lane_table.specs.Lending.{LendsState};
     ghost use Rattle.std.specs.Borrow.{sem};
 
-    /// The lane. It is for a caller that keeps several holds in one collection: the core has a variable for each.
+    /// The held lane. A caller that keeps several holds in one collection needs this function; the core keeps each hold
+    /// in its own variable.
     pub fn lane(&self) -> LaneId
         ensures { index_of result ≡ self.now.turn.lane }
     {
@@ -143,7 +144,7 @@ impl Held {
         self.turn.place
     }
 
-    /// The last stamp of the lane. It is for a caller that only watches: the core reads a visit's stamp off its
+    /// The last stamp of the lane, for a caller that only watches. The core takes a visit's stamp from the visit's
     /// mark.
     pub fn stamp(&self) -> u64
         ensures { result ≡ self.now.turn.stamp }
@@ -158,7 +159,7 @@ impl Held {
         self.state.get()
     }
 
-    /// The value of the lane, to be changed. `put` has a precondition about its new value.
+    /// The value of the lane, to be changed. `put` has a precondition about the new value.
     pub fn state_mut(&mut self) -> &mut LaneState
         ensures* writes_back { sem 𝓛 (LendsState self.entry result) }
         ensures value { result.now ≡ self.old.state }

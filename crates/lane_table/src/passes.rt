@@ -10,7 +10,7 @@ use crate::lanes::{GENERATION, LINE, Lanes, Pass};
 use crate::plays::{Halves, Merges, Settle};
 use crate::slot::Slot;
 use crate::values::{BaseLane, Boxed, CpuLane, LaneState, PoolLane};
-use crate::view::{Content, Plan};
+use crate::view::{Content, TableSize};
 use atomic_table::Table;
 use base_gen::Base;
 use cpu_gen::Cpu;
@@ -92,7 +92,7 @@ impl Lanes {
         let count = cpus as usize + 2;
         let words = start_words(alloc, count, first)?;
         let slots = start_contents(alloc, count, first)?;
-        let plan = Plan { count, first };
+        let plan = TableSize { count, first };
         match Table::new(alloc, words.as_slice(), slots, &plan) {
             Ok((table, seat)) => Ok((
                 Lanes { table, cpus },

@@ -1,14 +1,14 @@
 //! The rule of the table, and the contract of each kind of atomic step. These types are for the proofs alone.
 
 use crate::slot::Slot;
-use crate::view::{Plan, View, Visit};
+use crate::view::{TableSize, View, Visit};
 use atomic_table::{Join, Play, Split, TableRule};
 use std::marker::{Brand, PhantomData};
 
 /// The rule of all lanes' words, slots and passes.
 pub struct World;
 
-impl TableRule<Slot, View, Plan> for World {
+impl TableRule<Slot, View, TableSize> for World {
     ghost use Rattle.lane_table.specs.WorldRule.{WorldRule};
     ghost use Rattle.lane_table.specs.Steps.{first_view};
 
@@ -31,9 +31,9 @@ impl Tells for Brand {
 }
 
 /// An exchange of the ticket word, which draws a ticket.
-pub struct Draw;
+pub struct DrawTicket;
 
-impl Play<Slot, View> for Draw {
+impl Play<Slot, View> for DrawTicket {
     ghost use Rattle.lane_table.specs.Steps.{draws};
 
     ghost then = { draws };
@@ -58,15 +58,15 @@ impl Play<Slot, View> for Find {
 }
 
 /// A load of the serving word by a pass without a ticket.
-pub struct Load;
+pub struct LoadServing;
 
-impl Play<Slot, View> for Load {
+impl Play<Slot, View> for LoadServing {
     ghost use Rattle.lane_table.specs.Steps.{loads};
 
     ghost then = { loads };
 }
 
-/// A load of the serving word by a waiting pass. If it finds the pass's ticket, the slot goes out to the pass.
+/// A load of the serving word by a waiting pass. If it finds the pass's ticket, the pass gets the slot.
 pub struct Serve;
 
 impl Play<Slot, View> for Serve {
@@ -75,7 +75,7 @@ impl Play<Slot, View> for Serve {
     ghost then = { serves };
 }
 
-/// The store of the serving word that makes the visit of `N`. The slot goes back to the table.
+/// The store of the serving word that makes the visit that `N` describes. The slot goes back to the table.
 pub struct Put<N> {
     marker: PhantomData<N>,
 }
@@ -117,9 +117,9 @@ impl Play<Slot, View> for Settle {
 pub struct Raise;
 
 impl Play<Slot, View> for Raise {
-    ghost use Rattle.lane_table.specs.Steps.{lifts};
+    ghost use Rattle.lane_table.specs.Steps.{raises_generation};
 
-    ghost then = { lifts };
+    ghost then = { raises_generation };
 }
 
 /// The split of a pass.

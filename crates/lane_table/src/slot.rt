@@ -6,8 +6,8 @@ use crossbeam_utils::CachePadded;
 use std::marker::Model;
 use std::mem;
 
-/// The slot of a lane, alone on its cache lines, so that callers on neighbouring CPUs do not fetch each other's. In
-/// contracts it is its content, or `None` while a pass has taken that out.
+/// The slot of a lane, alone on its cache lines, so that callers on neighbouring CPUs do not fetch each other's
+/// slots. In contracts a slot is its content, or `None` while a pass has the content.
 #[derive(Drop)]
 pub struct Slot {
     padded: CachePadded<Option<Content>>,
@@ -38,8 +38,8 @@ impl Slot {
         self.padded.into_inner()
     }
 
-    /// Puts this content into the slot, and returns the old one. It does not write the unused bytes on both sides,
-    /// as a move of the slot would.
+    /// Puts this content into the slot, and returns the old one. A move of the whole slot would also write the unused
+    /// bytes around the content.
     pub(crate) fn replace(&mut self, content: Option<Content>) -> Option<Content>
         ensures before { result ≡ self.old }
         ensures now { self.new ≡ content }

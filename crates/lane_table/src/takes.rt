@@ -2,20 +2,20 @@
 ghost use Rattle.std.specs.Prelude.{◌≡◌, ◌+◌, ◌*◌, ◌^◌, ◌<◌, ◌≤◌, ◌∷◌, None, Some};
 ghost use Rattle.atomic_table.specs.Table.{rest};
 ghost use Rattle.lane_table.specs.declared.view.Content.{Content};
-ghost use Rattle.lane_table.specs.declared.view.Stage.TheVariants.{Queued};
+ghost use Rattle.lane_table.specs.declared.view.TicketStage.TheVariants.{Queued};
 ghost use Rattle.lane_table.specs.WorldRule.{at};
 ghost use Rattle.lane_table.specs.Steps.{Got, queued};
 ghost use Rattle.lane_table.specs.LaneNumbers.{index_of};
 ghost use Rattle.lane_table.specs.Calls.{view, slots, count_of, IsPassOf, IsSamePass, IsAway, Taken};
 
-use crate::lanes::{Held, Lanes, Pass, Turn, index_of, serving_word, ticket_word};
-use crate::plays::{Draw, Serve};
+use crate::lanes::{Held, Lanes, Pass, TakenTurn, index_of, serving_word, ticket_word};
+use crate::plays::{DrawTicket, Serve};
 use crate::view::Content;
 use crossbeam_utils::Backoff;
 use key_names::LaneId;
 use std::sync::Wait;
 
-// The limit of tickets and stamps: from this number on no pass gets the lane.
+// The limit of tickets and stamps: if one of them is this number or more, no pass gets the lane.
 pub(crate) const LAST: u64 = 1 << 62;
 
 pub(crate) fn wait_for_ever<R: Wait>(rt: &R)
@@ -42,7 +42,7 @@ pub(crate) fn held(lane: usize, ticket: u64, content: Content) -> Held
         stamp,
     } = content;
     Held {
-        turn: Turn {
+        turn: TakenTurn {
             lane,
             ticket,
             place,
@@ -68,7 +68,7 @@ impl Lanes {
             let ticket = words.peek(word);
             if ticket >= LAST {
                 backoff.snooze();
-            } else if words.compare_exchange::<Draw>(&mut pass.seat, word, ticket, ticket + 1)
+            } else if words.compare_exchange::<DrawTicket>(&mut pass.seat, word, ticket, ticket + 1)
                 == ticket
             {
                 return ticket;
@@ -79,7 +79,7 @@ impl Lanes {
         unreachable!()
     }
 
-    // Waits until the lane serves the ticket. A load that finds another number does not change the view.
+    // Waits until the lane serves the ticket. A load that finds another number leaves the view as it was.
     fn wait_for<R: Wait>(&self, rt: &R, pass: &mut Pass, lane: usize, ticket: u64)
         requires pass { IsPassOf self.now pass.old }
         requires lane { (lane < count_of self.now) × ((at lane (view pass.old)).stage ≡ Queued ticket) }
@@ -98,7 +98,7 @@ impl Lanes {
     }
 
     // Takes the value out of the slot that the pass took last.
-    pub(crate) fn lift(&self, pass: &mut Pass, lane: usize) -> Content
+    pub(crate) fn take_content(&self, pass: &mut Pass, lane: usize) -> Content
         requires pass { IsPassOf self.now pass.old }
         requires out { (c : Content) × (slots pass.old ≡ (lane, Some c) ∷ rest (slots pass.old)) }
         ensures pass { IsSamePass self.now pass.old pass.new }
@@ -119,14 +119,14 @@ impl Lanes {
     {
         let ticket = self.draw(rt, pass, lane);
         self.wait_for(rt, pass, lane, ticket);
-        let content = self.lift(pass, lane);
+        let content = self.take_content(pass, lane);
         if content.stamp >= LAST {
             wait_for_ever(rt);
         }
         held(lane, ticket, content)
     }
 
-    /// Takes a lane: draws a ticket, and waits until the lane serves it. If `try_take` would return `Spent`, it
+    /// Takes a lane: draws a ticket, and waits until the lane serves it. If `try_take` would return `Spent`, `take`
     /// waits for ever. No clause promises when the turn comes.
     pub fn take<R: Wait>(&self, rt: &R, pass: &mut Pass, lane: LaneId) -> Held
         requires pass { IsPassOf self.now pass.old }

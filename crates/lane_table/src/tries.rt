@@ -1,14 +1,14 @@
 //! Takes a lane without a wait.
 ghost use Rattle.std.specs.Prelude.{◌≡◌, ◌≢◌, ◌+◌, ◌*◌, ◌^◌, ◌<◌, ◌≤◌, ◌∷◌, None, IfOk, IfErr};
 ghost use Rattle.atomic_table.specs.Table.{rest};
-ghost use Rattle.lane_table.specs.declared.view.Stage.TheVariants.{Queued, Holding};
+ghost use Rattle.lane_table.specs.declared.view.TicketStage.TheVariants.{Queued, Holding};
 ghost use Rattle.lane_table.specs.WorldRule.{at, known_of, Replays};
 ghost use Rattle.lane_table.specs.Steps.{Got, OwesNothing, queued_found, found, loaded, left};
 ghost use Rattle.lane_table.specs.LaneNumbers.{index_of};
 ghost use Rattle.lane_table.specs.Calls.{view, slots, count_of, IsPassOf, IsSamePass, IsAway, Taken, Tried, Unspent, Refused};
 
 use crate::lanes::{Held, Lanes, Pass, TakeFault, index_of, serving_word, ticket_word};
-use crate::plays::{Find, Leave, Load, Serve, Try};
+use crate::plays::{Find, Leave, LoadServing, Serve, Try};
 use crate::takes::{LAST, held};
 use crate::view::Content;
 use key_names::LaneId;
@@ -22,7 +22,7 @@ impl Lanes {
     {
         self.table
             .shared
-            .load::<Load>(&mut pass.seat, serving_word(lane))
+            .load::<LoadServing>(&mut pass.seat, serving_word(lane))
     }
 
     fn find_ticket(&self, pass: &mut Pass, lane: usize) -> u64
@@ -51,7 +51,7 @@ impl Lanes {
             .compare_exchange::<Try>(&mut pass.seat, ticket_word(lane), ticket, ticket + 1)
     }
 
-    // Takes the turn at once: the ticket is a serving number that was loaded.
+    // Gets the lane at once: the pass's ticket is the serving number that it loaded.
     fn turn(&self, pass: &mut Pass, lane: usize, ticket: u64)
         requires pass { IsPassOf self.now pass.old }
         requires lane { (lane < count_of self.now) × ((at lane (view pass.old)).stage ≡ Queued ticket) }
@@ -76,7 +76,7 @@ impl Lanes {
         ensures pass { IsSamePass self.now pass.old pass.new }
         ensures seat { pass.new.seat.me ≡ left lane pass.old.seat.me }
     {
-        self.lay(pass, lane, content);
+        self.put_content(pass, lane, content);
         self.table
             .shared
             .store::<Leave>(&mut pass.seat, serving_word(lane), ticket + 1);
@@ -106,7 +106,7 @@ impl Lanes {
             return Err(TakeFault::Busy { serving, ticket });
         }
         self.turn(pass, lane, serving);
-        let content = self.lift(pass, lane);
+        let content = self.take_content(pass, lane);
         if content.stamp >= LAST {
             self.leave(pass, lane, serving, content);
             return Err(TakeFault::Spent);
@@ -120,9 +120,9 @@ impl Lanes {
     ///
     /// # Errors
     ///
-    /// `Spent` if and only if a number that would have to grow is 2^62 or more: the stamp of the pass, the ticket
-    /// word as read last, or the lane's last stamp, which is read after the lane was got. `Busy` if the ticket word
-    /// was read above the loaded serving number; no ticket was drawn.
+    /// `Spent` if and only if a number that would have to grow is 2^62 or more: the stamp of the pass, the ticket word
+    /// as read last, or the lane's last stamp, which is read after the lane was got. `Busy` if the number read from the
+    /// ticket word was above the loaded serving number; then no ticket was drawn.
     pub fn try_take(&self, pass: &mut Pass, lane: LaneId) -> Result<Held, TakeFault>
         requires pass { IsPassOf self.now pass.old }
         requires lane { index_of lane < count_of self.now }

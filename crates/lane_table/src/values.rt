@@ -41,7 +41,8 @@ pub enum LaneState {
     Cpu(CpuLane),
 }
 
-/// A lane's value in a box: to take or put a lane moves a pointer, and not the value. In contracts it is the value.
+/// A lane's value in a box, so that `take` and `put` move a pointer instead of the value. In contracts a box is its
+/// value.
 #[derive(Drop)]
 pub struct Boxed {
     inner: Box<LaneState>,

@@ -16,7 +16,7 @@ pub enum LaneEntry {
     Cpu(CpuEntry),
 }
 
-/// The key that an entry hands to the entry that it names, and the generation of the lane that hands it over.
+/// The key that an entry hands to the entry that it names, and the generation of the lane that hands the key over.
 pub struct Handed {
     pub key: LinkedList<u8>,
     pub generation: u64,
@@ -32,7 +32,7 @@ pub struct Visit {
 }
 
 /// The state of a caller at a lane: it has no ticket, or waits with a ticket, or holds the lane with it.
-pub enum Stage {
+pub enum TicketStage {
     Away,
     Queued(u64),
     Holding(u64),
@@ -41,20 +41,20 @@ pub enum Stage {
 /// The knowledge of a caller about one lane.
 ///
 /// - `known`: a prefix of the lane's list of visits.
-/// - `made` and `places`: the number of visits that it made, and their places in the list.
-/// - `tickets`: the number of tickets of the lane that it drew.
-/// - `stage`: its state at the lane.
-/// - `owes`: the place of an entry that names the place held here. The visit of the held place has to answer that
-///   entry.
-/// - `raised`: 1 if it raised the generation in this hold, else 0.
-/// - `loaded` and `found`: the serving number and the ticket number that it read last.
-/// - `heard`: at each join, the prefixes that this pass and the joined one knew.
+/// - `made` and `places`: the number of visits that the caller made, and their places in the list.
+/// - `tickets`: the number of the lane's tickets that the caller drew.
+/// - `stage`: the caller's state at the lane.
+/// - `owes`: if an entry of another lane already names the place held here, that entry's place. The visit made here has
+///   to answer the entry.
+/// - `raised`: 1 if the caller raised the generation in this hold, else 0.
+/// - `loaded` and `found`: the serving number and the ticket number that the caller read last.
+/// - `heard`: for each join, the prefixes of the list that this pass and the joined one knew.
 pub struct LaneView {
     pub known: LinkedList<Visit>,
     pub made: u64,
     pub places: LinkedList<u64>,
     pub tickets: u64,
-    pub stage: Stage,
+    pub stage: TicketStage,
     pub owes: Option<u64>,
     pub raised: u64,
     pub loaded: u64,
@@ -65,13 +65,13 @@ pub struct LaneView {
 /// The knowledge of a caller about the whole table.
 ///
 /// - `first`: a bound below all stamps of the table's visits.
-/// - `share` and `halvings`: its share of the table, which is `share / 2^halvings`.
-/// - `stamp`: an upper bound for the stamps of the visits that it made or inherited at its split.
+/// - `share` and `halvings`: the caller's share of the table, which is `share / 2^halvings`.
+/// - `stamp`: an upper bound for the stamps of the visits that the caller made, or inherited at its split.
 /// - `stamps`: the stamps of these visits.
-/// - `drawn`: the number of tickets that it drew.
-/// - `seen`: the greatest generation that it looked at, or raised.
-/// - `looks`: the generations that it looked at, in order.
-/// - `lanes`: its knowledge of each lane.
+/// - `drawn`: the number of tickets that the caller drew.
+/// - `seen`: the greatest generation that the caller looked at, or raised.
+/// - `looks`: the generations that the caller looked at, in order.
+/// - `lanes`: the caller's knowledge of each lane.
 pub struct View {
     pub first: u64,
     pub share: u64,
@@ -86,7 +86,7 @@ pub struct View {
 
 /// The size of a table: the number of its lanes, and the first number of its stamps, tickets and serving numbers.
 #[derive(Drop)]
-pub struct Plan {
+pub struct TableSize {
     pub count: usize,
     pub first: u64,
 }

@@ -1,4 +1,5 @@
--- The effect of an act at a site: a read, a reseed, or no call of the core.
+-- Each act that runs at a site has the effect `DoesAct`: a wipe makes no call of the core, a read and a reseed make
+-- one.
 use Rattle.std.proofs.Common.{◌≡◌, ℕ, ◌+◌, Ok, List, length, refl, arith}
 use Rattle.std.specs.Prelude.{Result}
 use Rattle.key_names.specs.declared.errno.Errno.{Errno}
@@ -16,7 +17,7 @@ use Rattle.rng_core.proofs.ActLines.{wipe_done, read_done, reseed_done}
 
 -- the effect of an act, with this answer and these bytes
 abbrev pub DoesAct : InsideAct → Result (Unit {0}) Errno → List ℕ → Site → Site → Type 0
-DoesAct act result out m n = Does most_steps (λ deeds. ActMeans (setting_of m.set) act (done_line deeds result out)) m n
+DoesAct act result out m n = Does most_steps (λ effects. ActMeans (setting_of m.set) act (done_line effects result out)) m n
 
 pub does_wipe : (m : Site) (out : List ℕ) → IsNew m → length out ≡ 0 → DoesAct Wipe (Ok tt) out m m
 does_wipe m out new none = record {

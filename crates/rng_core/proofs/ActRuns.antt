@@ -1,10 +1,11 @@
--- The effect of acts at a point on the knowledge of a pass.
+-- Acts that run at a point only add to a pass's knowledge, leave the caller's own steps as they are, and have the
+-- meanings of their lines.
 use Rattle.std.proofs.Common.{◌≡◌, ℕ, ◌≤◌, Bool, true, false, not, List, [], ◌∷◌, ◌++◌, length, map, refl, sym, ap, ◌∙◌, subst, arith, append-nil, append_assoc}
 use Rattle.std.specs.Prelude.{MatchBool, ◌&&◌, ◌||◌, ⊤}
 use Rattle.std.specs.List.{AllByRecursion, list_any}
 use Rattle.key_names.specs.declared.names.Step.{Step}
 use Rattle.key_names.specs.declared.point.Point.{Point}
-use Rattle.key_names.specs.Callers.Deeds.{Deed, deeds_of}
+use Rattle.key_names.specs.Callers.Effects.{Effect, effects_of}
 use Rattle.key_names.specs.Callers.Meaning.{ActMeans}
 use Rattle.key_names.specs.Texts.TranscriptGrammar.{StepFits}
 use Rattle.key_names.specs.Kernel.Points.{is_same_point}
@@ -22,10 +23,10 @@ use Rattle.rng_core.specs.declared.setting.Setting.{Setting}
 use Rattle.rng_core.specs.Traces.{Moment, TraceRecords}
 use Rattle.rng_core.specs.Makes.{MakesIn, Makes, setting_of}
 use Rattle.rng_core.specs.Acts.{Ask, ActOutcome, ActRan, ActAt, ActsAt, done_line}
-use Rattle.rng_core.proofs.Makings.{After, did_floor, deeds_then}
-use Rattle.rng_core.proofs.TellLemmas.{told_then, trace_then, fits_then}
+use Rattle.rng_core.proofs.Makings.{After, did_floor, effects_then}
+use Rattle.rng_core.proofs.TellLemmas.{recorded_then, trace_then, fits_then}
 
--- the view w knows at least as much as v
+-- the view `w` knows at least as much as `v`
 pub record Onward (v w : View) : Type 0 where
   pub sized : length w.lanes ≡ length v.lanes
   pub grows : Grows v w
@@ -53,11 +54,11 @@ onward_then u v w a b = record {
   floors = let x = a.floors in let y = b.floors in omega arith;
 }
 
-pub did_onward : {P : (ℕ → List Visit) → List Deed → Type 0} (set : Setting) (l m : Moment) → MakesIn P set l m →
+pub did_onward : {P : (ℕ → List Visit) → List Effect → Type 0} (set : Setting) (l m : Moment) → MakesIn P set l m →
     Onward l.view m.view
 did_onward set l m k = record {
-  sized = k.told.went.same.sized;
-  grows = k.told.went.grows;
+  sized = k.recorded.went.same.sized;
+  grows = k.recorded.went.grows;
   floors = did_floor set l m k;
 }
 
@@ -79,7 +80,7 @@ module _ (set : Setting) (point : Point) where
   acts_onward (a ∷ asks) v w (x ∷ xs) (y ∷ ys) k =
       onward_then v k.0 w (at_onward a v k.0 x y k.1) (acts_onward asks k.0 w xs ys k.2)
 
--- Looks that rise, from the first number to the last
+-- Looks that rise from `low` on, up to `high`
 
 abbrev pub Risen : ℕ → List ℕ → ℕ → Type 0
 Risen low [] high = low ≤ high
@@ -102,31 +103,32 @@ sees_risen w low high (visited mark e ∷ made_steps) h =
 
 -- The caller's own steps, with those of acts between them
 
--- from l to m these are the caller's own steps, and P holds for their deeds; without acts they are all steps
-pub record Own (set : Setting) (Alone : Type 0) (P : List Deed → Type 0) (l m : Moment) : Type 0 where
+-- from `l` to `m` these are the caller's own steps, and P holds for their effects; if there are no acts (`Alone`), the
+-- caller made no other steps
+pub record Own (set : Setting) (Alone : Type 0) (P : List Effect → Type 0) (l m : Moment) : Type 0 where
   pub made_steps : List MadeStep
   pub trace : m.steps ≡ l.steps ++ map step_of made_steps
   pub fits : AllByRecursion StepFits (map step_of made_steps)
   pub rises : Risen (floor l.view) (looks_in made_steps) (floor m.view)
   pub onward : Onward l.view m.view
   pub alone : Alone → TraceRecords set l m made_steps
-  pub stands : (lanes : ℕ) (visits : ℕ → List Visit) (callers : StateLists) → Continues lanes m.view visits →
-      P (deeds_of (book_lists lanes visits callers) (map step_of made_steps))
+  pub conforms : (lanes : ℕ) (visits : ℕ → List Visit) (callers : StateLists) → Continues lanes m.view visits →
+      P (effects_of (book_lists lanes visits callers) (map step_of made_steps))
 
-pub own_did : {P : List Deed → Type 0} {Alone : Type 0} (set : Setting) (l m : Moment) → Makes P set l m →
+pub own_did : {P : List Effect → Type 0} {Alone : Type 0} (set : Setting) (l m : Moment) → Makes P set l m →
     Own set Alone P l m
 own_did set l m k = record {
   made_steps = k.made_steps;
-  trace = k.told.trace;
-  fits = k.told.fits;
-  rises = sees_risen m.view (floor l.view) (floor m.view) k.made_steps k.told.went.sees;
+  trace = k.recorded.trace;
+  fits = k.recorded.fits;
+  rises = sees_risen m.view (floor l.view) (floor m.view) k.made_steps k.recorded.went.sees;
   onward = did_onward set l m k;
-  alone = λ _. k.told;
-  stands = k.stands;
+  alone = λ _. k.recorded;
+  conforms = k.conforms;
 }
 
-pub own_map : {set : Setting} {Alone : Type 0} {P Q : List Deed → Type 0} (l m : Moment) →
-    ((deeds : List Deed) → P deeds → Q deeds) → Own set Alone P l m → Own set Alone Q l m
+pub own_map : {set : Setting} {Alone : Type 0} {P Q : List Effect → Type 0} (l m : Moment) →
+    ((effects : List Effect) → P effects → Q effects) → Own set Alone P l m → Own set Alone Q l m
 own_map l m f k = record {
   made_steps = k.made_steps;
   trace = k.trace;
@@ -134,10 +136,10 @@ own_map l m f k = record {
   rises = k.rises;
   onward = k.onward;
   alone = k.alone;
-  stands = λ lanes visits callers c. f _ (k.stands lanes visits callers c);
+  conforms = λ lanes visits callers c. f _ (k.conforms lanes visits callers c);
 }
 
-pub own_then : {set : Setting} {Alone : Type 0} {P Q : List Deed → Type 0} (l m n : Moment) → Own set Alone P l m →
+pub own_then : {set : Setting} {Alone : Type 0} {P Q : List Effect → Type 0} (l m n : Moment) → Own set Alone P l m →
     Own set Alone Q m n → Own set Alone (After P Q) l n
 own_then {set} l m n a b = record {
   made_steps = a.made_steps ++ b.made_steps;
@@ -148,21 +150,21 @@ own_then {set} l m n a b = record {
       (risen_then (floor l.view) (floor m.view) (floor n.view) (looks_in a.made_steps) (looks_in b.made_steps) a.rises
       b.rises);
   onward = onward_then l.view m.view n.view a.onward b.onward;
-  alone = λ e. told_then set l m n a.made_steps b.made_steps (a.alone e) (b.alone e);
-  stands = λ lanes visits callers c. let book = book_lists lanes visits callers in record {
-    first = deeds_of book (map step_of a.made_steps);
-    rest = deeds_of book (map step_of b.made_steps);
-    deeds_are = deeds_then book a.made_steps b.made_steps;
-    before = a.stands lanes visits callers (continues_before lanes m.view n.view visits b.onward.sized b.onward.grows
+  alone = λ e. recorded_then set l m n a.made_steps b.made_steps (a.alone e) (b.alone e);
+  conforms = λ lanes visits callers c. let book = book_lists lanes visits callers in record {
+    first = effects_of book (map step_of a.made_steps);
+    rest = effects_of book (map step_of b.made_steps);
+    effects_are = effects_then book a.made_steps b.made_steps;
+    before = a.conforms lanes visits callers (continues_before lanes m.view n.view visits b.onward.sized b.onward.grows
         c);
-    behind = b.stands lanes visits callers c;
+    following = b.conforms lanes visits callers c;
   };
 }
 
--- if only acts ran from l to m, the own steps from m to n are the own steps from l to n
-pub own_behind : {set : Setting} {Alone : Type 0} {P : List Deed → Type 0} (l m n : Moment) → m.steps ≡ l.steps →
+-- if only acts ran from `l` to `m`, the caller's own steps from `m` to `n` are also its own steps from `l` to `n`
+pub own_after : {set : Setting} {Alone : Type 0} {P : List Effect → Type 0} (l m n : Moment) → m.steps ≡ l.steps →
     Onward l.view m.view → (Alone → m.view ≡ l.view) → Own set Alone P m n → Own set Alone P l n
-own_behind {set} l m n same onward idle k = record {
+own_after {set} l m n same onward idle k = record {
   made_steps = k.made_steps;
   trace = k.trace ∙ ap (λ (s : List Step). s ++ map step_of k.made_steps) same;
   fits = k.fits;
@@ -171,16 +173,16 @@ own_behind {set} l m n same onward idle k = record {
   alone = λ e. subst (λ (z : Moment). TraceRecords set z n k.made_steps)
       (λ i. record { view = idle e i; steps = same i })
       (k.alone e);
-  stands = k.stands;
+  conforms = k.conforms;
 }
 
 -- The outcomes of the acts
 
--- an act that ran has its meaning in all lists that continue the known ones, and an act that did not run has no
+-- if an act ran, its outcome has the act's meaning in all lists that continue the known ones; else the outcome has no
 -- steps
 pub record Meant (set : Setting) (w : View) (a : Ask) (z : ActOutcome) : Type 0 where
   pub done : z.done ≡ true → (lanes : ℕ) (visits : ℕ → List Visit) (callers : StateLists) → Continues lanes w visits →
-      ActMeans (setting_of set) a.act (done_line (deeds_of (book_lists lanes visits callers) z.steps) z.answer z.bytes)
+      ActMeans (setting_of set) a.act (done_line (effects_of (book_lists lanes visits callers) z.steps) z.answer z.bytes)
   pub idle : z.done ≡ false → z.steps ≡ []
   pub fits : AllByRecursion StepFits z.steps
 
@@ -209,10 +211,10 @@ all_onward set v w (a ∷ asks) (z ∷ zs) onward k =
 ran_means : (set : Setting) (a : Ask) (v w : View) (y : ActOutcome) → ActRan set a v w y → Meant set w a y
 ran_means set a v w y k = record {
   done = λ e lanes visits callers c. subst (λ (l : List Step). ActMeans (setting_of set) a.act
-      (done_line (deeds_of (book_lists lanes visits callers) l) y.answer y.bytes)) (sym k.did.told.trace)
-      (k.did.stands lanes visits callers c);
+      (done_line (effects_of (book_lists lanes visits callers) l) y.answer y.bytes)) (sym k.did.recorded.trace)
+      (k.did.conforms lanes visits callers c);
   idle = λ e. let f : true ≡ false = sym k.done ∙ e in absurd (cc f);
-  fits = subst (AllByRecursion StepFits) (sym k.did.told.trace) k.did.told.fits;
+  fits = subst (AllByRecursion StepFits) (sym k.did.recorded.trace) k.did.recorded.fits;
 }
 
 module _ (set : Setting) (point : Point) where

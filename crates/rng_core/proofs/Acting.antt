@@ -1,10 +1,10 @@
--- The work of a caller as the host of a call with acts inside, step by step.
+-- What a caller does, step by step, as the host of a vgetrandom call with acts inside.
 use Rattle.std.proofs.Common.{◌≡◌, Bool, true, false, List, [], ◌∷◌, ◌++◌, length, ◌<◌, refl, sym, ap, ◌∙◌, subst, arith}
 use Rattle.std.specs.Prelude.{MatchBool, ◌&&◌, if◌then◌else◌}
 use Rattle.std.specs.List.{AllByRecursion}
 use Rattle.key_names.specs.declared.point.Point.{Point}
 use Rattle.key_names.specs.declared.point.Point.TheVariants.{Start}
-use Rattle.key_names.specs.Callers.Deeds.{Deed}
+use Rattle.key_names.specs.Callers.Effects.{Effect}
 use Rattle.key_names.specs.Kernel.Vgetrandom.{HostStep, publishes, system_call, at_point}
 use Rattle.key_names.specs.Kernel.Points.{is_same_point}
 use Rattle.key_names.specs.Callers.VreadSteps.{published_by, Shows, PointReached, points_of, before_start, from_start, first_points, second_points}
@@ -19,20 +19,20 @@ use Rattle.rng_core.specs.Traces.{TraceRecords}
 use Rattle.rng_core.specs.Makes.{Makes, setting_of}
 use Rattle.rng_core.specs.Hosted.{SystemCall}
 use Rattle.rng_core.specs.Acts.{Ask, ActOutcome, ActsAt, wipes_at}
-use Rattle.rng_core.specs.Acting.{attempt_at, is_first, acting, ActStand}
+use Rattle.rng_core.specs.Acting.{attempt_at, is_first, acting, ActConform}
 use Rattle.rng_core.specs.Hosting.{standing, SameLoans, hosting}
-use Rattle.rng_core.proofs.ActRuns.{Onward, onward_same, onward_is, onward_then, acts_onward, did_onward, AllMeant, meant_at, all_onward, AllDone, done_at, done_same, long_at, Own, own_did, own_then, own_map, own_behind}
+use Rattle.rng_core.proofs.ActRuns.{Onward, onward_same, onward_is, onward_then, acts_onward, did_onward, AllMeant, meant_at, all_onward, AllDone, done_at, done_same, long_at, Own, own_did, own_then, own_map, own_after}
 use Rattle.rng_core.proofs.CallEnds.{PublishesUpTo}
 use Rattle.rng_core.proofs.Makings.{did_look, did_nothing}
 use Rattle.rng_core.proofs.Hosting.{published_more}
 use Rattle.rng_core.proofs.SiteLemmas.{same_then}
 
-step_asks : (s t : ActStand) (step : HostStep) → Does acting s step t → t.asks ≡ s.asks
+step_asks : (s t : ActConform) (step : HostStep) → Does acting s step t → t.asks ≡ s.asks
 step_asks s t (publishes g) k = k.acts.asks
 step_asks s t (system_call n flags answer) k = k.acts.asks
 step_asks s t (at_point point wiped) k = k.asks
 
--- the acts of a point ran, or none did
+-- if `b` is true, the acts of a point ran; otherwise nothing changed
 abbrev Ran : Setting → Point → List Ask → Bool → View → View → List ActOutcome → List ActOutcome → Type 0
 Ran set point asks b v w xs ys = MatchBool b (ActsAt set point asks v w xs ys) ((ys ≡ xs) × (w ≡ v))
 
@@ -49,10 +49,10 @@ ran_none set point true v w [] (y ∷ ys) k = absurd k
 ran_none set point true v w (x ∷ xs) ys k = absurd k
 ran_none set point false v w xs ys k = k.1
 
-step_onward : (s t : ActStand) (step : HostStep) → Does acting s step t → Onward s.core.moment.view t.core.moment.view
+step_onward : (s t : ActConform) (step : HostStep) → Does acting s step t → Onward s.core.moment.view t.core.moment.view
 step_onward s t (publishes g) k = record {
-  sized = k.core.told.went.same.sized;
-  grows = k.core.told.went.grows;
+  sized = k.core.recorded.went.same.sized;
+  grows = k.core.recorded.went.grows;
   floors = let a = k.core.above in let b = k.core.known in omega arith;
 }
 step_onward s t (system_call n flags answer) k = did_onward _ _ _ k.core.did
@@ -60,7 +60,7 @@ step_onward s t (at_point point wiped) k = ran_onward s.core.set point s.asks (i
 
 -- Points of the attempts
 
--- the points still to come in the first attempt, and those to come after it; both depend on the current attempt
+-- the points that are still to come in the first attempt (`active`) and after it (`resting`), given the current attempt
 abbrev pub active : Attempt → List PointReached → List PointReached
 active Before points = first_points points
 active First points = before_start points
@@ -73,17 +73,17 @@ resting Later points = points
 
 -- Step by step
 
-pub acted_asks : (steps : List HostStep) (s t : ActStand) → DoesAll acting s steps t → t.asks ≡ s.asks
-acted_asks [] s t does = ap (λ (k : ActStand). k.asks) (sym does)
+pub acted_asks : (steps : List HostStep) (s t : ActConform) → DoesAll acting s steps t → t.asks ≡ s.asks
+acted_asks [] s t does = ap (λ (k : ActConform). k.asks) (sym does)
 acted_asks (step ∷ steps) s t does = acted_asks steps does.0 t does.2 ∙ step_asks s does.0 step does.1
 
-pub acted_onward : (steps : List HostStep) (s t : ActStand) → DoesAll acting s steps t →
+pub acted_onward : (steps : List HostStep) (s t : ActConform) → DoesAll acting s steps t →
     Onward s.core.moment.view t.core.moment.view
-acted_onward [] s t does = subst (λ (k : ActStand). Onward s.core.moment.view k.core.moment.view) does (onward_same _)
+acted_onward [] s t does = subst (λ (k : ActConform). Onward s.core.moment.view k.core.moment.view) does (onward_same _)
 acted_onward (step ∷ steps) s t does = onward_then _ _ _ (step_onward s does.0 step does.1)
     (acted_onward steps does.0 t does.2)
 
-pub acted_up_to : (steps : List HostStep) (s t : ActStand) → DoesAll acting s steps t →
+pub acted_up_to : (steps : List HostStep) (s t : ActConform) → DoesAll acting s steps t →
     PublishesUpTo (published_by (floor t.core.moment.view)) steps
 acted_up_to [] s t does = tt
 acted_up_to (publishes g ∷ steps) s t does =
@@ -94,24 +94,24 @@ acted_up_to (publishes g ∷ steps) s t does =
 acted_up_to (system_call n flags answer ∷ steps) s t does = acted_up_to steps does.0 t does.2
 acted_up_to (at_point point wiped ∷ steps) s t does = acted_up_to steps does.0 t does.2
 
--- the deeds of the caller's own steps are those of the host's steps, and without acts the caller makes no other steps
-pub acted_own : (steps : List HostStep) (set : Setting) (asks : List Ask) (s t : ActStand) → s.core.set ≡ set →
+-- the effects of the caller's own steps are those of the host's steps, and without acts the caller makes no other steps
+pub acted_own : (steps : List HostStep) (set : Setting) (asks : List Ask) (s t : ActConform) → s.core.set ≡ set →
     s.asks ≡ asks → 1 < length s.core.moment.view.lanes → DoesAll acting s steps t
     → Own set (asks ≡ []) (Shows (setting_of set) steps) s.core.moment t.core.moment
 acted_own [] set asks s t same is_asks two does =
-    subst (λ (k : ActStand). Own set (asks ≡ []) (Shows (setting_of set) []) s.core.moment k.core.moment) does
+    subst (λ (k : ActConform). Own set (asks ≡ []) (Shows (setting_of set) []) s.core.moment k.core.moment) does
     (own_did set _ _ (did_nothing set _ two refl))
 acted_own (publishes g ∷ steps) set asks s t same is_asks two does =
     let k = does.1 in
     let looks = subst (λ (z : Setting). TraceRecords z s.core.moment does.0.core.moment (looked k.core.found ∷ [])) same
-    k.core.told in
+    k.core.recorded in
     let own = acted_own steps set asks does.0 t (k.core.same ∙ same) (k.acts.asks ∙ is_asks)
     (let e = looks.went.same.sized in omega arith) does.2 in
-    own_map _ _ (λ deeds a. (
+    own_map _ _ (λ effects a. (
       k.core.found,
       a.rest,
-      a.deeds_are ∙ ap (λ (l : List Deed). l ++ a.rest) a.before,
-      (k.core.is, a.behind),
+      a.effects_are ∙ ap (λ (l : List Effect). l ++ a.rest) a.before,
+      (k.core.is, a.following),
     ))
     (own_then _ _ _ (own_did set _ _ (did_look set _ _ k.core.found looks)) own)
 acted_own (system_call n flags answer ∷ steps) set asks s t same is_asks two does =
@@ -119,14 +119,14 @@ acted_own (system_call n flags answer ∷ steps) set asks s t same is_asks two d
     let did = subst (λ (z : Setting). Makes (SystemCall (setting_of z) n flags answer) z s.core.moment
     does.0.core.moment) same k.core.did in
     let own = acted_own steps set asks does.0 t (k.core.same ∙ same) (k.acts.asks ∙ is_asks)
-    (let e = did.told.went.same.sized in omega arith) does.2 in
-    own_map _ _ (λ deeds a. record {
+    (let e = did.recorded.went.same.sized in omega arith) does.2 in
+    own_map _ _ (λ effects a. record {
       call = a.first;
       rest = a.rest;
-      deeds_are = a.deeds_are;
+      effects_are = a.effects_are;
       form = a.before.form;
       answers = a.before.answers;
-      goes_on = a.behind;
+      goes_on = a.following;
     })
     (own_then _ _ _ (own_did set _ _ did) own)
 acted_own (at_point point wiped ∷ steps) set asks s t same is_asks two does =
@@ -134,12 +134,12 @@ acted_own (at_point point wiped ∷ steps) set asks s t same is_asks two does =
     let onward = step_onward s does.0 (at_point point wiped) k in
     let own = acted_own steps set asks does.0 t (k.set ∙ same) (k.asks ∙ is_asks) (let e = onward.sized in omega arith)
     does.2 in
-    own_behind _ _ _ k.steps onward
+    own_after _ _ _ k.steps onward
     (λ none. ran_none s.core.set point (is_first does.0.attempt) _ _ _ _
     (subst (λ (l : List Ask). Ran s.core.set point l (is_first does.0.attempt) s.core.moment.view
     does.0.core.moment.view s.outcomes does.0.outcomes) (is_asks ∙ none) k.ran)) own
 
--- the first attempt wipes as its acts do, and a later one never
+-- a point of the first attempt wipes the state if and only if an act of the point is a wipe; no later point wipes it
 abbrev AsAsked : List Ask → PointReached → Type 0
 AsAsked asks reached = reached.wiped ≡ wipes_at asks reached.point
 
@@ -165,7 +165,7 @@ wiped_more asks First point wiped points e rest = go (is_same_point point Start)
     go false e rest = ((e, rest.0), rest.1)
 wiped_more asks Later point wiped points e rest = (tt, (e, rest.1))
 
-pub acted_wipes : (steps : List HostStep) (asks : List Ask) (attempt : Attempt) (s t : ActStand) → s.asks ≡ asks →
+pub acted_wipes : (steps : List HostStep) (asks : List Ask) (attempt : Attempt) (s t : ActConform) → s.asks ≡ asks →
     s.attempt ≡ attempt → DoesAll acting s steps t → WipedSo asks attempt (points_of steps)
 acted_wipes [] asks Before s t same now does = (tt, tt)
 acted_wipes [] asks First s t same now does = (tt, tt)
@@ -208,11 +208,11 @@ active_more First point wiped points = go (is_same_point point Start)
     go false = refl
 active_more Later point wiped points = refl
 
-pub acted_done : (steps : List HostStep) (asks : List Ask) (attempt : Attempt) (s t : ActStand) → s.asks ≡ asks →
+pub acted_done : (steps : List HostStep) (asks : List Ask) (attempt : Attempt) (s t : ActConform) → s.asks ≡ asks →
     s.attempt ≡ attempt → length s.outcomes ≡ length asks → DoesAll acting s steps t
     → AllDone (active attempt (points_of steps)) asks s.outcomes t.outcomes
 acted_done [] asks attempt s t same now long does =
-    subst (λ (k : ActStand). AllDone (active attempt []) asks s.outcomes k.outcomes) does (go attempt)
+    subst (λ (k : ActConform). AllDone (active attempt []) asks s.outcomes k.outcomes) does (go attempt)
   where
     go : (a : Attempt) → AllDone (active a []) asks s.outcomes s.outcomes
     go Before = done_same asks s.outcomes long
@@ -250,11 +250,11 @@ ran_meant set point true asks v w xs ys k all = meant_at set point asks v w xs y
 ran_meant set point false asks v w xs ys k all =
     subst (AllMeant set w asks) (sym k.0) (all_onward set v w asks xs (onward_is v w k.1) all)
 
-pub acted_meant : (steps : List HostStep) (set : Setting) (asks : List Ask) (s t : ActStand) → s.core.set ≡ set →
+pub acted_meant : (steps : List HostStep) (set : Setting) (asks : List Ask) (s t : ActConform) → s.core.set ≡ set →
     s.asks ≡ asks → DoesAll acting s steps t →
     AllMeant set s.core.moment.view asks s.outcomes → AllMeant set t.core.moment.view asks t.outcomes
 acted_meant [] set asks s t is_set is_asks does all =
-    subst (λ (k : ActStand). AllMeant set k.core.moment.view asks k.outcomes) does all
+    subst (λ (k : ActConform). AllMeant set k.core.moment.view asks k.outcomes) does all
 acted_meant (publishes g ∷ steps) set asks s t is_set is_asks does all =
     let k = does.1 in
     acted_meant steps set asks does.0 t (k.core.same ∙ is_set) (k.acts.asks ∙ is_asks) does.2

@@ -1,5 +1,5 @@
--- The end of a call of vgetrandom: its state's generation is one that was published, and only a call for no bytes ends
--- as `no_bytes`.
+-- If the old state's generation and each published one are at most `top`, so is the state's generation after a
+-- vgetrandom call. Only a call for no bytes ends as `no_bytes`.
 use Rattle.std.proofs.Common.{◌≡◌, ℕ, ◌≤◌, Bool, true, false, List, [], ◌∷◌, ◌++◌, refl, sym, ap, ◌∙◌, subst, arith}
 use Rattle.std.specs.Prelude.{MatchBool, ◌==◌, ⊤}
 use Rattle.std.proofs.lemmas.Bool.{eqb-true}
@@ -11,7 +11,7 @@ use Rattle.key_names.proofs.Vgetrandom.CopiesKeep.{copy_keeps_generation}
 use Rattle.key_names.specs.Kernel.VgetrandomState.{VgetrandomState, state_left}
 use Rattle.key_names.specs.Kernel.Vgetrandom.{SystemAnswer, read, failed, HostStep, publishes, system_call, at_point, Attempt, AttemptEnd, holds, outdated, not_keyed, AtPoint, FromEnd, FromServe, AfterKeyRead, FromWritten, FromStart, IsAttempt, no_bytes, by_batch, by_system, Outcome, BySystem, ByBatch, AfterAttempt, AttemptAndRest, AfterBoth, SecondAttempt, FirstAttempt, ByNothing, FromPublished, FromLook, IsCall}
 
--- each published generation is at most this
+-- each published generation is at most `top`
 abbrev pub PublishesUpTo : ℕ → List HostStep → Type 0
 PublishesUpTo top [] = ⊤
 PublishesUpTo top (publishes g ∷ steps) = (g ≤ top) × PublishesUpTo top steps
@@ -30,7 +30,7 @@ up_to_rest top (publishes g ∷ xs) ys h = up_to_rest top xs ys h.1
 up_to_rest top (system_call n flags answer ∷ xs) ys h = up_to_rest top xs ys h
 up_to_rest top (at_point point wiped ∷ xs) ys h = up_to_rest top xs ys h
 
--- the end of a call for n bytes
+-- a call for `n` bytes left a generation of at most `top`, and ended as `no_bytes` only if `n` is 0
 pub record EndsWell (top n : ℕ) (outcome : Outcome) : Type 0 where
   pub low : outcome.state.generation ≤ top
   pub none : outcome.ending ≡ no_bytes → n ≡ 0

@@ -1,4 +1,4 @@
--- The events for the deeds of each form.
+-- The effects of each path of a read, a reseed and a tick complete the call's event.
 use Rattle.std.proofs.Common.{◌≡◌, ℕ, zero, suc, ◌<◌, ◌≤◌, List, [], ◌∷◌, length, Some, None, refl, sym, ap, ◌∙◌, subst, inl, inr, arith, Bool, cond}
 use Rattle.std.proofs.lemmas.Bool.{ne_eqb}
 use Rattle.std.specs.Prelude.{MatchBool, ◌==◌}
@@ -8,7 +8,7 @@ use Rattle.key_names.specs.declared.events.Event.TheVariants.{Kread, Uread, Rese
 use Rattle.key_names.specs.declared.events.Answer.TheVariants.{Ok as Done, NoData, Fired, Idle}
 use Rattle.key_names.specs.Transcripts.SeenLine.{bytes_or_none, no_data}
 use Rattle.key_names.specs.Callers.Calls.{Setting}
-use Rattle.key_names.specs.Callers.Deeds.{Deed, looked}
+use Rattle.key_names.specs.Callers.Effects.{Effect, looked}
 use Rattle.key_names.specs.Callers.Forms.{Looked, ReadForm, Rooted, BaseOnly}
 use Rattle.key_names.specs.Callers.Answers.{answer_of}
 use Rattle.rng_core.specs.Makes.{IsOutcomeOf, Serving}
@@ -26,45 +26,45 @@ pub user_none : (set : Setting) (buf : List ℕ) → length buf ≡ 0 →
 user_none set [] e = record { form = refl; answers = refl; shows = refl }
 user_none set (b ∷ bs) e = absurd (omega arith)
 
-pub kernel_some : (set : Setting) (n m : ℕ) (bytes : List ℕ) (deeds : List Deed) → m ≡ n → 0 < n →
-    Serving (Looked (ReadForm set (Kernel m))) bytes deeds → IsOutcomeOf set (Kread n) Done (bytes_or_none bytes) deeds
-kernel_some set n m bytes deeds e some h = record {
+pub kernel_some : (set : Setting) (n m : ℕ) (bytes : List ℕ) (effects : List Effect) → m ≡ n → 0 < n →
+    Serving (Looked (ReadForm set (Kernel m))) bytes effects → IsOutcomeOf set (Kread n) Done (bytes_or_none bytes) effects
+kernel_some set n m bytes effects e some h = record {
   form = match_some _ _ n some
-      (subst (λ (k : ℕ). Looked (ReadForm set (Kernel k)) deeds) e h.form);
+      (subst (λ (k : ℕ). Looked (ReadForm set (Kernel k)) effects) e h.form);
   answers = refl;
   shows = ap bytes_or_none h.bytes_are;
 }
 
-pub user_some : (set : Setting) (n m : ℕ) (bytes : List ℕ) (deeds : List Deed) → m ≡ n → 0 < n →
-    Serving (Looked (ReadForm set (User m))) bytes deeds → IsOutcomeOf set (Uread n) Done (bytes_or_none bytes) deeds
-user_some set n m bytes deeds e some h = record {
+pub user_some : (set : Setting) (n m : ℕ) (bytes : List ℕ) (effects : List Effect) → m ≡ n → 0 < n →
+    Serving (Looked (ReadForm set (User m))) bytes effects → IsOutcomeOf set (Uread n) Done (bytes_or_none bytes) effects
+user_some set n m bytes effects e some h = record {
   form = match_some _ _ n some
-      (subst (λ (k : ℕ). Looked (ReadForm set (User k)) deeds) e h.form);
+      (subst (λ (k : ℕ). Looked (ReadForm set (User k)) effects) e h.form);
   answers = refl;
   shows = ap bytes_or_none h.bytes_are;
 }
 
-pub reseed_unready : (set : Setting) (g : ℕ) (deeds : List Deed) → g ≡ 0 → deeds ≡ looked g ∷ [] →
-    IsOutcomeOf set Reseed NoData no_data deeds
-reseed_unready set zero deeds z e = record {
+pub reseed_unready : (set : Setting) (g : ℕ) (effects : List Effect) → g ≡ 0 → effects ≡ looked g ∷ [] →
+    IsOutcomeOf set Reseed NoData no_data effects
+reseed_unready set zero effects z e = record {
   form = (zero, [], e, inl (refl, refl));
   answers = ap (answer_of Reseed) (sym e);
   shows = refl;
 }
-reseed_unready set (suc g) deeds z e = absurd (omega arith)
+reseed_unready set (suc g) effects z e = absurd (omega arith)
 
-pub reseed_ready : (set : Setting) (g : ℕ) (deeds rest : List Deed) → 1 ≤ g → deeds ≡ looked g ∷ rest →
-    Rooted set (λ (r : ℕ). Reseeded r set.now) rest → IsOutcomeOf set Reseed Done no_data deeds
-reseed_ready set g deeds rest one e h = record {
+pub reseed_ready : (set : Setting) (g : ℕ) (effects rest : List Effect) → 1 ≤ g → effects ≡ looked g ∷ rest →
+    Rooted set (λ (r : ℕ). Reseeded r set.now) rest → IsOutcomeOf set Reseed Done no_data effects
+reseed_ready set g effects rest one e h = record {
   form = (g, rest, e, inr (one, h));
   answers = ap (λ (b : Bool). cond b NoData Done) (sym (ne_eqb g 0 (λ z. omega arith))) ∙ ap (answer_of Reseed) (sym e);
   shows = refl;
 }
 
-pub tick_idle : (set : Setting) (deeds : List Deed) → BaseOnly (Ticked set.now None) deeds →
-    IsOutcomeOf set Tick Idle no_data deeds
-tick_idle set deeds h = record { form = inl h; answers = ap (answer_of Tick) (sym h.deeds_are); shows = refl }
+pub tick_idle : (set : Setting) (effects : List Effect) → BaseOnly (Ticked set.now None) effects →
+    IsOutcomeOf set Tick Idle no_data effects
+tick_idle set effects h = record { form = inl h; answers = ap (answer_of Tick) (sym h.effects_are); shows = refl }
 
-pub tick_fired : (set : Setting) (deeds : List Deed) → Rooted set (λ (r : ℕ). Ticked set.now (Some r)) deeds →
-    IsOutcomeOf set Tick Fired no_data deeds
-tick_fired set deeds h = record { form = inr h; answers = ap (answer_of Tick) (sym h.deeds_are); shows = refl }
+pub tick_fired : (set : Setting) (effects : List Effect) → Rooted set (λ (r : ℕ). Ticked set.now (Some r)) effects →
+    IsOutcomeOf set Tick Fired no_data effects
+tick_fired set effects h = record { form = inr h; answers = ap (answer_of Tick) (sym h.effects_are); shows = refl }

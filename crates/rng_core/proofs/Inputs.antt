@@ -1,25 +1,25 @@
--- An input event in the pool and its timer.
+-- What an input event does to the pool and its timer is a step of the pool's list (`pool_step`).
 use Rattle.std.proofs.Common.{◌≡◌, ◌≢◌, ℕ, ◌<◌, ◌≤◌, List, sym, ap, ◌∙◌, subst, arith}
 use Rattle.key_names.specs.declared.entries.PoolEntry.TheVariants.{Input}
 use Rattle.key_names.specs.Kernel.InputTimer.{InputTimer, input_timer_after, timer_bits}
 use Rattle.key_names.specs.Lanes.PoolList.{PoolState, crossing, credit, pool_step}
-use Rattle.input_pool.specs.PoolStands.{PoolParts, PoolStands}
-use Rattle.input_pool.proofs.Callers.{mixed, mixed_and_credited, input_bytes, credit-none, crossing-mix, PoolStands-timed, PoolStands-untimed, pool_step-timed, pool_step-untimed}
+use Rattle.input_pool.specs.PoolConforms.{PoolParts, PoolConforms}
+use Rattle.input_pool.proofs.Callers.{mixed, mixed_and_credited, input_bytes, credit-none, crossing-mix, PoolConforms-timed, PoolConforms-untimed, pool_step-timed, pool_step-untimed}
 use Rattle.sample_credit.specs.LastInput.{LastInput}
 
-pub record InputStands (parts : PoolParts) (last : LastInput) (s : PoolState) : Type 0 where
-  pub pool : PoolStands parts s
+pub record InputConforms (parts : PoolParts) (last : LastInput) (s : PoolState) : Type 0 where
+  pub pool : PoolConforms parts s
   pub value : last.value ≡ s.value
   pub timer : last.timer ≡ s.timer
 
 -- the bytes were mixed, and the value was kept
 pub record Mixed (s : PoolState) (word kind code value : ℕ) (before between : PoolParts) (last kept : LastInput)
     (text : List ℕ) : Type 0 where
-  pub stood : InputStands before last s
+  pub stood : InputConforms before last s
   pub fresh : value ≢ last.value
   pub keeps : kept ≡ record last { value = value }
   pub bytes : text ≡ input_bytes word kind code value
-  pub mixes : PoolStands between (mixed s text)
+  pub mixes : PoolConforms between (mixed s text)
 
 module _ (s : PoolState) (word kind code value now : ℕ) (before between : PoolParts) (last kept : LastInput)
     (text : List ℕ) (m : Mixed s word kind code value before between last kept text) where
@@ -30,18 +30,18 @@ module _ (s : PoolState) (word kind code value now : ℕ) (before between : Pool
   uncredited = m.mixes.credited ∙ credit-none s.bits m.stood.pool.capped
 
   -- a full pool gets no credit
-  pub untimed : 256 ≤ between.bits → InputStands between kept (pool_step s (Input word kind code value now))
+  pub untimed : 256 ≤ between.bits → InputConforms between kept (pool_step s (Input word kind code value now))
   untimed full = let full' : 256 ≤ s.bits = (let u = uncredited in omega arith) in let e =
       pool_step-untimed s word kind code value now differs full' in record {
-        pool = PoolStands-untimed before between s word kind code value now differs m.stood.pool full'
-            (subst (λ (t : List ℕ). PoolStands between (mixed s t)) m.bytes m.mixes);
+        pool = PoolConforms-untimed before between s word kind code value now differs m.stood.pool full'
+            (subst (λ (t : List ℕ). PoolConforms between (mixed s t)) m.bytes m.mixes);
         value = ap (λ (k : LastInput). k.value) m.keeps ∙ sym (ap (λ (z : PoolState). z.value) e);
         timer = ap (λ (k : LastInput). k.timer) m.keeps ∙ m.stood.timer ∙ sym (ap (λ (z : PoolState). z.timer) e);
       }
 
   -- a pool that is not full gets the timer's credit
   module _ (after : PoolParts) (next : LastInput) (bits : ℕ) (room : between.bits < 256)
-      (worth : bits ≡ timer_bits kept.timer now) (credits : PoolStands after (mixed_and_credited s text bits)) where
+      (worth : bits ≡ timer_bits kept.timer now) (credits : PoolConforms after (mixed_and_credited s text bits)) where
     room' : s.bits < 256
     room' = let u = uncredited in omega arith
 
@@ -52,11 +52,11 @@ module _ (s : PoolState) (word kind code value now : ℕ) (before between : Pool
     worth' = worth ∙ ap (λ (t : InputTimer). timer_bits t now) timer_is
 
     pub timed : next ≡ record kept { timer = input_timer_after kept.timer now } →
-        InputStands after next (pool_step s (Input word kind code value now))
+        InputConforms after next (pool_step s (Input word kind code value now))
     timed times = let e = pool_step-timed s word kind code value now differs room' in record {
-      pool = PoolStands-timed after s word kind code value now differs room'
-          (subst (λ (b : ℕ). PoolStands after (mixed_and_credited s (input_bytes word kind code value) b)) worth'
-          (subst (λ (t : List ℕ). PoolStands after (mixed_and_credited s t bits)) m.bytes credits));
+      pool = PoolConforms-timed after s word kind code value now differs room'
+          (subst (λ (b : ℕ). PoolConforms after (mixed_and_credited s (input_bytes word kind code value) b)) worth'
+          (subst (λ (t : List ℕ). PoolConforms after (mixed_and_credited s t bits)) m.bytes credits));
       value = ap (λ (k : LastInput). k.value) times ∙ ap (λ (k : LastInput). k.value) m.keeps
           ∙ sym (ap (λ (z : PoolState). z.value) e);
       timer = ap (λ (k : LastInput). k.timer) times ∙ ap (λ (t : InputTimer). input_timer_after t now) timer_is

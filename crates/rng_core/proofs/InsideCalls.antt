@@ -1,4 +1,4 @@
--- The effect of a read out of a caller's vgetrandom state, from a call on its host, with acts inside or without.
+-- The effect of a read follows from the vgetrandom call on the caller's host, with acts inside or without.
 use Rattle.std.proofs.Common.{◌≡◌, ℕ, ◌<◌, ◌≤◌, Bool, true, false, not, List, [], ◌∷◌, length, map, drop, refl, sym, ap, ◌∙◌, subst, arith}
 use Rattle.std.specs.Prelude.{MatchBool, ◌==◌, ◌&&◌, ◌||◌, ◌^◌, if◌then◌else◌}
 use Rattle.std.specs.List.{AllByRecursion}
@@ -7,7 +7,7 @@ use Rattle.std.proofs.lemmas.Bool.{le-leb, ne_eqb}
 use Rattle.key_names.specs.declared.events.Answer.{Answer}
 use Rattle.key_names.specs.declared.point.Point.{Point}
 use Rattle.key_names.specs.Lanes.Book.{Lists}
-use Rattle.key_names.specs.Callers.Deeds.{Deed, deeds_of}
+use Rattle.key_names.specs.Callers.Effects.{Effect, effects_of}
 use Rattle.key_names.specs.Callers.Meaning.{CallerState, CallMeaning, ActMeans, ActsMean, VreadMeans, ByVgetrandom, current_state, with_state, tries_local, unused_line}
 use Rattle.key_names.specs.Kernel.Flags.{is_bad}
 use Rattle.key_names.specs.Transcripts.SeenLine.{Shown, bytes_or_none}
@@ -15,7 +15,7 @@ use Rattle.key_names.specs.Texts.TranscriptGrammar.{StepFits}
 use Rattle.key_names.specs.Kernel.Vgetrandom.{IsCall}
 use Rattle.key_names.specs.Kernel.VgetrandomState.{VgetrandomState}
 use Rattle.key_names.specs.Kernel.Points.{is_same_point}
-use Rattle.key_names.specs.Callers.VreadSteps.{published_by, Shows, WipesStand, PointReached, points_of, first_points, is_wiped, is_reached, is_wipe, ending_answer, ending_shown, NeverFall}
+use Rattle.key_names.specs.Callers.VreadSteps.{published_by, Shows, WipesConform, PointReached, points_of, first_points, is_wiped, is_reached, is_wipe, ending_answer, ending_shown, NeverFall}
 use Rattle.key_names.proofs.Vgetrandom.Attempts.{match_false}
 use Rattle.key_names.proofs.Lists.Each.{each_weaker}
 use Rattle.lane_table.specs.declared.view.View.{View}
@@ -32,9 +32,9 @@ use Rattle.rng_core.specs.declared.vdso.attempt.Attempt.TheVariants.{Before}
 use Rattle.rng_core.specs.declared.setting.Setting.{Setting}
 use Rattle.rng_core.specs.Makes.{setting_of, result_answer, given}
 use Rattle.rng_core.specs.VreadMakes.{done_of, Called}
-use Rattle.rng_core.specs.Hosted.{stand}
+use Rattle.rng_core.specs.Hosted.{conform}
 use Rattle.rng_core.specs.Acts.{Ask, ActOutcome, wants, ask_of, asks_of, outcomes_of, is_ready, all_ready, wipes_at, done_line}
-use Rattle.rng_core.specs.Acting.{ActStand, act_stand, acting, InsideRan}
+use Rattle.rng_core.specs.Acting.{ActConform, act_conform, acting, InsideRan}
 use Rattle.rng_core.specs.Hosting.{standing, SameLoans, hosting, IsNewHost, HostCalled}
 use Rattle.rng_core.specs.InsideMakes.{IsWaitingAct, bound_acts, outcome_line, inside_meaning, InsideMakes}
 use Rattle.rng_core.proofs.ActRuns.{AllDone, AllMeant, came, Own}
@@ -111,14 +111,14 @@ module _ (set : Setting) (w : View) (lanes : ℕ) (visits : ℕ → List Visit) 
   lists = book_lists lanes visits callers
 
   one_means : (a : Ask) (z : ActOutcome)
-      (done : z.done ≡ true → ActMeans (setting_of set) a.act (done_line (deeds_of lists z.steps) z.answer z.bytes))
+      (done : z.done ≡ true → ActMeans (setting_of set) a.act (done_line (effects_of lists z.steps) z.answer z.bytes))
       (b : Bool) →
       z.done ≡ b →
       MatchBool b (ActMeans (setting_of set) a.act (outcome_line lists z)) (outcome_line lists z ≡ unused_line)
   one_means a z done true e = subst (ActMeans (setting_of set) a.act)
-      (sym (ap (λ (d : Bool). if d then done_line (deeds_of lists z.steps) z.answer z.bytes else unused_line) e))
+      (sym (ap (λ (d : Bool). if d then done_line (effects_of lists z.steps) z.answer z.bytes else unused_line) e))
       (done e)
-  one_means a z done false e = ap (λ (d : Bool). if d then done_line (deeds_of lists z.steps) z.answer z.bytes else
+  one_means a z done false e = ap (λ (d : Bool). if d then done_line (effects_of lists z.steps) z.answer z.bytes else
       unused_line) e
 
   acts_mean : (asks : List Ask) (xs zs : List ActOutcome) → AllByRecursion IsUndone xs →
@@ -145,13 +145,13 @@ no_local n flags set w (a ∷ asks) (z ∷ zs) some all =
     ap (λ (b : Bool). b && (not (n == 0) && not (is_bad flags)))
     (ne_eqb (length (bound_acts set (a ∷ asks) (z ∷ zs))) 0 (λ e. absurd (omega arith)))
 
--- a call on the host over the lanes, which began as h
+-- a call on the host over the lanes; the host was `h` before the call
 module _ {R : Type 0} {h last : LaneHost R} {finish : Finish} (n flags : ℕ) (s : VgetrandomState)
     (runs : Runs hosting (IsCall n flags s) h last finish) where
-  abbrev from : ActStand
+  abbrev from : ActConform
   from = standing h
 
-  abbrev to : ActStand
+  abbrev to : ActConform
   to = standing last
 
   does : DoesAll acting from runs.steps to
@@ -165,7 +165,7 @@ module _ {R : Type 0} {h last : LaneHost R} {finish : Finish} (n flags : ℕ) (s
 
   -- each step of the call is one of the caller itself
   inside_ran : InsideRan n flags s finish.state from
-      (λ attempt. act_stand (stand h.site.set last.site.pass.now last.site.trace.now) attempt
+      (λ attempt. act_conform (conform h.site.set last.site.pass.now last.site.trace.now) attempt
       (asks_of last.acts.now) (outcomes_of last.acts.now last.out.now))
   inside_ran = record {
     steps = runs.steps;
@@ -174,7 +174,7 @@ module _ {R : Type 0} {h last : LaneHost R} {finish : Finish} (n flags : ℕ) (s
     state = runs.state;
     last = last.attempt;
     does = subst (λ (z : Setting). DoesAll acting from runs.steps
-        (act_stand (stand z last.site.pass.now last.site.trace.now) last.attempt (asks_of last.acts.now)
+        (act_conform (conform z last.site.pass.now last.site.trace.now) last.attempt (asks_of last.acts.now)
         (outcomes_of last.acts.now last.out.now))) same_loans.site.set does;
   }
 
@@ -214,7 +214,7 @@ module _ {R : Type 0} {h last : LaneHost R} {finish : Finish} (n flags : ℕ) (s
       own : Own set (asks ≡ []) (Shows (setting_of set) runs.steps) from.core.moment to.core.moment
       own = acted_own runs.steps set asks from to refl refl two does
 
-      wipes : WipesStand (bound_acts set asks zs) (points_of runs.steps)
+      wipes : WipesConform (bound_acts set asks zs) (points_of runs.steps)
       wipes = let k = acted_wipes runs.steps asks Before from to refl new.before does in record {
         first = each_weaker (λ (reached : PointReached). reached.wiped ≡ wipes_at asks reached.point)
             (λ (reached : PointReached). reached.wiped ≡ is_wiped (bound_acts set asks zs) reached.point)
@@ -241,8 +241,8 @@ module _ {R : Type 0} {h last : LaneHost R} {finish : Finish} (n flags : ℕ) (s
         state = runs.state;
         answers = ends.0;
         shows = ends.1;
-        wipes = subst (λ (l : List Ask). WipesStand (bound_acts set l zs) (points_of runs.steps)) none wipes;
-        did = record { made_steps = own.made_steps; told = own.alone none; stands = own.stands };
+        wipes = subst (λ (l : List Ask). WipesConform (bound_acts set l zs) (points_of runs.steps)) none wipes;
+        did = record { made_steps = own.made_steps; recorded = own.alone none; conforms = own.conforms };
       }
 
       module _ (lanes : ℕ) (visits : ℕ → List Visit) (callers : StateLists)
@@ -251,11 +251,11 @@ module _ {R : Type 0} {h last : LaneHost R} {finish : Finish} (n flags : ℕ) (s
         abbrev book : Lists
         book = book_lists lanes visits callers
 
-        abbrev deeds : List Deed
-        deeds = deeds_of book (map step_of own.made_steps)
+        abbrev effects : List Effect
+        effects = effects_of book (map step_of own.made_steps)
 
         abbrev meaning : CallMeaning
-        meaning = inside_meaning book deeds answer shown runs.outcome.entries zs before finish.state
+        meaning = inside_meaning book effects answer shown runs.outcome.entries zs before finish.state
 
         by_call : ByVgetrandom n flags (bound_acts set asks zs) meaning
         by_call = record {
@@ -263,7 +263,7 @@ module _ {R : Type 0} {h last : LaneHost R} {finish : Finish} (n flags : ℕ) (s
           outcome = runs.outcome;
           is_call = subst (λ (z : VgetrandomState). IsCall n flags z runs.steps runs.outcome) (sym state_is)
               runs.relates;
-          shows = subst (λ z. Shows z runs.steps deeds) (sym set_is) (own.stands lanes visits callers c);
+          shows = subst (λ z. Shows z runs.steps effects) (sym set_is) (own.conforms lanes visits callers c);
           wipes = wipes;
           inside = subst (λ z. ActsMean z (is_reached (points_of runs.steps)) (bound_acts set asks zs)
               (map (outcome_line book) zs))
@@ -295,7 +295,7 @@ module _ {R : Type 0} {h last : LaneHost R} {finish : Finish} (n flags : ℕ) (s
         trace = own.trace;
         fits = own.fits;
         acts_fit = all_fit set (view last.site.pass.now) asks zs meant;
-        stands = λ lanes visits callers c before set_is state_is. line lanes visits callers c before set_is state_is
+        conforms = λ lanes visits callers c before set_is state_is. line lanes visits callers c before set_is state_is
             some;
       }
 

@@ -10,7 +10,7 @@ pub mod CallEnds
 pub mod Makings
 pub mod OwnStates
 pub mod OwnReads
-pub mod Courses
+pub mod Paths
 pub mod Finding
 pub mod Fulfilling
 pub mod Hosting

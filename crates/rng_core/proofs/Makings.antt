@@ -1,4 +1,5 @@
--- Calls from their visits: successive calls, and the forms of the most used pieces.
+-- The effects of calls follow from their visits: two successive calls make the effects of both, and the visits that
+-- most calls share have their forms.
 use Rattle.std.proofs.Common.{◌≡◌, ℕ, ◌+◌, ◌<◌, ◌≤◌, length, arith, List, [], ◌∷◌, ◌++◌, map, Some, None, sym, refl, ap, ◌∙◌, subst, append-nil}
 use Rattle.std.proofs.lemmas.List.{map-append}
 use Rattle.key_names.specs.declared.entries.Taken.{Taken}
@@ -9,8 +10,8 @@ use Rattle.key_names.specs.declared.entries.BaseEntry.TheVariants.{Refill}
 use Rattle.key_names.specs.declared.entries.CpuEntry.{CpuEntry}
 use Rattle.key_names.specs.declared.entries.CpuEntry.TheVariants.{Read}
 use Rattle.key_names.specs.Lanes.Book.{Lists}
-use Rattle.key_names.specs.Callers.Deeds.{Deed, looked, deed_of, deeds_of}
-use Rattle.key_names.specs.Callers.Answers.{deed_bytes, served_bytes, bits_read}
+use Rattle.key_names.specs.Callers.Effects.{Effect, looked, effect_of, effects_of}
+use Rattle.key_names.specs.Callers.Answers.{effect_bytes, served_bytes, bits_read}
 use Rattle.key_names.specs.Transcripts.SeenLine.{count}
 use Rattle.key_names.specs.declared.events.Event.TheVariants.{Bits as BitsEvent}
 use Rattle.key_names.specs.declared.events.Answer.TheVariants.{Ok as Done}
@@ -33,61 +34,61 @@ use Rattle.lane_table.proofs.Calls.AdvanceLemmas.{went_idly}
 use Rattle.rng_core.specs.declared.setting.Setting.{Setting}
 use Rattle.rng_core.specs.Traces.{Moment, TraceRecords, Visited}
 use Rattle.rng_core.specs.Makes.{MakesIn, Makes, Serving, Served, IsOutcomeOf, setting_of, serving}
-use Rattle.rng_core.proofs.TellLemmas.{told_then, told_idly}
+use Rattle.rng_core.proofs.TellLemmas.{recorded_then, recorded_idly}
 use Rattle.rng_core.proofs.Finding.{found_pool, found_base, found_cpu}
 
 -- the generation that the pass has seen does not fall
-pub did_floor : {P : (ℕ → List Visit) → List Deed → Type 0} (set : Setting) (m n : Moment) → MakesIn P set m n →
+pub did_floor : {P : (ℕ → List Visit) → List Effect → Type 0} (set : Setting) (m n : Moment) → MakesIn P set m n →
     floor m.view ≤ floor n.view
-did_floor set m n k = sees_up n.view (floor m.view) (floor n.view) k.made_steps k.told.went.sees
+did_floor set m n k = sees_up n.view (floor m.view) (floor n.view) k.made_steps k.recorded.went.sees
 
-pub did_in_map : {P Q : (ℕ → List Visit) → List Deed → Type 0} (set : Setting) (m n : Moment) →
-    ((visits : ℕ → List Visit) (deeds : List Deed) → P visits deeds → Q visits deeds) → MakesIn P set m n →
+pub did_in_map : {P Q : (ℕ → List Visit) → List Effect → Type 0} (set : Setting) (m n : Moment) →
+    ((visits : ℕ → List Visit) (effects : List Effect) → P visits effects → Q visits effects) → MakesIn P set m n →
     MakesIn Q set m n
 did_in_map set m n f k = record {
   made_steps = k.made_steps;
-  told = k.told;
-  stands = λ lanes visits callers c. f visits _ (k.stands lanes visits callers c);
+  recorded = k.recorded;
+  conforms = λ lanes visits callers c. f visits _ (k.conforms lanes visits callers c);
 }
 
-pub did_map : {P Q : List Deed → Type 0} (set : Setting) (m n : Moment) → ((deeds : List Deed) → P deeds → Q deeds) →
+pub did_map : {P Q : List Effect → Type 0} (set : Setting) (m n : Moment) → ((effects : List Effect) → P effects → Q effects) →
     Makes P set m n → Makes Q set m n
 did_map set m n f k = did_in_map set m n (λ visits. f) k
 
--- if a call made deeds of a form that serve bytes, it made deeds of that form
-pub formed : {F : List Deed → Type 0} {bytes : List ℕ} (set : Setting) (m n : Moment) →
+-- effects that have a form and serve bytes have the form
+pub formed : {F : List Effect → Type 0} {bytes : List ℕ} (set : Setting) (m n : Moment) →
     Makes (Serving F bytes) set m n →
     Makes F set m n
-formed set m n k = did_map set m n (λ deeds h. h.form) k
+formed set m n k = did_map set m n (λ effects h. h.form) k
 
 pub served_of : (set : Setting) (m n : Moment) (lane place : ℕ) (s : Model) (e : LaneEntry) (got : Handed) →
     Visited set m n lane place s e got → Served set m n lane place e (serving e s got)
 served_of set m n lane place s e got x = record { model = s; got = got; visited = x; serves = refl }
 
--- if no step was made from l to m, a call from m to n is a call from l to n
-pub did_after : {P : (ℕ → List Visit) → List Deed → Type 0} (set : Setting) (l m n : Moment) → TraceRecords set l m [] →
+-- if no step was made from `l` to `m`, a call from `m` to `n` is a call from `l` to `n`
+pub did_after : {P : (ℕ → List Visit) → List Effect → Type 0} (set : Setting) (l m n : Moment) → TraceRecords set l m [] →
     MakesIn P set m n → MakesIn P set l n
 did_after set l m n a k = record {
   made_steps = k.made_steps;
-  told = told_then set l m n [] k.made_steps a k.told;
-  stands = k.stands;
+  recorded = recorded_then set l m n [] k.made_steps a k.recorded;
+  conforms = k.conforms;
 }
 
-served_behind_look : (g : ℕ) (deeds : List Deed) → served_bytes (looked g ∷ deeds) ≡ served_bytes deeds
-served_behind_look g [] = refl
-served_behind_look g (d ∷ deeds) = refl
+served_after_look : (g : ℕ) (effects : List Effect) → served_bytes (looked g ∷ effects) ≡ served_bytes effects
+served_after_look g [] = refl
+served_after_look g (d ∷ effects) = refl
 
-pub serving_looked : {P : ℕ → List Deed → Type 0} {bytes : List ℕ} (set : Setting) (l m n : Moment) (g : ℕ) →
+pub serving_looked : {P : ℕ → List Effect → Type 0} {bytes : List ℕ} (set : Setting) (l m n : Moment) (g : ℕ) →
     TraceRecords set l m (went.looked g ∷ []) → Makes (Serving (P g) bytes) set m n →
     Makes (Serving (forms.Looked P) bytes) set l n
 serving_looked set l m n g a k = record {
   made_steps = went.looked g ∷ k.made_steps;
-  told = told_then set l m n (went.looked g ∷ []) k.made_steps a k.told;
-  stands = λ lanes visits callers c. let h = k.stands lanes visits callers c in
+  recorded = recorded_then set l m n (went.looked g ∷ []) k.made_steps a k.recorded;
+  conforms = λ lanes visits callers c. let h = k.conforms lanes visits callers c in
       record {
         form = (g, _, refl, h.form);
         bytes_are = h.bytes_are
-            ∙ sym (served_behind_look g (deeds_of (book_lists lanes visits callers) (map step_of k.made_steps)));
+            ∙ sym (served_after_look g (effects_of (book_lists lanes visits callers) (map step_of k.made_steps)));
       };
 }
 
@@ -96,20 +97,20 @@ pub did_pool : (set : Setting) (m n : Moment) (place : ℕ) (s : Model) (e : Poo
     Visited set m n 0 place s (Pool e) got → Makes (PoolOnly e) set m n
 did_pool set m n place s e got x = record {
   made_steps = visited x.mark (Pool e) ∷ [];
-  told = x.told;
-  stands = λ lanes visits callers c. let f = found_pool lanes visits callers set m n place s got c e x in
-      record { pool = f.visit; deeds_are = ap (λ (d : Deed). d ∷ []) f.deed_is; is = f.is };
+  recorded = x.recorded;
+  conforms = λ lanes visits callers c. let f = found_pool lanes visits callers set m n place s got c e x in
+      record { pool = f.visit; effects_are = ap (λ (d : Effect). d ∷ []) f.effect_is; is = f.is };
 }
 
 pub did_base : (set : Setting) (m n : Moment) (place : ℕ) (e : BaseEntry) (bytes : List ℕ) →
     Served set m n 1 place (Base e) bytes → Makes (Serving (BaseOnly e) bytes) set m n
 did_base set m n place e bytes x = record {
   made_steps = visited x.visited.mark (Base e) ∷ [];
-  told = x.visited.told;
-  stands = λ lanes visits callers c. let f = found_base lanes visits callers set m n place x.model x.got c e x.visited
+  recorded = x.visited.recorded;
+  conforms = λ lanes visits callers c. let f = found_base lanes visits callers set m n place x.model x.got c e x.visited
       in record {
-        form = record { base = f.visit; deeds_are = ap (λ (d : Deed). d ∷ []) f.deed_is; is = f.is };
-        bytes_are = x.serves ∙ sym f.serves ∙ ap deed_bytes (sym f.deed_is);
+        form = record { base = f.visit; effects_are = ap (λ (d : Effect). d ∷ []) f.effect_is; is = f.is };
+        bytes_are = x.serves ∙ sym f.serves ∙ ap effect_bytes (sym f.effect_is);
       };
 }
 
@@ -117,11 +118,11 @@ pub did_cpu : (set : Setting) (m n : Moment) (cpu place : ℕ) (e : CpuEntry) (b
     Served set m n (cpu + 2) place (Cpu e) bytes → Makes (Serving (CpuOnly cpu e) bytes) set m n
 did_cpu set m n cpu place e bytes fits x = record {
   made_steps = visited x.visited.mark (Cpu e) ∷ [];
-  told = x.visited.told;
-  stands = λ lanes visits callers c. let f = found_cpu lanes visits callers set m n place x.model x.got c cpu e
+  recorded = x.visited.recorded;
+  conforms = λ lanes visits callers c. let f = found_cpu lanes visits callers set m n place x.model x.got c cpu e
       x.visited fits in record {
-        form = record { visit = f.visit; deeds_are = ap (λ (d : Deed). d ∷ []) f.deed_is; on = f.on; is = f.is };
-        bytes_are = x.serves ∙ sym f.serves ∙ ap deed_bytes (sym f.deed_is);
+        form = record { visit = f.visit; effects_are = ap (λ (d : Effect). d ∷ []) f.effect_is; on = f.on; is = f.is };
+        bytes_are = x.serves ∙ sym f.serves ∙ ap effect_bytes (sym f.effect_is);
       };
 }
 
@@ -132,21 +133,21 @@ pub did_rooted : (set : Setting) (l m n : Moment) (root base : ℕ) (s : Model) 
     → Makes (Serving (Rooted (setting_of set) entry) bytes) set l n
 did_rooted set l m n root base s got entry bytes x y = record {
   made_steps = visited x.mark (Pool (Extract set.hw base)) ∷ visited y.visited.mark (Base (entry root)) ∷ [];
-  told = told_then set l m n (visited x.mark (Pool (Extract set.hw base)) ∷ [])
-      (visited y.visited.mark (Base (entry root)) ∷ []) x.told y.visited.told;
-  stands = λ lanes visits callers c.
+  recorded = recorded_then set l m n (visited x.mark (Pool (Extract set.hw base)) ∷ [])
+      (visited y.visited.mark (Base (entry root)) ∷ []) x.recorded y.visited.recorded;
+  conforms = λ lanes visits callers c.
       let f = found_pool lanes visits callers set l m root s got
-      (continues_before lanes _ _ visits y.visited.told.went.same.sized y.visited.told.went.grows c)
+      (continues_before lanes _ _ visits y.visited.recorded.went.same.sized y.visited.recorded.went.grows c)
       (Extract set.hw base) x in
       let g = found_base lanes visits callers set m n base y.model y.got c (entry root) y.visited in record {
         form = record {
           pool = f.visit;
           base = g.visit;
-          deeds_are = (λ i. f.deed_is i ∷ g.deed_is i ∷ []);
+          effects_are = (λ i. f.effect_is i ∷ g.effect_is i ∷ []);
           extracts = f.is ∙ ap (λ (p : ℕ). Extract set.hw p) (sym g.at);
           names = g.is ∙ ap entry (sym f.at);
         };
-        bytes_are = y.serves ∙ sym g.serves ∙ ap deed_bytes (sym g.deed_is);
+        bytes_are = y.serves ∙ sym g.serves ∙ ap effect_bytes (sym g.effect_is);
       };
 }
 
@@ -156,18 +157,18 @@ pub did_plain_read : (set : Setting) (l m n : Moment) (g place : ℕ) (taken : T
     → Makes (Serving (PlainRead (setting_of set) taken) bytes) set l n
 did_plain_read set l m n g place taken bytes a x = record {
   made_steps = went.looked g ∷ visited x.visited.mark (Cpu (Read g None taken)) ∷ [];
-  told = told_then set l m n (went.looked g ∷ []) (visited x.visited.mark (Cpu (Read g None taken)) ∷ []) a
-      x.visited.told;
-  stands = λ lanes visits callers c. let f = found_cpu lanes visits callers set m n place x.model x.got c set.cpu
+  recorded = recorded_then set l m n (went.looked g ∷ []) (visited x.visited.mark (Cpu (Read g None taken)) ∷ []) a
+      x.visited.recorded;
+  conforms = λ lanes visits callers c. let f = found_cpu lanes visits callers set m n place x.model x.got c set.cpu
       (Read g None taken) x.visited tt in record {
         form = record {
           look = g;
           cpu = f.visit;
-          deeds_are = (λ i. looked g ∷ f.deed_is i ∷ []);
+          effects_are = (λ i. looked g ∷ f.effect_is i ∷ []);
           on = f.on;
           reads = f.is;
         };
-        bytes_are = x.serves ∙ sym f.serves ∙ ap deed_bytes (sym f.deed_is);
+        bytes_are = x.serves ∙ sym f.serves ∙ ap effect_bytes (sym f.effect_is);
       };
 }
 
@@ -179,13 +180,13 @@ pub did_refilled_read : (set : Setting) (k l m n : Moment) (g base place : ℕ) 
 did_refilled_read set k l m n g base place s got taken bytes a x y = record {
   made_steps = went.looked g ∷ visited x.mark (Base (Refill set.cpu place)) ∷ visited y.visited.mark
       (Cpu (Read g (Some base) taken)) ∷ [];
-  told = told_then set k l n (went.looked g ∷ [])
+  recorded = recorded_then set k l n (went.looked g ∷ [])
       (visited x.mark (Base (Refill set.cpu place)) ∷ visited y.visited.mark (Cpu (Read g (Some base) taken)) ∷ []) a
-      (told_then set l m n (visited x.mark (Base (Refill set.cpu place)) ∷ [])
-      (visited y.visited.mark (Cpu (Read g (Some base) taken)) ∷ []) x.told y.visited.told);
-  stands = λ lanes visits callers c.
+      (recorded_then set l m n (visited x.mark (Base (Refill set.cpu place)) ∷ [])
+      (visited y.visited.mark (Cpu (Read g (Some base) taken)) ∷ []) x.recorded y.visited.recorded);
+  conforms = λ lanes visits callers c.
       let f = found_base lanes visits callers set l m base s got
-      (continues_before lanes _ _ visits y.visited.told.went.same.sized y.visited.told.went.grows c)
+      (continues_before lanes _ _ visits y.visited.recorded.went.same.sized y.visited.recorded.went.grows c)
       (Refill set.cpu place) x in
       let h = found_cpu lanes visits callers set m n place y.model y.got c set.cpu (Read g (Some base) taken) y.visited
       tt in record {
@@ -193,50 +194,50 @@ did_refilled_read set k l m n g base place s got taken bytes a x y = record {
           look = g;
           base = f.visit;
           cpu = h.visit;
-          deeds_are = (λ i. looked g ∷ f.deed_is i ∷ h.deed_is i ∷ []);
+          effects_are = (λ i. looked g ∷ f.effect_is i ∷ h.effect_is i ∷ []);
           on = h.on;
           refills = f.is ∙ ap (λ (p : ℕ). Refill set.cpu p) (sym h.at);
           reads = h.is ∙ ap (λ (p : ℕ). Read g (Some p) taken) (sym f.at);
         };
-        bytes_are = y.serves ∙ sym h.serves ∙ ap deed_bytes (sym h.deed_is);
+        bytes_are = y.serves ∙ sym h.serves ∙ ap effect_bytes (sym h.effect_is);
       };
 }
 
--- a call that makes no step has no deeds
-pub did_nothing : {P : List Deed → Type 0} (set : Setting) (m : Moment) → 1 < length m.view.lanes → P [] →
+-- a call that makes no step has no effects
+pub did_nothing : {P : List Effect → Type 0} (set : Setting) (m : Moment) → 1 < length m.view.lanes → P [] →
     Makes P set m m
 did_nothing set m two p = record {
   made_steps = [];
-  told = told_idly set m m refl (went_idly set.caller set.event (length m.steps) m.view m.view
+  recorded = recorded_idly set m m refl (went_idly set.caller set.event (length m.steps) m.view m.view
       (record { first = refl; share = refl; halvings = refl; sized = refl })
       (λ lane low. ([], sym (append-nil (known_of m.view lane)))) refl refl refl two (omega arith)
       (λ lane low. record { made = refl; places = refl; heard = refl }));
-  stands = λ lanes visits callers c. p;
+  conforms = λ lanes visits callers c. p;
 }
 
--- one look has the deed of that look
+-- one look has the effect of that look
 pub did_look : (set : Setting) (l m : Moment) (g : ℕ) → TraceRecords set l m (went.looked g ∷ []) →
-    Makes (λ (deeds : List Deed). deeds ≡ looked g ∷ []) set l m
-did_look set l m g a = record { made_steps = went.looked g ∷ []; told = a; stands = λ lanes visits callers c. refl }
+    Makes (λ (effects : List Effect). effects ≡ looked g ∷ []) set l m
+did_look set l m g a = record { made_steps = went.looked g ∷ []; recorded = a; conforms = λ lanes visits callers c. refl }
 
--- a visit of the pool that credits bits, and the steps for the threshold that they cross, have the form of a credit
+-- a visit of the pool that credits bits, with the steps after it for the threshold crossed, has the form of a credit
 pub did_credit : (set : Setting) (l m n : Moment) (place : ℕ) (s : Model) (e : PoolEntry) (got : Handed)
     (crossed : Crossing) → Visited set l m 0 place s (Pool e) got →
     crossed ≡ crossing s.pool.bits (pool_step s.pool e).bits
     → Makes (Cross (setting_of set) crossed) set m n → Makes (CreditForm (setting_of set) e) set l n
 did_credit set l m n place s e got crossed x is k = record {
   made_steps = visited x.mark (Pool e) ∷ k.made_steps;
-  told = told_then set l m n (visited x.mark (Pool e) ∷ []) k.made_steps x.told k.told;
-  stands = λ lanes visits callers c.
+  recorded = recorded_then set l m n (visited x.mark (Pool e) ∷ []) k.made_steps x.recorded k.recorded;
+  conforms = λ lanes visits callers c.
       let f = found_pool lanes visits callers set l m place s got
-      (continues_before lanes _ _ visits k.told.went.same.sized k.told.went.grows c) e x in
-      let rest = deeds_of (book_lists lanes visits callers) (map step_of k.made_steps) in record {
+      (continues_before lanes _ _ visits k.recorded.went.same.sized k.recorded.went.grows c) e x in
+      let rest = effects_of (book_lists lanes visits callers) (map step_of k.made_steps) in record {
         pool = f.visit;
         rest = rest;
-        deeds_are = ap (λ (d : Deed). d ∷ rest) f.deed_is;
+        effects_are = ap (λ (d : Effect). d ∷ rest) f.effect_is;
         credits = f.is;
         crosses = subst (λ (z : Crossing). Cross (setting_of set) z rest)
-            (is ∙ (λ i. crossing (sym f.before i).bits (sym f.after i).bits)) (k.stands lanes visits callers c);
+            (is ∙ (λ i. crossing (sym f.before i).bits (sym f.after i).bits)) (k.conforms lanes visits callers c);
       };
 }
 
@@ -246,61 +247,61 @@ pub did_bits : (set : Setting) (m n : Moment) (place b : ℕ) (s : Model) (got :
     Makes (IsOutcomeOf (setting_of set) BitsEvent Done (count b)) set m n
 did_bits set m n place b s got x is = record {
   made_steps = visited x.mark (Pool Bits) ∷ [];
-  told = x.told;
-  stands = λ lanes visits callers c. let f = found_pool lanes visits callers set m n place s got c Bits x in record {
-    form = record { pool = f.visit; deeds_are = ap (λ (d : Deed). d ∷ []) f.deed_is; is = f.is };
+  recorded = x.recorded;
+  conforms = λ lanes visits callers c. let f = found_pool lanes visits callers set m n place s got c Bits x in record {
+    form = record { pool = f.visit; effects_are = ap (λ (d : Effect). d ∷ []) f.effect_is; is = f.is };
     answers = refl;
     shows = ap count (is ∙ ap (λ (z : PoolState). z.bits) (sym f.before))
-        ∙ ap (λ (d : Deed). bits_read (d ∷ [])) (sym f.deed_is);
+        ∙ ap (λ (d : Effect). bits_read (d ∷ [])) (sym f.effect_is);
   };
 }
 
--- the deeds of two successive calls
-pub record After (P Q : List Deed → Type 0) (deeds : List Deed) : Type 0 where
-  pub first : List Deed
-  pub rest : List Deed
-  pub deeds_are : deeds ≡ first ++ rest
+-- the effects are those of a first call, which meet P, and then those of a second, which meet Q
+pub record After (P Q : List Effect → Type 0) (effects : List Effect) : Type 0 where
+  pub first : List Effect
+  pub rest : List Effect
+  pub effects_are : effects ≡ first ++ rest
   pub before : P first
-  pub behind : Q rest
+  pub following : Q rest
 
-pub deeds_then : (book : Lists) (xs ys : List MadeStep) →
-    deeds_of book (map step_of (xs ++ ys)) ≡ deeds_of book (map step_of xs) ++ deeds_of book (map step_of ys)
-deeds_then book xs ys = ap (deeds_of book) (map-append step_of xs ys)
-    ∙ map-append (deed_of book) (map step_of xs) (map step_of ys)
+pub effects_then : (book : Lists) (xs ys : List MadeStep) →
+    effects_of book (map step_of (xs ++ ys)) ≡ effects_of book (map step_of xs) ++ effects_of book (map step_of ys)
+effects_then book xs ys = ap (effects_of book) (map-append step_of xs ys)
+    ∙ map-append (effect_of book) (map step_of xs) (map step_of ys)
 
-pub did_in_then : {P Q : (ℕ → List Visit) → List Deed → Type 0} (set : Setting) (l m n : Moment) → MakesIn P set l m →
+pub did_in_then : {P Q : (ℕ → List Visit) → List Effect → Type 0} (set : Setting) (l m n : Moment) → MakesIn P set l m →
     MakesIn Q set m n → MakesIn (λ visits. After (P visits) (Q visits)) set l n
 did_in_then set l m n a b = record {
   made_steps = a.made_steps ++ b.made_steps;
-  told = told_then set l m n a.made_steps b.made_steps a.told b.told;
-  stands = λ lanes visits callers c. let book = book_lists lanes visits callers in record {
-    first = deeds_of book (map step_of a.made_steps);
-    rest = deeds_of book (map step_of b.made_steps);
-    deeds_are = deeds_then book a.made_steps b.made_steps;
-    before = a.stands lanes visits callers (continues_before lanes _ _ visits b.told.went.same.sized b.told.went.grows
+  recorded = recorded_then set l m n a.made_steps b.made_steps a.recorded b.recorded;
+  conforms = λ lanes visits callers c. let book = book_lists lanes visits callers in record {
+    first = effects_of book (map step_of a.made_steps);
+    rest = effects_of book (map step_of b.made_steps);
+    effects_are = effects_then book a.made_steps b.made_steps;
+    before = a.conforms lanes visits callers (continues_before lanes _ _ visits b.recorded.went.same.sized b.recorded.went.grows
         c);
-    behind = b.stands lanes visits callers c;
+    following = b.conforms lanes visits callers c;
   };
 }
 
-pub did_then : {P Q : List Deed → Type 0} (set : Setting) (l m n : Moment) → Makes P set l m → Makes Q set m n →
+pub did_then : {P Q : List Effect → Type 0} (set : Setting) (l m n : Moment) → Makes P set l m → Makes Q set m n →
     Makes (After P Q) set l n
 did_then set l m n a b = did_in_then set l m n a b
 
--- the deeds after a look that found g, with that look
-pub record Behind (g : ℕ) (P : List Deed → Type 0) (deeds : List Deed) : Type 0 where
-  pub rest : List Deed
-  pub deeds_are : deeds ≡ looked g ∷ rest
+-- the effects begin with a look that found `g`, and the effects after it meet P
+pub record AfterLook (g : ℕ) (P : List Effect → Type 0) (effects : List Effect) : Type 0 where
+  pub rest : List Effect
+  pub effects_are : effects ≡ looked g ∷ rest
   pub holds : P rest
 
-pub did_behind : {P : List Deed → Type 0} (set : Setting) (l m n : Moment) (g : ℕ) →
-    TraceRecords set l m (went.looked g ∷ []) → Makes P set m n → Makes (Behind g P) set l n
-did_behind set l m n g a k = record {
+pub did_after_look : {P : List Effect → Type 0} (set : Setting) (l m n : Moment) (g : ℕ) →
+    TraceRecords set l m (went.looked g ∷ []) → Makes P set m n → Makes (AfterLook g P) set l n
+did_after_look set l m n g a k = record {
   made_steps = went.looked g ∷ k.made_steps;
-  told = told_then set l m n (went.looked g ∷ []) k.made_steps a k.told;
-  stands = λ lanes visits callers c. record {
-    rest = deeds_of (book_lists lanes visits callers) (map step_of k.made_steps);
-    deeds_are = refl;
-    holds = k.stands lanes visits callers c;
+  recorded = recorded_then set l m n (went.looked g ∷ []) k.made_steps a k.recorded;
+  conforms = λ lanes visits callers c. record {
+    rest = effects_of (book_lists lanes visits callers) (map step_of k.made_steps);
+    effects_are = refl;
+    holds = k.conforms lanes visits callers c;
   };
 }

@@ -1,4 +1,4 @@
--- Two reads out of a caller's own state, as the law of own states needs them.
+-- Two successive reads out of one state of a caller meet the conditions of the law of own states.
 use Rattle.std.proofs.Common.{◌≡◌, ℕ, ◌+◌, ◌<◌, ◌≤◌, cond, List, [], ◌∷◌, ◌++◌, length, get_or, refl, sym, ap, ◌∙◌, subst, arith}
 use Rattle.std.specs.Prelude.{◌==◌}
 use Rattle.std.specs.List.{sum_by}
@@ -22,24 +22,24 @@ use Rattle.rng_core.specs.OwnStates.{OwnUse, by_vread, IsKnown, OwnStates, visit
 use Rattle.rng_core.proofs.OwnStates.{own_states_are_lawful}
 use Rattle.rng_core.proofs.Readings.{stayed}
 
--- a read from one view to the other, with its visits of a lane
+-- over one read the view keeps its lanes, its known lists grow, and its places get those of the read's visits
 module _ {n flags : ℕ} {s t : VgetrandomState} {answer : Answer} {shown : Shown} {set : Setting} {l m : Moment}
     (k : VreadMakes n flags s t answer shown set l m) where
   lanes : k.looked.lanes ≡ l.view.lanes
   lanes = (stayed n flags s t answer shown set l m k).lanes
 
   read_long : length m.view.lanes ≡ length l.view.lanes
-  read_long = k.did.told.went.same.sized ∙ ap length lanes
+  read_long = k.did.recorded.went.same.sized ∙ ap length lanes
 
   read_grows : Grows l.view m.view
   read_grows = subst (λ (z : List LaneView). (j : ℕ) → j < length z → Begins (get_or z j blank).known (known_of m.view j))
-      lanes k.did.told.went.grows
+      lanes k.did.recorded.went.grows
 
   read_places : (lane : ℕ) → lane < length l.view.lanes →
       (at lane m.view).places ≡ (at lane l.view).places ++ places_in lane k.did.made_steps
   read_places = subst (λ (z : List LaneView). (lane : ℕ) → lane < length z →
       (at lane m.view).places ≡ (get_or z lane blank).places ++ places_in lane k.did.made_steps)
-      lanes k.did.told.went.places
+      lanes k.did.recorded.went.places
 
 -- one view counts at most as many visits as all views together
 one_of_all : (f : View → ℕ) (views : List View) (j : ℕ) (v : View) (s : St) → views ≡ s.views → IsView s j v →

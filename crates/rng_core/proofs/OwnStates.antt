@@ -1,4 +1,5 @@
--- A caller's own states: the effect of each use, and the laws of books for all.
+-- Each use of a caller's own state leaves entries that continue the state's list. The laws of books for all states
+-- together follow from this.
 use Rattle.std.proofs.Common.{◌≡◌, ℕ, zero, suc, ◌+◌, ◌<◌, ◌≤◌, Bool, true, false, cond, eq-eqb, ne_eqb, List, [], ◌∷◌, length, map, refl, sym, ap, ◌∙◌, subst, arith, Some, None, append-nil, inl, inr}
 use Rattle.std.specs.Prelude.{◌==◌, ◌&&◌, not, nat_lt, if◌then◌else◌, slice_get}
 use Rattle.std.specs.List.{sum_by, AllByRecursion}
@@ -15,7 +16,7 @@ use Rattle.key_names.specs.Kernel.BatchCopy.{has_left, serves_locally, copy_entr
 use Rattle.key_names.specs.Lanes.Book.{Lists, list_at, cpu_list, StatePlace, rekey_in, HalfFinishedBook}
 use Rattle.key_names.specs.Lanes.CpuList.{taken_at}
 use Rattle.key_names.specs.Callers.Calls.{Setting as CallSetting, BoundAct, first_setting}
-use Rattle.key_names.specs.Callers.Deeds.{Deed, deeds_of}
+use Rattle.key_names.specs.Callers.Effects.{Effect, effects_of}
 use Rattle.key_names.specs.Callers.Forms.{Looked}
 use Rattle.key_names.specs.Keys.LiveMaterial.{StateBytes, state_bytes_start}
 use Rattle.key_names.specs.Callers.Meaning.{CallerState, CallMeaning, LineMeaning, ByLocalCopy, ByVgetrandom, LocalOrCall, VreadMeans, caller_start, current_state, tries_local, unused_line, with_state}
@@ -32,8 +33,8 @@ use Rattle.key_names.proofs.Vgetrandom.KeyReads.{call_names, copy_names}
 use Rattle.key_names.proofs.Vgetrandom.KeyTakes.{takes, takes_append, copy_takes, call_takes}
 use Rattle.key_names.proofs.Vgetrandom.StatesReplay as replay
 use Rattle.key_names.proofs.Transcripts.KeyVisits.{all_there, key_reads}
-use Rattle.key_names.proofs.Transcripts.GoodSteps.{good_behind}
-use Rattle.key_names.proofs.Transcripts.TakenMarks.{hit, lane_takes, mark_takes, deeds_within}
+use Rattle.key_names.proofs.Transcripts.GoodSteps.{good_after}
+use Rattle.key_names.proofs.Transcripts.TakenMarks.{hit, lane_takes, mark_takes, effects_within}
 use Rattle.key_names.proofs.Transcripts.CallTakes.{all_takes}
 use Rattle.key_names.proofs.Transcripts.TakenOnce.{one_entry}
 use Rattle.key_names.proofs.Transcripts.TranscriptBooks.{lt_or_le}
@@ -57,12 +58,12 @@ use Rattle.rng_core.specs.OwnStates.{OwnUse, by_vread, by_vread_inside, by_vread
 
 -- The visits of steps, counted as marks and as places
 
--- c and p are a place of a CPU
+-- `p` is a place of CPU `c`
 module _ (c p : ℕ) where
   one_more : (place : ℕ) (rest : List ℕ) → times p (place ∷ rest) ≡ hit (place == p) + times p rest
   one_more place rest = sum_by-cons (λ (q : ℕ). cond (q == p) 1 0) place rest
 
-  -- a mark counts if it is of the CPU's lane, and else does not
+  -- a mark counts if and only if it is of the CPU's lane
   counted_if : (b : Bool) (place n : ℕ) (rest : List ℕ) → n ≡ times p rest →
       (if b then hit (place == p) else 0) + n ≡ times p (if b then place ∷ rest else rest)
   counted_if true place n rest is = let more = one_more place rest in omega arith
@@ -93,8 +94,8 @@ module _ (c p : ℕ) where
 
 -- One use
 
--- from s to t a use left these entries, by its own steps. In the list of any state they continue in order, each read
--- that they take as a key has 32 bytes and is among the steps, and their replay is t
+-- a use of the state `s` left the state `t` and these entries, by its own steps. If a list leads to `s`, then the list
+-- with these entries leads to `t`. Each read that an entry takes as a key has 32 bytes and is among the steps
 record Leaves (lists : Lists) (s t : VgetrandomState) (es : List VEntry) (steps : List MadeStep) : Type 0 where
   keeps : (caller : ℕ) (x : NamedState) → Settled x s → Keeps caller 0 (λ y. Settled y t) x es
   reads : AllByRecursion (TakesRead (cpu_list lists)) es
@@ -134,12 +135,12 @@ module _ (lists : Lists) (s : VgetrandomState) (n : ℕ) (some : 1 ≤ n) (left 
 -- a read, by its meaning
 module _ (lists : Lists) (set : CallSetting) (n flags : ℕ) (acts : List BoundAct) (steps : List MadeStep)
     (s t : VgetrandomState) (answer : Answer) (shown : Shown) (lines : List LineMeaning) (es : List VEntry) where
-  abbrev deeds : List Deed
-  deeds = deeds_of lists (map step_of steps)
+  abbrev effects : List Effect
+  effects = effects_of lists (map step_of steps)
 
   abbrev meaning : CallMeaning
   meaning = record {
-    own = record { deeds = deeds; answer = answer; shown = shown };
+    own = record { effects = effects; answer = answer; shown = shown };
     acts = lines;
     entries = es;
     before = standing set s;
@@ -147,40 +148,40 @@ module _ (lists : Lists) (set : CallSetting) (n flags : ℕ) (acts : List BoundA
   }
 
   -- a read by a call of vgetrandom leaves its entries
-  called : NeverFall (looks_of deeds) → ByVgetrandom n flags acts meaning → Leaves lists s t es steps
+  called : NeverFall (looks_of effects) → ByVgetrandom n flags acts meaning → Leaves lists s t es steps
   called rising by = let to : t ≡ by.outcome.state = ap current_state by.after in
       let there = all_there lists (map step_of steps) in
       let done : Leaves lists s by.outcome.state by.outcome.entries steps = record {
         keeps = λ caller x h. call_keeps caller 0 n flags x s by.steps by.outcome by.is_call h;
         reads = call_names (cpu_list lists) n flags s by.steps by.outcome
-            (key_reads lists set by.steps deeds there by.shows) by.is_call;
-        within = λ c p. (let taken = call_takes c p set n flags s by.steps by.outcome deeds by.is_call by.shows in
-            let marked = deeds_within c p lists (map step_of steps) in let placed = marks_are_places c p steps in
+            (key_reads lists set by.steps effects there by.shows) by.is_call;
+        within = λ c p. (let taken = call_takes c p set n flags s by.steps by.outcome effects by.is_call by.shows in
+            let marked = effects_within c p lists (map step_of steps) in let placed = marks_are_places c p steps in
             omega arith);
         holds = λ caller x h. replay.call_holds lists caller 0 n flags x s by.steps by.outcome
-            (good_behind lists set by.steps deeds there rising by.shows) by.is_call h;
+            (good_after lists set by.steps effects there rising by.shows) by.is_call h;
       } in
       subst (λ (z : VgetrandomState × List VEntry). Leaves lists s z.0 z.1 steps)
       (λ i. (sym to i, sym by.entries i)) done
 
   -- a read by a copy after one look leaves its entries
-  served : (look : ℕ) (rest : List Deed) → 1 ≤ n → serves_locally (published_by look) s n ≡ true →
+  served : (look : ℕ) (rest : List Effect) → 1 ≤ n → serves_locally (published_by look) s n ≡ true →
       ByLocalCopy n rest meaning → Leaves lists s t es steps
   served look rest some serves by = let to : t ≡ state_after_copy s 0 n = ap current_state by.after in
       subst (λ (z : VgetrandomState × List VEntry). Leaves lists s z.0 z.1 steps)
       (λ i. (sym to i, sym by.entries i)) (copied lists s n some (left_of (published_by look) n s serves) steps)
 
   read_leaves : VreadMeans n flags acts meaning → Leaves lists s t es steps
-  read_leaves means = match_cases (Looked (LocalOrCall n flags acts meaning) deeds) (ByVgetrandom n flags acts meaning)
+  read_leaves means = match_cases (Looked (LocalOrCall n flags acts meaning) effects) (ByVgetrandom n flags acts meaning)
       (Leaves lists s t es steps) (tries_local n flags acts)
-      (λ tries behind. match_cases (ByLocalCopy n behind.1 meaning) (ByVgetrandom n flags acts meaning)
-      (Leaves lists s t es steps) (serves_locally (published_by behind.0) s n)
-      (λ serves by. served behind.0 behind.1 (wants_bytes lists 0 0 (let low : 0 < 16 = omega arith in low) n flags acts tries) serves by)
-      (λ not_served by. called means.looks by) behind.3)
+      (λ tries following. match_cases (ByLocalCopy n following.1 meaning) (ByVgetrandom n flags acts meaning)
+      (Leaves lists s t es steps) (serves_locally (published_by following.0) s n)
+      (λ serves by. served following.0 following.1 (wants_bytes lists 0 0 (let low : 0 < 16 = omega arith in low) n flags acts tries) serves by)
+      (λ not_served by. called means.looks by) following.3)
       (λ no by. called means.looks by)
       means.ways
 
--- a use, for all lists that continue those that its caller knew
+-- a use of a state leaves the state after it and its entries (`Leaves`), in the book `lists`
 abbrev UseLeaves : Lists → OwnUse → Type 0
 UseLeaves lists u = Leaves lists (before_use u) (after_use u) (entries_of u) (steps_of u)
 
@@ -345,11 +346,11 @@ module _ {first : ℕ} {s : St} (r : WorldRule first s) (states : List (List Own
   use_leaves : (u : OwnUse) → UseIsKnown s u → UseLeaves lists u
   use_leaves (by_vread len flags b t answer shown set l m k) is =
       read_leaves lists (setting_of set) len flags [] k.did.made_steps b t answer shown [] k.entries
-      (k.did.stands n r.logs callers (continues m.view is) (standing (setting_of set) b) refl refl)
+      (k.did.conforms n r.logs callers (continues m.view is) (standing (setting_of set) b) refl refl)
   use_leaves (by_vread_inside len flags b t answer shown set l m asks outcomes k) is =
       read_leaves lists (setting_of set) len flags (bound_acts set asks outcomes) k.made_steps b t answer shown
       (map (outcome_line lists) outcomes) k.entries
-      (k.stands n r.logs callers (continues m.view is) (standing (setting_of set) b) refl refl)
+      (k.conforms n r.logs callers (continues m.view is) (standing (setting_of set) b) refl refl)
   use_leaves (by_vread_local len flags b t out set l m k) is =
       subst (λ (z : VgetrandomState). Leaves lists b z (copy_entries b 0 len) (looked k.found ∷ [])) (sym k.state)
       (copied lists b len (wants_bytes lists 0 0 (let low : 0 < 16 = omega arith in low) len flags [] k.tries)
@@ -368,7 +369,7 @@ module _ {first : ℕ} {s : St} (r : WorldRule first s) (states : List (List Own
   both : AllByRecursion (λ uses. Follow wiped_state uses × AllByRecursion (UseLeaves lists) uses) states
   both = each_both (Follow wiped_state) (AllByRecursion (UseLeaves lists)) states mine.follow all_leave
 
-  -- a place of a CPU belongs to at most one visit
+  -- at each place of a CPU, the entries of all states together take at most one read
   one_visit : (c p : ℕ) → c + 2 < n → all_takes c p (meanings states) ≤ 1
   one_visit c p near = let within = all_within lists c p states all_leave in let counted = mine.counted c p near in
       let placed = (counts r).placed (c + 2) p near in

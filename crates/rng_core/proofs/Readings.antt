@@ -1,4 +1,4 @@
--- The effect of a read out of a caller's vgetrandom state, from a copy or a call.
+-- A read out of a caller's vgetrandom state has the effect `VreadMakes`, whether a copy or a call served it.
 use Rattle.std.proofs.Common.{◌≡◌, ℕ, ◌≤◌, Bool, true, false, not, Ok, List, [], ◌∷◌, length, map, refl, sym, ap, ◌∙◌, subst, arith, inl, inr}
 use Rattle.std.specs.Prelude.{Result, ◌⊎◌, MatchBool, Option, Some, None, ◌==◌, ◌&&◌}
 use Rattle.std.proofs.lemmas.Bool.{ne_eqb}
@@ -12,8 +12,8 @@ use Rattle.key_names.specs.declared.events.Answer.{Answer}
 use Rattle.key_names.specs.Kernel.Flags.{is_bad}
 use Rattle.key_names.specs.Lanes.Book.{Lists}
 use Rattle.key_names.specs.Kernel.BatchCopy.{has_left, serves_locally, copy_bytes, copy_entries, state_after_copy}
-use Rattle.key_names.specs.Callers.Deeds.{Deed, deed_or, deed_at, deed_of, deeds_of, pool_visit, base_visit, cpu_visit, at_pool, at_base, at_cpu}
-use Rattle.key_names.specs.Callers.Deeds as deed
+use Rattle.key_names.specs.Callers.Effects.{Effect, effect_or, effect_at, effect_of, effects_of, pool_visit, base_visit, cpu_visit, at_pool, at_base, at_cpu}
+use Rattle.key_names.specs.Callers.Effects as effect
 use Rattle.key_names.specs.Callers.Forms.{Looked}
 use Rattle.key_names.specs.Callers.Meaning.{CallerState, CallMeaning, VreadMeans, ByLocalCopy, ByVgetrandom, LocalOrCall, current_state, with_state, tries_local}
 use Rattle.key_names.specs.Transcripts.SeenLine.{Shown, bytes_or_none}
@@ -36,24 +36,24 @@ use Rattle.rng_core.proofs.Hosting.{none_left, published_more}
 
 -- Looks
 
-looks_below : (deeds : List Deed) → {E : Type 0} (d : E → Deed) → ((e : E) → looks_of (d e ∷ deeds) ≡ looks_of deeds) →
-    (o : Option E) → looks_of (deed_or d o ∷ deeds) ≡ looks_of deeds
-looks_below deeds d same None = refl
-looks_below deeds d same (Some e) = same e
+looks_below : (effects : List Effect) → {E : Type 0} (d : E → Effect) → ((e : E) → looks_of (d e ∷ effects) ≡ looks_of effects) →
+    (o : Option E) → looks_of (effect_or d o ∷ effects) ≡ looks_of effects
+looks_below effects d same None = refl
+looks_below effects d same (Some e) = same e
 
--- a visit is no look
-visit_looks : (lists : Lists) (l : LaneId) (place : ℕ) (deeds : List Deed) →
-    looks_of (deed_at lists l place ∷ deeds) ≡ looks_of deeds
-visit_looks lists PoolLane place deeds = looks_below deeds (λ e. at_pool (pool_visit lists place e)) (λ e. refl) _
-visit_looks lists BaseLane place deeds = looks_below deeds (λ e. at_base (base_visit lists place e)) (λ e. refl) _
-visit_looks lists (CpuLane c) place deeds = looks_below deeds (λ e. at_cpu (cpu_visit lists c place e)) (λ e. refl) _
+-- a visit counts as no look
+visit_looks : (lists : Lists) (l : LaneId) (place : ℕ) (effects : List Effect) →
+    looks_of (effect_at lists l place ∷ effects) ≡ looks_of effects
+visit_looks lists PoolLane place effects = looks_below effects (λ e. at_pool (pool_visit lists place e)) (λ e. refl) _
+visit_looks lists BaseLane place effects = looks_below effects (λ e. at_base (base_visit lists place e)) (λ e. refl) _
+visit_looks lists (CpuLane c) place effects = looks_below effects (λ e. at_cpu (cpu_visit lists c place e)) (λ e. refl) _
 
-pub same_looks : (lists : Lists) (made_steps : List MadeStep) → looks_of (deeds_of lists (map step_of made_steps)) ≡
+pub same_looks : (lists : Lists) (made_steps : List MadeStep) → looks_of (effects_of lists (map step_of made_steps)) ≡
     looks_in made_steps
 same_looks lists [] = refl
 same_looks lists (looked g ∷ made_steps) = ap (λ (l : List ℕ). g ∷ l) (same_looks lists made_steps)
 same_looks lists (visited mark e ∷ made_steps) = visit_looks lists mark.lane mark.place
-    (deeds_of lists (map step_of made_steps))
+    (effects_of lists (map step_of made_steps))
     ∙ same_looks lists made_steps
 
 pub never_fall : (low : ℕ) (looks : List ℕ) (high : ℕ) → Risen low looks high → NeverFall looks
@@ -61,14 +61,14 @@ never_fall low [] high h = tt
 never_fall low (a ∷ []) high h = tt
 never_fall low (a ∷ b ∷ rest) high h = (h.1.0, never_fall a (b ∷ rest) high h.1)
 
-told_rise : (lists : Lists) (set : Setting) (l m : Moment) (made_steps : List MadeStep) →
+recorded_rise : (lists : Lists) (set : Setting) (l m : Moment) (made_steps : List MadeStep) →
     TraceRecords set l m made_steps →
-    Risen (floor l.view) (looks_of (deeds_of lists (map step_of made_steps))) (floor m.view)
-told_rise lists set l m made_steps told =
+    Risen (floor l.view) (looks_of (effects_of lists (map step_of made_steps))) (floor m.view)
+recorded_rise lists set l m made_steps recorded =
     subst (λ (looks : List ℕ). Risen (floor l.view) looks (floor m.view)) (sym (same_looks lists made_steps))
-    (sees_risen m.view (floor l.view) (floor m.view) made_steps told.went.sees)
+    (sees_risen m.view (floor l.view) (floor m.view) made_steps recorded.went.sees)
 
--- A batch that cannot serve cannot serve later either
+-- If a batch cannot serve, it cannot serve later either
 
 nothing_and : (x : Bool) → (x && false) ≡ false
 nothing_and true = refl
@@ -104,7 +104,8 @@ ending_is n (by_system (failed errno)) result buf long none e =
 
 -- Reads
 
--- the generation seen does not fall, and a read that the batch does not serve leaves the known lists as they were
+-- from `v` to `w` the batch did not serve a read: the known lists are as they were, and the generation seen did not
+-- fall
 pub record Stayed (v w : View) : Type 0 where
   pub same : SameView v w
   pub lanes : w.lanes ≡ v.lanes
@@ -145,11 +146,11 @@ stayed n flags s t answer shown set l m k = go k.began
     go (inl served) = stayed_at l.view k.looked served.0
     go (inr unserved) = stayed_by n flags s l.view k.looked unserved (tries_local n flags []) refl
 
--- a read out of the batch
+-- a read that the batch served
 module _ (n flags : ℕ) (s t : VgetrandomState) (out : List ℕ) (set : Setting) (l m : Moment)
     (k : LocallyServed n flags s t out set l m) where
   local_line : (before : CallerState) → current_state before ≡ s →
-      ByLocalCopy n [] (vread_meaning (deed.looked k.found ∷ []) (result_answer {T = Unit {0}} (Ok tt))
+      ByLocalCopy n [] (vread_meaning (effect.looked k.found ∷ []) (result_answer {T = Unit {0}} (Ok tt))
       (bytes_or_none out) (copy_entries s 0 n) before t)
   local_line before is = record {
     no_more = refl;
@@ -167,8 +168,8 @@ module _ (n flags : ℕ) (s t : VgetrandomState) (out : List ℕ) (set : Setting
     entries = copy_entries s 0 n;
     did = record {
       made_steps = looked k.found ∷ [];
-      told = k.told;
-      stands = λ lanes visits callers c. λ before set_is state_is. record {
+      recorded = k.recorded;
+      conforms = λ lanes visits callers c. λ before set_is state_is. record {
         looks = tt;
         ways = match_true _ _ (tries_local n flags []) k.tries (
           k.found,
@@ -187,23 +188,23 @@ good_flags true true e = absurd (cc e)
 good_flags false true e = absurd (cc e)
 good_flags x false e = refl
 
--- a read by a call
+-- a read that a call served
 module _ (n flags : ℕ) (s t : VgetrandomState) (answer : Answer) (shown : Shown) (set : Setting) (l m o : Moment)
     (low : s.generation ≤ published_by (floor l.view))
     (left : Unserved n flags s l.view m.view) (k : Called n flags s t answer shown set m o)
   where
-    module _ (deeds : List Deed) (shows : Shows (setting_of set) k.steps deeds)
-        (rise : Risen (floor m.view) (looks_of deeds) (floor o.view)) (before : CallerState)
+    module _ (effects : List Effect) (shows : Shows (setting_of set) k.steps effects)
+        (rise : Risen (floor m.view) (looks_of effects) (floor o.view)) (before : CallerState)
         (set_is : before.setting ≡ setting_of set) (state_is : current_state before ≡ s) where
       abbrev meant : CallMeaning
-      meant = vread_meaning deeds answer shown k.outcome.entries before t
+      meant = vread_meaning effects answer shown k.outcome.entries before t
 
       by_call : ByVgetrandom n flags [] meant
       by_call = record {
         steps = k.steps;
         outcome = k.outcome;
         is_call = subst (λ (z : VgetrandomState). IsCall n flags z k.steps k.outcome) (sym state_is) k.is_call;
-        shows = subst (λ z. Shows z k.steps deeds) (sym set_is) shows;
+        shows = subst (λ z. Shows z k.steps effects) (sym set_is) shows;
         wipes = k.wipes;
         inside = tt;
         answer = k.answers;
@@ -213,11 +214,11 @@ module _ (n flags : ℕ) (s t : VgetrandomState) (answer : Answer) (shown : Show
       }
 
       -- a call after a refusal begins with a look, which finds at least the generation that the refusing look found
-      behind_look : (refused : Refused n s l.view m.view) → FromLook n flags s k.steps k.outcome →
-          Looked (LocalOrCall n flags [] meant) deeds
-      behind_look refused from =
-          let shown = subst (λ (z : List HostStep). Shows (setting_of set) z deeds) from.steps_are shows in
-          let rises = subst (λ (z : List Deed). Risen (floor m.view) (looks_of z) (floor o.view)) shown.2 rise in
+      after_look : (refused : Refused n s l.view m.view) → FromLook n flags s k.steps k.outcome →
+          Looked (LocalOrCall n flags [] meant) effects
+      after_look refused from =
+          let shown = subst (λ (z : List HostStep). Shows (setting_of set) z effects) from.steps_are shows in
+          let rises = subst (λ (z : List Effect). Risen (floor m.view) (looks_of z) (floor o.view)) shown.2 rise in
           let a = published_more (floor l.view) refused.found refused.glanced.above in
           let b = published_more refused.found shown.0 (let x = refused.glanced.known in let y = rises.0 in omega arith)
           in (
@@ -231,25 +232,25 @@ module _ (n flags : ℕ) (s t : VgetrandomState) (answer : Answer) (shown : Show
           )
 
       ways : (b : Bool) → tries_local n flags [] ≡ b →
-          MatchBool b (Looked (LocalOrCall n flags [] meant) deeds) (ByVgetrandom n flags [] meant)
+          MatchBool b (Looked (LocalOrCall n flags [] meant) effects) (ByVgetrandom n flags [] meant)
       ways false e = by_call
-      ways true e = behind_look (left.tried e) (subst (λ (b : Bool). MatchBool b (BySystem n flags s k.steps k.outcome)
+      ways true e = after_look (left.tried e) (subst (λ (b : Bool). MatchBool b (BySystem n flags s k.steps k.outcome)
           (FromLook n flags s k.steps k.outcome)) (good_flags (not (n == 0)) (is_bad flags) e) k.is_call)
 
       line : VreadMeans n flags [] meant
       line = record {
-        looks = never_fall (floor m.view) (looks_of deeds) (floor o.view) rise;
+        looks = never_fall (floor m.view) (looks_of effects) (floor o.view) rise;
         ways = ways (tries_local n flags []) refl;
       }
 
     called_did : Makes (VreadLine (setting_of set) n flags s t answer shown k.outcome.entries) set m o
     called_did = record {
       made_steps = k.did.made_steps;
-      told = k.did.told;
-      stands = λ lanes visits callers c. λ before set_is state_is. line
-          (deeds_of (book_lists lanes visits callers) (map step_of k.did.made_steps))
-          (k.did.stands lanes visits callers c)
-          (told_rise (book_lists lanes visits callers) set m o k.did.made_steps k.did.told) before set_is state_is;
+      recorded = k.did.recorded;
+      conforms = λ lanes visits callers c. λ before set_is state_is. line
+          (effects_of (book_lists lanes visits callers) (map step_of k.did.made_steps))
+          (k.did.conforms lanes visits callers c)
+          (recorded_rise (book_lists lanes visits callers) set m o k.did.made_steps k.did.recorded) before set_is state_is;
     }
 
     pub called_read : m.steps ≡ l.steps → VreadMakes n flags s t answer shown set l o
@@ -261,7 +262,8 @@ module _ (n flags : ℕ) (s t : VgetrandomState) (answer : Answer) (shown : Show
           (knowing m.view z) o) same called_did;
     }
 
--- if the batch did not serve and nothing changed, the call and the look before it are the read
+-- if the batch did not serve the read (`LeftToSystem`), and then a call of vgetrandom was made (`Called`), the two
+-- together are the read
 pub left_read : (n n' flags : ℕ) (s s' t : VgetrandomState) (answer : Answer) (shown : Shown) (set : Setting)
     (l m o : Moment) → s.generation ≤ published_by (floor l.view) → n' ≡ n →
     LeftToSystem n flags s s' l m → Called n' flags s' t answer shown set m o →

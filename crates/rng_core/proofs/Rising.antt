@@ -12,8 +12,8 @@ use Rattle.lane_table.specs.LaneNumbers.{index_of}
 use Rattle.lane_table.specs.Advances.{floor}
 use Rattle.lane_table.specs.Meaning.{Model, made_of, model_step, replay, start_model}
 use Rattle.lane_table.specs.WorldRule.{known_of}
-use Rattle.lane_table.proofs.Lists.Places.{fold_next, stands_at}
-use Rattle.rng_core.specs.declared.crng.keys.Root.{Root}
+use Rattle.lane_table.proofs.Lists.Places.{fold_next, conforms_at}
+use Rattle.rng_core.specs.declared.crng.keys.ExtractedRoot.{ExtractedRoot}
 use Rattle.rng_core.specs.declared.setting.Setting.{Setting}
 use Rattle.rng_core.specs.declared.site.Site.{Site}
 use Rattle.rng_core.specs.Traces.{Moment, Visited}
@@ -24,7 +24,7 @@ pub reseeded_at : (xs : List Visit) (i root now : ℕ) (x : Visit) → get_elem?
     x.entry ≡ Base (Reseed root now) →
     (replay (take (suc i) xs)).base.generation ≡ (replay (take i xs)).base.generation + 1
 reseeded_at xs i root now x there is = ap (λ (k : Model). k.base.generation)
-    (fold_next model_step start_model xs i x (stands_at xs i x there)
+    (fold_next model_step start_model xs i x (conforms_at xs i x there)
     ∙ ap (λ (e : LaneEntry). made_of (replay (take i xs)) e x.got) is)
 
 -- the maker of a reseed has seen the raised generation
@@ -35,16 +35,16 @@ reseed_seen set m n place root now s got v =
     let raised = reseeded_at xs v.mark.place root now v.met.visit v.met.there v.met.is in
     let was : (replay (take v.mark.place xs)).base.generation ≡ s.base.generation =
     ap (λ (k : Model). k.base.generation) v.met.before in
-    let seen = v.told.went.sees in
+    let seen = v.recorded.went.sees in
     let a = seen.2 in
     let b = seen.3 in omega arith
 
--- the base was taken, a root extracted for it, and the reseed's visit made
-pub reseed_rises : (l m k n : Site) (base : Held) (root : Root) (place r now : ℕ) (got : Handed) → Entered 1 base l m →
+-- after the base was taken, a root extracted and the reseed's visit made, the caller has seen a higher generation
+pub reseed_rises : (l m k n : Site) (base : Held) (root : ExtractedRoot) (place r now : ℕ) (got : Handed) → Entered 1 base l m →
     ExtractedRaising base root m k → Visited k.set (at k) (at n) 1 place (lane_of k 1) (Base (Reseed r now)) got →
     seen_by l < seen_by n
 reseed_rises l m k n base root place r now got a b v =
-    let first : seen_by l ≤ seen_by m = a.walked.told.went.sees in
+    let first : seen_by l ≤ seen_by m = a.walked.recorded.went.sees in
     let low = (a.low refl).seen in
     let same : (lane_of k 1).base.generation ≡ (lane_of m 1).base.generation =
     ap (λ (s : Model). s.base.generation) b.kept in

@@ -1,4 +1,4 @@
--- Calls at a site with visits of the pool and of a CPU's fast pool.
+-- The effects of calls at a site that visit the pool or a CPU's fast pool follow from these visits.
 use Rattle.std.proofs.Common.{◌≡◌, ℕ, ◌+◌, ◌<◌, ◌≤◌, length, ap, ◌∙◌, arith}
 use Rattle.key_names.specs.declared.entries.PoolEntry.{PoolEntry}
 use Rattle.key_names.specs.declared.entries.PoolEntry.TheVariants.{Bits}
@@ -20,22 +20,22 @@ use Rattle.rng_core.specs.Makes.{IsOutcomeOf, setting_of}
 use Rattle.rng_core.specs.Sites.{at, pool_lane, lane_of, own_lane, own_cpu, own_places, IsIdle, IsOnCpu, Entered, VisitedIdly, DoesIn, Does, Completes}
 use Rattle.rng_core.proofs.Makings.{did_bits, did_credit}
 use Rattle.rng_core.proofs.Sampling.{CpuMet, did_met, visited_below}
-use Rattle.rng_core.proofs.SiteLemmas.{same_then, by_set, does_behind, does_visited}
+use Rattle.rng_core.proofs.SiteLemmas.{same_then, by_set, does_following, does_visited}
 
 -- a call that reads the bits in one visit completes the event
 pub does_bits : (h k : Held) (bits : ℕ) (l m n : Site) → Entered pool_lane h l m → VisitedIdly pool_lane k (Pool Bits) m n →
     bits ≡ (lane_of m pool_lane).pool.bits → Completes 1 BitsEvent Done (count bits) l n
-does_bits h k bits l m n a b is = does_behind (λ set visits. IsOutcomeOf (setting_of set) BitsEvent Done (count bits)) 1
+does_bits h k bits l m n a b is = does_following (λ set visits. IsOutcomeOf (setting_of set) BitsEvent Done (count bits)) 1
     l m n
     a.walked a.trace
     (does_visited 0 k (Pool Bits) m n b (λ x. did_bits m.set (at m) (at n) _ bits _ _ x is))
 
--- a visit of the pool that credits bits, and the steps for the threshold that they cross, have the form of a credit
+-- a visit of the pool that credits bits, with the steps after it for the threshold crossed, has the form of a credit
 pub does_credit : (h k : Held) (e : PoolEntry) (crossed : Crossing) (j l m n : Site) → Entered pool_lane h j l →
     VisitedIdly pool_lane k (Pool e) l m →
     crossed ≡ crossing (lane_of l pool_lane).pool.bits (pool_step (lane_of l pool_lane).pool e).bits →
     Does 2 (Cross (setting_of m.set) crossed) m n → Does 3 (CreditForm (setting_of j.set) e) j n
-does_credit h k e crossed j l m n a b is d = does_behind (λ set visits. CreditForm (setting_of set) e) 3 j l n
+does_credit h k e crossed j l m n a b is d = does_following (λ set visits. CreditForm (setting_of set) e) 3 j l n
     a.walked a.trace (record {
       same = same_then l m n b.same d.same;
       has = d.has;
@@ -44,23 +44,23 @@ does_credit h k e crossed j l m n a b is d = does_behind (λ set visits. CreditF
           (by_set (λ set visits. Cross (setting_of set) crossed) l m n b.same d.did);
     })
 
--- a visit of the caller's CPU met the fast pool that the caller knows
+-- a visit of the caller's CPU found the fast pool that the caller knows
 pub does_met : (h : Held) (e : CpuEntry) (m n : Site) → IsIntOfBatch e → VisitedIdly (own_lane m) h (Cpu e) m n →
     DoesIn 1 (CpuMet m.set.cpu h.turn.place e (own_cpu m).fast) m n
 does_met h e m n fits b = does_visited (own_lane m) h (Cpu e) m n b
     (λ x. did_met m.set (at m) (at n) m.set.cpu h.turn.place _ e _ fits x)
 
--- the next place of the taken CPU is none of those that the caller knew before
-pub taken_behind : (h : Held) (l m : Site) → IsIdle 4 l → IsOnCpu l → Entered (own_lane m) h l m →
+-- when a caller takes its CPU, the next place there is beyond all places that the caller knew before
+pub taken_after : (h : Held) (l m : Site) → IsIdle 4 l → IsOnCpu l → Entered (own_lane m) h l m →
     own_places l ≤ h.turn.place
-taken_behind h l m idle cpu a =
-    let longer = begins_length _ _ (a.walked.told.went.grows (own_lane l) (let s = idle.has.pass.sized in omega arith))
+taken_after h l m idle cpu a =
+    let longer = begins_length _ _ (a.walked.recorded.went.grows (own_lane l) (let s = idle.has.pass.sized in omega arith))
     in
     let next = a.holds.has.held.0.next
     ∙ ap (λ (lane : ℕ). length (known_of (view m.pass.now) lane)) a.holds.lane_is
     ∙ ap (λ (s : Setting). length (known_of (view m.pass.now) (s.cpu + 2))) a.walked.same.set in omega arith
 
--- the place of a visit is known after it
+-- after a visit the caller knows the visit's place
 pub visit_below : (h : Held) (e : CpuEntry) (m n : Site) → VisitedIdly (own_lane m) h (Cpu e) m n →
     h.turn.place < own_places n
 visit_below h e m n b =

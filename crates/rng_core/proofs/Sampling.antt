@@ -1,4 +1,4 @@
--- The samples of an interrupt: the fast pool that its visits of the CPU met, and the effect of a dump.
+-- The samples of an interrupt: its CPU visits find the fast pool that the caller knows, and a dump has its effect.
 use Rattle.std.proofs.Common.{◌≡◌, ℕ, ◌+◌, ◌<◌, ◌≤◌, inl, inr, false, List, [], ◌∷◌, ◌++◌, length, refl, sym, ap, ◌∙◌, subst, arith}
 use Rattle.std.specs.Prelude.{IsTrue}
 use Rattle.std.specs.List.{AllByRecursion}
@@ -12,7 +12,7 @@ use Rattle.key_names.specs.declared.events.Answer.TheVariants.{Ok as Done}
 use Rattle.key_names.specs.Transcripts.SeenLine.{no_data}
 use Rattle.key_names.specs.Callers.Calls.{Setting as CallSetting}
 use Rattle.key_names.specs.Lanes.PoolList.{Crossing, ready, early, none}
-use Rattle.key_names.specs.Callers.Deeds.{Deed, at_cpu, at_pool}
+use Rattle.key_names.specs.Callers.Effects.{Effect, at_cpu, at_pool}
 use Rattle.key_names.specs.Kernel.FastPool.{FastPool, makes_due, dump_bytes, dump_bits}
 use Rattle.key_names.specs.Lanes.Samples.{MakesDue, IsDump}
 use Rattle.key_names.specs.Callers.Forms.{Rooted, Cross, CpuOnly, CreditForm}
@@ -30,26 +30,26 @@ use Rattle.rng_core.specs.declared.setting.Setting.{Setting}
 use Rattle.rng_core.specs.Traces.{Moment, Visited}
 use Rattle.rng_core.specs.Makes.{MakesIn, IsOutcomeOf}
 use Rattle.key_names.specs.Callers.LineSamples.{EntryIsQuiet, IsMix, IsCrossing}
-use Rattle.rng_core.specs.SampleDeeds.{Sampled, DumpStands, fast_in}
+use Rattle.rng_core.specs.SampleEffects.{Sampled, DumpConforms, fast_in}
 use Rattle.rng_core.proofs.Makings.{After}
 use Rattle.rng_core.proofs.Finding.{found_cpu}
 
 -- the steps after a credit mix no bytes, and visit no CPU
-rooted : (set : CallSetting) (entry : ℕ → BaseEntry) (deeds : List Deed) → Rooted set entry deeds →
-    AllByRecursion IsCrossing deeds
-rooted set entry deeds f = subst (AllByRecursion IsCrossing) (sym f.deeds_are)
+rooted : (set : CallSetting) (entry : ℕ → BaseEntry) (effects : List Effect) → Rooted set entry effects →
+    AllByRecursion IsCrossing effects
+rooted set entry effects f = subst (AllByRecursion IsCrossing) (sym f.effects_are)
     (subst (λ (e : PoolEntry). IsMix e → ⊥) (sym f.extracts) (λ k. k), (tt, tt))
 
-crossed : (set : CallSetting) (to : Crossing) (deeds : List Deed) → Cross set to deeds → AllByRecursion IsCrossing deeds
-crossed set none deeds f = subst (AllByRecursion IsCrossing) (sym f) tt
-crossed set ready deeds f = rooted set _ deeds f
-crossed set early deeds (inl f) = rooted set _ deeds f
-crossed set early deeds (inr f) = subst (AllByRecursion IsCrossing) (sym f.deeds_are) (tt, tt)
+crossed : (set : CallSetting) (to : Crossing) (effects : List Effect) → Cross set to effects → AllByRecursion IsCrossing effects
+crossed set none effects f = subst (AllByRecursion IsCrossing) (sym f) tt
+crossed set ready effects f = rooted set _ effects f
+crossed set early effects (inl f) = rooted set _ effects f
+crossed set early effects (inr f) = subst (AllByRecursion IsCrossing) (sym f.effects_are) (tt, tt)
 
--- one visit of a CPU, at this place, that met this fast pool
+-- one visit of a CPU, at this place, which found this fast pool
 pub record CpuMet (cpu place : ℕ) (e : CpuEntry) (fast : FastPool) (visits : ℕ → List Visit)
-    (deeds : List Deed) : Type 0 where
-  pub only : CpuOnly cpu e deeds
+    (effects : List Effect) : Type 0 where
+  pub only : CpuOnly cpu e effects
   pub at : only.visit.place ≡ place
   pub met : fast_in visits only.visit.cpu only.visit.place ≡ fast
 
@@ -57,36 +57,36 @@ pub did_met : (set : Setting) (m n : Moment) (cpu place : ℕ) (s : Model) (e : 
     IsIntOfBatch e → Visited set m n (cpu + 2) place s (Cpu e) got → MakesIn (CpuMet cpu place e s.cpu.fast) set m n
 did_met set m n cpu place s e got fits x = record {
   made_steps = visited x.mark (Cpu e) ∷ [];
-  told = x.told;
-  stands = λ lanes visits callers c.
+  recorded = x.recorded;
+  conforms = λ lanes visits callers c.
       let f = found_cpu lanes visits callers set m n place s got c cpu e x fits in record {
-        only = record { visit = f.visit; deeds_are = ap (λ (d : Deed). d ∷ []) f.deed_is; on = f.on; is = f.is };
+        only = record { visit = f.visit; effects_are = ap (λ (d : Effect). d ∷ []) f.effect_is; on = f.on; is = f.is };
         at = f.at;
         met = f.fast;
       };
 }
 
--- the place of a visit is known after it
+-- after a visit the pass knows the visit's place
 pub visited_below : (set : Setting) (m n : Moment) (lane place : ℕ) (s : Model) (e : LaneEntry) (got : Handed) →
     Visited set m n lane place s e got → place < length (known_of n.view lane)
 visited_below set m n lane place s e got x =
     let low = at_below (known_of n.view (index_of x.mark.lane)) x.mark.place x.met.visit x.met.there in
     let on = ap (λ (l : ℕ). length (known_of n.view l)) x.lane_is in let at = x.place_is in omega arith
 
--- a dump and its mix satisfy DumpStands
-pub dump_stands : (set : CallSetting) (place from : ℕ) (fast : FastPool) (text : List ℕ) (bits : ℕ)
+-- a dump and its mix satisfy DumpConforms
+pub dump_conforms : (set : CallSetting) (place from : ℕ) (fast : FastPool) (text : List ℕ) (bits : ℕ)
     (visits : ℕ → List Visit)
-    (deeds : List Deed) → from ≤ place → text ≡ dump_bytes fast → bits ≡ dump_bits fast →
-    After (CpuMet set.cpu place (Dump set.now) fast visits) (CreditForm set (Mix text bits)) deeds →
-    DumpStands set from visits deeds
-dump_stands set place from fast text bits visits deeds late bytes_are bits_are h =
-    let only = h.before.only in let credit = h.behind in record {
+    (effects : List Effect) → from ≤ place → text ≡ dump_bytes fast → bits ≡ dump_bits fast →
+    After (CpuMet set.cpu place (Dump set.now) fast visits) (CreditForm set (Mix text bits)) effects →
+    DumpConforms set from visits effects
+dump_conforms set place from fast text bits visits effects late bytes_are bits_are h =
+    let only = h.before.only in let credit = h.following in record {
       dump = only.visit;
       mix = credit.pool;
       rest = credit.rest;
-      deeds_are = h.deeds_are ∙ (λ i. only.deeds_are i ++ credit.deeds_are i);
+      effects_are = h.effects_are ∙ (λ i. only.effects_are i ++ credit.effects_are i);
       on = only.on;
-      behind = (let at = h.before.at in omega arith);
+      following = (let at = h.before.at in omega arith);
       dumps = only.is;
       mixes = credit.credits ∙ (λ i. Mix (bytes_are i) (bits_are i))
           ∙ ap (λ (f : FastPool). Mix (dump_bytes f) (dump_bits f)) (sym h.before.met);
@@ -95,15 +95,15 @@ dump_stands set place from fast text bits visits deeds late bytes_are bits_are h
 
 -- the samples of an interrupt that made no dump due are correct
 pub sample_quiet : (set : CallSetting) (v1 v2 place : ℕ) (fast : FastPool) (visits : ℕ → List Visit)
-    (deeds : List Deed) →
-    makes_due fast set.now ≡ false → CpuMet set.cpu place (Irq v1 v2 set.now) fast visits deeds →
-    Sampled (IsOutcomeOf set (IrqEvent v1 v2) Done no_data) visits deeds
-sample_quiet set v1 v2 place fast visits deeds quiet h = let only = h.only in record {
+    (effects : List Effect) →
+    makes_due fast set.now ≡ false → CpuMet set.cpu place (Irq v1 v2 set.now) fast visits effects →
+    Sampled (IsOutcomeOf set (IrqEvent v1 v2) Done no_data) visits effects
+sample_quiet set v1 v2 place fast visits effects quiet h = let only = h.only in record {
   holds = record {
     form = record {
       sample = only.visit;
       rest = [];
-      deeds_are = only.deeds_are;
+      effects_are = only.effects_are;
       on = only.on;
       samples = only.is;
       dumps = inl refl;
@@ -111,7 +111,7 @@ sample_quiet set v1 v2 place fast visits deeds quiet h = let only = h.only in re
     answers = refl;
     shows = refl;
   };
-  samples = inl (subst (AllByRecursion _) (sym only.deeds_are) (
+  samples = inl (subst (AllByRecursion _) (sym only.effects_are) (
     subst (EntryIsQuiet (fast_in visits only.visit.cpu only.visit.place)) (sym only.is)
         (ap (λ (f : FastPool). makes_due f set.now) h.met ∙ quiet),
     tt,
@@ -120,18 +120,18 @@ sample_quiet set v1 v2 place fast visits deeds quiet h = let only = h.only in re
 
 -- the samples of an interrupt that made a dump due are correct, if the dump follows
 pub sample_dumped : (set : CallSetting) (v1 v2 place from : ℕ) (fast : FastPool) (visits : ℕ → List Visit)
-    (deeds : List Deed) → IsTrue (makes_due fast set.now) → place < from →
-    After (CpuMet set.cpu place (Irq v1 v2 set.now) fast visits) (DumpStands set from visits) deeds →
-    Sampled (IsOutcomeOf set (IrqEvent v1 v2) Done no_data) visits deeds
-sample_dumped set v1 v2 place from fast visits deeds due before h =
-    let only = h.before.only in let dump = h.behind in
-    let deeds_are : deeds ≡ at_cpu only.visit ∷ at_cpu dump.dump ∷ at_pool dump.mix ∷ dump.rest =
-    h.deeds_are ∙ (λ i. only.deeds_are i ++ dump.deeds_are i) in record {
+    (effects : List Effect) → IsTrue (makes_due fast set.now) → place < from →
+    After (CpuMet set.cpu place (Irq v1 v2 set.now) fast visits) (DumpConforms set from visits) effects →
+    Sampled (IsOutcomeOf set (IrqEvent v1 v2) Done no_data) visits effects
+sample_dumped set v1 v2 place from fast visits effects due before h =
+    let only = h.before.only in let dump = h.following in
+    let effects_are : effects ≡ at_cpu only.visit ∷ at_cpu dump.dump ∷ at_pool dump.mix ∷ dump.rest =
+    h.effects_are ∙ (λ i. only.effects_are i ++ dump.effects_are i) in record {
       holds = record {
         form = record {
           sample = only.visit;
           rest = at_cpu dump.dump ∷ at_pool dump.mix ∷ dump.rest;
-          deeds_are = deeds_are;
+          effects_are = effects_are;
           on = only.on;
           samples = only.is;
           dumps = inr (record {
@@ -139,13 +139,13 @@ sample_dumped set v1 v2 place from fast visits deeds due before h =
             text = _;
             bits = _;
             rest = at_pool dump.mix ∷ dump.rest;
-            deeds_are = refl;
+            effects_are = refl;
             on = dump.on;
             dumps = dump.dumps;
             mixes = record {
               pool = dump.mix;
               rest = dump.rest;
-              deeds_are = refl;
+              effects_are = refl;
               credits = dump.mixes;
               crosses = dump.crosses;
             };
@@ -159,11 +159,11 @@ sample_dumped set v1 v2 place from fast visits deeds due before h =
         dump = dump.dump;
         mix = dump.mix;
         rest = dump.rest;
-        deeds_are = deeds_are;
+        effects_are = effects_are;
         due = subst (MakesDue (fast_in visits only.visit.cpu only.visit.place)) (sym only.is)
             (subst (λ (f : FastPool). IsTrue (makes_due f set.now)) (sym h.before.met) due);
         on = dump.on ∙ sym only.on;
-        after = (let at = h.before.at in let late = dump.behind in omega arith);
+        after = (let at = h.before.at in let late = dump.following in omega arith);
         dumps = subst IsDump (sym dump.dumps) tt;
         mixes = dump.mixes;
         crosses = crossed set _ dump.rest dump.crosses;

@@ -1,10 +1,10 @@
--- Visits of a lane at a site.
+-- How a caller at a site takes a lane, holds it with others, and gives it back with a visit.
 use Rattle.std.proofs.Common.{◌≡◌, ◌≢◌, ℕ, ◌<◌, ◌≤◌, ◌++◌, List, [], ◌∷◌, length, Option, Some, None, sym, ap, subst, inr, ◌∙◌, arith}
 use Rattle.std.proofs.Math.Seq.{get_or-append_seam}
 use Rattle.atomic_table.specs.Table.{rest}
 use Rattle.lane_table.specs.declared.lanes.Held.{Held}
 use Rattle.lane_table.specs.declared.lanes.Lanes.{Lanes}
-use Rattle.lane_table.specs.declared.lanes.Turn.{Turn}
+use Rattle.lane_table.specs.declared.lanes.TakenTurn.{TakenTurn}
 use Rattle.lane_table.specs.declared.view.Content.{Content}
 use Rattle.lane_table.specs.declared.view.LaneView.{LaneView}
 use Rattle.lane_table.specs.declared.view.LaneEntry.{LaneEntry}
@@ -12,7 +12,7 @@ use Rattle.lane_table.specs.declared.view.Visit.{Visit}
 use Rattle.lane_table.specs.declared.view.Handed.{Handed}
 use Rattle.lane_table.specs.Calls.{CanPut, IsPassOf, IsSamePass, Taken, Tried, view, visit_by}
 use Rattle.lane_table.specs.Hands.{HeldLane, HoldsLanes, NotIn, hand}
-use Rattle.lane_table.specs.Meaning.{Model, Fits, IsOf, ahead_of, behind_of, gave_of, got_of, no_visit, parent, raise_of, replay}
+use Rattle.lane_table.specs.Meaning.{Model, Fits, IsOf, ahead_of, after_of, gave_of, got_of, no_visit, parent, raise_of, replay}
 use Rattle.lane_table.specs.Steps.{filled, handed}
 use Rattle.lane_table.specs.WorldRule.{known_of}
 use Rattle.lane_table.specs.Advances.{maker}
@@ -23,16 +23,16 @@ use Rattle.rng_core.specs.declared.setting.Setting.{Setting}
 use Rattle.rng_core.specs.declared.site.Site.{Site}
 use Rattle.rng_core.specs.Traces.{Visited}
 use Rattle.rng_core.specs.Sites.{at, HasInHands, HoldsWith, IsMade, Same, Took, Visits, Walked, lane_of, last_stamp}
-use Rattle.rng_core.proofs.TellLemmas.{told_idly, visited_after}
+use Rattle.rng_core.proofs.TellLemmas.{recorded_idly, visited_after}
 use Rattle.rng_core.proofs.SiteLemmas.{walked_then}
 
--- the lanes that a site's caller holds are held at the next site
+-- if the next site's pass holds these lanes of the same table for the same caller, so does the next site
 pub held_at : (hands : List HeldLane) (m n : Site) → Same m n → HoldsLanes m.lanes.now m.set.caller hands n.pass.now →
     HasInHands hands n
 held_at hands m n same k = subst (λ (t : Lanes). HoldsLanes t n.set.caller hands n.pass.now) (sym same.lanes)
     (subst (λ (s : Setting). HoldsLanes m.lanes.now s.caller hands n.pass.now) (sym same.set) k)
 
--- the lane was taken, and only the pass changed
+-- if the pass took the lane and nothing else of the site changed, the record `Took` holds
 pub took : (lane : ℕ) (h : Held) (m n : Site) → Same m n → n.trace.now ≡ m.trace.now →
     IsPassOf m.lanes.now m.pass.now → IsSamePass m.lanes.now m.pass.now n.pass.now →
     Taken lane h m.pass.now.seat.me n.pass.now.seat.me → n.pass.now.stamp < last_stamp →
@@ -41,12 +41,12 @@ pub took : (lane : ℕ) (h : Held) (m n : Site) → Same m n → n.trace.now ≡
 took lane h m n same trace is has taken early hands = record {
   walked = record {
     same = same;
-    told = told_idly _ _ _ trace (went_taken _ _ _ _ _ (let a = is.sized in omega arith) _ _ taken);
+    recorded = recorded_idly _ _ _ trace (went_taken _ _ _ _ _ (let a = is.sized in omega arith) _ _ taken);
   };
   trace = trace;
   hands = hands;
   lane_is = taken.of_lane;
-  value = taken.stands.value;
+  value = taken.conforms.value;
   early = early;
   seen = taken.seen;
   kept = λ j ticket near other holding. ap (λ (a : LaneView). replay a.known) (taken.keeps j ticket near other holding);
@@ -54,7 +54,7 @@ took lane h m n same trace is has taken early hands = record {
   agrees = λ _. agrees_lawful _ _ (taken.consistent.lawful 1 (let a = has.pass.sized in omega arith));
 }
 
--- the lane was taken after a refusal
+-- if `try_take` did not get the lane, and the lane was taken after that, the record `Took` holds
 pub took_later : (lane : ℕ) (h : Held) (l m n : Site) → Same l m → m.trace.now ≡ l.trace.now →
     IsPassOf l.lanes.now l.pass.now → Tried lane l.pass.now.seat.me m.pass.now.seat.me →
     ((hands : List HeldLane) → NotIn lane hands → HasInHands hands l → HasInHands hands m) → Took lane h m n →
@@ -62,7 +62,7 @@ pub took_later : (lane : ℕ) (h : Held) (l m n : Site) → Same l m → m.trace
 took_later lane h l m n same trace is tried hands k = record {
   walked = walked_then l m n [] [] (record {
     same = same;
-    told = told_idly _ _ _ trace (went_tried _ _ _ _ _ (let a = is.sized in omega arith) _ tried);
+    recorded = recorded_idly _ _ _ trace (went_tried _ _ _ _ _ (let a = is.sized in omega arith) _ tried);
   }) k.walked;
   trace = k.trace ∙ trace;
   hands = λ held not has. k.hands held not (hands held not has);
@@ -77,9 +77,9 @@ took_later lane h l m n same trace is tried hands k = record {
   agrees = k.agrees;
 }
 
--- a lane taken after another may be given back with an entry that names the other
+-- if a lane was taken while another was held, it may be given back with an entry that names the other
 pub can_put_naming : (lane : ℕ) (h : Held) (outer : HeldLane) (e : LaneEntry) (s : Site) →
-    HasInHands (hand h.turn (behind_of e) (raise_of e) ∷ outer ∷ []) s → h.turn.lane ≡ lane → IsOf lane e →
+    HasInHands (hand h.turn (after_of e) (raise_of e) ∷ outer ∷ []) s → h.turn.lane ≡ lane → IsOf lane e →
     ahead_of e ≡ Some (outer.lane, outer.place) → 1 ≤ outer.lane → parent outer.lane ≡ lane → outer.owes ≡ None →
     IsMade lane h e s → Fits (lane_of s lane) (handed lane e (view s.pass.now)) e → CanPut s.lanes.now s.pass.now h e
 can_put_naming lane h outer e s has on kind names above parent_is owes makes fits = record {
@@ -107,13 +107,13 @@ can_put_naming lane h outer e s has on kind names above parent_is owes makes fit
         free = has.held.2.0.owed ∙ owes;
       },
     );
-    behind = sym has.held.0.owed;
+    following = sym has.held.0.owed;
     raise = has.held.0.raise;
   };
 }
 
--- the effect of a visit with an entry that names the other lane
-pub record Named (lane : ℕ) (h : Held) (outer : Turn) (e : LaneEntry) (m n : Site) : Type 0 where
+-- a visit was made, and its entry names the place held in the other lane `outer`
+pub record Named (lane : ℕ) (h : Held) (outer : TakenTurn) (e : LaneEntry) (m n : Site) : Type 0 where
   pub has : HasInHands (hand outer (Some h.turn.place) 0 ∷ []) n
   pub early : n.pass.now.stamp ≤ last_stamp
   pub kept : lane_of n outer.lane ≡ lane_of m outer.lane
@@ -126,15 +126,15 @@ last_is : (xs : List Visit) (x : Visit) (p : ℕ) → p ≡ length xs → got_of
 last_is xs x p e = ap (λ (q : ℕ). got_of (Some q) (xs ++ x ∷ [])) e
     ∙ ap (λ (y : Visit). y.gave) (get_or-append_seam xs x [] no_visit)
 
-pub named : (lane : ℕ) (h : Held) (outer : Turn) (e : LaneEntry) (m n : Site) →
-    HasInHands (hand h.turn (behind_of e) (raise_of e) ∷ hand outer None 0 ∷ []) m → h.turn.lane ≡ lane →
+pub named : (lane : ℕ) (h : Held) (outer : TakenTurn) (e : LaneEntry) (m n : Site) →
+    HasInHands (hand h.turn (after_of e) (raise_of e) ∷ hand outer None 0 ∷ []) m → h.turn.lane ≡ lane →
     ahead_of e ≡ Some (outer.lane, outer.place) → m.pass.now.stamp < last_stamp → Visits h e m n →
     Named lane h outer e m n
 named lane h outer e m n has on names early v =
     let x : Visit = filled h.turn.lane (visit_by (maker m.set.caller m.set.event (length m.trace.now)) v.stamp e)
     (view m.pass.now) in record {
       has = held_at _ m n v.same
-          (has_put_naming m.lanes.now m.set.caller (hand h.turn (behind_of e) (raise_of e)) (hand outer None 0) [] x
+          (has_put_naming m.lanes.now m.set.caller (hand h.turn (after_of e) (raise_of e)) (hand outer None 0) [] x
           outer.place m.pass.now n.pass.now names has v.pass v.added);
       early = (let a = v.pass.pass.stamp in let b = v.added.stamp in let c = v.low early in omega arith);
       kept = ap (λ (a : LaneView). replay a.known) (v.added.ahead outer.lane outer.place names has.held.2.0.near);
@@ -146,14 +146,15 @@ named lane h outer e m n has on names early v =
       visited = v.visited lane on;
     }
 
--- if no step was made from l to m, a visit from m to n is a visit from l to n; its entry may depend on the setting
-pub visited_behind : (F : Setting → LaneEntry) (lane place : ℕ) (s : Model) (got : Handed) (l m n : Site) →
+-- if no step was made from `l` to `m`, a visit from `m` to `n` is a visit from `l` to `n`; its entry may depend on the
+-- setting
+pub visited_later : (F : Setting → LaneEntry) (lane place : ℕ) (s : Model) (got : Handed) (l m n : Site) →
     Walked [] l m →
     Visited m.set (at m) (at n) lane place s (F m.set) got → Visited l.set (at l) (at n) lane place s (F l.set) got
-visited_behind F lane place s got l m n a v = visited_after _ _ _ _ _ _ _ _ _ a.told
+visited_later F lane place s got l m n a v = visited_after _ _ _ _ _ _ _ _ _ a.recorded
     (subst (λ (x : Setting). Visited x (at m) (at n) lane place s (F x) got) a.same.set v)
 
--- if a lane is taken while another is held, the other keeps its hold and its value
+-- if a lane is taken while another is held, the other one keeps its hold and its value
 pub kept_under : (lane outer : ℕ) (h o : Held) (owes : Option ℕ) (raised : ℕ) (l m : Site) →
     HoldsWith owes raised outer o l → outer ≢ lane → Took lane h l m → lane_of m outer ≡ lane_of l outer
 kept_under lane outer h o owes raised l m holds other k = let in_hand = holds.has.held.0 in

@@ -1,4 +1,4 @@
--- The trace, call after call.
+-- What the trace records: the steps of successive calls, no step if nothing happened, and exactly the visits made.
 use Rattle.std.proofs.Common.{◌≡◌, ℕ, List, [], ◌∷◌, ◌++◌, map, take, length, ◌+◌, ◌<◌, ◌≤◌, ◌^◌, max, sym, refl, ap, ◌∙◌, subst, arith, append_assoc, append-nil, length-append}
 use Rattle.std.proofs.lemmas.List.{map-append}
 use Rattle.std.proofs.Math.Seq.{take-append_seam}
@@ -43,10 +43,10 @@ pub fits_then : (xs ys : List MadeStep) → AllByRecursion StepFits (map step_of
 fits_then xs ys a b = subst (AllByRecursion StepFits) (sym (map-append step_of xs ys))
     (each_append StepFits (map step_of xs) (map step_of ys) a b)
 
-pub told_then : (set : Setting) (l m n : Moment) (xs ys : List MadeStep) → TraceRecords set l m xs →
+pub recorded_then : (set : Setting) (l m n : Moment) (xs ys : List MadeStep) → TraceRecords set l m xs →
     TraceRecords set m n ys →
     TraceRecords set l n (xs ++ ys)
-told_then set l m n xs ys a b = record {
+recorded_then set l m n xs ys a b = record {
   trace = trace_then l m n xs ys a.trace b.trace;
   went = went_then set.caller set.event (length l.steps) (length m.steps) l.view m.view n.view xs ys
       (ap length a.trace ∙ (let e = length_map xs in omega (arith, length-append l.steps (map step_of xs)))) a.went
@@ -55,9 +55,9 @@ told_then set l m n xs ys a b = record {
 }
 
 -- if nothing happened, the trace records no step
-pub told_idly : (set : Setting) (m n : Moment) → n.steps ≡ m.steps →
+pub recorded_idly : (set : Setting) (m n : Moment) → n.steps ≡ m.steps →
     Advances set.caller set.event (length m.steps) m.view n.view [] → TraceRecords set m n []
-told_idly set m n same went = record { trace = same ∙ sym (append-nil m.steps); went = went; fits = tt }
+recorded_idly set m n same went = record { trace = same ∙ sym (append-nil m.steps); went = went; fits = tt }
 
 lane_fits : (lane : LaneId) → index_of lane < 2 ^ 32 → LaneFits lane
 lane_fits PoolLane low = tt
@@ -74,23 +74,23 @@ mark_fits mark lane place stamp own on near there low early late is = record {
 }
 
 -- a lane that was given back with a visit got exactly that visit
-pub visited_by_put : (set : Setting) (m m' : Seated) (told told' : List Step) (mark : Mark) (who : Who) (e : LaneEntry)
+pub visited_by_put : (set : Setting) (m m' : Seated) (recorded recorded' : List Step) (mark : Mark) (who : Who) (e : LaneEntry)
     (lane : ℕ) → index_of mark.lane ≡ lane → mark.place ≡ length (known_of m.0 lane) → lane < length m.0.lanes →
-    1 < length m.0.lanes → who ≡ maker set.caller set.event (length told)
-    → told' ≡ told ++ Marked mark ∷ [] → MarkFits mark →
+    1 < length m.0.lanes → who ≡ maker set.caller set.event (length recorded)
+    → recorded' ≡ recorded ++ Marked mark ∷ [] → MarkFits mark →
     Added lane (filled lane (visit_by who mark.stamp e) m.0) m m' →
-    Visited set (knowing m.0 told) (knowing m'.0 told') lane mark.place
+    Visited set (knowing m.0 recorded) (knowing m'.0 recorded') lane mark.place
     (replay (known_of m.0 lane)) e (handed lane e m.0)
-visited_by_put set m m' told told' mark who e lane on there near two by trace fits k = record {
+visited_by_put set m m' recorded recorded' mark who e lane on there near two by trace fits k = record {
   mark = mark;
   lane_is = on;
   place_is = refl;
-  told = record {
+  recorded = record {
     trace = trace;
     went = subst (λ (l : ℕ). mark.place ≡ length (known_of m.0 l) → l < length m.0.lanes →
         Added l (filled l (visit_by who mark.stamp e) m.0) m m' →
-        Advances set.caller set.event (length told) m.0 m'.0 (visited mark e ∷ [])) on
-        (λ t n a. went_put set.caller set.event (length told) m m' two
+        Advances set.caller set.event (length recorded) m.0 m'.0 (visited mark e ∷ [])) on
+        (λ t n a. went_put set.caller set.event (length recorded) m m' two
         (filled (index_of mark.lane) (visit_by who mark.stamp e) m.0) mark e n t refl by refl a) there near k;
     fits = (fits, tt);
   };
@@ -109,7 +109,7 @@ visited_by_put set m m' told told' mark who e lane on there near two by trace fi
   };
 }
 
--- if no step was made from l to m, a visit from m to n is a visit from l to n
+-- if no step was made from `l` to `m`, a visit from `m` to `n` is a visit from `l` to `n`
 pub visited_after : (set : Setting) (l m n : Moment) (lane place : ℕ) (s : Model) (e : LaneEntry) (got : Handed) →
     TraceRecords set l m [] → Visited set m n lane place s e got → Visited set l n lane place s e got
 visited_after set l m n lane place s e got a b =
@@ -117,7 +117,7 @@ visited_after set l m n lane place s e got a b =
       mark = b.mark;
       lane_is = b.lane_is;
       place_is = b.place_is;
-      told = told_then set l m n [] (visited b.mark e ∷ []) a b.told;
+      recorded = recorded_then set l m n [] (visited b.mark e ∷ []) a b.recorded;
       met = b.met;
     }
 
@@ -125,25 +125,26 @@ pub visited_is : (set : Setting) (m n : Moment) (lane place : ℕ) (s : Model) (
     e ≡ e' → Visited set m n lane place s e got → Visited set m n lane place s e' got
 visited_is set m n lane place s e e' got is k = subst (λ (z : LaneEntry). Visited set m n lane place s z got) is k
 
--- if the held lane was given back with a visit, one visit of it was made
-pub visited_at : (set : Setting) (m m' : Seated) (told told' : List Step) (mark : Mark) (who : Who) (e : LaneEntry)
+-- if the held lane was given back with a visit, exactly one visit of the lane was made
+pub visited_at : (set : Setting) (m m' : Seated) (recorded recorded' : List Step) (mark : Mark) (who : Who) (e : LaneEntry)
     (held lane : ℕ) → held ≡ lane → index_of mark.lane ≡ held → mark.place ≡ length (known_of m.0 held) →
     held < length m.0.lanes → 1 < length m.0.lanes
-    → who ≡ maker set.caller set.event (length told) → told' ≡ told ++ Marked mark ∷ [] → MarkFits mark →
+    → who ≡ maker set.caller set.event (length recorded) → recorded' ≡ recorded ++ Marked mark ∷ [] → MarkFits mark →
     Added held (filled held (visit_by who mark.stamp e) m.0) m m'
-    → Visited set (knowing m.0 told) (knowing m'.0 told') lane mark.place
+    → Visited set (knowing m.0 recorded) (knowing m'.0 recorded') lane mark.place
     (replay (known_of m.0 lane)) e (handed lane e m.0)
-visited_at set m m' told told' mark who e held lane same on there near two by trace fits k =
-    subst (λ (l : ℕ). Visited set (knowing m.0 told) (knowing m'.0 told') l
+visited_at set m m' recorded recorded' mark who e held lane same on there near two by trace fits k =
+    subst (λ (l : ℕ). Visited set (knowing m.0 recorded) (knowing m'.0 recorded') l
     mark.place (replay (known_of m.0 l)) e (handed l e m.0)) same
-    (visited_by_put set m m' told told' mark who e held on there near two by trace fits k)
+    (visited_by_put set m m' recorded recorded' mark who e held on there near two by trace fits k)
 
 -- a visit at a place is one at any equal place
 pub visited_place : (set : Setting) (m n : Moment) (lane p q : ℕ) (s : Model) (e : LaneEntry) (got : Handed) → p ≡ q →
     Visited set m n lane p s e got → Visited set m n lane q s e got
 visited_place set m n lane p q s e got is k = subst (λ (z : ℕ). Visited set m n lane z s e got) is k
 
--- if no step was made from m to n, and the known list did not change, a visit from l to m is a visit from l to n
+-- if no step was made from `m` to `n`, and the known list did not change, a visit from `l` to `m` is a visit from `l`
+-- to `n`
 pub visited_stays : (set : Setting) (l m n : Moment) (lane place : ℕ) (s : Model) (e : LaneEntry) (got : Handed) →
     Visited set l m lane place s e got → TraceRecords set m n [] → known_of n.view lane ≡ known_of m.view lane →
     Visited set l n lane place s e got
@@ -153,7 +154,7 @@ visited_stays set l m n lane place s e got v idle same =
       mark = v.mark;
       lane_is = v.lane_is;
       place_is = v.place_is;
-      told = told_then set l m n (visited v.mark e ∷ []) [] v.told idle;
+      recorded = recorded_then set l m n (visited v.mark e ∷ []) [] v.recorded idle;
       met = record {
         near = (let a = idle.went.same.sized in let b = v.met.near in omega arith);
         visit = v.met.visit;

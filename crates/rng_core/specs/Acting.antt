@@ -1,4 +1,5 @@
--- A caller as the host of a vgetrandom call with acts inside: its work over the lanes at each step of the host.
+-- A caller as the host of a vgetrandom call with acts inside: what the caller does over the lanes at each step of the
+-- host.
 use Rattle.std.specs.Prelude.{◌≡◌, ℕ, ◌&&◌, Bool, true, false, MatchBool, List, if◌then◌else◌}
 use Rattle.key_names.specs.declared.point.Point.{Point}
 use Rattle.key_names.specs.declared.point.Point.TheVariants.{Start}
@@ -11,10 +12,10 @@ use Rattle.vdso_state.specs.Host.{Doings, DoesAll, doings}
 use Rattle.rng_core.specs.declared.vdso.attempt.Attempt.{Attempt}
 use Rattle.rng_core.specs.declared.vdso.attempt.Attempt.TheVariants.{Before, First, Later}
 use Rattle.rng_core.specs.Traces.{BeginsWithLook}
-use Rattle.rng_core.specs.Hosted.{Stand, Published, Answered}
+use Rattle.rng_core.specs.Hosted.{Conform, Published, Answered}
 use Rattle.rng_core.specs.Acts.{Ask, ActOutcome, ActsAt, wipes_at}
 
--- the attempt of a call at a point: each point Start begins one
+-- the attempt after the call came to a point: the first point begins the first attempt, and each later Start a new one
 abbrev pub attempt_at : Attempt → Point → Attempt
 attempt_at Before point = First
 attempt_at First point = if is_same_point point Start then Later else First
@@ -26,36 +27,37 @@ is_first First = true
 is_first Later = false
 
 -- the state of a caller in a call with acts inside
-pub record ActStand : Type 0 where
-  pub core : Stand
+pub record ActConform : Type 0 where
+  pub core : Conform
   pub attempt : Attempt
   pub asks : List Ask
   pub outcomes : List ActOutcome
 
-abbrev pub act_stand : Stand → Attempt → List Ask → List ActOutcome → ActStand
-act_stand core attempt asks outcomes =
+abbrev pub act_conform : Conform → Attempt → List Ask → List ActOutcome → ActConform
+act_conform core attempt asks outcomes =
     record { core = core; attempt = attempt; asks = asks; outcomes = outcomes }
 
 -- the acts changed nothing
-pub record SameActs (s t : ActStand) : Type 0 where
+pub record SameActs (s t : ActConform) : Type 0 where
   pub attempt : t.attempt ≡ s.attempt
   pub asks : t.asks ≡ s.asks
   pub outcomes : t.outcomes ≡ s.outcomes
 
--- the caller looked at the generation, and published this
-pub record ActPublished (s : ActStand) (g : ℕ) (t : ActStand) : Type 0 where
+-- the caller looked at the generation, and `g` is the generation that it published to the call
+pub record ActPublished (s : ActConform) (g : ℕ) (t : ActConform) : Type 0 where
   pub core : Published s.core g t.core
   pub consistent : Consistent t.core.moment.view
   pub acts : SameActs s t
 
 -- the caller made this system call
-pub record ActAnswered (s : ActStand) (n flags : ℕ) (answer : SystemAnswer) (t : ActStand) : Type 0 where
+pub record ActAnswered (s : ActConform) (n flags : ℕ) (answer : SystemAnswer) (t : ActConform) : Type 0 where
   pub core : Answered s.core n flags answer t.core
   pub begins : is_bad flags ≡ false → BeginsWithLook s.core.moment.steps t.core.moment.steps
   pub acts : SameActs s t
 
--- at a point of the first attempt the caller ran the acts bound to it; at any other point it did nothing
-pub record ActPassed (s : ActStand) (point : Point) (wiped : Bool) (t : ActStand) : Type 0 where
+-- at a point of the first attempt the caller ran the acts that are bound to the point; at any other point it did
+-- nothing
+pub record ActPassed (s : ActConform) (point : Point) (wiped : Bool) (t : ActConform) : Type 0 where
   pub set : t.core.set ≡ s.core.set
   pub steps : t.core.moment.steps ≡ s.core.moment.steps
   pub attempt : t.attempt ≡ attempt_at s.attempt point
@@ -66,12 +68,13 @@ pub record ActPassed (s : ActStand) (point : Point) (wiped : Bool) (t : ActStand
       ((t.outcomes ≡ s.outcomes) × (t.core.moment.view ≡ s.core.moment.view))
 
 -- the steps of a host that is the caller itself
-abbrev pub acting : Doings ActStand
+abbrev pub acting : Doings ActConform
 acting = doings ActPublished ActAnswered ActPassed
 
--- from one moment to another, in any attempt, the caller ran a call for n bytes on the state s, which became t:
--- these are its steps, each with its work over the lanes
-pub record InsideRan (n flags : ℕ) (s t : VgetrandomState) (from : ActStand) (to : Attempt → ActStand) : Type 0 where
+-- between two moments the caller ran a call for `n` bytes on the state `s`, which became `t`. `steps` are the steps of
+-- the call's host, each with the caller's work over the lanes; `to` maps the attempt in which the call ended to the
+-- last moment
+pub record InsideRan (n flags : ℕ) (s t : VgetrandomState) (from : ActConform) (to : Attempt → ActConform) : Type 0 where
   pub steps : List HostStep
   pub outcome : Outcome
   pub is_call : IsCall n flags s steps outcome

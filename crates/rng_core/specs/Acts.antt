@@ -6,7 +6,7 @@ use Rattle.key_names.specs.declared.events.InsideAct.{InsideAct}
 use Rattle.key_names.specs.declared.events.InsideAct.TheVariants.{Wipe, Vread, Reseed}
 use Rattle.key_names.specs.declared.names.Step.{Step}
 use Rattle.key_names.specs.declared.point.Point.{Point}
-use Rattle.key_names.specs.Callers.Deeds.{Deed}
+use Rattle.key_names.specs.Callers.Effects.{Effect}
 use Rattle.key_names.specs.Callers.Meaning.{LineMeaning, ActMeans}
 use Rattle.key_names.specs.Transcripts.SeenLine.{bytes_or_none}
 use Rattle.key_names.specs.Kernel.Points.{is_same_point}
@@ -49,7 +49,7 @@ asks_of bounds = map ask_of bounds
 abbrev pub outcome_of : Bound → List ℕ → ActOutcome
 outcome_of b bytes = record { done = b.done; answer = b.answer; steps = b.trace; bytes = bytes }
 
--- the parts of the acts' bytes follow each other
+-- the outcome of each act; in `out` the bytes of an act follow those of the act before it
 abbrev pub outcomes_of : List Bound → List ℕ → List ActOutcome
 outcomes_of [] out = []
 outcomes_of (b ∷ bounds) out =
@@ -68,23 +68,23 @@ abbrev pub all_ready : List Bound → Bool
 all_ready [] = true
 all_ready (b ∷ bounds) = is_ready b && all_ready bounds
 
--- acts that can still run, or have run, with a part of `out` for the bytes of each
+-- the acts can still run, or have run, and `out` has a part for the bytes of each act
 pub record AreReady (bounds : List Bound) (out : List ℕ) : Type 0 where
   pub fits : length out ≡ all_wanted (asks_of bounds)
   pub ready : all_ready bounds ≡ true
 
 -- the line of an act that was done
-abbrev pub done_line : List Deed → Result (Unit {0}) Errno → List ℕ → LineMeaning
-done_line deeds answer bytes =
-    record { deeds = deeds; answer = result_answer answer; shown = bytes_or_none (given answer bytes) }
+abbrev pub done_line : List Effect → Result (Unit {0}) Errno → List ℕ → LineMeaning
+done_line effects answer bytes =
+    record { effects = effects; answer = result_answer answer; shown = bytes_or_none (given answer bytes) }
 
 abbrev pub at_event : ℕ → Setting → Setting
 at_event event set = record set { event = event }
 
--- from v to w the act ran, with this outcome
+-- from `v` to `w` the act ran, with the outcome `y`
 pub record ActRan (set : Setting) (ask : Ask) (v w : View) (y : ActOutcome) : Type 0 where
   pub done : y.done ≡ true
-  pub did : Makes (λ deeds. ActMeans (setting_of set) ask.act (done_line deeds y.answer y.bytes))
+  pub did : Makes (λ effects. ActMeans (setting_of set) ask.act (done_line effects y.answer y.bytes))
       (at_event ask.event set)
       (knowing v []) (knowing w y.steps)
 

@@ -8,19 +8,19 @@ use Rattle.key_names.specs.Kernel.Flags.{is_bad, is_nonblock, is_insecure}
 use Rattle.rng_core.specs.Sites.{seen_by}
 use Rattle.rng_core.specs.declared.site.Site.{Site}
 
--- the caller had never seen the core ready, and the first step is a look that found it not ready, followed by these
--- steps
+-- the caller had never seen the core ready; its first step is a look that found the core not ready, and the steps
+-- `rest` follow
 pub record FoundUnready (rest : List Step) (m n : Site) : Type 0 where
   pub unseen : seen_by m ≡ 0
   pub steps : n.trace.now ≡ m.trace.now ++ Look 0 ∷ rest
 
--- with these flags a read needs a ready core, and waits for it unless nonblock is set
+-- with these flags a read needs a ready core, and waits for readiness unless `nonblock` is set
 pub record NeedsReady (nonblock : Bool) (flags : ℕ) : Type 0 where
   pub good : is_bad flags ≡ false
   pub secure : is_insecure flags ≡ false
   pub waits : is_nonblock flags ≡ nonblock
 
--- the fact about the flags and the core that a read's result implies
+-- what the result of a read implies about the flags and the core
 abbrev pub ReadCause : {T : Type 0} → Result T Errno → ℕ → Site → Site → Type 0
 ReadCause (Ok x) flags m n = is_bad flags ≡ false
 ReadCause (Err Invalid) flags m n = (is_bad flags ≡ true) × (n.trace.now ≡ m.trace.now)
@@ -35,7 +35,7 @@ pub record FoundReady (m n : Site) : Type 0 where
   pub steps : n.trace.now ≡ m.trace.now ++ Look look ∷ rest
   pub ready : 1 ≤ look
 
--- the fact about the core that a reseed's result implies
+-- what the result of a reseed implies about the core
 abbrev pub ReseedCause : {T : Type 0} → Result T Errno → Site → Site → Type 0
 ReseedCause (Ok x) m n = FoundReady m n
 ReseedCause (Err e) m n = (e ≡ NoData) × FoundUnready [] m n

@@ -1,4 +1,4 @@
--- A pass that is split, after the visit that records the fork.
+-- The effect of a fork: a visit of the base records the child, and then the caller's pass is split.
 use Rattle.std.specs.Prelude.{◌≡◌, ℕ, ◌+◌, List, [], ◌∷◌, ◌++◌, length}
 use Rattle.key_names.specs.declared.names.Mark.{Mark}
 use Rattle.key_names.specs.declared.names.Step.{Step}
@@ -17,16 +17,17 @@ use Rattle.rng_core.specs.Makes.{Makes}
 use Rattle.rng_core.specs.declared.site.Site.{Site}
 use Rattle.rng_core.specs.Sites.{Same, Does, HasInHands, at}
 
--- from m on the pass made a fork's visit, the trace had these steps then, and the share was cut in half
-pub record Forked (set : Setting) (m : Moment) (told : List Step) (number : ℕ) (pass child : Pass) : Type 0 where
+-- from `m` on the pass made the visit of a fork, after which the trace had the steps `recorded`; then the pass was
+-- split
+pub record Forked (set : Setting) (m : Moment) (recorded : List Step) (number : ℕ) (pass child : Pass) : Type 0 where
   pub before : View
-  pub did : Makes (BaseOnly (Fork number)) set m (knowing before told)
+  pub did : Makes (BaseOnly (Fork number)) set m (knowing before recorded)
   pub mark : Mark
-  pub visit : told ≡ m.steps ++ Visit mark ∷ []
+  pub visit : recorded ≡ m.steps ++ Visit mark ∷ []
   pub pass_is : view pass ≡ halved before
   pub child_is : view child ≡ steps.child before
 
--- the base recorded a child, in one visit
+-- the caller recorded a child, in one visit of the base
 pub record TellsOf (child : ℕ) (m n : Site) : Type 0 where
   pub does : Does 1 (BaseOnly (Fork child)) m n
   pub mark : Mark

@@ -1,17 +1,17 @@
--- A caller as the host of its own vgetrandom calls: its work over the lanes at each step of the host.
+-- A caller as the host of its own vgetrandom calls: what the caller does over the lanes at each step of the host.
 use Rattle.std.specs.Prelude.{◌≡◌, ℕ, ◌<◌, ◌≤◌, ⊤, Bool, true, false, IsTrue, List, [], ◌∷◌, length}
 use Rattle.std.proofs.Props.{props}
 use Rattle.std.specs.Coded.{Coded-set}
 use Rattle.atomic_table.specs.Seated.{TableId, table_id_coded}
 use Rattle.key_names.specs.declared.names.Step.{Step}
 use Rattle.key_names.specs.Callers.Calls.{Setting as CallSetting}
-use Rattle.key_names.specs.Callers.Deeds.{Deed}
+use Rattle.key_names.specs.Callers.Effects.{Effect}
 use Rattle.key_names.specs.Callers.Forms.{SysForm}
 use Rattle.key_names.specs.Kernel.Flags.{is_bad}
 use Rattle.key_names.specs.Kernel.Vgetrandom.{SystemAnswer, read, failed}
-use Rattle.key_names.specs.Callers.VreadSteps.{published_by, answer_behind}
-use Rattle.lane_table.specs.declared.view.Stage.{Stage}
-use Rattle.lane_table.specs.declared.view.Stage.TheVariants.{Away, Queued, Holding}
+use Rattle.key_names.specs.Callers.VreadSteps.{published_by, answer_after}
+use Rattle.lane_table.specs.declared.view.TicketStage.{TicketStage}
+use Rattle.lane_table.specs.declared.view.TicketStage.TheVariants.{Away, Queued, Holding}
 use Rattle.lane_table.specs.declared.lanes.Lanes.{Lanes}
 use Rattle.lane_table.specs.declared.lanes.Pass.{Pass}
 use Rattle.lane_table.specs.WorldRule.{at}
@@ -19,10 +19,10 @@ use Rattle.lane_table.specs.Calls.{IsPassOf, count_of, slots, view}
 use Rattle.lane_table.specs.Advances.{looked, floor}
 use Rattle.rng_core.specs.declared.setting.Setting.{Setting}
 use Rattle.rng_core.specs.Traces.{Moment, moment}
-use Rattle.rng_core.specs.Traces as told
+use Rattle.rng_core.specs.Traces as recorded
 use Rattle.rng_core.specs.Makes.{Makes, setting_of}
 
-abbrev pub is_away : Stage → Bool
+abbrev pub is_away : TicketStage → Bool
 is_away Away = true
 is_away (Queued ticket) = false
 is_away (Holding ticket) = false
@@ -40,34 +40,34 @@ TableId-set = Coded-set table_id_coded
 pub ruleset free_props = (props, TableId-set)
 
 -- the state of a caller in a call: its setting, the knowledge of its pass, and the steps so far
-pub record Stand : Type 0 where
+pub record Conform : Type 0 where
   pub set : Setting
   pub moment : Moment
 
-abbrev pub stand : Setting → Pass → List Step → Stand
-stand set pass steps = record { set = set; moment = moment pass steps }
+abbrev pub conform : Setting → Pass → List Step → Conform
+conform set pass steps = record { set = set; moment = moment pass steps }
 
--- the caller looked at the generation, and published this
-pub record Published (s : Stand) (g : ℕ) (t : Stand) : Type 0 where
+-- the caller looked at the generation, and `g` is the generation that it published to the call
+pub record Published (s : Conform) (g : ℕ) (t : Conform) : Type 0 where
   pub same : t.set ≡ s.set
   pub found : ℕ
   pub is : g ≡ published_by found
   pub above : floor s.moment.view ≤ found
   pub known : found ≤ floor t.moment.view
-  pub told : told.TraceRecords s.set s.moment t.moment (looked found ∷ [])
+  pub recorded : recorded.TraceRecords s.set s.moment t.moment (looked found ∷ [])
 
--- a system call with its answer, from the deeds of its steps
-pub record SystemCall (set : CallSetting) (n flags : ℕ) (answer : SystemAnswer) (deeds : List Deed) : Type 0 where
-  pub form : SysForm set n flags deeds
-  pub answers : answer ≡ answer_behind flags deeds
+-- these are the effects of a system call, and this is its answer
+pub record SystemCall (set : CallSetting) (n flags : ℕ) (answer : SystemAnswer) (effects : List Effect) : Type 0 where
+  pub form : SysForm set n flags effects
+  pub answers : answer ≡ answer_after flags effects
 
--- the call read its bytes
+-- the system call read its bytes
 abbrev pub IsRead : SystemAnswer → Type 0
 IsRead (read bytes visit) = ⊤
 IsRead (failed errno) = ⊥
 
--- the caller made this system call, which succeeds if the flags are good and the core was seen to be ready
-pub record Answered (s : Stand) (n flags : ℕ) (answer : SystemAnswer) (t : Stand) : Type 0 where
+-- the caller made this system call, which reads its bytes if the flags are good and the caller had seen the core ready
+pub record Answered (s : Conform) (n flags : ℕ) (answer : SystemAnswer) (t : Conform) : Type 0 where
   pub same : t.set ≡ s.set
   pub did : Makes (SystemCall (setting_of s.set) n flags answer) s.set s.moment t.moment
   pub served : is_bad flags ≡ false → 1 ≤ floor s.moment.view → IsRead answer

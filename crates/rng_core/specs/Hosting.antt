@@ -1,4 +1,4 @@
--- The host over the lanes: each of its steps is one of the caller itself.
+-- The host over the lanes: each step of the host is a step of the caller itself.
 use Rattle.std.specs.Prelude.{◌≡◌, ℕ, ◌<◌, List, [], length}
 use Rattle.std.specs.List.{AllByRecursion}
 use Rattle.key_names.specs.declared.events.Answer.{Answer}
@@ -9,14 +9,14 @@ use Rattle.rng_core.specs.declared.site.Site.{Site}
 use Rattle.rng_core.specs.declared.vdso.acts.Bound.{Bound}
 use Rattle.rng_core.specs.declared.vdso.attempt.Attempt.TheVariants.{Before}
 use Rattle.rng_core.specs.declared.vdso.lane_host.LaneHost.{LaneHost}
-use Rattle.rng_core.specs.Acting.{ActStand, act_stand, ActPublished, ActAnswered, ActPassed, InsideRan}
+use Rattle.rng_core.specs.Acting.{ActConform, act_conform, ActPublished, ActAnswered, ActPassed, InsideRan}
 use Rattle.rng_core.specs.Acts.{all_wanted, asks_of, outcomes_of}
-use Rattle.rng_core.specs.Hosted.{stand}
+use Rattle.rng_core.specs.Hosted.{conform}
 use Rattle.rng_core.specs.InsideMakes.{IsWaitingAct, InsideMakes}
 use Rattle.rng_core.specs.Sites.{Same, IsNew, IsOnCpu, IsTimely, HasInHands, at}
 use Rattle.rng_core.specs.VreadMakes.{Called, IsCurrent, VreadMakes}
 
--- acts may run inside a call at this site: none has run yet, and `out` has a part for the bytes of each
+-- acts may run inside a call at this site: no act has run yet, and `out` has a part for the bytes of each act
 pub record CanHost (acts : List Bound) (out : List ℕ) (s : Site) : Type 0 where
   pub new : IsNew s
   pub cpu : IsOnCpu s
@@ -34,11 +34,11 @@ module _ {R : Type 0} where
     pub fresh : AllByRecursion IsWaitingAct h.acts.now
 
   -- the state of the caller
-  abbrev pub standing : LaneHost R → ActStand
-  standing h = act_stand (stand h.site.set h.site.pass.now h.site.trace.now) h.attempt (asks_of h.acts.now)
+  abbrev pub standing : LaneHost R → ActConform
+  standing h = act_conform (conform h.site.set h.site.pass.now h.site.trace.now) h.attempt (asks_of h.acts.now)
       (outcomes_of h.acts.now h.out.now)
 
-  -- the host has the same references, over the same lanes
+  -- `next` has the same references as `h`, over the same lanes
   pub record SameLoans (h next : LaneHost R) : Type 0 where
     pub site : Same h.site next.site
     pub acts : next.acts.ghost_name ≡ h.acts.ghost_name
@@ -49,7 +49,7 @@ module _ {R : Type 0} where
       (λ h n flags answer next. ActAnswered (standing h) n flags answer (standing next) × SameLoans h next)
       (λ h point wiped next. ActPassed (standing h) point wiped (standing next) × SameLoans h next)
 
-  -- a read of n bytes on the state s, which became t, without acts inside
+  -- without acts inside, the host read `n` bytes out of the state `s`, which became `t`
   pub record ReadsState (n flags : ℕ) (s t : VgetrandomState) (answer : Answer) (shown : Shown) (h next : LaneHost R)
       : Type 0 where
     pub loans : SameLoans h next
@@ -57,7 +57,7 @@ module _ {R : Type 0} where
     pub current : IsCurrent t next.site
     pub did : VreadMakes n flags s t answer shown h.site.set (at h.site) (at next.site)
 
-  -- a call for n bytes on the state s, which became t, with acts inside
+  -- with acts inside, the host ran a call for `n` bytes on the state `s`, which became `t`
   pub record ReadsInside (n flags : ℕ) (s t : VgetrandomState) (answer : Answer) (shown : Shown) (h next : LaneHost R)
       : Type 0 where
     pub loans : SameLoans h next
@@ -67,10 +67,10 @@ module _ {R : Type 0} where
     pub did : InsideMakes n flags s t answer shown h.site.set (at h.site) (at next.site) (asks_of h.acts.now)
         (outcomes_of next.acts.now next.out.now)
     pub ran : InsideRan n flags s t (standing h)
-        (λ last. act_stand (stand h.site.set next.site.pass.now next.site.trace.now) last (asks_of next.acts.now)
+        (λ last. act_conform (conform h.site.set next.site.pass.now next.site.trace.now) last (asks_of next.acts.now)
         (outcomes_of next.acts.now next.out.now))
 
-  -- a call for n bytes on the state s, which became t, with acts inside or without
+  -- with acts inside or without, the host ran a call for `n` bytes on the state `s`, which became `t`
   pub record HostCalled (n flags : ℕ) (s t : VgetrandomState) (answer : Answer) (shown : Shown) (h next : LaneHost R)
       : Type 0 where
     pub loans : SameLoans h next

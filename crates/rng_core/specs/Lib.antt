@@ -11,7 +11,7 @@ pub mod OwnStates
 pub mod OwnReads
 pub mod Reading
 pub mod Settings
-pub mod SampleDeeds
+pub mod SampleEffects
 pub mod Traces
 pub mod VreadMakes
 pub mod Waits

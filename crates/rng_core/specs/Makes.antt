@@ -1,8 +1,9 @@
--- The effect of a call on the book, for all final lists of visits that continue the lists that the pass knows.
+-- The effect of a call on the book. What is said of the effect holds for all final lists of visits that continue those
+-- that the pass knows.
 use Rattle.std.specs.Prelude.{◌≡◌, ℕ, List, [], map, Bool, true, false, Result, Ok, Err}
 use Rattle.key_names.specs.declared.entries.VEntry.{VEntry}
 use Rattle.key_names.specs.Callers.Calls.{Setting as CallSetting}
-use Rattle.key_names.specs.Callers.Deeds.{Deed, deeds_of}
+use Rattle.key_names.specs.Callers.Effects.{Effect, effects_of}
 use Rattle.key_names.specs.declared.events.Event.{Event}
 use Rattle.key_names.specs.declared.events.Answer.{Answer}
 use Rattle.key_names.specs.declared.events.Answer.TheVariants.{Ok as Done, Fired, Idle}
@@ -21,28 +22,28 @@ use Rattle.lane_table.specs.BookLaws.{Continues}
 use Rattle.lane_table.specs.VisitsMet.{base_serving, cpu_serving}
 use Rattle.lane_table.specs.Advances.{MadeStep, step_of}
 use Rattle.rng_core.specs.Traces.{Moment, Visited}
-use Rattle.rng_core.specs.Traces as told
+use Rattle.rng_core.specs.Traces as recorded
 use Rattle.rng_core.specs.declared.setting.Setting.{Setting}
 
 -- the part of the setting that a form uses
 abbrev pub setting_of : Setting → CallSetting
 setting_of set = record { cpu = set.cpu; now = set.now; hw = set.hw }
 
--- from m to n the trace lists the steps of the pass, and P holds for the lists and for the deeds of these steps
-pub record MakesIn (P : (ℕ → List Visit) → List Deed → Type 0) (set : Setting) (m n : Moment) : Type 0 where
+-- from `m` to `n` the trace lists the steps of the pass, and P holds for the lists and for the effects of these steps
+pub record MakesIn (P : (ℕ → List Visit) → List Effect → Type 0) (set : Setting) (m n : Moment) : Type 0 where
   pub made_steps : List MadeStep
-  pub told : told.TraceRecords set m n made_steps
-  pub stands : (lanes : ℕ) (visits : ℕ → List Visit) (callers : List (List (List VEntry))) →
-      Continues lanes n.view visits → P visits (deeds_of (book_lists lanes visits callers) (map step_of made_steps))
+  pub recorded : recorded.TraceRecords set m n made_steps
+  pub conforms : (lanes : ℕ) (visits : ℕ → List Visit) (callers : List (List (List VEntry))) →
+      Continues lanes n.view visits → P visits (effects_of (book_lists lanes visits callers) (map step_of made_steps))
 
--- from m to n the trace lists the steps of the pass, and P holds for their deeds
-abbrev pub Makes : (List Deed → Type 0) → Setting → Moment → Moment → Type 0
+-- from `m` to `n` the trace lists the steps of the pass, and P holds for the effects of these steps
+abbrev pub Makes : (List Effect → Type 0) → Setting → Moment → Moment → Type 0
 Makes P set m n = MakesIn (λ visits. P) set m n
 
--- deeds of a form that serve these bytes
-pub record Serving (F : List Deed → Type 0) (bytes : List ℕ) (deeds : List Deed) : Type 0 where
-  pub form : F deeds
-  pub bytes_are : bytes ≡ served_bytes deeds
+-- the effects have the form F, and serve these bytes
+pub record Serving (F : List Effect → Type 0) (bytes : List ℕ) (effects : List Effect) : Type 0 where
+  pub form : F effects
+  pub bytes_are : bytes ≡ served_bytes effects
 
 -- the bytes that an entry serves from this model of its lane
 abbrev pub serving : LaneEntry → Model → Handed → List ℕ
@@ -57,12 +58,12 @@ pub record Served (set : Setting) (m n : Moment) (lane place : ℕ) (e : LaneEnt
   pub visited : Visited set m n lane place model e got
   pub serves : bytes ≡ serving e model got
 
--- the deeds are those of an event, with the answer and the data of its line
-pub record IsOutcomeOf (set : CallSetting) (event : Event) (answer : Answer) (shown : Shown) (deeds : List Deed) : Type
+-- the effects are those of an event, with the answer and the data of its line
+pub record IsOutcomeOf (set : CallSetting) (event : Event) (answer : Answer) (shown : Shown) (effects : List Effect) : Type
     0 where
-  pub form : Form set event deeds
-  pub answers : answer ≡ answer_of event deeds
-  pub shows : shown ≡ shown_of event deeds
+  pub form : Form set event effects
+  pub answers : answer ≡ answer_of event effects
+  pub shows : shown ≡ shown_of event effects
 
 abbrev pub result_answer : {T : Type 0} → Result T Errno → Answer
 result_answer (Ok x) = Done

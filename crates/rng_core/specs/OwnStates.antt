@@ -1,5 +1,5 @@
--- A caller's own vgetrandom states, by the clauses of its calls, and the laws of books for these states and the
--- table.
+-- The vgetrandom states that callers own, as the clauses of their calls describe them, and the law that these states
+-- and the table's lists make a book.
 use Rattle.std.specs.Prelude.{◌≡◌, ℕ, ◌+◌, ◌<◌, ◌≤◌, ⊤, Some, List, [], ◌∷◌, ◌++◌, length, map, slice_get}
 use Rattle.std.specs.List.{sum_by, AllByRecursion}
 use Rattle.key_names.specs.declared.entries.VEntry.{VEntry}
@@ -83,7 +83,7 @@ abbrev pub Follow : VgetrandomState → List OwnUse → Type 0
 Follow s [] = ⊤
 Follow s (u ∷ us) = (before_use u ≡ s) × Follow (after_use u) us
 
--- the state after some uses, and the list of their entries
+-- the state after some uses, and the list of the uses' entries
 abbrev pub after_uses : VgetrandomState → List OwnUse → VgetrandomState
 after_uses s [] = s
 after_uses s (u ∷ us) = after_uses (after_use u) us
@@ -92,15 +92,16 @@ abbrev pub entries_left : List OwnUse → List VEntry
 entries_left [] = []
 entries_left (u ∷ us) = entries_of u ++ entries_left us
 
--- how often place p of CPU c is among the visits of a use, or of all uses
+-- how often place `p` of CPU `c` is among the visits of a use, or of all uses
 abbrev pub visits_at : ℕ → ℕ → OwnUse → ℕ
 visits_at c p u = times p (places_in (c + 2) (steps_of u))
 
 abbrev pub all_visits_at : ℕ → ℕ → List (List OwnUse) → ℕ
 all_visits_at c p states = sum_by (λ uses. sum_by (visits_at c p) uses) states
 
--- at a moment of the table, these are the uses of each of the caller's own states, from its first, wiped state on.
--- Each state is between two calls, and the passes count the visits of the uses, each once
+-- these are the uses of each own state up to a moment of the table. Each state is wiped before its first use, and is
+-- between two calls. Some pass knows what the caller of each use knew, and the passes together made all visits of the
+-- uses
 pub record OwnStates (s : St) (states : List (List OwnUse)) : Type 0 where
   pub follow : AllByRecursion (Follow wiped_state) states
   pub known : AllByRecursion (AllByRecursion (UseIsKnown s)) states
@@ -111,8 +112,8 @@ pub record OwnStates (s : St) (states : List (List OwnUse)) : Type 0 where
 abbrev pub own_lists : St → (ℕ → List Visit) → List (List OwnUse) → Lists
 own_lists s logs states = book_lists (length s.homes) logs (map (λ uses. entries_left uses ∷ []) states)
 
--- the book is lawful except for visits that are half finished, so each read has one taker; no byte of a key was used
--- twice; no live state holds a replaced key; and each state is the replay of its own list
+-- the book is lawful except for visits that are half finished, so no two states took the same read as a key; no byte
+-- of a key was used twice; no live state holds a replaced key; and each state is the replay of its own list
 pub record OwnBook (lists : Lists) (states : List (List OwnUse)) : Type 0 where
   pub lawful : HalfFinishedBook lists
   pub disjoint : IsDisjoint lists
@@ -121,7 +122,7 @@ pub record OwnBook (lists : Lists) (states : List (List OwnUse)) : Type 0 where
   pub replayed : (i : ℕ) (uses : List OwnUse) → slice_get states i ≡ Some uses →
       IsReplayed lists i 0 (entries_left uses) (after_uses wiped_state uses)
 
--- at each moment between two atomic steps, OwnBook holds for the states that callers of the core own
+-- at each moment between two atomic steps, `OwnBook` holds for the states that callers of the core own
 abbrev pub OwnStatesAreLawful : Type 0
 OwnStatesAreLawful = (first : ℕ) (s : St) (r : WorldRule first s) (states : List (List OwnUse)) →
     OwnStates s states → OwnBook (own_lists s r.logs states) states

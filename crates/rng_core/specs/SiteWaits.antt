@@ -12,11 +12,11 @@ use Rattle.rng_core.specs.Waits.{waiting}
 use Rattle.rng_core.specs.Sites.{Does, seen_by}
 use Rattle.rng_core.specs.declared.site.Site.{Site}
 
--- how many steps the caller may still need to wait until the core is ready: 0 once it has seen the core ready
+-- how many steps a wait for readiness may still take: 0 once the caller has seen the core ready
 abbrev pub waiting_at : Site → ℕ
 waiting_at s = waiting (view s.pass.now)
 
--- the core was found ready, or no caller runs
+-- the wait ended because the core was found ready, or because no caller runs
 abbrev pub Waited : {T : Type 0} → Result T Errno → Site → Site → Type 0
 Waited (Ok x) m n = (1 ≤ seen_by n) × Does 1 (Serving (BaseOnly Resume) []) m n
 Waited (Err e) m n = (e ≡ Interrupted) × Does 1 (Serving (BaseOnly Interrupt) []) m n

@@ -1,6 +1,6 @@
 -- The preconditions and effects of calls at a site.
 use Rattle.std.specs.Prelude.{◌≡◌, ◌≢◌, ◌⊎◌, ℕ, ◌+◌, ◌<◌, ◌≤◌, ◌^◌, List, [], ◌∷◌, length, Option, Some, None, Bool, false}
-use Rattle.key_names.specs.Callers.Deeds.{Deed}
+use Rattle.key_names.specs.Callers.Effects.{Effect}
 use Rattle.key_names.specs.declared.entries.PoolEntry.TheVariants.{Extract}
 use Rattle.key_names.specs.declared.entries.BaseEntry.TheVariants.{Refill}
 use Rattle.key_names.specs.declared.events.Event.{Event}
@@ -11,8 +11,8 @@ use Rattle.lane_table.specs.declared.lanes.Held.{Held}
 use Rattle.lane_table.specs.declared.view.Visit.{Visit}
 use Rattle.lane_table.specs.declared.view.LaneEntry.{LaneEntry}
 use Rattle.lane_table.specs.declared.view.LaneEntry.TheVariants.{Pool, Base}
-use Rattle.lane_table.specs.declared.view.Stage.TheVariants.{Holding}
-use Rattle.lane_table.specs.Meaning.{Model, CpuModel, behind_of, ahead_of, raise_of, made_of, IsOf, Fits, ValueRepresents, nothing, got_of, hand as handing}
+use Rattle.lane_table.specs.declared.view.TicketStage.TheVariants.{Holding}
+use Rattle.lane_table.specs.Meaning.{Model, CpuModel, after_of, ahead_of, raise_of, made_of, IsOf, Fits, ValueRepresents, nothing, got_of, hand as handing}
 use Rattle.lane_table.specs.WorldRule.{Consistent, known_of, at as standing}
 use Rattle.lane_table.specs.Steps.{handed, filled}
 use Rattle.lane_table.specs.Calls.{IsSamePass, Added, view, visit_by}
@@ -20,7 +20,7 @@ use Rattle.lane_table.specs.Hands.{HoldsLanes, HeldLane, NotIn, hand, model}
 use Rattle.lane_table.specs.Advances.{MadeStep, Agrees, looked, maker, floor}
 use Rattle.rng_core.specs.Traces.{Moment, TraceRecords, Visited, moment}
 use Rattle.rng_core.specs.Makes.{MakesIn, Served, IsOutcomeOf, setting_of}
-use Rattle.rng_core.specs.declared.crng.keys.Root.{Root}
+use Rattle.rng_core.specs.declared.crng.keys.ExtractedRoot.{ExtractedRoot}
 use Rattle.rng_core.specs.declared.crng.keys.KeyHandoff.{KeyHandoff}
 use Rattle.rng_core.specs.declared.site.Site.{Site}
 
@@ -38,15 +38,15 @@ cpu_lane c = c + 2
 abbrev pub most_bytes : ℕ
 most_bytes = 2 ^ 20
 
--- the pass has at most this stamp when it makes a visit
+-- a visit may be made only while the pass's stamp is at most this
 abbrev pub last_stamp : ℕ
 last_stamp = 2 ^ 62
 
--- the moment of a site: its pass's view and its steps
+-- the moment of a site: the view of its pass, and the steps in its trace
 abbrev pub at : Site → Moment
 at s = moment s.pass.now s.trace.now
 
--- the model of a lane by the list that the caller knows
+-- the model of a lane, from the lane's list as the caller knows it
 abbrev pub lane_of : Site → ℕ → Model
 lane_of s lane = model s.pass.now lane
 
@@ -75,12 +75,12 @@ own_places s = length (known_of (view s.pass.now) (own_lane s))
 
 -- Before a call
 
--- no lane held, and no step yet
+-- the caller holds no lane, and its trace has no step yet
 pub record IsNew (s : Site) : Type 0 where
   pub has : HasInHands [] s
   pub empty : length s.trace.now ≡ 0
 
--- no lane held, and room for this many steps
+-- the caller holds no lane, and its trace has room for this many steps
 pub record IsIdle (steps : ℕ) (s : Site) : Type 0 where
   pub has : HasInHands [] s
   pub room : length s.trace.now + steps ≤ 20
@@ -93,18 +93,19 @@ IsOnCpu s = s.set.cpu < s.lanes.now.cpus
 abbrev pub IsTimely : Site → Type 0
 IsTimely s = s.set.now < 2 ^ 40
 
--- room for this many steps
+-- the trace has room for this many steps
 abbrev pub HasRoom : ℕ → Site → Type 0
 HasRoom steps s = length s.trace.now + steps ≤ 20
 
--- only this lane is held, with its value as taken; it owes this answer, and raised the generation this often
+-- the caller holds only this lane, and has not changed the lane's value; the hold owes the answer `owes`, and has
+-- raised the generation this often
 pub record HoldsWith (owes : Option ℕ) (raised lane : ℕ) (h : Held) (s : Site) : Type 0 where
   pub has : HasInHands (hand h.turn owes raised ∷ []) s
   pub lane_is : h.turn.lane ≡ lane
   pub value : ValueRepresents lane h.state (lane_of s lane)
   pub early : s.pass.now.stamp ≤ last_stamp
 
--- only this lane is held, as it was taken
+-- the caller holds only this lane, with the value as it was taken; the hold owes no answer and raised nothing
 abbrev pub Holds : ℕ → Held → Site → Type 0
 Holds lane h s = HoldsWith None 0 lane h s
 
@@ -113,12 +114,12 @@ pub record IsLow (s : Site) : Type 0 where
   pub seen : (view s.pass.now).seen ≤ (lane_of s base_lane).base.generation
   pub low : (lane_of s base_lane).base.generation < 2 ^ 62
 
--- the CPU's key is of the generation that a look found
+-- the CPU's key is of the generation `look`, which a look found
 pub record IsFresh (look : ℕ) (s : Site) : Type 0 where
   pub known : 1 ≤ look
   pub fresh : look ≡ (own_cpu s).cpu.generation
 
--- the CPU's key is of an earlier generation, and the base handed over another key for it
+-- the CPU's key is of an earlier generation, and the base handed over another key for the CPU
 pub record IsRefill (look : ℕ) (base : KeyHandoff) (s : Site) : Type 0 where
   pub known : 1 ≤ look
   pub not_back : (own_cpu s).cpu.generation ≤ look
@@ -126,16 +127,16 @@ pub record IsRefill (look : ℕ) (base : KeyHandoff) (s : Site) : Type 0 where
   pub handed : got_of (Some base.place) (known_of (view s.pass.now) base_lane) ≡ handing base.key base.generation
   pub reached : look ≤ base.generation
 
--- the batch of this width is filled if it has to be, with a key of the generation that a look found
+-- `filled`: the batch of this width has to be filled. If so, the CPU's key is of the generation that the look found
 pub record IsFill (look width : ℕ) (filled : Bool) (s : Site) : Type 0 where
   pub known : 1 ≤ look
   pub not_back : (own_cpu s).cpu.generation ≤ look
   pub fills : filled ≡ must_fill look width ((own_cpu s).fills width)
   pub fresh : (filled ≡ false) ⊎ (look ≡ (own_cpu s).cpu.generation)
 
--- only this lane is held, and it may be given back with the entry
+-- the caller holds only this lane, and may give it back with a visit of the entry
 pub record CanVisit (lane : ℕ) (h : Held) (e : LaneEntry) (s : Site) : Type 0 where
-  pub has : HasInHands (hand h.turn (behind_of e) (raise_of e) ∷ []) s
+  pub has : HasInHands (hand h.turn (after_of e) (raise_of e) ∷ []) s
   pub lane_is : h.turn.lane ≡ lane
   pub kind : IsOf lane e
   pub names : ahead_of e ≡ None
@@ -156,12 +157,12 @@ pub record Same (m n : Site) : Type 0 where
   pub pass : n.pass.ghost_name ≡ m.pass.ghost_name
   pub trace : n.trace.ghost_name ≡ m.trace.ghost_name
 
--- from m to n exactly these steps were made
+-- from `m` to `n` exactly these steps were made
 pub record Walked (made_steps : List MadeStep) (m n : Site) : Type 0 where
   pub same : Same m n
-  pub told : TraceRecords m.set (at m) (at n) made_steps
+  pub recorded : TraceRecords m.set (at m) (at n) made_steps
 
--- a lane was taken, with other lanes held or none
+-- a lane was taken; other lanes may be held
 pub record Took (lane : ℕ) (h : Held) (m n : Site) : Type 0 where
   pub walked : Walked [] m n
   pub trace : n.trace.now ≡ m.trace.now
@@ -176,7 +177,7 @@ pub record Took (lane : ℕ) (h : Held) (m n : Site) : Type 0 where
   pub low : lane ≡ base_lane → IsLow n
   pub agrees : lane ≡ base_lane → Agrees (lane_of n base_lane).base
 
--- a lane was taken while no other was held
+-- a lane was taken while no other lane was held
 pub record Entered (lane : ℕ) (h : Held) (m n : Site) : Type 0 where
   pub walked : Walked [] m n
   pub trace : n.trace.now ≡ m.trace.now
@@ -215,7 +216,7 @@ pub record LookedIdly (found : ℕ) (m n : Site) : Type 0 where
   pub looked : Looked found m n
   pub has : HasInHands [] n
 
--- the CPU that the caller runs on was taken, and then one look made
+-- the CPU that the caller runs on was taken, and then one look was made
 pub record EnteredCpu (cpu : Held) (found : ℕ) (m n : Site) : Type 0 where
   pub walked : Walked (looked found ∷ []) m n
   pub room : length n.trace.now ≡ length m.trace.now + 1
@@ -225,7 +226,7 @@ pub record EnteredCpu (cpu : Held) (found : ℕ) (m n : Site) : Type 0 where
   pub small : found < 2 ^ 63
   pub not_back : (own_cpu n).cpu.generation ≤ found
 
--- a visit was made, with any other lanes held
+-- a visit was made; other lanes may be held
 pub record Visits (h : Held) (e : LaneEntry) (m n : Site) : Type 0 where
   pub same : Same m n
   pub room : length n.trace.now ≡ length m.trace.now + 1
@@ -254,7 +255,7 @@ pub record VisitedServing (lane : ℕ) (h : Held) (e : LaneEntry) (bytes : List 
   pub served : Served m.set (at m) (at n) lane h.turn.place e bytes
 
 -- a root was extracted for the held base
-pub record Extracted (base : Held) (root : Root) (m n : Site) : Type 0 where
+pub record Extracted (base : Held) (root : ExtractedRoot) (m n : Site) : Type 0 where
   pub same : Same m n
   pub holds : HoldsWith (Some root.place) 0 base_lane base n
   pub kept : lane_of n base_lane ≡ lane_of m base_lane
@@ -265,7 +266,7 @@ pub record Extracted (base : Held) (root : Root) (m n : Site) : Type 0 where
       (Pool (Extract m.set.hw base.turn.place)) nothing
 
 -- a root was extracted, and the generation was raised to that of the base's next reseed
-pub record ExtractedRaising (base : Held) (root : Root) (m n : Site) : Type 0 where
+pub record ExtractedRaising (base : Held) (root : ExtractedRoot) (m n : Site) : Type 0 where
   pub same : Same m n
   pub holds : HoldsWith (Some root.place) 1 base_lane base n
   pub kept : lane_of n base_lane ≡ lane_of m base_lane
@@ -289,15 +290,15 @@ pub record Refilled (cpu : Held) (base : KeyHandoff) (m n : Site) : Type 0 where
 abbrev pub IsOneStep : Site → Site → Type 0
 IsOneStep m n = length n.trace.now ≡ length m.trace.now + 1
 
--- a call was made in at most this many steps, P holds for the lists and its deeds, and no lane is held
-pub record DoesIn (steps : ℕ) (P : (ℕ → List Visit) → List Deed → Type 0) (m n : Site) : Type 0 where
+-- a call of at most this many steps was made, and no lane is held; P holds for the lists and the call's effects
+pub record DoesIn (steps : ℕ) (P : (ℕ → List Visit) → List Effect → Type 0) (m n : Site) : Type 0 where
   pub same : Same m n
   pub has : HasInHands [] n
   pub room : length n.trace.now ≤ length m.trace.now + steps
   pub did : MakesIn P m.set (at m) (at n)
 
--- a call was made in at most this many steps, P holds for its deeds, and no lane is held
-abbrev pub Does : ℕ → (List Deed → Type 0) → Site → Site → Type 0
+-- a call of at most this many steps was made, and no lane is held; P holds for the call's effects
+abbrev pub Does : ℕ → (List Effect → Type 0) → Site → Site → Type 0
 Does steps P m n = DoesIn steps (λ visits. P) m n
 
 -- the call completed an event, with this answer and these data

@@ -1,4 +1,4 @@
--- The steps of a call in its trace, and the deeds that they have in the final lists.
+-- The steps of a call in its trace, and the effects that they have in the final lists.
 use Rattle.std.specs.Prelude.{◌≡◌, ℕ, ◌<◌, List, [], ◌∷◌, ◌++◌, length, map, take}
 use Rattle.std.specs.List.{AllByRecursion}
 use mathlib.Core.Option.{some}
@@ -30,13 +30,13 @@ knowing v steps = record { view = v; steps = steps }
 abbrev pub moment : Pass → List Step → Moment
 moment pass steps = knowing (view pass) steps
 
--- from m to n the pass made exactly these steps, and the trace lists them, in numbers that a transcript can have
+-- from `m` to `n` the pass made exactly these steps, the trace lists them, and a transcript can have each (`StepFits`)
 pub record TraceRecords (set : Setting) (m n : Moment) (made_steps : List MadeStep) : Type 0 where
   pub trace : n.steps ≡ m.steps ++ map step_of made_steps
   pub went : Advances set.caller set.event (length m.steps) m.view n.view made_steps
   pub fits : AllByRecursion StepFits (map step_of made_steps)
 
--- the visit at a mark: the entry, the key that it received, and the lane's model before it
+-- the view knows the visit at the mark: its entry, the key that it received, and the lane's model before it
 pub record Met (v : View) (mark : Mark) (s : Model) (e : LaneEntry) (got : Handed) : Type 0 where
   pub near : index_of mark.lane < length v.lanes
   pub visit : Visit
@@ -51,7 +51,7 @@ pub record Visited (set : Setting) (m n : Moment) (lane place : ℕ) (s : Model)
   pub mark : Mark
   pub lane_is : index_of mark.lane ≡ lane
   pub place_is : mark.place ≡ place
-  pub told : TraceRecords set m n (visited mark e ∷ [])
+  pub recorded : TraceRecords set m n (visited mark e ∷ [])
   pub met : Met n.view mark s e got
 
 -- the added steps begin with a look

@@ -5,12 +5,12 @@ use Rattle.key_names.specs.declared.errno.Errno.{Errno}
 use Rattle.key_names.specs.declared.events.Answer.{Answer}
 use Rattle.key_names.specs.Kernel.BatchCopy.{serves_locally, copy_bytes, state_after_copy}
 use Rattle.key_names.specs.Callers.Calls.{Setting as CallSetting}
-use Rattle.key_names.specs.Callers.Deeds.{Deed}
+use Rattle.key_names.specs.Callers.Effects.{Effect}
 use Rattle.key_names.specs.Callers.Meaning.{CallerState, CallMeaning, VreadMeans, current_state, with_state, tries_local}
 use Rattle.key_names.specs.Transcripts.SeenLine.{Shown}
 use Rattle.key_names.specs.Kernel.Vgetrandom.{HostStep, Outcome, IsCall}
 use Rattle.key_names.specs.Kernel.VgetrandomState.{VgetrandomState}
-use Rattle.key_names.specs.Callers.VreadSteps.{Shows, WipesStand, points_of, ending_answer, ending_shown, published_by}
+use Rattle.key_names.specs.Callers.VreadSteps.{Shows, WipesConform, points_of, ending_answer, ending_shown, published_by}
 use Rattle.lane_table.specs.declared.view.View.{View}
 use Rattle.lane_table.specs.Calls.{SameView}
 use Rattle.lane_table.specs.Advances.{looked, floor}
@@ -19,7 +19,7 @@ use Rattle.vdso_state.specs.declared.outcome.Local.{Local}
 use Rattle.vdso_state.specs.declared.outcome.Local.TheVariants.{NeedsSystem, Served}
 use Rattle.rng_core.specs.declared.setting.Setting.{Setting}
 use Rattle.rng_core.specs.Traces.{Moment, knowing}
-use Rattle.rng_core.specs.Traces as told
+use Rattle.rng_core.specs.Traces as recorded
 use Rattle.rng_core.specs.Makes.{Makes, setting_of}
 use Rattle.rng_core.specs.declared.site.Site.{Site}
 use Rattle.rng_core.specs.Sites.{Same, HasInHands, at, seen_by}
@@ -29,7 +29,7 @@ abbrev pub done_of : Result VEnd Errno → Result (Unit {0}) Errno
 done_of (Ok end) = Ok tt
 done_of (Err errno) = Err errno
 
--- from v to w the pass made one look, which found this generation and is no step of the trace
+-- from `v` to `w` the pass made one look, which found this generation and is no step of the trace
 pub record OnlyLooked (found : ℕ) (v w : View) : Type 0 where
   pub same : SameView v w
   pub lanes : w.lanes ≡ v.lanes
@@ -39,13 +39,13 @@ pub record OnlyLooked (found : ℕ) (v w : View) : Type 0 where
   pub above : floor v ≤ found
   pub known : found ≤ floor w
 
--- the batch served, after one look
+-- the batch served the read, after one look
 pub record LocallyServed (n flags : ℕ) (s t : VgetrandomState) (out : List ℕ) (set : Setting)
     (l m : Moment) : Type 0 where
   pub found : ℕ
   pub tries : tries_local n flags [] ≡ true
   pub serves : serves_locally (published_by found) s n ≡ true
-  pub told : told.TraceRecords set l m (looked found ∷ [])
+  pub recorded : recorded.TraceRecords set l m (looked found ∷ [])
   pub bytes : out ≡ copy_bytes s 0 n
   pub state : t ≡ state_after_copy s 0 n
 
@@ -55,7 +55,7 @@ pub record Refused (n : ℕ) (s : VgetrandomState) (v w : View) : Type 0 where
   pub glanced : OnlyLooked found v w
   pub refuses : serves_locally (published_by found) s n ≡ false
 
--- from v to w a read that the batch does not serve looked once if it tried the batch, and else did nothing
+-- the batch does not serve the read: from `v` to `w` the pass looked once if it tried the batch, and else did nothing
 pub record Unserved (n flags : ℕ) (s : VgetrandomState) (v w : View) : Type 0 where
   pub untried : tries_local n flags [] ≡ false → w ≡ v
   pub tried : tries_local n flags [] ≡ true → Refused n s v w
@@ -70,7 +70,7 @@ abbrev pub LocalRead : Local → ℕ → ℕ → VgetrandomState → VgetrandomS
 LocalRead Served n flags s t out set l m = LocallyServed n flags s t out set l m
 LocalRead NeedsSystem n flags s t out set l m = LeftToSystem n flags s t l m
 
--- a call of vgetrandom without acts inside, with the caller itself as the host
+-- the caller made a call of vgetrandom, with itself as the host and without acts inside
 pub record Called (n flags : ℕ) (s t : VgetrandomState) (answer : Answer) (shown : Shown) (set : Setting)
     (l m : Moment) : Type 0 where
   pub steps : List HostStep
@@ -79,27 +79,29 @@ pub record Called (n flags : ℕ) (s t : VgetrandomState) (answer : Answer) (sho
   pub state : t ≡ outcome.state
   pub answers : answer ≡ ending_answer outcome.ending
   pub shows : shown ≡ ending_shown outcome.ending
-  pub wipes : WipesStand [] (points_of steps)
+  pub wipes : WipesConform [] (points_of steps)
   pub did : Makes (Shows (setting_of set) steps) set l m
 
--- the meaning of a read without acts inside
-abbrev pub vread_meaning : List Deed → Answer → Shown → List VEntry → CallerState → VgetrandomState → CallMeaning
-vread_meaning deeds answer shown entries before t = record {
-  own = record { deeds = deeds; answer = answer; shown = shown };
+-- the meaning of a read that has no acts inside
+abbrev pub vread_meaning : List Effect → Answer → Shown → List VEntry → CallerState → VgetrandomState → CallMeaning
+vread_meaning effects answer shown entries before t = record {
+  own = record { effects = effects; answer = answer; shown = shown };
   acts = [];
   entries = entries;
   before = before;
   after = with_state before t;
 }
 
--- these are the deeds of a read on the state s, which became t, for any caller with this setting and current state
+-- if a caller has this setting and this current state, these are the effects of a read that changes the state from `s`
+-- to `t`
 abbrev pub VreadLine : CallSetting → ℕ → ℕ → VgetrandomState → VgetrandomState → Answer → Shown → List VEntry →
-    List Deed →
+    List Effect →
     Type 0
-VreadLine set n flags s t answer shown entries deeds = (before : CallerState) → before.setting ≡ set →
-    current_state before ≡ s → VreadMeans n flags [] (vread_meaning deeds answer shown entries before t)
+VreadLine set n flags s t answer shown entries effects = (before : CallerState) → before.setting ≡ set →
+    current_state before ≡ s → VreadMeans n flags [] (vread_meaning effects answer shown entries before t)
 
--- from l to m the caller read n bytes with these flags, out of the batch or by the steps after the view `looked`
+-- from `l` to `m` the caller read `n` bytes with these flags. Either the batch served the read, or a call did. Before
+-- the call, only a look that is no step may lie between `l` and the view `looked`
 pub record VreadMakes (n flags : ℕ) (s t : VgetrandomState) (answer : Answer) (shown : Shown) (set : Setting)
     (l m : Moment) : Type 0 where
   pub looked : View
@@ -111,11 +113,11 @@ pub record VreadMakes (n flags : ℕ) (s t : VgetrandomState) (answer : Answer) 
 
 -- Over a site
 
--- the caller has seen the state's generation published
+-- the state's generation is at most the last one that the caller has seen published
 abbrev pub IsCurrent : VgetrandomState → Site → Type 0
 IsCurrent st s = st.generation ≤ published_by (seen_by s)
 
--- the batch was tried for n bytes on the state s, which became t
+-- the batch was tried for `n` bytes on the state `s`, which became `t`
 pub record ReadsLocally (result : Local) (n flags : ℕ) (s t : VgetrandomState) (out : List ℕ) (l m : Site)
     : Type 0 where
   pub same : Same l m

@@ -10,11 +10,11 @@ use Rattle.rng_core.specs.declared.setting.Setting.{Setting}
 use Rattle.rng_core.specs.Traces.{Moment}
 use Rattle.rng_core.specs.Makes.{Makes, Serving}
 
--- the core was found ready, or no caller runs
+-- the wait ended because the core was found ready, or because no caller runs
 abbrev pub Waits : {T : Type 0} → Result T Errno → Setting → Moment → Moment → ℕ → Type 0
 Waits (Ok x) set m n seen = (1 ≤ seen) × Makes (Serving (BaseOnly Resume) []) set m n
 Waits (Err e) set m n seen = (e ≡ Interrupted) × Makes (Serving (BaseOnly Interrupt) []) set m n
 
--- how many steps a caller may still need to wait until the core is ready: 0 once it has seen the core ready
+-- how many steps a wait for readiness may still take: 0 once the caller has seen the core ready
 abbrev pub waiting : View → ℕ
 waiting v = 2 - 2 * floor v

@@ -3,7 +3,7 @@ ghost use Rattle.std.specs.Prelude.{◌≡◌, ◌<◌, ◌/◌, ℕ, Bool, None
 ghost use Rattle.key_names.specs.declared.entries.CpuEntry.TheVariants.{Int};
 ghost use Rattle.key_names.specs.Kernel.Batches.{must_fill};
 ghost use Rattle.lane_table.specs.declared.view.Handed.{Handed};
-ghost use Rattle.lane_table.specs.Meaning.{CpuModel, CpuLaneStands, batch_at, cpu_entered};
+ghost use Rattle.lane_table.specs.Meaning.{CpuModel, CpuLaneConforms, batch_at, cpu_entered};
 ghost use Rattle.lane_table.specs.VisitsMet.{cpu_serving};
 ghost use Rattle.int_batch.specs.BatchValue.{next_bytes, after_serving};
 ghost use Rattle.rng_core.specs.Integers.{IsWidth};
@@ -46,7 +46,7 @@ fn serve_from<const W: usize>(cpu: &mut Cpu, batch: &mut Batch<W>, look: u64, ou
 /// Whether the batch of this width has to be filled before it serves an integer at generation `look`.
 pub(crate) fn wants(lane: &CpuLane, width: usize, look: u64) -> bool
     requires { IsWidth width }
-    ensures { (c : CpuModel) → CpuLaneStands lane.now c → result ≡ must_fill look width (c.fills width) }
+    ensures { (c : CpuModel) → CpuLaneConforms lane.now c → result ≡ must_fill look width (c.fills width) }
 {
     match width {
         1 => lane.b8.wants(look),
@@ -60,10 +60,10 @@ pub(crate) fn wants(lane: &CpuLane, width: usize, look: u64) -> bool
 /// Serves an integer at generation `look` out of the batch of its width (`get_random_u8` to `get_random_u64`).
 pub(crate) fn serve(lane: &mut CpuLane, look: u64, out: &mut [u8])
     requires { IsWidth (length out.old) }
-    ensures made { (c : CpuModel) (got : Handed) (filled : Bool) → CpuLaneStands lane.old c
+    ensures made { (c : CpuModel) (got : Handed) (filled : Bool) → CpuLaneConforms lane.old c
         → filled ≡ must_fill look (length out.old) (c.fills (length out.old))
-        → CpuLaneStands lane.new (cpu_entered (Int look None (length out.old) filled) got c) }
-    ensures bytes { (c : CpuModel) (got : Handed) (filled : Bool) → CpuLaneStands lane.old c
+        → CpuLaneConforms lane.new (cpu_entered (Int look None (length out.old) filled) got c) }
+    ensures bytes { (c : CpuModel) (got : Handed) (filled : Bool) → CpuLaneConforms lane.old c
         → filled ≡ must_fill look (length out.old) (c.fills (length out.old))
         → out.new ≡ cpu_serving c got (Int look None (length out.old) filled) }
 {

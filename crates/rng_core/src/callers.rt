@@ -1,4 +1,10 @@
 //! The callers: how many run, and the fork of a new one.
+//!
+//! The kernel does not count running callers, so no function here follows one of the kernel's:
+//!
+//! - `fork`: records the child, and splits the caller's pass.
+//! - `stall`, `unstall`: the caller stops running while a child runs in its thread, and runs again.
+//! - `end`: the caller's end.
 
 pub(crate) mod forks;
 pub(crate) mod running;

@@ -1,4 +1,4 @@
-//! The effects of calls on a CPU's value, each as its entry defines it.
+//! The effects of calls on a CPU's value. Each effect is the one that the call's entry defines.
 ghost use Rattle.std.specs.Prelude.{◌≡◌, ◌≢◌, ℕ, ◌<◌, ◌≤◌, ◌+◌, ◌^◌, Bool, true, None, Some, length};
 ghost use Rattle.key_names.specs.declared.entries.CpuEntry.TheVariants.{Read, Int, Irq, Dump as DumpEntry, Prepare, Online};
 ghost use Rattle.key_names.specs.Kernel.Batches.{must_fill};
@@ -25,7 +25,7 @@ pub(crate) fn cpu_generation(state: &LaneState) -> u64
 
 /// Whether the batch of this width has to be filled before it serves an integer at generation `look`.
 pub(crate) fn wants(state: &LaneState, width: usize, look: u64) -> bool
-    requires stands { IsCpuValue state.now }
+    requires conforms { IsCpuValue state.now }
     requires width { IsWidth width }
     ensures { (lane : ℕ) (s : Model) → 2 ≤ lane → ValueRepresents lane state.now s
         → result ≡ must_fill look width (s.cpu.fills width) }
@@ -35,7 +35,7 @@ pub(crate) fn wants(state: &LaneState, width: usize, look: u64) -> bool
 
 /// Serves an integer out of the batch of its width; if the batch has to be filled, the CPU's key fills it first.
 pub(crate) fn serve(state: &mut LaneState, look: u64, out: &mut [u8])
-    requires stands { IsCpuValue state.old }
+    requires conforms { IsCpuValue state.old }
     requires width { IsWidth (length out.old) }
     ensures made { (lane : ℕ) (s : Model) (got : Handed) (filled : Bool) → 2 ≤ lane
         → filled ≡ must_fill look (length out.old) (s.cpu.fills (length out.old)) → ValueRepresents lane state.old s
@@ -47,7 +47,8 @@ pub(crate) fn serve(state: &mut LaneState, look: u64, out: &mut [u8])
     with_cpu!(state, lane => batches::serve(lane, look, out))
 }
 
-/// Serves an integer out of the batch of its width, after the key from the base fills the batch.
+/// Refills the CPU with the key from the base. With that key it fills the batch of this width, and serves the batch's
+/// first integer.
 pub(crate) fn serve_refilled(
     state: &mut LaneState,
     key: [u8; 32],
@@ -55,7 +56,7 @@ pub(crate) fn serve_refilled(
     look: u64,
     out: &mut [u8],
 )
-    requires stands { IsCpuValue state.old }
+    requires conforms { IsCpuValue state.old }
     requires width { IsWidth (length out.old) }
     ensures made { (lane : ℕ) (s : Model) (got : Handed) (place : ℕ) → 2 ≤ lane → got.key ≡ key
         → got.generation ≡ generation → must_fill look (length out.old) (s.cpu.fills (length out.old)) ≡ true

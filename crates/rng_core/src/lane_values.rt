@@ -1,4 +1,4 @@
-//! The effects of calls on a lane's value, each as its entry defines it.
+//! The effects of calls on a lane's value. Each effect is the one that the call's entry defines.
 ghost use Rattle.std.specs.Prelude.{◌≡◌, ◌≢◌, ◌↔◌, ℕ, ◌<◌, ◌≤◌, ◌+◌, ◌^◌, ◌++◌, None, Some, List, length, IsTrue};
 ghost use Rattle.std.specs.Int.{w64, to_le_bytes};
 ghost use Rattle.key_names.specs.declared.entries.PoolEntry.{PoolEntry};
@@ -9,9 +9,9 @@ ghost use Rattle.key_names.specs.Lanes.BaseList.{IsDue, one_more, one_less};
 ghost use Rattle.base_gen.specs.BaseValue.{phase_of};
 ghost use Rattle.lane_table.specs.declared.view.Handed.{Handed};
 ghost use Rattle.key_names.specs.Lanes.PoolList.{PoolState, crossing, pool_step, root_of_extraction};
-ghost use Rattle.input_pool.specs.PoolStands.{crossing_of};
+ghost use Rattle.input_pool.specs.PoolConforms.{crossing_of};
 ghost use Rattle.lane_table.specs.declared.view.LaneEntry.TheVariants.{Pool as OfPool, Base as OfBase, Cpu as OfCpu};
-ghost use Rattle.lane_table.specs.Meaning.{Model, PoolLaneStands, ValueRepresents, made_of, nothing};
+ghost use Rattle.lane_table.specs.Meaning.{Model, PoolLaneConforms, ValueRepresents, made_of, nothing};
 
 use crate::projections::{with_base, with_pool};
 use base_gen::Phase;
@@ -113,7 +113,7 @@ pub(crate) fn down(state: &mut LaneState)
     with_base!(state, lane => lane.base.down())
 }
 
-/// Installs a root early.
+/// Gives the base a root before the core is ready (`CRNG_EARLY`).
 pub(crate) fn install_early(state: &mut LaneState, root: [u8; 32])
     requires { (s : Model) × ValueRepresents 1 state.old s }
     ensures { (s : Model) (got : Handed) (place : ℕ) → got.key ≡ root → ValueRepresents 1 state.old s
@@ -122,9 +122,9 @@ pub(crate) fn install_early(state: &mut LaneState, root: [u8; 32])
     with_base!(state, lane => lane.base.install_early(root))
 }
 
-/// Installs a root, and reseeds with it.
+/// Reseeds the base with a root.
 pub(crate) fn install(state: &mut LaneState, root: [u8; 32], now: u64)
-    requires stands { (s : Model) × ValueRepresents 1 state.old s × (s.base.generation < 2 ^ 63) }
+    requires conforms { (s : Model) × ValueRepresents 1 state.old s × (s.base.generation < 2 ^ 63) }
     requires now { now < 2 ^ 40 }
     ensures { (s : Model) (got : Handed) (place : ℕ) → got.key ≡ root → ValueRepresents 1 state.old s
         → ValueRepresents 1 state.new (made_of s (OfBase (Reseed place now)) got) }
@@ -132,9 +132,9 @@ pub(crate) fn install(state: &mut LaneState, root: [u8; 32], now: u64)
     with_base!(state, lane => lane.base.install(root, now))
 }
 
-/// Installs a root because the timer is due.
+/// Reseeds the base with a root because the timer is due, and sets the timer again.
 pub(crate) fn fire(state: &mut LaneState, root: [u8; 32], now: u64)
-    requires stands { (s : Model) × ValueRepresents 1 state.old s × (s.base.generation < 2 ^ 63) }
+    requires conforms { (s : Model) × ValueRepresents 1 state.old s × (s.base.generation < 2 ^ 63) }
     requires now { now < 2 ^ 40 }
     ensures { (s : Model) (got : Handed) (place : ℕ) → got.key ≡ root → ValueRepresents 1 state.old s
         → ValueRepresents 1 state.new (made_of s (OfBase (Tick now (Some place))) got) }
@@ -167,9 +167,9 @@ pub(crate) fn mix_device(state: &mut LaneState, word: u64, text: &[u8])
 // Applies an input event to the pool and its timer.
 fn mix_sample(lane: &mut PoolLane, word: u64, kind: u16, code: u16, value: u8, now: u64) -> Crossing
     requires { now < 2 ^ 40 }
-    ensures made { (s : PoolState) → PoolLaneStands lane.old s
-        → PoolLaneStands lane.new (pool_step s (InputEntry word kind code value now)) }
-    ensures crossed { (s : PoolState) → PoolLaneStands lane.old s
+    ensures made { (s : PoolState) → PoolLaneConforms lane.old s
+        → PoolLaneConforms lane.new (pool_step s (InputEntry word kind code value now)) }
+    ensures crossed { (s : PoolState) → PoolLaneConforms lane.old s
         → crossing_of result ≡ crossing s.bits (pool_step s (InputEntry word kind code value now)).bits }
 {
     if !lane.timer.fresh(value) {
@@ -192,7 +192,7 @@ pub(crate) fn mix_input(
     value: u8,
     now: u64,
 ) -> Crossing
-    requires stands { (s : Model) × ValueRepresents 0 state.old s }
+    requires conforms { (s : Model) × ValueRepresents 0 state.old s }
     requires moment { now < 2 ^ 40 }
     ensures made { (s : Model) → ValueRepresents 0 state.old s
         → ValueRepresents 0 state.new (made_of s (OfPool (InputEntry word kind code value now)) nothing) }

@@ -1,17 +1,54 @@
-//! The calls of the core: reads, samples, reseeds and the other operations on the lanes.
+//! The calls of the core over the lanes of one table, for callers in threads: reads, samples, reseeds and the other
+//! operations of drivers/char/random.c, and the read of lib/vdso/getrandom.c. A call runs at a [`Site`]: the table of
+//! lanes, the caller's pass, the trace of its steps, and the caller's setting. The folders follow the sections of
+//! random.c.
 //!
-//! A call runs at a [`Site`]: the table of lanes, the caller's pass, the trace of its steps, and the caller's setting.
-//! The folders follow the sections of random.c.
+//! The knowledge of a pass is defined in `lane_table`, and the change that an entry makes to a value in the parts. A
+//! read out of a caller's own state is in `vdso_state`.
 //!
-//! For every interleaving of the callers the crate promises the following. A call's trace lists exactly the looks and
-//! visits that it made; the look by which `vread_local`, alone or in `vread`, finds that the batch cannot serve is the
-//! only one left out. These steps are a form of the call's event, with its answer and its bytes, and the call ends with
-//! no lane held. A read holds no lane while it makes the bytes after the first 32; a fill of a batch of integers makes
-//! its 96 bytes while the CPU is held. A call may wait: for a lane, and a blocking read for readiness. Not promised:
-//! that a wait ends.
+//! # Example
 //!
-//! The knowledge of a pass is defined in `lane_table`, the change that an entry makes to a value in the parts, and a
-//! read out of a caller's own state in `vdso_state`.
+//! ```rust
+//! let mut trace = Trace::empty();
+//! let mut bytes = [0; N];
+//! let mut site = Site {
+//!     lanes,
+//!     pass,
+//!     trace: &mut trace,
+//!     set: *set,
+//! };
+//! let answer = getrandom(rt, &mut site, &mut bytes, flags);
+//! ```
+//!
+//! From `crates/test_core/src/rng_core_tests.rt`.
+//!
+//! # Proved
+//!
+//! - [`getrandom`], [`kernel_read`], [`mix`] and the other calls: for every interleaving of the callers, the steps that
+//!   the call adds to its trace are exactly its looks and visits. They are a form of its event, with its answer and its
+//!   bytes. The call ends with no lane held. Only one look is left out: the one by which [`vread_local`], alone or in
+//!   [`vread`], finds that the batch cannot serve.
+//! - [`getrandom`] and [`random_file`]: each error has its cause. `EAGAIN` and `EINTR` need a first look that found the
+//!   core not ready.
+//! - [`reseed`]: after success the caller has seen a higher generation than before.
+//! - [`laws::own_states_are_lawful`]: between any two atomic steps the table's lists, and those of vgetrandom states
+//!   that are between two calls, make a lawful book, except for visits that are half finished. No byte of a key was
+//!   used twice in it.
+//! - Not promised: that a wait ends. A call may wait for a lane, and a blocking read for readiness.
+//!
+//! # Tested only
+//!
+//! A read holds no lane while it makes the bytes after the first 32: `rng_core_tests` of `test_core`. Without a clause
+//! or a test: a fill of a batch of integers makes its 96 bytes while the CPU is held.
+//!
+//! # Differs from the kernel
+//!
+//! - Some visits are several steps in the kernel: a sample is mixed and credited in one visit, and a reseed extracts
+//!   its root while it holds the base.
+//! - A blocking read fails with `EINTR` once no running caller is left. The kernel waits on, and gathers jitter if it
+//!   has a cycle counter.
+//! - A dump of a fast pool is made at once, by the caller that took the interrupt. docs/TRUST.md lists the other
+//!   differences.
 #![tactic(auto)]
 
 mod batches;

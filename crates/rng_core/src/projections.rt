@@ -1,4 +1,5 @@
-//! A lane's value as one of its kind, if the contract says which lane it is.
+//! Macros that use a lane's value as that of the pool, the base or a CPU; the contract of the caller says which of the
+//! three it is.
 
 /// Runs an expression with the value of the pool's lane.
 macro_rules! with_pool {

@@ -10,9 +10,9 @@ use std::sync::Wait;
 
 /// The site of a call: the table, the caller's pass, the steps so far, and the caller's setting.
 ///
-/// A call begins and ends with no lane held, and needs room for its steps: a trace has 20. A call that uses
-/// `set.cpu` needs it to be one of the table's CPUs. A call that samples with credit, reseeds or ticks needs
-/// `set.now` below 2^40. A read is of at most 2^20 bytes.
+/// A call begins and ends with no lane held, and its steps must fit into the trace, which has room for 20. If a call
+/// uses `set.cpu`, the table must have that CPU. If a call samples with credit, reseeds or ticks, `set.now` must be
+/// below 2^40. A read asks for at most 2^20 bytes.
 #[derive(Drop)]
 pub struct Site<'a> {
     pub lanes: &'a Lanes,
@@ -27,7 +27,7 @@ impl Site<'_> {
     ghost use Rattle.lane_table.specs.Advances.{maker};
     ghost use Rattle.rng_core.specs.Sites.{IsIdle, IsOnCpu, HasRoom, Holds, Took, Entered, EnteredCpu, CanVisit, IsMade, VisitedIdly, Visits, Looked, LookedIdly, GaveBack, pool_lane, base_lane, own_lane, last_stamp};
 
-    // Takes a lane, with other lanes held or none.
+    // Takes a lane; other lanes may be held.
     pub(crate) fn take<R: Wait>(&mut self, rt: &R, lane: LaneId) -> Held
         requires pass { IsPassOf self.old.lanes.now self.old.pass.now }
         requires lane { index_of lane < count_of self.old.lanes.now }
@@ -40,7 +40,7 @@ impl Site<'_> {
         }
     }
 
-    /// Takes a lane while no other is held.
+    /// Takes a lane while no other lane is held.
     pub(crate) fn enter<R: Wait>(&mut self, rt: &R, lane: LaneId) -> Held
         requires idle { IsIdle 0 self.old }
         requires lane { index_of lane < count_of self.old.lanes.now }
@@ -49,7 +49,7 @@ impl Site<'_> {
         self.take(rt, lane)
     }
 
-    /// Takes the CPU that the caller runs on, and looks at the generation while it is held.
+    /// Takes the CPU that the caller runs on, and looks at the generation while the CPU is held.
     pub(crate) fn enter_cpu<R: Wait>(&mut self, rt: &R) -> (Held, u64)
         requires idle { IsIdle 1 self.old }
         requires cpu { IsOnCpu self.old }
@@ -61,7 +61,7 @@ impl Site<'_> {
         (held, look)
     }
 
-    // Makes one look, with any lanes held.
+    // Makes one look; lanes may be held.
     fn look_on(&mut self) -> u64
         requires pass { IsPassOf self.old.lanes.now self.old.pass.now }
         requires room { HasRoom 1 self.old }
@@ -72,7 +72,7 @@ impl Site<'_> {
         generation
     }
 
-    /// Makes one look, with no lane held.
+    /// Makes one look while no lane is held.
     pub(crate) fn look(&mut self) -> u64
         requires { IsIdle 1 self.old }
         ensures { LookedIdly result self.old self.new }
@@ -98,7 +98,7 @@ impl Site<'_> {
         }
     }
 
-    // Makes a visit, with any other lanes held.
+    // Makes a visit; other lanes may be held.
     pub(crate) fn put<E: Entry>(&mut self, held: Held, entry: E)
         requires pass { IsPassOf self.old.lanes.now self.old.pass.now }
         requires own { self.old.pass.now.caller ≡ self.old.set.caller }
@@ -112,7 +112,7 @@ impl Site<'_> {
         self.trace.push(Step::Visit(mark));
     }
 
-    /// Makes a visit of the only held lane. Its entry names no lane ahead.
+    /// Makes a visit of the only lane that is held. The visit's entry hands no key to another lane.
     pub(crate) fn visit<E: Entry>(&mut self, held: Held, entry: E)
         requires ready { CanVisit held.turn.lane held (E.entry entry) self.old }
         requires makes { IsMade held.turn.lane held (E.entry entry) self.old }
@@ -121,7 +121,7 @@ impl Site<'_> {
         self.put(held, entry);
     }
 
-    /// Makes a visit of the pool, the only held lane.
+    /// Makes a visit of the pool, which is the only held lane.
     pub(crate) fn visit_pool(&mut self, pool: Held, note: PoolNote)
         requires ready { CanVisit pool_lane pool (OfPool (entry_of note)) self.old }
         requires makes { IsMade pool_lane pool (OfPool (entry_of note)) self.old }
@@ -130,7 +130,7 @@ impl Site<'_> {
         self.visit(pool, note);
     }
 
-    /// Makes a visit of the base, the only held lane.
+    /// Makes a visit of the base, which is the only held lane.
     pub(crate) fn visit_base(&mut self, base: Held, entry: BaseEntry)
         requires ready { CanVisit base_lane base (OfBase entry) self.old }
         requires makes { IsMade base_lane base (OfBase entry) self.old }
@@ -139,7 +139,7 @@ impl Site<'_> {
         self.visit(base, entry);
     }
 
-    /// Makes a visit of the caller's CPU, the only held lane.
+    /// Makes a visit of the caller's CPU, which is the only held lane.
     pub(crate) fn visit_cpu(&mut self, cpu: Held, entry: CpuEntry)
         requires ready { CanVisit (own_lane self.old) cpu (OfCpu entry) self.old }
         requires makes { IsMade (own_lane self.old) cpu (OfCpu entry) self.old }

@@ -18,7 +18,7 @@ not_refused : (script : Script) (text output : List ℕ) → IsScript script tex
 not_refused script text output is refusal =
     let none = ap fault_in (script_again text script is) in cc (none, refusal.first)
 
--- nor is a text of allowed length that begins with a script
+-- a text of allowed length that begins with a script is not refused by `check` or `replay`
 not_judge_refused : (script : Script) (text output : List ℕ) → length text ≤ most_input → IsScript script (front text)
     → TellsFault text output → ⊥
 not_judge_refused script text output short is refusal =
@@ -27,7 +27,7 @@ not_judge_refused script text output short is refusal =
     not_refused script (front text) output is
     (record { fault = refusal.fault; first = sym same ∙ refusal.first; line = refusal.line })
 
--- a read fault at the end of the output was one before it
+-- if the status after the end of the output is a read fault, so was the status before it
 pub read_before : (status result : Status) (m n : ℕ) → AtOutputEnd status result m n → result ≡ ReadFault
     → status ≡ ReadFault
 read_before status result m n ended is = elim ended [
@@ -62,7 +62,7 @@ module _ (left_after a b : Option (List ℕ)) where
   judge_completes judge WriteFault (Some all) e read written = absurd (written refl)
   judge_completes judge Usage (Some all) e read written = absurd e
 
--- a command that reads no input
+-- a command that reads no input is done or out of memory, if it ended without a write fault
 pub ends_completes : (Of : List ℕ → Type 0) (status : Status) (a b : Option (List ℕ)) → EndsWith Of status a b
     → (status ≡ WriteFault → ⊥) → (status ≡ Done) ⊎ (status ≡ NoMemory)
 ends_completes Of Done a b e written = inl refl

@@ -1,4 +1,4 @@
--- An answered input has at most a certain length, and all longer inputs have the same refusal.
+-- An input that gets an answer is not above the limit, and all inputs above the limit have the same refusal.
 use Rattle.std.proofs.Common.{ℕ, ◌≡◌, ◌≤◌, ◌<◌, true, ltb, List, Some, length, sym, ap, ◌∙◌, arith, refl}
 use Rattle.std.proofs.lemmas.Bool.{lt-ltb}
 use Rattle.key_names.specs.declared.faults.FaultKind.TheVariants.{TooLong}

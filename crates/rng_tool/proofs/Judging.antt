@@ -1,4 +1,4 @@
--- An answer about a script and the transcript after it is one for their text.
+-- An answer that is right for a script and a transcript is right for the input that is their text.
 use Rattle.std.proofs.Common.{◌≡◌, ℕ, List, Option, sym, subst, refl, ◌∙◌, inl, inr}
 use Rattle.std.specs.Prelude.{IfSome}
 use Rattle.key_names.specs.Transcripts.IsTranscript.{HasLines, clause_number, lines_clause}
@@ -6,11 +6,11 @@ use Rattle.key_names.specs.Texts.ScriptGrammar.{Script}
 use Rattle.key_names.specs.Transcripts.SeenLine.{SeenLine}
 use Rattle.key_names.specs.Texts.TranscriptGrammar.{TranscriptFits, transcript_text}
 use Rattle.serial_replay.specs.Replayed.{IsTheTranscript}
-use Rattle.tool_ends.specs.Behind.{IsApart, IsWhole, compared_with}
-use Rattle.tool_ends.specs.Pairs.{FailsAsText, IsNoPair, IsPair, RefusalEnds, RefusalOf, behind, no_line}
+use Rattle.tool_ends.specs.After.{IsApart, IsWhole, compared_with}
+use Rattle.tool_ends.specs.Pairs.{FailsAsText, IsNoPair, IsPair, RefusalEnds, RefusalOf, following, no_line}
 use Rattle.tool_ends.specs.Reads.{WritesEnds}
-use Rattle.tool_ends.specs.declared.behind.Behind.{Behind}
-use Rattle.tool_ends.specs.declared.behind.Behind.TheVariants.{Compared, Fed}
+use Rattle.tool_ends.specs.declared.following.After.{After}
+use Rattle.tool_ends.specs.declared.following.After.TheVariants.{Compared, Fed}
 use Rattle.tool_ends.specs.declared.pair.NotRead.{NotRead}
 use Rattle.tool_ends.specs.declared.pair.NotRead.TheVariants.{ReadFault as SourceFails, Refused as FirstFault, NoTranscript, TooManyLines, NoMemory as Unread}
 use Rattle.tool_ends.specs.declared.status.Status.{Status}
@@ -22,7 +22,7 @@ use Rattle.rng_tool.specs.declared.judge.Judge.TheVariants.{Check, Replay}
 use Rattle.tool_ends.proofs.Inputs.{wider}
 use Rattle.rng_tool.proofs.Runs.{under_own_number}
 
--- the text that is written is that of the transcript that was made
+-- if `made` is the transcript that the steps give, its text is the right output of `replay`
 pub gives_back : (script : Script) (t made : List (List SeenLine)) → TranscriptFits made →
     IsTheTranscript script t made → GivesBack script t (transcript_text made)
 gives_back script t made fits is = record {
@@ -35,7 +35,7 @@ gives_back script t made fits is = record {
   };
 }
 
--- an answer about a transcript is one for its text
+-- an answer that is right for a script and a transcript is right for the input
 pub pair_said : (judge : Judge) (input : List ℕ) (script : Script) (t : List (List SeenLine)) → IsPair input script t →
     (s : Status) (o : List ℕ) → SaidOf judge script t s o → JudgeCalls judge input s o
 pair_said judge input script t pair Done o said = record { script = script; lines = t; pair = pair; says = said }
@@ -60,7 +60,7 @@ lacks_lines Check script t fails = fails
 lacks_lines Replay script t fails = fails
 
 clause_said : (judge : Judge) (input : List ℕ) (number : ℕ) (fails : FailsAsText input number) →
-    IsClause judge fails.script (behind input) number
+    IsClause judge fails.script (following input) number
 clause_said judge input number fails = elim fails.clause [
   | inl none ↦ inl none
   | inr lacks ↦ inr (
@@ -84,7 +84,7 @@ text_said judge input number is s o said = subst (λ status. JudgeCalls judge in
   line = said.1;
 })
 
--- the refusal of an input that is not read is a right answer for its text
+-- the refusal of an input that is not read is a right answer for this input
 pub none_said : (judge : Judge) (input : List ℕ) (why : NotRead) → IsNoPair input why → (s : Status) (o : List ℕ) →
     RefusalOf why s o → JudgeCalls judge input s o
 none_said judge input SourceFails is s o said = absurd is
@@ -95,7 +95,7 @@ none_said judge input TooManyLines is s o said = text_said judge input 2 is.0 s 
 none_said judge input Unread is s o said = absurd said
 
 -- if the text after a script is all of a run's output, `yes` is the right answer
-pub run_said : (judge : Judge) (input : List ℕ) (script : Script) (text : Behind) → IsApart input script text →
+pub run_said : (judge : Judge) (input : List ℕ) (script : Script) (text : After) → IsApart input script text →
     IfSome (compared_with text) (λ t. (judge ≡ Check) × RunOf script (transcript_text t)) → IsWhole text →
     JudgeCalls judge input Done yes_line
 run_said judge input script (Compared comparison) apart made whole =
@@ -108,7 +108,7 @@ run_said judge input script (Compared comparison) apart made whole =
     })
 run_said judge input script (Fed reader) apart made whole = absurd whole
 
--- if the text after a script is not read, its refusal is one of the input
+-- if an input is not read as a script and a transcript, its refusal is a right answer
 pub refusal_said : (judge : Judge) (input : List ℕ) (why : NotRead) → IsNoPair input why → (status : Status)
     (held held_after : Option (List ℕ)) → RefusalEnds why status held held_after →
     WritesEnds (JudgeCalls judge input) status held held_after

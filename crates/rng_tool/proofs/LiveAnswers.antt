@@ -1,4 +1,4 @@
--- The ends of a session with its answer, and after the flush at the end of the output.
+-- How a session ends once its answer was written, and then after the flush at the end of the output.
 use Rattle.std.proofs.Common.{◌≡◌, ℕ, ◌+◌, ◌⊎◌, inl, inr, Option, None, Some, List, [], ◌++◌, refl, sym, ap, subst, ◌∙◌, append-nil, append_assoc, length, arith}
 use Rattle.std.specs.Prelude.{IfSome, Err, take}
 use Rattle.std.specs.Io.KnownBytes.{Appends, Consumes, Keeps}
@@ -10,20 +10,20 @@ use Rattle.key_names.specs.declared.faults.ScriptFault.{ScriptFault}
 use Rattle.key_names.specs.Texts.ScriptFaults.{fault_in, first_fault}
 use Rattle.key_names.specs.Texts.ScriptGrammar.{IsScript, Script}
 use Rattle.key_names.proofs.Script.ScriptTexts.{script_again}
-use Rattle.caller_run.specs.Alone.{IsToldByOne}
+use Rattle.caller_run.specs.Alone.{IsEmittedByOne}
 use Rattle.tool_ends.specs.Ends.{AtOutputEnd, IsAnswered}
 use Rattle.tool_ends.specs.Pairs.{refusal_line}
 use Rattle.tool_ends.specs.Reads.{WritesEnds}
 use Rattle.tool_ends.specs.declared.status.Status.{Status}
 use Rattle.tool_ends.specs.declared.status.Status.TheVariants as status
 use Rattle.tool_ends.proofs.Endings.{appends_kept}
-use Rattle.rng_tool.specs.LiveOutcome.{LiveEnds, RefusesBy, Told, ToldAll, ToldPart, ToldRefusal, not_alone_line}
-use Rattle.rng_tool.specs.LiveSteps.{SessionEnds, ToldToFault, ToldToLine}
+use Rattle.rng_tool.specs.LiveOutcome.{LiveEnds, RefusesBy, Emitted, EmittedAll, EmittedPart, EmittedRefusal, not_alone_line}
+use Rattle.rng_tool.specs.LiveSteps.{SessionEnds, EmittedToFault, EmittedToLine}
 use Rattle.rng_tool.specs.declared.stop.Stop.TheVariants.{NoMemory, NotAlone, Refused}
 use Rattle.rng_tool.proofs.LiveLines.{event_dooms, fails_hopeless}
-use Rattle.rng_tool.proofs.WrittenLines.{prefix_behind}
+use Rattle.rng_tool.proofs.WrittenLines.{prefix_after}
 
--- a whole output that was not handed on
+-- if a whole text was appended, and then the sink was kept as it was, a prefix of the text was appended
 whole_cut : (a b c : Option (List ℕ)) (text : List ℕ) → Appends a b text → Keeps b c → AppendsPrefix a c text
 whole_cut a b c text whole kept = AppendsPrefix-of_whole a c text (appends_kept a b c text whole kept)
 
@@ -39,15 +39,15 @@ memory_ends left left_after held now after ends kept = record {
 
 -- ---- with the line of a refusal
 
-module _ (left left_after held now after : Option (List ℕ)) (text told line : List ℕ) (all : ToldAll text told)
+module _ (left left_after held now after : Option (List ℕ)) (text emitted line : List ℕ) (all : EmittedAll text emitted)
     (refusal : RefusesBy left left_after text line) where
-  refuses : ToldRefusal left left_after text (told ++ line)
-  refuses = record { told = told; line = line; all = all; refusal = refusal; output_is = refl }
+  refuses : EmittedRefusal left left_after text (emitted ++ line)
+  refuses = record { emitted = emitted; line = line; all = all; refusal = refusal; output_is = refl }
 
 -- the line was written, or the sink failed
 refused_by : (left left_after held now after : Option (List ℕ)) (result : Status) (line wanted : List ℕ)
-    (Is : List ℕ → List ℕ → Type 0) → (t : Told Is left left_after held now)
-    → ((text told : List ℕ) → Is text told → ToldAll text told × RefusesBy left left_after text wanted)
+    (Is : List ℕ → List ℕ → Type 0) → (t : Emitted Is left left_after held now)
+    → ((text emitted : List ℕ) → Is text emitted → EmittedAll text emitted × RefusesBy left left_after text wanted)
     → line ≡ wanted → (result ≡ status.Refused) ⊎ (result ≡ status.WriteFault)
     → WritesEnds (λ is output. (is ≡ status.Refused) × (output ≡ line)) result now after
     → LiveEnds result left left_after held after
@@ -66,7 +66,7 @@ refused_by left left_after held now after status.WriteFault line wanted Is t by 
       output = t.output ++ wanted;
       taken = t.taken;
       is = inr (refuses left left_after held now after t.text t.output wanted both.0 both.1);
-      written = prefix_behind held now after t.output wanted t.written
+      written = prefix_after held now after t.output wanted t.written
           (subst (AppendsPrefix now after) (ends.1.2.1 ∙ same) ends.2);
     }
 refused_by left left_after held now after status.Done line wanted Is t by same answered ends =
@@ -84,8 +84,8 @@ pub fault_ends : (left left_after held now after : Option (List ℕ)) (fault : S
     → WritesEnds (λ is output. (is ≡ status.Refused) × (output ≡ line)) result now after
     → LiveEnds result left left_after held after
 fault_ends left left_after held now after fault line result ends same answered put =
-    refused_by left left_after held now after result line (refusal_line fault) (ToldToFault left left_after fault) ends
-    (λ text told is. (is.all, inl (fault, is.fails, refl))) same answered put
+    refused_by left left_after held now after result line (refusal_line fault) (EmittedToFault left left_after fault) ends
+    (λ text emitted is. (is.all, inl (fault, is.fails, refl))) same answered put
 
 pub line_ends : (left left_after held now after : Option (List ℕ)) (number : ℕ) (line : List ℕ) (result : Status)
     → SessionEnds (Err (NotAlone number)) left left_after held now → line ≡ not_alone_line number
@@ -93,8 +93,8 @@ pub line_ends : (left left_after held now after : Option (List ℕ)) (number : �
     → WritesEnds (λ is output. (is ≡ status.Refused) × (output ≡ line)) result now after
     → LiveEnds result left left_after held after
 line_ends left left_after held now after number line result ends same answered put =
-    refused_by left left_after held now after result line (not_alone_line number) (ToldToLine number) ends
-    (λ text told is. (is.all, inr (number, is.not_alone, refl))) same answered put
+    refused_by left left_after held now after result line (not_alone_line number) (EmittedToLine number) ends
+    (λ text emitted is. (is.all, inr (number, is.not_alone, refl))) same answered put
 
 -- ---- after the flush
 
@@ -102,8 +102,8 @@ prefix_kept : (a b c : Option (List ℕ)) (text : List ℕ) → AppendsPrefix a 
 prefix_kept a b c text p kept = (p.0, p.1, appends_kept a b c _ p.2 kept)
 
 module _ (left left_after a b c : Option (List ℕ)) (kept : Keeps b c) where
-  told_stays : (Is : List ℕ → List ℕ → Type 0) → Told Is left left_after a b → Told Is left left_after a c
-  told_stays Is t = record {
+  emitted_stays : (Is : List ℕ → List ℕ → Type 0) → Emitted Is left left_after a b → Emitted Is left left_after a c
+  emitted_stays Is t = record {
     text = t.text;
     output = t.output;
     taken = t.taken;
@@ -120,9 +120,9 @@ module _ (left left_after a b c : Option (List ℕ)) (kept : Keeps b c) where
     is = e.is;
     written = appends_kept a b c e.output e.written kept;
   }
-  live_stays status.Refused e = told_stays (ToldRefusal left left_after) e
-  live_stays status.ReadFault e = told_stays ToldAll e
-  live_stays status.NoMemory e = told_stays ToldPart e
+  live_stays status.Refused e = emitted_stays (EmittedRefusal left left_after) e
+  live_stays status.ReadFault e = emitted_stays EmittedAll e
+  live_stays status.NoMemory e = emitted_stays EmittedPart e
   live_stays status.WriteFault e = record {
     text = e.text;
     output = e.output;
@@ -143,7 +143,7 @@ module _ (left left_after a b c : Option (List ℕ)) (kept : Keeps b c) where
           front = e.input;
           rest = [];
           parts = sym (append-nil e.input);
-          told = inr (inr e.is);
+          emitted = inr (inr e.is);
         });
         written = whole_cut a b c e.output e.written kept;
       }
@@ -178,7 +178,7 @@ whole_input script all text is front =
     let short = is.well_formed.text in front ∙ take_all 16777217 all (omega (arith, short, ap length is.spelt))
 
 not_refused : (left_after : Option (List ℕ)) (all text line : List ℕ) (script : Script)
-    → Consumes (Some all) left_after text → IsScript script all → IsToldByOne script
+    → Consumes (Some all) left_after text → IsScript script all → IsEmittedByOne script
     → RefusesBy (Some all) left_after text line → ⊥
 not_refused None all text line script read is one refusal = absurd read
 not_refused (Some rest) all text line script read is one (inl refusal) = elim refusal.1 [
@@ -196,7 +196,7 @@ not_refused (Some rest) all text line script read is one (inr refusal) =
 
 pub live_completes : (left_after a b : Option (List ℕ)) (s : Status) (left : Option (List ℕ))
     → LiveEnds s left left_after a b → (s ≡ status.ReadFault → ⊥) → (s ≡ status.WriteFault → ⊥)
-    → IfSome left (λ all. (script : Script) → IsScript script all → IsToldByOne script
+    → IfSome left (λ all. (script : Script) → IsScript script all → IsEmittedByOne script
     → (s ≡ status.Done) ⊎ (s ≡ status.NoMemory))
 live_completes left_after a b s None e read written = tt
 live_completes left_after a b status.Done (Some all) e read written = λ script is one. inl refl

@@ -1,4 +1,4 @@
--- A session after one more line of its script.
+-- After one more line of its script a session is at the next line, or it has stopped as `StopsAt` states.
 use Rattle.std.proofs.Common.{◌≡◌, ℕ, ◌+◌, ◌<◌, ◌≤◌, ◌⊎◌, inl, inr, Bool, true, false, Option, None, Some, List, [], ◌∷◌, ◌++◌, refl, sym, ap, subst, ◌∙◌, append_assoc, append-nil, length, arith}
 use Rattle.std.specs.Prelude.{Result, Ok, Err, codes}
 use Rattle.std.specs.Io.KnownBytes.{Appends}
@@ -12,7 +12,7 @@ use Rattle.key_names.specs.Texts.ScriptFaults.{Draft, script_of_draft, with_even
 use Rattle.key_names.specs.Texts.ScriptGrammar.{IsScript, Script}
 use Rattle.key_names.specs.Texts.TranscriptGrammar.{LineFits}
 use Rattle.key_names.proofs.Lists.Each.{each_more}
-use Rattle.caller_run.specs.Alone.{HasMade, IsLawful, IsToldByOne}
+use Rattle.caller_run.specs.Alone.{HasMade, IsLawful, IsEmittedByOne}
 use Rattle.caller_run.specs.declared.alone.LoneRun.{LoneRun}
 use Rattle.event_script.specs.Feeding.{IsWhole}
 use Rattle.event_script.specs.Progress.{EndsWith, GoesOnFrom, IsEnded, IsFaulty, IsLone, IsOpen}
@@ -21,16 +21,16 @@ use Rattle.event_script.specs.declared.progress.DraftView.{DraftView}
 use Rattle.event_script.proofs.GoingOn.{ended_is, lone_blocks, same_draft, same_number, well_formed}
 use Rattle.transcript_text.specs.Lines.{whole_line}
 use Rattle.rng_tool.specs.LiveOutcome.{GoesOn}
-use Rattle.rng_tool.specs.LiveSteps.{At, GoesTo, HasEnded, HasRun, HasTold, IsAllTold, IsHopeless, IsLast, IsPart, IsStuck, IsUnopened, RunsAt, TellsAll, TellsPart, WaitsAt, Writes, begun}
+use Rattle.rng_tool.specs.LiveSteps.{At, GoesTo, HasEnded, HasRun, HasEmitted, IsAllEmitted, IsHopeless, IsLast, IsPart, IsStuck, IsUnopened, RunsAt, TellsAll, TellsPart, WaitsAt, Writes, begun}
 use Rattle.rng_tool.specs.Outcome.{RunOf}
 use Rattle.rng_tool.specs.declared.stop.Stop.{Stop}
 use Rattle.rng_tool.specs.declared.stop.Stop.TheVariants.{ReadFault, WriteFault, NoMemory, Refused, NotAlone}
-use Rattle.rng_tool.specs.declared.teller.Teller.{Teller}
+use Rattle.rng_tool.specs.declared.session_writer.SessionWriter.{SessionWriter}
 use Rattle.rng_tool.proofs.LiveLines.{Awaits, HeadTurn, Turn, awaits, awaits_not_ends, awaits_not_fails, awaits_not_goes, fails, fails_hopeless, fails_not_ends, fails_not_goes, fails_on, goes_not_ends, goes_on, head_turn, line_ends, line_fails, line_tells, opens, turn}
 use Rattle.rng_tool.proofs.LiveRoom.{full_hopeless}
-use Rattle.rng_tool.proofs.LiveRuns.{one_told}
+use Rattle.rng_tool.proofs.LiveRuns.{one_emitted}
 use Rattle.rng_tool.proofs.LiveTexts.{first_feed, line_and_more, line_in_rest, lined_up, longer_part, more_in_rest, no_bytes, no_feed, unopened_line, unopened_more, unopened_whole}
-use Rattle.rng_tool.proofs.WrittenLines.{alone_run, next_line, prefix_behind}
+use Rattle.rng_tool.proofs.WrittenLines.{alone_run, next_line, prefix_after}
 
 -- ---- texts that begin no script of one caller
 
@@ -46,9 +46,9 @@ faulty_hopeless text fault faulty = λ s more is.
       | inr short ↦ fails_hopeless text more fault s (faulty.short (omega (arith, short))) is
     ]
 
--- if no script of one caller begins with a text and a line, that line is the last
+-- if no script of one caller begins with `front` and a line, the session can tell nothing after `front`
 last_by : (front line more : List ℕ) → IsPart line
-    → ((s : Script) (later : List ℕ) → IsScript s (lined_up front line ++ later) → IsToldByOne s → ⊥)
+    → ((s : Script) (later : List ℕ) → IsScript s (lined_up front line ++ later) → IsEmittedByOne s → ⊥)
     → IsLast front (line ++ 10 ∷ more)
 last_by front line more clean doomed = λ other rest is begun_by.
     let found = first_feed line more other rest clean is in
@@ -73,54 +73,54 @@ stuck_last : (front rest : List ℕ) → IsStuck front rest → IsLast front res
 stuck_last front rest stuck = subst (IsLast front) (sym stuck.is)
     (last_by front stuck.line stuck.more stuck.clean (λ s later is one. stuck.hopeless s later is))
 
--- ---- what is told, in parts
+-- ---- what is written, in parts
 
 abbrev pub PartBy : Bool → Option LoneRun → List ℕ → List ℕ → Type 0
-PartBy is_over run text told =
-    (front : List ℕ) × (rest : List ℕ) × (text ≡ front ++ rest) × HasTold is_over run front told
+PartBy is_over run text emitted =
+    (front : List ℕ) × (rest : List ℕ) × (text ≡ front ++ rest) × HasEmitted is_over run front emitted
 
 abbrev pub AllBy : Bool → Option LoneRun → List ℕ → List ℕ → Type 0
-AllBy is_over run text told =
-    (front : List ℕ) × (rest : List ℕ) × (text ≡ front ++ rest) × HasTold is_over run front told
-    × IsAllTold is_over run front rest
+AllBy is_over run text emitted =
+    (front : List ℕ) × (rest : List ℕ) × (text ≡ front ++ rest) × HasEmitted is_over run front emitted
+    × IsAllEmitted is_over run front rest
 
-pub tells_part : (text told : List ℕ) (t : Teller) → PartBy t.is_over t.run text told → TellsPart text told t
-tells_part text told t p = record { front = p.0; rest = p.1; parts = p.2; has = p.3 }
+pub tells_part : (text emitted : List ℕ) (t : SessionWriter) → PartBy t.is_over t.run text emitted → TellsPart text emitted t
+tells_part text emitted t p = record { front = p.0; rest = p.1; parts = p.2; has = p.3 }
 
-pub tells_all : (text told : List ℕ) (t : Teller) → AllBy t.is_over t.run text told → TellsAll text told t
-tells_all text told t p = record { front = p.0; rest = p.1; parts = p.2; has = p.3; all = p.4 }
+pub tells_all : (text emitted : List ℕ) (t : SessionWriter) → AllBy t.is_over t.run text emitted → TellsAll text emitted t
+tells_all text emitted t p = record { front = p.0; rest = p.1; parts = p.2; has = p.3; all = p.4 }
 
-pub part_at : (is_over : Bool) (run : Option LoneRun) (text told : List ℕ) → At is_over run text told
-    → PartBy is_over run text told
-part_at true run text told at = (at.front, at.rest, at.parts, (at.none, at.has))
-part_at false None text told at = ([], text, refl, at.nothing)
-part_at false (Some run) text told at = (at.front, at.rest, at.parts, at.has)
+pub part_at : (is_over : Bool) (run : Option LoneRun) (text emitted : List ℕ) → At is_over run text emitted
+    → PartBy is_over run text emitted
+part_at true run text emitted at = (at.front, at.rest, at.parts, (at.none, at.has))
+part_at false None text emitted at = ([], text, refl, at.nothing)
+part_at false (Some run) text emitted at = (at.front, at.rest, at.parts, at.has)
 
-pub part_more : (is_over : Bool) (run : Option LoneRun) (text more told : List ℕ) → PartBy is_over run text told
-    → PartBy is_over run (text ++ more) told
-part_more is_over run text more told p = (p.0, p.1 ++ more, more_in_rest text p.0 p.1 more p.2, p.3)
+pub part_more : (is_over : Bool) (run : Option LoneRun) (text more emitted : List ℕ) → PartBy is_over run text emitted
+    → PartBy is_over run (text ++ more) emitted
+part_more is_over run text more emitted p = (p.0, p.1 ++ more, more_in_rest text p.0 p.1 more p.2, p.3)
 
 rest_last : (front rest : List ℕ) → IsPart rest ⊎ IsStuck front rest → IsLast front rest
 rest_last front rest (inl part) = λ line more is begun_by. no_feed rest line more part is
 rest_last front rest (inr stuck) = stuck_last front rest stuck
 
-pub all_at : (is_over : Bool) (run : Option LoneRun) (text told : List ℕ) → At is_over run text told
-    → AllBy is_over run text told
-all_at true run text told at = (at.front, at.rest, at.parts, (at.none, at.has), tt)
-all_at false None text told at = ([], text, refl, at.nothing, at.unopened)
-all_at false (Some run) text told at = (at.front, at.rest, at.parts, at.has, rest_last at.front at.rest at.rest_is)
+pub all_at : (is_over : Bool) (run : Option LoneRun) (text emitted : List ℕ) → At is_over run text emitted
+    → AllBy is_over run text emitted
+all_at true run text emitted at = (at.front, at.rest, at.parts, (at.none, at.has), tt)
+all_at false None text emitted at = ([], text, refl, at.nothing, at.unopened)
+all_at false (Some run) text emitted at = (at.front, at.rest, at.parts, at.has, rest_last at.front at.rest at.rest_is)
 
-pub at_more : (is_over : Bool) (run : Option LoneRun) (text more told : List ℕ) → (is_over ≡ true) ⊎ IsPart more
-    → At is_over run text told → At is_over run (text ++ more) told
-at_more true run text more told free at = record {
+pub at_more : (is_over : Bool) (run : Option LoneRun) (text more emitted : List ℕ) → (is_over ≡ true) ⊎ IsPart more
+    → At is_over run text emitted → At is_over run (text ++ more) emitted
+at_more true run text more emitted free at = record {
   front = at.front;
   rest = at.rest ++ more;
   parts = more_in_rest text at.front at.rest more at.parts;
   none = at.none;
   has = at.has;
 }
-at_more false run text more told (inl never) at = absurd cc
-at_more false None text more told (inr part) at = record {
+at_more false run text more emitted (inl never) at = absurd cc
+at_more false None text more emitted (inr part) at = record {
   nothing = at.nothing;
   unopened = unopened_more text more part at.unopened;
   front = at.front;
@@ -130,7 +130,7 @@ at_more false None text more told (inr part) at = record {
   whole = at.whole;
   waits = at.waits;
 }
-at_more false (Some run) text more told (inr part) at = record {
+at_more false (Some run) text more emitted (inr part) at = record {
   front = at.front;
   rest = at.rest ++ more;
   parts = more_in_rest text at.front at.rest more at.parts;
@@ -148,7 +148,7 @@ module _ (text line : List ℕ) (clean : IsPart line) where
   whole_now : IsWhole (lined_up text line)
   whole_now = inr (text ++ line, sym (append_assoc text line (10 ∷ [])))
 
-  -- what the line makes of the script, if a part of it stood in the rest
+  -- after one more line the script fails, ends or goes on, if `rest` is the first part of this line
   turn_now : (front rest : List ℕ) (d : Draft) (n : ℕ) → text ≡ front ++ rest → IsPart rest → IsLone d
       → GoesOnFrom front d n → Turn (lined_up text line) d n
   turn_now front rest d n parts part lone goes =
@@ -186,22 +186,22 @@ module _ (text line : List ℕ) (clean : IsPart line) where
 
   -- ---- the reader waits
 
-  runs_on : (run : LoneRun) (told : List ℕ) (r : RunsAt run text told) → IsWaiting (lined_up text line)
+  runs_on : (run : LoneRun) (emitted : List ℕ) (r : RunsAt run text emitted) → IsWaiting (lined_up text line)
       → IsPart r.rest ⊎ IsStuck r.front r.rest → IsStuck r.front (r.rest ++ (line ++ 10 ∷ []))
-  runs_on run told r waits (inl part) =
+  runs_on run emitted r waits (inl part) =
       let h = r.has in
       let t = turn_now r.front r.rest h.draft h.next r.parts part h.lone h.goes in
       stuck_now r.front r.rest r.parts part (full_now waits (turn_not_awaits h.draft h.next t))
-  runs_on run told r waits (inr stuck) = stuck_more r.front r.rest (line ++ 10 ∷ []) stuck
+  runs_on run emitted r waits (inr stuck) = stuck_more r.front r.rest (line ++ 10 ∷ []) stuck
 
   not_open : IsWaiting (lined_up text line) → GoesOn (lined_up text line) → ⊥
   not_open (inl before) goes =
       awaits_not_goes (lined_up text line) goes.draft goes.next (awaits (lined_up text line) before) goes.goes
   not_open (inr full) goes = let room = goes.room in absurd (omega (arith, full.full, room))
 
-  pub waits_on : (run : Option LoneRun) (told : List ℕ) → At false run text told → IsWaiting (lined_up text line)
-      → At false run (lined_up text line) told
-  waits_on None told w waits = record {
+  pub waits_on : (run : Option LoneRun) (emitted : List ℕ) → At false run text emitted → IsWaiting (lined_up text line)
+      → At false run (lined_up text line) emitted
+  waits_on None emitted w waits = record {
     nothing = w.nothing;
     unopened = unopened_whole text line clean w.unopened (not_open waits);
     front = lined_up text line;
@@ -211,32 +211,32 @@ module _ (text line : List ℕ) (clean : IsPart line) where
     whole = whole_now;
     waits = waits;
   }
-  waits_on (Some run) told r waits = record {
+  waits_on (Some run) emitted r waits = record {
     front = r.front;
     rest = r.rest ++ (line ++ 10 ∷ []);
     parts = more_in_rest text r.front r.rest (line ++ 10 ∷ []) r.parts;
     has = r.has;
-    rest_is = inr (runs_on run told r waits r.rest_is);
+    rest_is = inr (runs_on run emitted r waits r.rest_is);
   }
 
   -- ---- a doomed line
 
-  -- if the run stops before this line, all is told
+  -- if no script of one caller begins with the text and this line, the session can tell nothing after `front`
   last_now : (front rest more : List ℕ) → text ≡ front ++ rest → IsPart rest ⊎ IsStuck front rest
-      → ((s : Script) (later : List ℕ) → IsScript s (lined_up text line ++ later) → IsToldByOne s → ⊥)
+      → ((s : Script) (later : List ℕ) → IsScript s (lined_up text line ++ later) → IsEmittedByOne s → ⊥)
       → IsLast front (rest ++ (line ++ 10 ∷ more))
   last_now front rest more parts (inl part) doomed =
       subst (IsLast front) (append_assoc rest line (10 ∷ more))
       (last_by front (rest ++ line) more (longer_part rest line part clean)
-      (subst (λ t. (s : Script) (later : List ℕ) → IsScript s (t ++ later) → IsToldByOne s → ⊥)
+      (subst (λ t. (s : Script) (later : List ℕ) → IsScript s (t ++ later) → IsEmittedByOne s → ⊥)
       (line_in_rest text front rest line parts) doomed))
   last_now front rest more parts (inr stuck) doomed = stuck_last front (rest ++ (line ++ 10 ∷ more))
       (stuck_more front rest (line ++ 10 ∷ more) stuck)
 
-  pub doomed_run : (run : LoneRun) (told more : List ℕ) → RunsAt run text told
-      → ((s : Script) (later : List ℕ) → IsScript s (lined_up text line ++ later) → IsToldByOne s → ⊥)
-      → AllBy false (Some run) (lined_up text line ++ more) told
-  doomed_run run told more r doomed = (
+  pub doomed_run : (run : LoneRun) (emitted more : List ℕ) → RunsAt run text emitted
+      → ((s : Script) (later : List ℕ) → IsScript s (lined_up text line ++ later) → IsEmittedByOne s → ⊥)
+      → AllBy false (Some run) (lined_up text line ++ more) emitted
+  doomed_run run emitted more r doomed = (
     r.front,
     r.rest ++ (line ++ 10 ∷ more),
     line_and_more text line more ∙ more_in_rest text r.front r.rest (line ++ 10 ∷ more) r.parts,
@@ -256,8 +256,8 @@ module _ (text line : List ℕ) (clean : IsPart line) where
       (subst (λ t. GoesOnFrom t goes.draft goes.next) (sym same) goes.goes)
 
   pub faulty_all : (fault : ScriptFault) → IsFaulty (lined_up text line) fault → (run : Option LoneRun)
-      (told more : List ℕ) → At false run text told → AllBy false run (lined_up text line ++ more) told
-  faulty_all fault faulty None told more w = (
+      (emitted more : List ℕ) → At false run text emitted → AllBy false run (lined_up text line ++ more) emitted
+  faulty_all fault faulty None emitted more w = (
     [],
     lined_up text line ++ more,
     refl,
@@ -265,13 +265,13 @@ module _ (text line : List ℕ) (clean : IsPart line) where
     subst IsUnopened (sym (line_and_more text line more))
         (unopened_line text line more clean w.unopened (faulty_not_open fault faulty)),
   )
-  faulty_all fault faulty (Some run) told more r =
-      doomed_run run told more r (λ s later is one. faulty_hopeless (lined_up text line) fault faulty s later is)
+  faulty_all fault faulty (Some run) emitted more r =
+      doomed_run run emitted more r (λ s later is one. faulty_hopeless (lined_up text line) fault faulty s later is)
 
   -- ---- the line `end`
 
-  pub ended_waits : (told : List ℕ) (view : DraftView) → (w : WaitsAt text told) → IsEnded (lined_up text line) view → ⊥
-  ended_waits told view w e = by_waiting w.waits
+  pub ended_waits : (emitted : List ℕ) (view : DraftView) → (w : WaitsAt text emitted) → IsEnded (lined_up text line) view → ⊥
+  ended_waits emitted view w e = by_waiting w.waits
     where
       by_turn : HeadTurn (lined_up text line) → ⊥
       by_turn (fails fault fail) = fails_not_ends (lined_up text line) fault e.draft view.number fail e.ends
@@ -287,9 +287,9 @@ module _ (text line : List ℕ) (clean : IsPart line) where
           (subst (IsScript (script_of_draft e.draft)) (more_in_rest text w.front w.rest (line ++ 10 ∷ []) w.parts)
           (ended_is (lined_up text line) e.draft view.number e.ends e.short))
 
-  pub ended_runs : (run : LoneRun) (told : List ℕ) (view : DraftView) (r : RunsAt run text told)
+  pub ended_runs : (run : LoneRun) (emitted : List ℕ) (view : DraftView) (r : RunsAt run text emitted)
       → IsEnded (lined_up text line) view → EndsWith (lined_up text line) r.has.draft (r.has.next + 1)
-  ended_runs run told view r e = by_rest r.rest_is
+  ended_runs run emitted view r e = by_rest r.rest_is
     where
       by_turn : Turn (lined_up text line) r.has.draft r.has.next → EndsWith (lined_up text line) r.has.draft (r.has.next + 1)
       by_turn (line_fails fault fail) =
@@ -312,67 +312,67 @@ module _ (text line : List ℕ) (clean : IsPart line) where
 
 -- ---- the end of the run
 
-ended_text : (told : List ℕ) (lines : List SeenLine) (last : SeenLine) → told ≡ begun lines
-    → begun (lines ++ last ∷ []) ++ codes "end\n" ≡ told ++ (whole_line last ++ codes "end\n")
-ended_text told lines last is =
+ended_text : (emitted : List ℕ) (lines : List SeenLine) (last : SeenLine) → emitted ≡ begun lines
+    → begun (lines ++ last ∷ []) ++ codes "end\n" ≡ emitted ++ (whole_line last ++ codes "end\n")
+ended_text emitted lines last is =
     ap (λ t. t ++ codes "end\n") (next_line lines last) ∙ append_assoc (begun lines) (whole_line last) (codes "end\n")
     ∙ ap (λ t. t ++ (whole_line last ++ codes "end\n")) (sym is)
 
-pub has_ended : (front told text : List ℕ) (run : LoneRun) (h : HasRun front told run) (last : SeenLine)
+pub has_ended : (front emitted text : List ℕ) (run : LoneRun) (h : HasRun front emitted run) (last : SeenLine)
     → EndsWith text h.draft (h.next + 1) → length text ≤ 16777216
     → IsLawful (script_of_draft h.draft) (h.lines ++ last ∷ []) → LineFits last
-    → HasEnded text (told ++ (whole_line last ++ codes "end\n"))
-has_ended front told text run h last ends short lawful fits = record {
+    → HasEnded text (emitted ++ (whole_line last ++ codes "end\n"))
+has_ended front emitted text run h last ends short lawful fits = record {
   draft = h.draft;
   next = h.next + 1;
   ends = ends;
   short = short;
-  one = one_told h.draft h.lone h.once;
-  run = subst (RunOf (script_of_draft h.draft)) (ended_text told h.lines last h.text)
+  one = one_emitted h.draft h.lone h.once;
+  run = subst (RunOf (script_of_draft h.draft)) (ended_text emitted h.lines last h.text)
       (alone_run (script_of_draft h.draft) (well_formed front h.draft h.next h.goes (lone_blocks h.draft h.lone) h.room)
       (h.lines ++ last ∷ []) (each_more LineFits h.lines last h.fit fits) lawful);
 }
 
--- what was written is more of what was told
-written_more : (start held held_now : Option (List ℕ)) (told more : List ℕ) → Appends start held told
-    → Appends held held_now more → Appends start held_now (told ++ more)
-written_more start held held_now told more before now = Appends-trans start held held_now told more before now
+-- if `emitted` was written, and then `more`, the sink has both
+written_more : (start held held_now : Option (List ℕ)) (emitted more : List ℕ) → Appends start held emitted
+    → Appends held held_now more → Appends start held_now (emitted ++ more)
+written_more start held held_now emitted more before now = Appends-trans start held held_now emitted more before now
 
-at_end : (t : Teller) (text told : List ℕ) → t.is_over ≡ true → t.run ≡ None → HasEnded text told
-    → At t.is_over t.run text told
-at_end t text told over none ended =
-    subst (λ b. At b t.run text told) (sym over)
+at_end : (t : SessionWriter) (text emitted : List ℕ) → t.is_over ≡ true → t.run ≡ None → HasEnded text emitted
+    → At t.is_over t.run text emitted
+at_end t text emitted over none ended =
+    subst (λ b. At b t.run text emitted) (sym over)
     (record { front = text; rest = []; parts = sym (append-nil text); none = none; has = ended })
 
-part_end : (t : Teller) (text told : List ℕ) → t.is_over ≡ true → t.run ≡ None → HasEnded text told
-    → PartBy t.is_over t.run text told
-part_end t text told over none ended =
-    part_at t.is_over t.run text told (at_end t text told over none ended)
+part_end : (t : SessionWriter) (text emitted : List ℕ) → t.is_over ≡ true → t.run ≡ None → HasEnded text emitted
+    → PartBy t.is_over t.run text emitted
+part_end t text emitted over none ended =
+    part_at t.is_over t.run text emitted (at_end t text emitted over none ended)
 
-pub goes_to_end : (result : Result (Unit {0}) Stop) (start held held_now : Option (List ℕ)) (text told more : List ℕ)
-    (t : Teller) → Appends start held told → Writes result held held_now more → t.is_over ≡ true → t.run ≡ None
-    → HasEnded text (told ++ more) → GoesTo result start held_now text t
-goes_to_end (Ok u) start held held_now text told more t before now over none ended = record {
-  told = told ++ more;
-  is = at_end t text (told ++ more) over none ended;
-  written = written_more start held held_now told more before now;
+pub goes_to_end : (result : Result (Unit {0}) Stop) (start held held_now : Option (List ℕ)) (text emitted more : List ℕ)
+    (t : SessionWriter) → Appends start held emitted → Writes result held held_now more → t.is_over ≡ true → t.run ≡ None
+    → HasEnded text (emitted ++ more) → GoesTo result start held_now text t
+goes_to_end (Ok u) start held held_now text emitted more t before now over none ended = record {
+  emitted = emitted ++ more;
+  is = at_end t text (emitted ++ more) over none ended;
+  written = written_more start held held_now emitted more before now;
 }
-goes_to_end (Err WriteFault) start held held_now text told more t before now over none ended = record {
-  told = told ++ more;
-  is = tells_part text (told ++ more) t (part_end t text (told ++ more) over none ended);
-  written = prefix_behind start held held_now told more before now;
+goes_to_end (Err WriteFault) start held held_now text emitted more t before now over none ended = record {
+  emitted = emitted ++ more;
+  is = tells_part text (emitted ++ more) t (part_end t text (emitted ++ more) over none ended);
+  written = prefix_after start held held_now emitted more before now;
 }
-goes_to_end (Err ReadFault) start held held_now text told more t before now over none ended = absurd now
-goes_to_end (Err NoMemory) start held held_now text told more t before now over none ended = absurd now
-goes_to_end (Err (Refused fault)) start held held_now text told more t before now over none ended = absurd now
-goes_to_end (Err (NotAlone number)) start held held_now text told more t before now over none ended = absurd now
+goes_to_end (Err ReadFault) start held held_now text emitted more t before now over none ended = absurd now
+goes_to_end (Err NoMemory) start held held_now text emitted more t before now over none ended = absurd now
+goes_to_end (Err (Refused fault)) start held held_now text emitted more t before now over none ended = absurd now
+goes_to_end (Err (NotAlone number)) start held held_now text emitted more t before now over none ended = absurd now
 
 -- ---- the run goes on with a line
 
-at_run : (t : Teller) (run : LoneRun) (text told : List ℕ) → t.is_over ≡ false → t.run ≡ Some run → HasRun text told run
-    → At t.is_over t.run text told
-at_run t run text told over is has =
-    subst (λ b. At b t.run text told) (sym over) (subst (λ r. At false r text told) (sym is) (record {
+at_run : (t : SessionWriter) (run : LoneRun) (text emitted : List ℕ) → t.is_over ≡ false → t.run ≡ Some run → HasRun text emitted run
+    → At t.is_over t.run text emitted
+at_run t run text emitted over is has =
+    subst (λ b. At b t.run text emitted) (sym over) (subst (λ r. At false r text emitted) (sym is) (record {
       front = text;
       rest = [];
       parts = sym (append-nil text);
@@ -380,31 +380,31 @@ at_run t run text told over is has =
       rest_is = inl no_bytes;
     }))
 
-pub goes_to_run : (result : Result (Unit {0}) Stop) (start held held_now : Option (List ℕ)) (text told more : List ℕ)
-    (t : Teller) (run : LoneRun) → Appends start held told → Writes result held held_now more → t.is_over ≡ false
-    → t.run ≡ Some run → HasRun text (told ++ more) run → GoesTo result start held_now text t
-goes_to_run (Ok u) start held held_now text told more t run before now over is has = record {
-  told = told ++ more;
-  is = at_run t run text (told ++ more) over is has;
-  written = written_more start held held_now told more before now;
+pub goes_to_run : (result : Result (Unit {0}) Stop) (start held held_now : Option (List ℕ)) (text emitted more : List ℕ)
+    (t : SessionWriter) (run : LoneRun) → Appends start held emitted → Writes result held held_now more → t.is_over ≡ false
+    → t.run ≡ Some run → HasRun text (emitted ++ more) run → GoesTo result start held_now text t
+goes_to_run (Ok u) start held held_now text emitted more t run before now over is has = record {
+  emitted = emitted ++ more;
+  is = at_run t run text (emitted ++ more) over is has;
+  written = written_more start held held_now emitted more before now;
 }
-goes_to_run (Err WriteFault) start held held_now text told more t run before now over is has = record {
-  told = told ++ more;
-  is = tells_part text (told ++ more) t (part_at t.is_over t.run text (told ++ more)
-      (at_run t run text (told ++ more) over is has));
-  written = prefix_behind start held held_now told more before now;
+goes_to_run (Err WriteFault) start held held_now text emitted more t run before now over is has = record {
+  emitted = emitted ++ more;
+  is = tells_part text (emitted ++ more) t (part_at t.is_over t.run text (emitted ++ more)
+      (at_run t run text (emitted ++ more) over is has));
+  written = prefix_after start held held_now emitted more before now;
 }
-goes_to_run (Err ReadFault) start held held_now text told more t run before now over is has = absurd now
-goes_to_run (Err NoMemory) start held held_now text told more t run before now over is has = absurd now
-goes_to_run (Err (Refused fault)) start held held_now text told more t run before now over is has = absurd now
-goes_to_run (Err (NotAlone number)) start held held_now text told more t run before now over is has = absurd now
+goes_to_run (Err ReadFault) start held held_now text emitted more t run before now over is has = absurd now
+goes_to_run (Err NoMemory) start held held_now text emitted more t run before now over is has = absurd now
+goes_to_run (Err (Refused fault)) start held held_now text emitted more t run before now over is has = absurd now
+goes_to_run (Err (NotAlone number)) start held held_now text emitted more t run before now over is has = absurd now
 
 -- ---- the third line
 
-module _ (text line : List ℕ) (clean : IsPart line) (told : List ℕ) (view : DraftView) (o : IsOpen (lined_up text line) view)
+module _ (text line : List ℕ) (clean : IsPart line) (emitted : List ℕ) (view : DraftView) (o : IsOpen (lined_up text line) view)
   where
-    -- it opens the script's only block
-    pub opens_waits : (w : WaitsAt text told) → (o.draft.done ≡ []) × (o.draft.events ≡ [])
+    -- at the third line the draft has no finished block and no event
+    pub opens_waits : (w : WaitsAt text emitted) → (o.draft.done ≡ []) × (o.draft.events ≡ [])
     opens_waits w = by_waiting w.waits
       where
         by_turn : HeadTurn (lined_up text line) → (o.draft.done ≡ []) × (o.draft.events ≡ [])
@@ -429,8 +429,8 @@ module _ (text line : List ℕ) (clean : IsPart line) (told : List ℕ) (view : 
               length-append text (line ++ 10 ∷ []),
             ))
 
-    pub has_begun : (w : WaitsAt text told) (run : LoneRun) → HasMade view.cpus [] run []
-        → HasRun (lined_up text line) (told ++ codes "rngtranscript 1\n") run
+    pub has_begun : (w : WaitsAt text emitted) (run : LoneRun) → HasMade view.cpus [] run []
+        → HasRun (lined_up text line) (emitted ++ codes "rngtranscript 1\n") run
     has_begun w run made =
         let empty = opens_waits w in record {
           draft = o.draft;
@@ -449,12 +449,12 @@ module _ (text line : List ℕ) (clean : IsPart line) (told : List ℕ) (view : 
     -- ---- an event's line
 
     -- the event that the line adds
-    pub record AddsEvent (r : LoneRun) (front : List ℕ) (h : HasRun front told r) : Type 0 where
+    pub record AddsEvent (r : LoneRun) (front : List ℕ) (h : HasRun front emitted r) : Type 0 where
       pub event : Event
       pub goes : GoesOnFrom (lined_up text line) (with_event h.draft event) (h.next + 1)
       pub number : view.number ≡ h.next + 1
 
-    pub adds_event : (run : LoneRun) (r : RunsAt run text told) → AddsEvent run r.front r.has
+    pub adds_event : (run : LoneRun) (r : RunsAt run text emitted) → AddsEvent run r.front r.has
     adds_event run r = by_rest r.rest_is
       where
         by_turn : Turn (lined_up text line) r.has.draft r.has.next → AddsEvent run r.front r.has

@@ -1,4 +1,4 @@
--- What one more line makes of a script that is being read.
+-- After one more line, a script that is being read fails, goes on, or ends.
 use Rattle.std.proofs.Common.{◌≡◌, ℕ, zero, suc, ◌+◌, ◌==◌, ltb, inl, inr, true, false, None, Result, Ok, Err, List, [], ◌∷◌, ◌++◌, append_assoc, length, refl, sym, ap, subst, ◌∙◌, arith}
 use Rattle.std.specs.List.{AllByRecursion, list_any}
 use Rattle.std.specs.Prelude.{codes, if◌then◌else◌}
@@ -10,19 +10,19 @@ use Rattle.key_names.specs.declared.faults.FaultKind.{FaultKind}
 use Rattle.key_names.specs.declared.faults.FaultKind.TheVariants.{BadByte, BadCaller, UnknownWord, Unfinished, Unforked}
 use Rattle.key_names.specs.declared.faults.ScriptFault.{ScriptFault}
 use Rattle.key_names.specs.Texts.ScriptGrammar.{IsScript, Script, times_forked}
-use Rattle.key_names.specs.Texts.ScriptFaults.{◌>>=◌, Draft, Next, GoesOn, Ends, Said, SaysEvent, SaysCaller, SaysEnd, after, at_line, behind, behind_line, blocks_of, by_next, cpus_by, cpus_in, first_block, has_orphan, is_bad_fork, is_fork_from, is_past_limits, is_unprintable, line_of, nothing_behind, parts, said, script_from, script_of, script_of_draft, script_of_lines, start_in, version_of, with_event}
+use Rattle.key_names.specs.Texts.ScriptFaults.{◌>>=◌, Draft, Next, GoesOn, Ends, Said, SaysEvent, SaysCaller, SaysEnd, after, at_line, following, after_line, blocks_of, by_next, cpus_by, cpus_in, first_block, has_orphan, is_bad_fork, is_fork_from, is_past_limits, is_unprintable, line_of, nothing_after, parts, said, script_from, script_of, script_of_draft, script_of_lines, start_in, version_of, with_event}
 use Rattle.key_names.proofs.Lists.Each.{each_left, each_more, each_right}
 use Rattle.key_names.proofs.Script.Drafts.{no_orphan}
 use Rattle.key_names.proofs.Script.FieldReaders.{same_ok, step_ok}
 use Rattle.key_names.proofs.Script.Parts.{first_part, parts_at}
 use Rattle.key_names.proofs.Script.ScriptTexts.{script_again}
-use Rattle.caller_run.specs.Alone.{IsToldByOne, IsToldOnce}
+use Rattle.caller_run.specs.Alone.{IsEmittedByOne, IsEmittedOnce}
 use Rattle.event_script.specs.Feeding.{goes}
 use Rattle.event_script.specs.Progress.{EndsWith, FailsWith, ForkNone, GoesOnFrom, IsLone, end_line}
 use Rattle.event_script.specs.Tally.{fork_in}
 use Rattle.event_script.specs.Waiting.{IsBeforeEvents}
-use Rattle.event_script.specs.declared.stage.Stage.{Stage}
-use Rattle.event_script.specs.declared.stage.Stage.TheVariants.{Version, Cpus, Start, Lines, Ended, Faulty}
+use Rattle.event_script.specs.declared.whole.stage.ScriptStage.{ScriptStage}
+use Rattle.event_script.specs.declared.whole.stage.ScriptStage.TheVariants.{Version, Cpus, Start, Lines, Ended, Faulty}
 use Rattle.event_script.proofs.GoingOn.{Begins, closes, lone_blocks, script_begins}
 use Rattle.rng_tool.specs.LiveSteps.{IsPart}
 use Rattle.rng_tool.proofs.LiveTexts.{lined_up}
@@ -32,7 +32,7 @@ use Rattle.rng_tool.proofs.LiveTexts.{lined_up}
 same_err : {A : Type 0} (f g : ScriptFault) → ◌≡◌ {A = Result A ScriptFault} (Err f) (Err g) → f ≡ g
 same_err f g e = cc
 
--- what a text becomes with nothing more, and with a line that has no word
+-- `bare` is how a text is read if nothing follows it, and `wordless` how it is read if the line `x` follows it
 abbrev bare : List ℕ → Result Script ScriptFault
 bare text = script_of_lines (parts 10 (text ++ []))
 
@@ -76,14 +76,14 @@ pub goes_not_ends : (text : List ℕ) (d other : Draft) (n m : ℕ) → GoesOnFr
 goes_not_ends text d other n m goes ends =
     let e = sym (bare_goes text d n goes) ∙ bare_ends text other m ends in absurd cc
 
--- a text that fails fails with more
+-- a text that fails still fails if more text follows
 pub fails_on : (text more : List ℕ) (fault : ScriptFault) → FailsWith text fault → FailsWith (text ++ more) fault
 fails_on text more fault fails = λ later.
     ap (λ t. script_of_lines (parts 10 t)) (append_assoc text more later) ∙ fails (more ++ later)
 
 -- ---- a text before its first event
 
--- which line comes next: the version, the CPUs after this version, or the first caller after these
+-- the line that comes next: the version; the CPUs, if the version was read; or the first caller, if both were read
 pub data Awaited : Type 0 where
   FirstLine : Awaited
   SecondLine : ℕ → Awaited
@@ -93,17 +93,17 @@ abbrev pub goes_from : Awaited → List (List ℕ) → Result Script ScriptFault
 goes_from FirstLine lines = script_of_lines lines
 goes_from (SecondLine version) lines = do
   cpus ← at_line 2 (cpus_in version lines)
-  start ← at_line 3 (start_in version cpus (behind lines))
-  script_from start 4 (behind (behind lines))
+  start ← at_line 3 (start_in version cpus (following lines))
+  script_from start 4 (following (following lines))
 goes_from (ThirdLine version cpus) lines = do
   start ← at_line 3 (start_in version cpus lines)
-  script_from start 4 (behind lines)
+  script_from start 4 (following lines)
 
 pub record Awaits (text : List ℕ) : Type 0 where
   pub next : Awaited
   pub goes : (later : List ℕ) → script_of_lines (parts 10 (text ++ later)) ≡ goes_from next (parts 10 later)
 
-awaits_by : (text : List ℕ) (stage : Stage) → ((later : List ℕ) → script_of_lines (parts 10 (text ++ later))
+awaits_by : (text : List ℕ) (stage : ScriptStage) → ((later : List ℕ) → script_of_lines (parts 10 (text ++ later))
     ≡ goes stage (parts 10 later)) → Rattle.event_script.specs.Waiting.IsHead stage → Awaits text
 awaits_by text Version goes head = record { next = FirstLine; goes = goes }
 awaits_by text (Cpus version) goes head = record { next = SecondLine version; goes = goes }
@@ -115,7 +115,7 @@ awaits_by text (Faulty fault line) goes head = absurd head
 pub awaits : (text : List ℕ) → IsBeforeEvents text → Awaits text
 awaits text before = awaits_by text before.stage before.goes_on before.is_head
 
--- the line number and the fault of an empty line and of one that has no word
+-- an empty line that comes next has the fault Unfinished, at the number of this line
 bare_of : (next : Awaited) → (n : ℕ) × (goes_from next ([] ∷ []) ≡ Err (record { line = n; kind = Unfinished }))
 bare_of FirstLine = (1, refl)
 bare_of (SecondLine version) = (2, refl)
@@ -140,7 +140,7 @@ awaits_not_fails text fault a fails =
     (ap (λ (f : ScriptFault). f.kind)
     (same_err {A = Script} _ _ (sym (fails []) ∙ (a.goes [] ∙ (bare_of a.next).1))))
 
--- the line `end` is no fault of the caller's number after events
+-- after events, the line `end` never has the fault BadCaller
 end_kind : (d : Draft) (n m : ℕ) → script_from d n (parts 10 end_line) ≡ Err (record { line = m; kind = BadCaller }) → ⊥
 unfolding script_from
 end_kind d n m e =
@@ -166,7 +166,7 @@ awaits_not_goes text d n a on = awaits_not_from text d n a.next a.goes on
 
 -- ---- a line of the head
 
--- a text with one more line
+-- a text with one more line is the same text, however the parts are grouped
 with_line : (text line later : List ℕ) → IsPart line
     → script_of_lines (parts 10 (lined_up text line ++ later)) ≡ script_of_lines (parts 10 (text ++ (line ++ 10 ∷ later)))
 with_line text line later clean =
@@ -179,7 +179,7 @@ whole line = if list_any is_unprintable line then Err BadByte else Ok line
 line_is : (line later : List ℕ) → line_of (line ∷ parts 10 later) ≡ whole line
 line_is line later = rw (first_part 10 later).is refl
 
--- after one more line of the head
+-- after one more line of the head the text fails, goes on, or opens the first caller
 pub data HeadTurn (text : List ℕ) : Type 0 where
   fails : (fault : ScriptFault) → FailsWith text fault → HeadTurn text
   goes_on : Awaits text → HeadTurn text
@@ -251,7 +251,7 @@ lone_from n d lone = rw lone.first (or_from _ _ (none_from n d.events lone.forks
 unforked : (d : Draft) (c : ℕ) → IsLone d → times_forked (blocks_of d) c ≡ 0
 unforked d c lone = no_orphan 0 c (blocks_of d) (omega arith) (lone_from 0 d lone)
 
--- after a line of a script that has no fork
+-- after one more line, a script that has no fork fails, ends, or goes on with an event
 pub data Turn (text : List ℕ) (d : Draft) (n : ℕ) : Type 0 where
   line_fails : (fault : ScriptFault) → FailsWith text fault → Turn text d n
   line_ends : EndsWith text d (n + 1) → Turn text d n
@@ -291,11 +291,11 @@ next_of d lone (SaysCaller c) next is = absurd (block_next d c next lone is)
 next_of d lone SaysEnd next is = absurd (end_next d next is)
 
 abbrev line_result : Draft → List ℕ → Result Next FaultKind
-line_result d line = whole line >>= behind_line d
+line_result d line = whole line >>= after_line d
 
 abbrev goes_after : Draft → ℕ → Result Next FaultKind → List ℕ → Result Script ScriptFault
 goes_after d n r later = at_line n r >>= by_next (λ next. script_from next (n + 1) (parts 10 later))
-    (nothing_behind (n + 1) (parts 10 later) >>= λ none. Ok (script_of_draft d))
+    (nothing_after (n + 1) (parts 10 later) >>= λ none. Ok (script_of_draft d))
 
 line_goes : (d : Draft) (n : ℕ) (line later : List ℕ) → script_from d n (line ∷ parts 10 later)
     ≡ goes_after d n (line_result d line) later
@@ -305,7 +305,7 @@ line_goes d n line later = rw (first_part 10 later).is refl
 event_of : (d : Draft) (line : List ℕ) (next : Draft) → IsLone d → line_result d line ≡ Ok (GoesOn next)
     → (e : Event) × (with_event d e ≡ next)
 event_of d line next lone is =
-    let line_step = step_ok (whole line) (behind_line d) (GoesOn next) is in
+    let line_step = step_ok (whole line) (after_line d) (GoesOn next) is in
     let what = step_ok (said d.version d.cpus line_step.0) (after d) (GoesOn next) line_step.2 in
     next_of d lone what.0 next what.2
 
@@ -347,14 +347,14 @@ only : {A : Type 0} (xs : List A) (x y : A) → x ∷ [] ≡ xs ++ y ∷ [] → 
 only [] x y is = (refl, cc)
 only (z ∷ zs) x y is = absurd (omega (arith, ap length is, length-append zs (y ∷ [])))
 
-pub told_unforked : (event : Event) → IsToldOnce event → fork_in event ≡ None
-told_unforked (Fork child) one = absurd one
-told_unforked (Inside point act) one = absurd one
-told_unforked event one = refl
+pub emitted_unforked : (event : Event) → IsEmittedOnce event → fork_in event ≡ None
+emitted_unforked (Fork child) one = absurd one
+emitted_unforked (Inside point act) one = absurd one
+emitted_unforked event one = refl
 
 module _ (text : List ℕ) (d other : Draft) (e : Event) (n m : ℕ) (lone : IsLone d)
     (goes : GoesOnFrom text (with_event d e) n) (seen : GoesOnFrom text other m) where
-  -- it has the event too
+  -- if no fork waits for its block, the reader's draft has the event too
   pub shows_event : has_orphan other ≡ false
       → (other.version ≡ d.version) × (other.cpus ≡ d.cpus) × (other.done ≡ []) × (other.events ≡ d.events ++ e ∷ [])
   shows_event none =
@@ -369,7 +369,7 @@ module _ (text : List ℕ) (d other : Draft) (e : Event) (n m : ℕ) (lone : IsL
         sym both.1,
       )
 
-  -- with an orphan the event is a fork
+  -- if a fork waits for its block, the event is that fork
   forks : has_orphan other ≡ true → fork_in e ≡ None → ⊥
   forks orphan none =
       let with_lone : IsLone (with_event d e) = record {
@@ -379,20 +379,20 @@ module _ (text : List ℕ) (d other : Draft) (e : Event) (n m : ℕ) (lone : IsL
       let is = sym (closes text (with_event d e) n goes (lone_blocks (with_event d e) with_lone)) ∙ seen end_line
       ∙ orphan_step other m orphan in absurd cc
 
-  pub forks_or_acts : has_orphan other ≡ true → IsToldOnce e → ⊥
-  forks_or_acts orphan once = forks orphan (told_unforked e once)
+  pub forks_or_acts : has_orphan other ≡ true → IsEmittedOnce e → ⊥
+  forks_or_acts orphan once = forks orphan (emitted_unforked e once)
 
--- a script of one caller has no such event
+-- if a script of one caller begins with these lines, their last event is no act and no fork
 pub event_dooms : (text more : List ℕ) (d : Draft) (e : Event) (n : ℕ) (s : Script)
-    → GoesOnFrom text (with_event d e) n → IsScript s (text ++ more) → IsToldByOne s → IsToldOnce e
+    → GoesOnFrom text (with_event d e) n → IsScript s (text ++ more) → IsEmittedByOne s → IsEmittedOnce e
 event_dooms text more d e n s goes is one =
     let b : Begins (with_event d e) s =
     script_begins text more (with_event d e) n s goes (script_again (text ++ more) s is) in
-    let once = subst (AllByRecursion (AllByRecursion IsToldOnce)) (ap (λ (script : Script). script.callers) b.script) one.once in
-    let block = each_right (AllByRecursion IsToldOnce) d.done _ once in
-    (each_right IsToldOnce d.events (e ∷ []) (each_left IsToldOnce (d.events ++ e ∷ []) b.es block.0)).0
+    let once = subst (AllByRecursion (AllByRecursion IsEmittedOnce)) (ap (λ (script : Script). script.callers) b.script) one.once in
+    let block = each_right (AllByRecursion IsEmittedOnce) d.done _ once in
+    (each_right IsEmittedOnce d.events (e ∷ []) (each_left IsEmittedOnce (d.events ++ e ∷ []) b.es block.0)).0
 
--- the lines of a script's text are that script
+-- the lines of a script's text are read as that script
 pub script_lines_again : (s : Script) (text : List ℕ) → IsScript s text → script_of_lines (parts 10 text) ≡ Ok s
 unfolding script_of
 script_lines_again s text is =

@@ -35,7 +35,7 @@ script_ends s = ends_lines (head_of s)
 
 -- ---- two ends of one text
 
--- a text in two ways in two, the first of which is shorter
+-- if a text is cut in two at two places, the longer first part is the shorter first part, followed by some `mid`
 pub cut_again : (a b c d : List ℕ) → a ++ b ≡ c ++ d → length c ≤ length a → (mid : List ℕ) × (a ≡ c ++ mid) × (mid ++ b ≡ d)
 cut_again a b [] d is short = (a, refl, is)
 cut_again [] b (x ∷ c) d is short = absurd (omega (arith, short))
@@ -51,7 +51,7 @@ end_clean =
     All-cons (λ x. (x == 10) ≡ false) 101 (110 ∷ 100 ∷ []) refl
     (All-cons (λ x. (x == 10) ≡ false) 110 (100 ∷ []) refl (All-cons (λ x. (x == 10) ≡ false) 100 [] refl no_bytes))
 
--- whole lines that are more than a script without its line `end` are all of it
+-- if whole lines reach into the line `end` of a script, they have all of this line
 all_there : (front mid more body : List ℕ) → front ++ 10 ∷ [] ≡ body ++ mid → mid ++ more ≡ end_line → 0 < length mid
     → more ≡ []
 all_there front mid more body is end some =
@@ -79,7 +79,7 @@ all_there front mid more body is end some =
         cut_last part (before ++ part) before lines refl
         (let tails : before ++ part ≡ lines ++ 10 ∷ [] = cc in tails) some
 
--- a text of whole lines that goes on, and leaves no room for the line `end`
+-- whole lines that go on, but leave no room for the line `end`, begin no script
 pub full_hopeless : (text : List ℕ) (d : Draft) (n : ℕ) → GoesOnFrom text d n → IsWhole text
     → 16777216 < length text + 4 → IsHopeless text
 full_hopeless text d n goes (inl none) full = absurd (omega (arith, full, ap length none))

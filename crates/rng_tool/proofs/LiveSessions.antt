@@ -1,4 +1,4 @@
--- A session over an input: its pieces, and its end.
+-- A session over a whole input: line by line in each piece, piece by piece, and the end of the input.
 use Rattle.std.proofs.Common.{◌≡◌, ℕ, ◌<◌, ◌≤◌, ◌⊎◌, inl, inr, Bool, true, false, Option, None, Some, List, [], ◌∷◌, ◌++◌, sym, ap, subst, ◌∙◌, append_assoc, append-nil, length, arith}
 use Rattle.std.specs.Prelude.{IsErrAnd, Result, Ok, Err}
 use Rattle.std.specs.Io.KnownBytes.{Appends, Consumes}
@@ -6,7 +6,7 @@ use Rattle.std.proofs.KnownBytes.{Consumes-trans}
 use Rattle.std.proofs.lemmas.Bool.{cases_lt}
 use Rattle.std.proofs.lemmas.List.{length-append}
 use Rattle.key_names.specs.declared.faults.ScriptFault.{ScriptFault}
-use Rattle.key_names.specs.Texts.ScriptFaults.{Draft, nothing_behind, parts, script_from, script_of_draft}
+use Rattle.key_names.specs.Texts.ScriptFaults.{Draft, nothing_after, parts, script_from, script_of_draft}
 use Rattle.key_names.specs.Texts.ScriptGrammar.{IsScript, Script}
 use Rattle.key_names.proofs.Script.FieldReaders.{same_ok, step_ok}
 use Rattle.key_names.proofs.Script.Parts.{parts_whole}
@@ -14,16 +14,16 @@ use Rattle.caller_run.specs.declared.alone.LoneRun.{LoneRun}
 use Rattle.event_script.specs.Feeding.{HasFed}
 use Rattle.event_script.specs.Progress.{GoesOnFrom, IsProgress}
 use Rattle.event_script.specs.Waiting.{IsWaiting}
-use Rattle.event_script.specs.declared.progress.Progress.{Progress}
-use Rattle.event_script.specs.declared.progress.Progress.TheVariants.{Waits}
+use Rattle.event_script.specs.declared.progress.ScriptProgress.{ScriptProgress}
+use Rattle.event_script.specs.declared.progress.ScriptProgress.TheVariants.{Waits}
 use Rattle.tool_ends.specs.Reads.{WasRead}
 use Rattle.tool_ends.proofs.Taking.{long_read}
-use Rattle.rng_tool.specs.LiveOutcome.{FailsAtEnd, FailsInside, IsNotAlone, ToldAll, ToldPart, ToldWhole}
+use Rattle.rng_tool.specs.LiveOutcome.{FailsAtEnd, FailsInside, IsNotAlone, EmittedAll, EmittedPart, EmittedWhole}
 use Rattle.rng_tool.specs.LiveSteps.{At, CountsReadStop, EndedAt, Finishes, GoesTo, IsAt, IsFaultyIn, IsPart, IsStuck, ReadsLine, SessionAt, SessionEnds, SessionGoes, SessionReads, StoppedAt, StopsAt, StopsBy, TakesText, TellsAll, TellsOn, TellsPart, WaitsAt}
 use Rattle.rng_tool.specs.declared.live.Session.{Session}
 use Rattle.rng_tool.specs.declared.stop.Stop.{Stop}
 use Rattle.rng_tool.specs.declared.stop.Stop.TheVariants.{ReadFault, WriteFault, NoMemory, Refused, NotAlone}
-use Rattle.rng_tool.specs.declared.teller.Teller.{Teller}
+use Rattle.rng_tool.specs.declared.session_writer.SessionWriter.{SessionWriter}
 use Rattle.rng_tool.proofs.Inputs.{too_long}
 use Rattle.rng_tool.proofs.LiveGoes.{PartBy, all_at, at_more, part_at, part_more, tells_all, tells_part}
 use Rattle.rng_tool.proofs.LiveLines.{Awaited, FirstLine, SecondLine, ThirdLine, awaits, goes_from, script_lines_again}
@@ -32,10 +32,10 @@ use Rattle.rng_tool.proofs.LiveTexts.{line_and_more, more_in_rest}
 
 -- ---- one line
 
-pub reads_line : (text line told piece : List ℕ) (progress : Progress) (t : Teller) → IsAt text told t → t.is_over ≡ false
+pub reads_line : (text line emitted piece : List ℕ) (progress : ScriptProgress) (t : SessionWriter) → IsAt text emitted t → t.is_over ≡ false
     → IsPart line → piece ≡ line ++ 10 ∷ [] → IsProgress (text ++ piece) progress
-    → (progress ≡ Waits → IsWaiting (text ++ piece)) → ReadsLine text line told progress t
-reads_line text line told piece progress t at unended clean is shown waits = record {
+    → (progress ≡ Waits → IsWaiting (text ++ piece)) → ReadsLine text line emitted progress t
+reads_line text line emitted piece progress t at unended clean is shown waits = record {
   at = at;
   goes_on = unended;
   clean = clean;
@@ -43,18 +43,18 @@ reads_line text line told piece progress t at unended clean is shown waits = rec
   waits = λ same. subst (λ p. IsWaiting (text ++ p)) is (waits same);
 }
 
-pub memory_goes : (result : Result (Unit {0}) Stop) (start held : Option (List ℕ)) (text told : List ℕ) (s : Session)
-    → IsErrAnd result (λ stop. stop ≡ NoMemory) → PartBy s.teller.is_over s.teller.run text told → Appends start held told
+pub memory_goes : (result : Result (Unit {0}) Stop) (start held : Option (List ℕ)) (text emitted : List ℕ) (s : Session)
+    → IsErrAnd result (λ stop. stop ≡ NoMemory) → PartBy s.session_writer.is_over s.session_writer.run text emitted → Appends start held emitted
     → SessionGoes result start held text s
-memory_goes (Ok u) start held text told s is part before = absurd is
-memory_goes (Err stop) start held text told s is part before =
-    subst (λ x. StopsAt x start held text s.teller) (sym is)
-    (record { told = told; is = tells_part text told s.teller part; written = before })
+memory_goes (Ok u) start held text emitted s is part before = absurd is
+memory_goes (Err stop) start held text emitted s is part before =
+    subst (λ x. StopsAt x start held text s.session_writer) (sym is)
+    (record { emitted = emitted; is = tells_part text emitted s.session_writer part; written = before })
 
 pub line_goes : (result : Result (Unit {0}) Stop) (start held : Option (List ℕ)) (text : List ℕ) (s : Session)
-    → GoesTo result start held text s.teller → HasFed text s.reader → SessionGoes result start held text s
+    → GoesTo result start held text s.session_writer → HasFed text s.reader → SessionGoes result start held text s
 line_goes (Ok u) start held text s goes fed = record {
-  told = goes.told;
+  emitted = goes.emitted;
   is = record { fed = fed; at = goes.is };
   written = goes.written;
 }
@@ -62,17 +62,17 @@ line_goes (Err stop) start held text s goes fed = goes
 
 -- ---- more of a piece
 
-part_stays : (text more told : List ℕ) (t : Teller) → TellsPart text told t → TellsPart (text ++ more) told t
-part_stays text more told t p = record {
+part_stays : (text more emitted : List ℕ) (t : SessionWriter) → TellsPart text emitted t → TellsPart (text ++ more) emitted t
+part_stays text more emitted t p = record {
   front = p.front;
   rest = p.rest ++ more;
   parts = more_in_rest text p.front p.rest more p.parts;
   has = p.has;
 }
 
-on_stays : (text more told : List ℕ) (t : Teller) → TellsOn text told t → TellsOn (text ++ more) told t
-on_stays text more told t on = record {
-  all = λ later. subst (λ x. TellsAll x told t) (sym (append_assoc text more later)) (on.all (more ++ later));
+on_stays : (text more emitted : List ℕ) (t : SessionWriter) → TellsOn text emitted t → TellsOn (text ++ more) emitted t
+on_stays text more emitted t on = record {
+  all = λ later. subst (λ x. TellsAll x emitted t) (sym (append_assoc text more later)) (on.all (more ++ later));
 }
 
 faulty_stays : (text more : List ℕ) (fault : ScriptFault) → IsFaultyIn text fault → IsFaultyIn (text ++ more) fault
@@ -94,60 +94,60 @@ line_stays text more number n = record {
   not_once = n.not_once;
 }
 
--- a session that stopped has stopped, whatever follows
-pub stop_stays : (stop : Stop) (start held : Option (List ℕ)) (text more : List ℕ) (t : Teller)
+-- a session that stopped after a text has also stopped if more text follows
+pub stop_stays : (stop : Stop) (start held : Option (List ℕ)) (text more : List ℕ) (t : SessionWriter)
     → StopsAt stop start held text t → StopsAt stop start held (text ++ more) t
 stop_stays ReadFault start held text more t s = s
 stop_stays WriteFault start held text more t s =
-    record { told = s.told; is = part_stays text more s.told t s.is; written = s.written }
+    record { emitted = s.emitted; is = part_stays text more s.emitted t s.is; written = s.written }
 stop_stays NoMemory start held text more t s =
-    record { told = s.told; is = part_stays text more s.told t s.is; written = s.written }
+    record { emitted = s.emitted; is = part_stays text more s.emitted t s.is; written = s.written }
 stop_stays (Refused fault) start held text more t s = record {
-  told = s.told;
-  is = (on_stays text more s.told t s.is.0, faulty_stays text more fault s.is.1);
+  emitted = s.emitted;
+  is = (on_stays text more s.emitted t s.is.0, faulty_stays text more fault s.is.1);
   written = s.written;
 }
 stop_stays (NotAlone number) start held text more t s = record {
-  told = s.told;
-  is = (on_stays text more s.told t s.is.0, line_stays text more number s.is.1);
+  emitted = s.emitted;
+  is = (on_stays text more s.emitted t s.is.0, line_stays text more number s.is.1);
   written = s.written;
 }
 
--- the stop of a line is that of its piece
+-- if a session stops at a line of a piece, it stops in this piece
 pub stop_of_piece : (result : Result (Unit {0}) Stop) (stop : Stop) (start held : Option (List ℕ))
     (text piece front more : List ℕ) (s : Session) → IsErrAnd result (λ x. x ≡ stop) → piece ≡ front ++ more
-    → StopsAt stop start held (text ++ front) s.teller → SessionGoes result start held (text ++ piece) s
+    → StopsAt stop start held (text ++ front) s.session_writer → SessionGoes result start held (text ++ piece) s
 stop_of_piece (Ok u) stop start held text piece front more s is parts stops = absurd is
 stop_of_piece (Err x) stop start held text piece front more s is parts stops =
-    subst (λ y. StopsAt y start held (text ++ piece) s.teller) (sym is)
-    (subst (λ y. StopsAt stop start held y s.teller)
+    subst (λ y. StopsAt y start held (text ++ piece) s.session_writer) (sym is)
+    (subst (λ y. StopsAt stop start held y s.session_writer)
     (append_assoc text front more ∙ ap (λ y. text ++ y) (sym parts))
-    (stop_stays stop start held (text ++ front) more s.teller stops))
+    (stop_stays stop start held (text ++ front) more s.session_writer stops))
 
--- the part of a piece that was read
+-- after one more line, the session has read the part of the piece up to this line
 pub line_read : (start held : Option (List ℕ)) (text done line : List ℕ) (s : Session)
-    → StopsBy (λ told. SessionAt ((text ++ done) ++ line) told s) (Appends start held)
-    → StopsBy (λ told. SessionAt (text ++ (done ++ line)) told s) (Appends start held)
+    → StopsBy (λ emitted. SessionAt ((text ++ done) ++ line) emitted s) (Appends start held)
+    → StopsBy (λ emitted. SessionAt (text ++ (done ++ line)) emitted s) (Appends start held)
 line_read start held text done line s goes = record {
-  told = goes.told;
-  is = subst (λ t. SessionAt t goes.told s) (append_assoc text done line) goes.is;
+  emitted = goes.emitted;
+  is = subst (λ t. SessionAt t goes.emitted s) (append_assoc text done line) goes.is;
   written = goes.written;
 }
 
-pub piece_part : (is_over : Bool) (run : Option LoneRun) (text piece done more told : List ℕ) → piece ≡ done ++ more
-    → At is_over run (text ++ done) told → PartBy is_over run (text ++ piece) told
-piece_part is_over run text piece done more told parts at =
-    subst (λ t. PartBy is_over run t told) (append_assoc text done more ∙ ap (λ t. text ++ t) (sym parts))
-    (part_more is_over run (text ++ done) more told (part_at is_over run (text ++ done) told at))
+pub piece_part : (is_over : Bool) (run : Option LoneRun) (text piece done more emitted : List ℕ) → piece ≡ done ++ more
+    → At is_over run (text ++ done) emitted → PartBy is_over run (text ++ piece) emitted
+piece_part is_over run text piece done more emitted parts at =
+    subst (λ t. PartBy is_over run t emitted) (append_assoc text done more ∙ ap (λ t. text ++ t) (sym parts))
+    (part_more is_over run (text ++ done) more emitted (part_at is_over run (text ++ done) emitted at))
 
-pub piece_over : (s : Session) (text piece done more told : List ℕ) → piece ≡ done ++ more
-    → (s.teller.is_over ≡ true) ⊎ IsPart more → At s.teller.is_over s.teller.run (text ++ done) told
-    → HasFed ((text ++ done) ++ more) s.reader → SessionAt (text ++ piece) told s
-piece_over s text piece done more told parts free at fed =
-    subst (λ t. SessionAt t told s) (append_assoc text done more ∙ ap (λ t. text ++ t) (sym parts))
-    (record { fed = fed; at = at_more s.teller.is_over s.teller.run (text ++ done) more told free at })
+pub piece_over : (s : Session) (text piece done more emitted : List ℕ) → piece ≡ done ++ more
+    → (s.session_writer.is_over ≡ true) ⊎ IsPart more → At s.session_writer.is_over s.session_writer.run (text ++ done) emitted
+    → HasFed ((text ++ done) ++ more) s.reader → SessionAt (text ++ piece) emitted s
+piece_over s text piece done more emitted parts free at fed =
+    subst (λ t. SessionAt t emitted s) (append_assoc text done more ∙ ap (λ t. text ++ t) (sym parts))
+    (record { fed = fed; at = at_more s.session_writer.is_over s.session_writer.run (text ++ done) more emitted free at })
 
-pub read_stops : (result : Result (Unit {0}) Stop) (stop : Stop) (start held : Option (List ℕ)) (text : List ℕ) (t : Teller)
+pub read_stops : (result : Result (Unit {0}) Stop) (stop : Stop) (start held : Option (List ℕ)) (text : List ℕ) (t : SessionWriter)
     (f g : ℕ) → IsErrAnd result (λ x. x ≡ stop) → StopsAt stop start held text t → g ≡ f → CountsReadStop result f g
 read_stops (Ok u) stop start held text t f g is stops same = absurd is
 read_stops (Err x) stop start held text t f g is stops same = record {
@@ -159,7 +159,7 @@ read_stops (Err x) stop start held text t f g is stops same = record {
 
 -- ---- the input
 
-pub stopped : (stop : Stop) (start held : Option (List ℕ)) (text : List ℕ) (t : Teller) → StopsAt stop start held text t
+pub stopped : (stop : Stop) (start held : Option (List ℕ)) (text : List ℕ) (t : SessionWriter) → StopsAt stop start held text t
     → StoppedAt stop start held text t
 stopped ReadFault start held text t s = absurd s
 stopped WriteFault start held text t s = s
@@ -169,12 +169,12 @@ stopped (NotAlone number) start held text t s = s
 
 pub stops_reading : (result : Result (Unit {0}) Stop) (stop : Stop) (left left_after start held : Option (List ℕ))
     (text : List ℕ) (s : Session) → IsErrAnd result (λ x. x ≡ stop) → TakesText left left_after text
-    → StoppedAt stop start held text s.teller → SessionReads result left left_after start held s
+    → StoppedAt stop start held text s.session_writer → SessionReads result left left_after start held s
 stops_reading (Ok u) stop left left_after start held text s is takes stops = absurd is
 stops_reading (Err x) stop left left_after start held text s is takes stops =
     subst (λ y. SessionReads (Err y) left left_after start held s) (sym is) (text, takes, stops)
 
--- one more piece was taken
+-- `TakesText` holds after one more piece was taken
 pub more_taken : (left now after : Option (List ℕ)) (text piece : List ℕ) → Consumes left now text → Consumes now after piece
     → length (text ++ piece) ≤ 16777217 → TakesText left after (text ++ piece)
 more_taken left now after text piece before read few =
@@ -185,48 +185,48 @@ more_taken left now after text piece before read few =
 
 -- ---- closing
 
-tells_close : (text told : List ℕ) (t : Teller) → TellsPart text told t → CanClose t.run
-tells_close text told t p = can_close t.is_over t.run p.front told p.has
+tells_close : (text emitted : List ℕ) (t : SessionWriter) → TellsPart text emitted t → CanClose t.run
+tells_close text emitted t p = can_close t.is_over t.run p.front emitted p.has
 
-all_close : (text told : List ℕ) (t : Teller) → TellsAll text told t → CanClose t.run
-all_close text told t p = can_close t.is_over t.run p.front told p.has
+all_close : (text emitted : List ℕ) (t : SessionWriter) → TellsAll text emitted t → CanClose t.run
+all_close text emitted t p = can_close t.is_over t.run p.front emitted p.has
 
-stops_close : (stop : Stop) (start held : Option (List ℕ)) (text : List ℕ) (t : Teller) → StoppedAt stop start held text t
+stops_close : (stop : Stop) (start held : Option (List ℕ)) (text : List ℕ) (t : SessionWriter) → StoppedAt stop start held text t
     → CanClose t.run
-stops_close ReadFault start held text t s = all_close text s.told t s.is
-stops_close WriteFault start held text t s = tells_close text s.told t s.is
-stops_close NoMemory start held text t s = tells_close text s.told t s.is
-stops_close (Refused fault) start held text t s = all_close (text ++ []) s.told t (s.is.0.all [])
-stops_close (NotAlone number) start held text t s = all_close (text ++ []) s.told t (s.is.0.all [])
+stops_close ReadFault start held text t s = all_close text s.emitted t s.is
+stops_close WriteFault start held text t s = tells_close text s.emitted t s.is
+stops_close NoMemory start held text t s = tells_close text s.emitted t s.is
+stops_close (Refused fault) start held text t s = all_close (text ++ []) s.emitted t (s.is.0.all [])
+stops_close (NotAlone number) start held text t s = all_close (text ++ []) s.emitted t (s.is.0.all [])
 
 pub reads_close : (result : Result (Unit {0}) Stop) (left left_after start held : Option (List ℕ)) (s : Session)
-    → SessionReads result left left_after start held s → CanClose s.teller.run
+    → SessionReads result left left_after start held s → CanClose s.session_writer.run
 reads_close (Ok u) left left_after start held s reads =
     let goes = reads.3 in
-    let p = part_at s.teller.is_over s.teller.run reads.0 goes.told goes.is.at in
-    can_close s.teller.is_over s.teller.run p.0 goes.told p.3
-reads_close (Err stop) left left_after start held s reads = stops_close stop start held reads.0 s.teller reads.2
+    let p = part_at s.session_writer.is_over s.session_writer.run reads.0 goes.emitted goes.is.at in
+    can_close s.session_writer.is_over s.session_writer.run p.0 goes.emitted p.3
+reads_close (Err stop) left left_after start held s reads = stops_close stop start held reads.0 s.session_writer reads.2
 
 -- ---- the answers
 
-part_told : (text told : List ℕ) (t : Teller) → Closes t.run → TellsPart text told t → ToldPart text told
-part_told text told t closes p = record {
+part_emitted : (text emitted : List ℕ) (t : SessionWriter) → Closes t.run → TellsPart text emitted t → EmittedPart text emitted
+part_emitted text emitted t closes p = record {
   front = p.front;
   rest = p.rest;
   parts = p.parts;
-  told = closed_part t.is_over t.run p.front told p.has closes;
+  emitted = closed_part t.is_over t.run p.front emitted p.has closes;
 }
 
-all_told : (text told : List ℕ) (t : Teller) → Closes t.run → TellsAll text told t → ToldAll text told
-all_told text told t closes p = closed_all t.is_over t.run text p.front p.rest told p.parts p.has p.all closes
+all_emitted : (text emitted : List ℕ) (t : SessionWriter) → Closes t.run → TellsAll text emitted t → EmittedAll text emitted
+all_emitted text emitted t closes p = closed_all t.is_over t.run text p.front p.rest emitted p.parts p.has p.all closes
 
-on_told : (text told : List ℕ) (t : Teller) → Closes t.run → TellsOn text told t → ToldAll text told
-on_told text told t closes on =
-    all_told text told t closes (subst (λ x. TellsAll x told t) (append-nil text) (on.all []))
+on_emitted : (text emitted : List ℕ) (t : SessionWriter) → Closes t.run → TellsOn text emitted t → EmittedAll text emitted
+on_emitted text emitted t closes on =
+    all_emitted text emitted t closes (subst (λ x. TellsAll x emitted t) (append-nil text) (on.all []))
 
-fault_told : (left left_after : Option (List ℕ)) (text : List ℕ) (fault : ScriptFault) → TakesText left left_after text
+fault_emitted : (left left_after : Option (List ℕ)) (text : List ℕ) (fault : ScriptFault) → TakesText left left_after text
     → IsFaultyIn text fault → FailsInside text fault ⊎ FailsAtEnd left left_after text fault
-fault_told left left_after text fault takes f =
+fault_emitted left left_after text fault takes f =
     elim (cases_lt 16777216 (length f.front)) [
       | inr short ↦
           inl (record { front = f.front; rest = f.rest; parts = f.parts; fails = f.is.short (omega (arith, short)) })
@@ -238,51 +238,51 @@ fault_told left left_after text fault takes f =
           })
     ]
 
-module _ (left left_after start held : Option (List ℕ)) (t : Teller) (closes : Closes t.run) where
+module _ (left left_after start held : Option (List ℕ)) (t : SessionWriter) (closes : Closes t.run) where
   pub stop_ends : (stop : Stop) (text : List ℕ) → TakesText left left_after text → StoppedAt stop start held text t
       → SessionEnds (Err stop) left left_after start held
   stop_ends ReadFault text takes s = record {
     text = text;
-    output = s.told;
+    output = s.emitted;
     taken = takes.taken;
-    is = all_told text s.told t closes s.is;
+    is = all_emitted text s.emitted t closes s.is;
     written = s.written;
   }
   stop_ends WriteFault text takes s = record {
     text = text;
-    output = s.told;
+    output = s.emitted;
     taken = takes.taken;
-    is = inl (part_told text s.told t closes s.is);
+    is = inl (part_emitted text s.emitted t closes s.is);
     written = s.written;
   }
   stop_ends NoMemory text takes s = record {
     text = text;
-    output = s.told;
+    output = s.emitted;
     taken = takes.taken;
-    is = part_told text s.told t closes s.is;
+    is = part_emitted text s.emitted t closes s.is;
     written = s.written;
   }
   stop_ends (Refused fault) text takes s = record {
     text = text;
-    output = s.told;
+    output = s.emitted;
     taken = takes.taken;
     is = record {
-      all = on_told text s.told t closes s.is.0;
-      fails = fault_told left left_after text fault takes s.is.1;
+      all = on_emitted text s.emitted t closes s.is.0;
+      fails = fault_emitted left left_after text fault takes s.is.1;
     };
     written = s.written;
   }
   stop_ends (NotAlone number) text takes s = record {
     text = text;
-    output = s.told;
+    output = s.emitted;
     taken = takes.taken;
-    is = record { all = on_told text s.told t closes s.is.0; not_alone = s.is.1 };
+    is = record { all = on_emitted text s.emitted t closes s.is.0; not_alone = s.is.1 };
     written = s.written;
   }
 
 -- ---- the end of the input
 
--- a part of a line is no end of a script
+-- a text that ends with an incomplete line is no script
 bare_part : (next : Awaited) (rest : List ℕ) (s : Script) → goes_from next (rest ∷ []) ≡ Ok s → ⊥
 bare_part FirstLine rest s e = cc
 bare_part (SecondLine version) rest s e = cc
@@ -299,13 +299,13 @@ goes_no_script text front rest d n s split part goes is =
     (ap (script_from d n) (sym (parts_whole 10 rest part)) ∙ sym (goes rest)
     ∙ script_lines_again s (front ++ rest) (subst (IsScript s) split is))
 
-waits_no_script : (text told : List ℕ) (s : Script) (w : WaitsAt text told) → IsScript s text → IsWaiting w.front → ⊥
-waits_no_script text told s w is (inl before) =
+waits_no_script : (text emitted : List ℕ) (s : Script) (w : WaitsAt text emitted) → IsScript s text → IsWaiting w.front → ⊥
+waits_no_script text emitted s w is (inl before) =
     let a = awaits w.front before in
     bare_part a.next w.rest s
     (ap (goes_from a.next) (sym (parts_whole 10 w.rest w.clean)) ∙ sym (a.goes w.rest)
     ∙ script_lines_again s (w.front ++ w.rest) (subst (IsScript s) w.parts is))
-waits_no_script text told s w is (inr full) =
+waits_no_script text emitted s w is (inr full) =
     goes_no_script text w.front w.rest full.draft full.number s w.parts w.clean full.goes_on is
 
 stuck_no_script : (text front rest : List ℕ) (s : Script) → text ≡ front ++ rest → IsStuck front rest → IsScript s text → ⊥
@@ -313,12 +313,12 @@ stuck_no_script text front rest s split stuck is =
     stuck.hopeless s stuck.more
     (subst (IsScript s) (split ∙ ap (λ t. front ++ t) stuck.is ∙ sym (line_and_more front stuck.line stuck.more)) is)
 
-whole_of_ended : (run : Option _) (text told : List ℕ) (s : Script) → EndedAt run text told → IsScript s text
-    → ToldWhole text told
-whole_of_ended run text told s e is =
+whole_of_ended : (run : Option _) (text emitted : List ℕ) (s : Script) → EndedAt run text emitted → IsScript s text
+    → EmittedWhole text emitted
+whole_of_ended run text emitted s e is =
     let h = e.has in
     let again = sym (h.ends e.rest) ∙ script_lines_again s (e.front ++ e.rest) (subst (IsScript s) e.parts is) in
-    let step = step_ok (nothing_behind h.next (parts 10 e.rest)) (λ none. Ok (script_of_draft h.draft)) s again in
+    let step = step_ok (nothing_after h.next (parts 10 e.rest)) (λ none. Ok (script_of_draft h.draft)) s again in
     let same = same_ok {E = ScriptFault} (script_of_draft h.draft) s step.2 in
     record {
       script = script_of_draft h.draft;
@@ -327,13 +327,13 @@ whole_of_ended run text told s e is =
       run = h.run;
     }
 
-whole_at : (is_over : Bool) (run : Option _) (text told : List ℕ) (s : Script) → At is_over run text told → IsScript s text
-    → ToldWhole text told
-whole_at true run text told s at is = whole_of_ended run text told s at is
-whole_at false None text told s w is = absurd (waits_no_script text told s w is w.waits)
-whole_at false (Some run) text told s r is = by_rest r.rest_is
+whole_at : (is_over : Bool) (run : Option _) (text emitted : List ℕ) (s : Script) → At is_over run text emitted → IsScript s text
+    → EmittedWhole text emitted
+whole_at true run text emitted s at is = whole_of_ended run text emitted s at is
+whole_at false None text emitted s w is = absurd (waits_no_script text emitted s w is w.waits)
+whole_at false (Some run) text emitted s r is = by_rest r.rest_is
   where
-    by_rest : IsPart r.rest ⊎ IsStuck r.front r.rest → ToldWhole text told
+    by_rest : IsPart r.rest ⊎ IsStuck r.front r.rest → EmittedWhole text emitted
     by_rest (inl part) =
         absurd (goes_no_script text r.front r.rest r.has.draft r.has.next s r.parts part r.has.goes is)
     by_rest (inr stuck) = absurd (stuck_no_script text r.front r.rest s r.parts stuck is)
@@ -345,39 +345,39 @@ taken_all left left_after text read few = record {
   long = λ many. read;
 }
 
-module _ (left left_after start held : Option (List ℕ)) (s : Session) (closes : Closes s.teller.run) (text : List ℕ)
+module _ (left left_after start held : Option (List ℕ)) (s : Session) (closes : Closes s.session_writer.run) (text : List ℕ)
     (read : WasRead 16777216 left left_after text) (few : length text ≤ 16777217)
     (goes : SessionGoes (Ok tt) start held text s) where
-  -- the input is a script, or has a fault
+  -- after the whole input, which is a script or has a fault, the session ends as `SessionEnds` states
   pub finish_ends : (result : Result (Unit {0}) Stop) → Finishes text result
       → SessionEnds result left left_after start held
   finish_ends (Ok u) found =
-      let whole = whole_at s.teller.is_over s.teller.run text goes.told found.0 goes.is.at found.1 in
+      let whole = whole_at s.session_writer.is_over s.session_writer.run text goes.emitted found.0 goes.is.at found.1 in
       let short = found.1.well_formed.text in record {
         input = text;
-        output = goes.told;
+        output = goes.emitted;
         read = read;
         whole = read.whole (omega (arith, short, ap length found.1.spelt));
         is = whole;
         written = goes.written;
       }
   finish_ends (Err (Refused fault)) first =
-      let all = all_at s.teller.is_over s.teller.run text goes.told goes.is.at in record {
+      let all = all_at s.session_writer.is_over s.session_writer.run text goes.emitted goes.is.at in record {
         text = text;
-        output = goes.told;
+        output = goes.emitted;
         taken = record { read = read.read; few = few };
         is = record {
-          all = all_told text goes.told s.teller closes (tells_all text goes.told s.teller all);
+          all = all_emitted text goes.emitted s.session_writer closes (tells_all text goes.emitted s.session_writer all);
           fails = inr (record { read = read; first = first });
         };
         written = goes.written;
       }
   finish_ends (Err NoMemory) none =
-      let part = part_at s.teller.is_over s.teller.run text goes.told goes.is.at in record {
+      let part = part_at s.session_writer.is_over s.session_writer.run text goes.emitted goes.is.at in record {
         text = text;
-        output = goes.told;
+        output = goes.emitted;
         taken = record { read = read.read; few = few };
-        is = part_told text goes.told s.teller closes (tells_part text goes.told s.teller part);
+        is = part_emitted text goes.emitted s.session_writer closes (tells_part text goes.emitted s.session_writer part);
         written = goes.written;
       }
   finish_ends (Err ReadFault) none = absurd none

@@ -1,11 +1,11 @@
--- The whole lines at the front of a text.
+-- The whole lines that a text begins with.
 use Rattle.std.proofs.Common.{◌≡◌, ℕ, ◌==◌, ◌⊎◌, inl, inr, false, List, [], ◌∷◌, ◌++◌, length, refl, sym, ap, subst, ◌∙◌, append_assoc, arith}
 use Rattle.std.proofs.lemmas.List.{length-append}
 use Rattle.std.proofs.lemmas.List.Elements.{All-append, All-head, All-nil, All-tail}
 use Rattle.rng_tool.specs.LiveOutcome.{GoesOn}
 use Rattle.rng_tool.specs.LiveSteps.{IsPart, IsUnopened}
 
--- this line ends the text
+-- the text, followed by this line and a line feed
 abbrev pub lined_up : List ℕ → List ℕ → List ℕ
 lined_up text line = text ++ (line ++ 10 ∷ [])
 
@@ -23,17 +23,17 @@ no_feed_byte : (b : ℕ) (line : List ℕ) → IsPart (b ∷ line) → b ≡ 10 
 no_feed_byte b line clean is =
     let other = subst (λ x. (x == 10) ≡ false) is (All-head (λ x. (x == 10) ≡ false) b line clean) in absurd cc
 
-part_behind : (b : ℕ) (line : List ℕ) → IsPart (b ∷ line) → IsPart line
-part_behind b line clean = All-tail (λ x. (x == 10) ≡ false) b line clean
+part_after : (b : ℕ) (line : List ℕ) → IsPart (b ∷ line) → IsPart line
+part_after b line clean = All-tail (λ x. (x == 10) ≡ false) b line clean
 
 -- a text without a line feed has no whole lines
 pub no_feed : (text front rest : List ℕ) → IsPart text → text ≡ front ++ 10 ∷ rest → ⊥
 no_feed [] front rest clean is = absurd (omega (arith, ap length is, length-append front (10 ∷ rest)))
 no_feed (b ∷ text) [] rest clean is = no_feed_byte b text clean (let one : b ≡ 10 = cc in one)
 no_feed (b ∷ text) (x ∷ front) rest clean is =
-    no_feed text front rest (part_behind b text clean) (let tails : text ≡ front ++ 10 ∷ rest = cc in tails)
+    no_feed text front rest (part_after b text clean) (let tails : text ≡ front ++ 10 ∷ rest = cc in tails)
 
--- whole lines at the front of a text begin with its first line
+-- whole lines at the front of a text begin with the text's first line
 pub first_feed : (line more front rest : List ℕ) → IsPart line → line ++ 10 ∷ more ≡ front ++ 10 ∷ rest
     → (mid : List ℕ) × (front ++ 10 ∷ [] ≡ line ++ 10 ∷ mid)
 first_feed [] more [] rest clean is = ([], refl)
@@ -41,11 +41,11 @@ first_feed [] more (x ∷ front) rest clean is =
     (front ++ 10 ∷ [], ap (λ b. b ∷ (front ++ 10 ∷ [])) (let one : x ≡ 10 = cc in one))
 first_feed (b ∷ line) more [] rest clean is = absurd (no_feed_byte b line clean (let one : b ≡ 10 = cc in one))
 first_feed (b ∷ line) more (x ∷ front) rest clean is =
-    let found = first_feed line more front rest (part_behind b line clean)
+    let found = first_feed line more front rest (part_after b line clean)
     (let tails : line ++ 10 ∷ more ≡ front ++ 10 ∷ rest = cc in tails) in
     (found.0, ap (λ t. x ∷ t) found.1 ∙ ap (λ c. c ∷ (line ++ 10 ∷ found.0)) (let one : x ≡ b = cc in one))
 
--- they are at the front of a text, if only a part of a line follows it
+-- if only a part of a line follows a text, all whole lines are in the text
 pub fed_before : (text more front rest : List ℕ) → IsPart more → text ++ more ≡ front ++ 10 ∷ rest
     → (left : List ℕ) × (text ≡ front ++ 10 ∷ left)
 fed_before [] more front rest clean is = absurd (no_feed more front rest clean is)
@@ -54,7 +54,7 @@ fed_before (x ∷ text) more (y ∷ front) rest clean is =
     let found = fed_before text more front rest clean (let tails : text ++ more ≡ front ++ 10 ∷ rest = cc in tails) in
     (found.0, ap (λ t. x ∷ t) found.1 ∙ ap (λ b. b ∷ (front ++ 10 ∷ found.0)) (let one : x ≡ y = cc in one))
 
--- or they have all of its text and a line
+-- if a line follows a text, whole lines are in the text, or have all of the text and the line
 pub fed_around : (text line more front rest : List ℕ) → IsPart line
     → text ++ (line ++ 10 ∷ more) ≡ front ++ 10 ∷ rest
     → ((left : List ℕ) × (text ≡ front ++ 10 ∷ left)) ⊎ ((mid : List ℕ) × (front ++ 10 ∷ [] ≡ text ++ (line ++ 10 ∷ mid)))
@@ -71,12 +71,12 @@ fed_around (x ∷ text) line more (y ∷ front) rest clean is =
 
 -- ---- more of a text
 
--- a line's end, and more
+-- a text with a line and more text after it is the same, however the three are grouped
 pub line_and_more : (text line more : List ℕ) → lined_up text line ++ more ≡ text ++ (line ++ 10 ∷ more)
 line_and_more text line more =
     append_assoc text (line ++ 10 ∷ []) more ∙ ap (λ t. text ++ t) (append_assoc line (10 ∷ []) more)
 
--- the line that ends here began in the rest
+-- a text `front ++ rest` with `line` after it is `front` with the line `rest ++ line` after it
 pub line_in_rest : (text front rest line : List ℕ) → text ≡ front ++ rest
     → lined_up text line ≡ lined_up front (rest ++ line)
 line_in_rest text front rest line is =
@@ -92,7 +92,8 @@ pub unopened_more : (text more : List ℕ) → IsPart more → IsUnopened text �
 unopened_more text more clean unopened = λ front rest is goes.
     unopened front (fed_before text more front rest clean is).0 (fed_before text more front rest clean is).1 goes
 
--- with a line behind it, and more
+-- an unopened text, with one more line and more text after it, is unopened, if no events may follow a text that begins
+-- with it and that line
 pub unopened_line : (text line more : List ℕ) → IsPart line → IsUnopened text
     → ((mid : List ℕ) → GoesOn (text ++ (line ++ 10 ∷ mid)) → ⊥) → IsUnopened (text ++ (line ++ 10 ∷ more))
 unopened_line text line more clean unopened none = λ front rest is goes.

@@ -20,9 +20,9 @@ pub load_of : (start callers events : ℕ) (script : Script) (t : List (List See
     script ≡ load_script start callers events → IsSound script t →
     line ≡ load_line callers (sum_by length script.callers) (length (bytes_shown (all_lines t))) Yes →
     LoadOf start callers events line
-load_of start callers events script t line same sound told = record {
+load_of start callers events script t line same sound emitted = record {
   lines = t;
   run = subst (λ (s : Script). IsSound s t) same sound;
-  told = told
+  emitted = emitted
       ∙ ap (λ (s : Script). load_line callers (sum_by length s.callers) (length (bytes_shown (all_lines t))) Yes) same;
 }

@@ -1,4 +1,4 @@
--- The outputs for a script, or for an input that is none, are those for its text.
+-- If an output is right for a script, or for the reason why an input is no script, it is right for the input's text.
 use Rattle.std.proofs.Common.{ℕ, List, sym, subst}
 use Rattle.key_names.specs.Texts.ScriptGrammar.{Script, IsScript}
 use Rattle.tool_ends.specs.Pairs.{IsNoScript, RefusalOf}

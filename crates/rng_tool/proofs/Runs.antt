@@ -1,4 +1,4 @@
--- The run of a script's callers, in the terms of the program's contract.
+-- The transcript of a run of a script's callers is one that `RunOf` allows.
 use Rattle.std.proofs.Common.{◌≡◌, ℕ, suc, refl, List, [], ◌∷◌, length, arith}
 use Rattle.std.specs.List.{AllByRecursion}
 use Rattle.key_names.specs.declared.events.Event.{Event}
@@ -12,7 +12,7 @@ use Rattle.caller_run.specs.Laws.{LawfulRuns}
 use Rattle.transcript_check.specs.Judged.{IsSound}
 use Rattle.transcript_check.proofs.Sound.{lawful_is_sound}
 
--- the lines of a caller have its number
+-- each line of a caller has the caller's number
 own_lines : (c n : ℕ) (events : List Event) (lines : List SeenLine) → LinesFit c n events lines
     → AllByRecursion (λ line. line.caller ≡ c) lines
 own_lines c n [] [] fit = absurd fit

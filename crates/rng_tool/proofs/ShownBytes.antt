@@ -42,7 +42,7 @@ sum_of_data kept steps raw lines seen within =
     sym (length-shown_lines kept steps raw (recursion_from_All (LineWithin (length kept) (length steps)) raw within))
     ∙ ap (λ (ls : List SeenLine). length (bytes_shown ls)) seen
 
--- the numbers of bytes of all callers add up to that of all lines
+-- the numbers of bytes that each caller's lines show add up to the number of bytes that all lines show
 pub sum_of_callers : (t : List (List SeenLine))
     → sum_by (λ lines. length (bytes_shown lines)) t ≡ length (bytes_shown (all_lines t))
 sum_of_callers [] = refl

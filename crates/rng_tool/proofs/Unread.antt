@@ -1,4 +1,4 @@
--- A command whose memory ran out before it read any input.
+-- If memory ran out before a command read any input, the command ends as its contract states.
 use Rattle.std.proofs.Common.{ℕ, List, [], Option, None, arith, inl, refl}
 use Rattle.std.proofs.KnownBytes.{Consumes-nil}
 use Rattle.tool_ends.specs.Reads.{WasGivenUp}
@@ -28,7 +28,7 @@ unread_live left = (
     text = [];
     output = [];
     taken = record { read = Consumes-nil left; few = omega arith };
-    is = record { front = []; rest = []; parts = refl; told = inl refl };
+    is = record { front = []; rest = []; parts = refl; emitted = inl refl };
     written = tt;
   },
 )

@@ -28,11 +28,11 @@ use Rattle.rng_tool.proofs.Runs.{run_of, under_own_number}
 abbrev Known : Type 0
 Known = Option (List ℕ)
 
--- the first line of a transcript, and these
+-- the text of a transcript's first line and of these lines
 abbrev pub text_so_far : List SeenLine → List ℕ
 text_so_far lines = codes "rngtranscript 1\n" ++ text_of lines
 
--- if no call failed, the text was put; in any case a prefix of it was
+-- if no call failed, the text was put; in any case a prefix of the text was put
 pub record Wrote (written : Result (Unit {0}) Failed) (held held_now : Known) (faults faults_now : ℕ) (text : List ℕ)
     : Type 0 where
   pub whole : OnOk written (Appends held held_now text)
@@ -42,37 +42,37 @@ pub record Wrote (written : Result (Unit {0}) Failed) (held held_now : Known) (f
 
 -- ---- more of it
 
--- a prefix of a text is one of a longer text
+-- a prefix of a text is also a prefix of a longer text
 pub prefix_longer : (a b : Known) (text more : List ℕ) → AppendsPrefix a b text → AppendsPrefix a b (text ++ more)
 prefix_longer a b text more p =
     (p.0, omega (arith, p.1, length-append text more), subst (Appends a b) (sym (take-append-le p.0 text more p.1)) p.2)
 
--- after a text a prefix of more was put
-pub prefix_behind : (a b c : Known) (text more : List ℕ) → Appends a b text → AppendsPrefix b c more
+-- if a text was put, and then a prefix of `more`, a prefix of `text ++ more` was put
+pub prefix_after : (a b c : Known) (text more : List ℕ) → Appends a b text → AppendsPrefix b c more
     → AppendsPrefix a c (text ++ more)
-prefix_behind a b c text more first rest =
+prefix_after a b c text more first rest =
     breaks_off a b c (text ++ more) more more [] (record { front = text; whole = refl; appends = first })
     (sym (append-nil more)) rest
 
--- the writing went on with each call that puts more
+-- if no call had failed, one more call puts `more`, or fails after a prefix of it
 pub wrote_more : (w v : Result (Unit {0}) Failed) (a b c : Known) (f g h : ℕ) (text more : List ℕ) → is_ok w ≡ true
     → Wrote w a b f g text → OnOk v (Appends b c more) → AppendsPrefix b c more → OnErr v (Rose g h) → OnOk v (h ≡ g)
     → Wrote v a c f h (text ++ more)
 wrote_more (Err e) v a b c f g h text more ok k whole prefix cause same = cc
 wrote_more (Ok u) (Ok v) a b c f g h text more ok k whole prefix cause same = record {
   whole = Appends-trans a b c text more k.whole whole;
-  prefix = prefix_behind a b c text more k.whole prefix;
+  prefix = prefix_after a b c text more k.whole prefix;
   cause = tt;
   not_counted = same ∙ k.not_counted;
 }
 wrote_more (Ok u) (Err e) a b c f g h text more ok k whole prefix cause same = record {
   whole = tt;
-  prefix = prefix_behind a b c text more k.whole prefix;
+  prefix = prefix_after a b c text more k.whole prefix;
   cause = subst (λ (n : ℕ). Rose n h) k.not_counted cause;
   not_counted = tt;
 }
 
--- or it had failed, and no more was put
+-- if a call had failed, what was put is also a prefix of `text ++ more`
 pub wrote_no_more : (w : Result (Unit {0}) Failed) (a b : Known) (f g : ℕ) (text more : List ℕ) → is_ok w ≡ false
     → Wrote w a b f g text → Wrote w a b f g (text ++ more)
 wrote_no_more (Ok u) a b f g text more failed k = cc
@@ -95,7 +95,7 @@ module _ (script : Script) (a b : Known) (f g : ℕ) (text : List ℕ) (run : Ru
   was_cut (Ok u) k = tt
   was_cut (Err e) k = (text, run, k.prefix)
 
-  -- a failure is handed on
+  -- if the result v is a failure, a prefix of the output of a run was put, whatever w is
   pub was_cut_before : (w v : Result (Unit {0}) Failed) → Wrote w a b f g text
       → OnErr v ((text : List ℕ) × RunOf script text × AppendsPrefix a b text)
   was_cut_before w (Ok u) k = tt
@@ -122,7 +122,7 @@ next_line lines line =
     (flat_map-append whole_line lines (line ∷ []) ∙ ap (λ (t : List ℕ). text_of lines ++ t) (append-nil (whole_line line)))
     ∙ sym (append_assoc (codes "rngtranscript 1\n") (text_of lines) (whole_line line))
 
--- one more line was put, which shows this one
+-- `wrote_more` for one more line of the transcript
 pub wrote_line : {shown : SeenLine} (w v : Result (Unit {0}) Failed) (a b c : Known) (f g h : ℕ) (lines : List SeenLine)
     (line : SeenLine) → is_ok w ≡ true → Wrote w a b f g (text_so_far lines) → shown ≡ line →
     OnOk v (Appends b c (whole_line shown)) → AppendsPrefix b c (whole_line shown) → OnErr v (Rose g h) →
@@ -133,7 +133,7 @@ wrote_line w v a b c f g h lines line ok k is whole prefix cause same =
     (subst (λ (l : SeenLine). OnOk v (Appends b c (whole_line l))) is whole)
     (subst (λ (l : SeenLine). AppendsPrefix b c (whole_line l)) is prefix) cause same)
 
--- or a call had failed before it
+-- `wrote_no_more` for one more line of the transcript
 pub wrote_no_line : (w : Result (Unit {0}) Failed) (a b : Known) (f g : ℕ) (lines : List SeenLine) (line : SeenLine) →
     is_ok w ≡ false → Wrote w a b f g (text_so_far lines) → Wrote w a b f g (text_so_far (lines ++ line ∷ []))
 wrote_no_line w a b f g lines line failed k =
@@ -150,7 +150,7 @@ some_line : (callers : List (List Event)) (lines : List SeenLine) → AllFit 0 c
 some_line [] lines fit = absurd fit
 some_line (events ∷ callers) lines fit = fit_long 0 0 events lines fit.0
 
--- all of it is the transcript of a run
+-- the lines of a lawful transcript, and then the line `end`, are the output of a run
 pub alone_run : (script : Script) → WellFormed script → (lines : List SeenLine) → AllByRecursion LineFits lines →
     IsLawful script lines → RunOf script (text_so_far lines ++ codes "end\n")
 alone_run script well lines fits is = let fit = is.1.transcript.lines in record {
@@ -167,7 +167,7 @@ alone_run script well lines fits is = let fit = is.1.transcript.lines in record 
   };
 }
 
--- the run ended, and its last line is shown
+-- with the caller's last line and the line `end`, the output is that of a run that has ended
 pub ended_run : {script : Script} {run : LoneRun} {shown : SeenLine} (lines : List SeenLine) (line : SeenLine) →
     IsGoing script [] run lines → AllByRecursion LineFits lines → shown ≡ line → LineFits shown →
     IsLawful script (lines ++ line ∷ []) → RunOf script (text_so_far (lines ++ line ∷ []) ++ codes "end\n")

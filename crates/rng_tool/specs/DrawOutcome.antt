@@ -2,7 +2,7 @@
 use Rattle.std.specs.Prelude.{ℕ, ◌≡◌, ◌<◌, ◌≤◌, ◌^◌, ◌++◌, List, [], ◌∷◌, Option, Some, None, String, string_bytes, codes, decimal, map}
 use Rattle.std.specs.List.{flat_map}
 use Rattle.draw_below.specs.TableDraws.{AreTableDraws}
-use Rattle.rng_tool.specs.declared.draw.Draw.{Draw}
+use Rattle.rng_tool.specs.declared.draw.DrawRequest.{DrawRequest}
 use Rattle.tool_ends.specs.Ends.{EndsWith}
 use Rattle.tool_ends.specs.declared.status.Status.{Status}
 
@@ -13,7 +13,7 @@ pub record AskDraw (texts : List (List ℕ)) (bound count : ℕ) : Type 0 where
   pub count_fits : (1 ≤ count) × (count ≤ 1000)
 
 -- the numbers of draws are within the limits
-pub record IsSmallDraw (draw : Draw) : Type 0 where
+pub record IsSmallDraw (draw : DrawRequest) : Type 0 where
   pub count : (1 ≤ draw.count) × (draw.count ≤ 1000)
 
 -- the words are `draw` with these numbers
@@ -28,11 +28,12 @@ draw_line None = codes "spent" ++ 10 ∷ []
 abbrev pub draw_text : List (Option ℕ) → List ℕ
 draw_text draws = flat_map draw_line draws
 
--- the output has a line for each of `count` draws below the bound; their words come from the only book of a new table
+-- the output has a line for each of `count` draws below the bound; the draws' words, and nothing else, were read from
+-- a new table
 pub record DrawOf (bound count : ℕ) (output : List ℕ) : Type 0 where
   pub draws : List (Option ℕ)
   pub drawn : AreTableDraws bound count draws
-  pub told : output ≡ draw_text draws
+  pub emitted : output ≡ draw_text draws
 
 -- how draws end: the status, and the content of the sink
 abbrev pub DrawEnds : ℕ → ℕ → Status → Option (List ℕ) → Option (List ℕ) → Type 0

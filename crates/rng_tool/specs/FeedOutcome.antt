@@ -31,7 +31,7 @@ feed_line feeders sums =
 pub record FeedOf (start feeders samples : ℕ) (output : List ℕ) : Type 0 where
   pub sums : FeedSums
   pub fed : IsFed start feeders samples sums
-  pub told : output ≡ feed_line feeders sums
+  pub emitted : output ≡ feed_line feeders sums
 
 -- how feeders end: the status, and the content of the sink
 abbrev pub FeedEnds : ℕ → ℕ → ℕ → Status → Option (List ℕ) → Option (List ℕ) → Type 0

@@ -7,14 +7,14 @@ use Rattle.key_names.specs.Transcripts.SeenLine.{SeenLine}
 use Rattle.key_names.specs.Texts.TranscriptGrammar.{IsTranscriptText}
 use Rattle.transcript_check.specs.Judged.{IsSound}
 use Rattle.serial_replay.specs.Replayed.{IsTheTranscript, StepsFail}
-use Rattle.tool_ends.specs.Pairs.{IsNoTranscript, IsPair, TellsFault, behind, most_input, no_line}
+use Rattle.tool_ends.specs.Pairs.{IsNoTranscript, IsPair, TellsFault, following, most_input, no_line}
 use Rattle.tool_ends.specs.Reads.{ReadsEnds}
 use Rattle.tool_ends.specs.declared.status.Status.{Status}
 use Rattle.tool_ends.specs.declared.status.Status.TheVariants.{Done, No, Usage, ReadFault, WriteFault, Refused, NoMemory}
 use Rattle.rng_tool.specs.declared.judge.Judge.{Judge}
 use Rattle.rng_tool.specs.declared.judge.Judge.TheVariants.{Check, Replay}
 
--- ---- for a transcript that is lawful, or that the steps make
+-- ---- answers about a transcript
 
 abbrev pub yes_line : List ℕ
 yes_line = codes "yes" ++ 10 ∷ []
@@ -24,7 +24,7 @@ pub record SaysYes (script : Script) (t : List (List SeenLine)) (output : List �
   pub sound : IsSound script t
   pub line : output ≡ yes_line
 
--- the output is the text of the lawful transcript with these steps; there is only one
+-- the output is the text of the only lawful transcript that has the steps of t
 pub record GivesBack (script : Script) (t : List (List SeenLine)) (output : List ℕ) : Type 0 where
   pub made : List (List SeenLine)
   pub is : IsTheTranscript script t made
@@ -41,14 +41,15 @@ Fails Replay = StepsFail
 
 -- ---- for an input
 
--- the input is a script with a transcript after it, and the output is for them
+-- the input is a script with a transcript after it, and the output is right for this script and this transcript
 pub record JudgeAnswer (judge : Judge) (input output : List ℕ) : Type 0 where
   pub script : Script
   pub lines : List (List SeenLine)
   pub pair : IsPair input script lines
   pub says : Says judge script lines output
 
--- the text after the script is no transcript's and fails clause 1, or its transcript fails the clause with this number
+-- the text after the script is no transcript's text, and the number is 1; or it is a transcript's text, and the number
+-- is that of the clause that fails
 abbrev pub IsClause : Judge → Script → List ℕ → ℕ → Type 0
 IsClause judge script text number =
     (number ≡ 1) × IsNoTranscript text
@@ -60,7 +61,7 @@ pub record JudgeVerdict (judge : Judge) (input output : List ℕ) : Type 0 where
   pub script : Script
   pub is_script : IsScript script (front input)
   pub number : ℕ
-  pub clause : IsClause judge script (behind input) number
+  pub clause : IsClause judge script (following input) number
   pub line : output ≡ no_line number
 
 -- the output and the status for a transcript

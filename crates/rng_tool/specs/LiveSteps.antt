@@ -1,4 +1,4 @@
--- A session between the lines of its script, and where it stops.
+-- A session between two lines of its script, and at the place where it stops. `emitted` is the session's output so far.
 use Rattle.std.specs.Prelude.{ℕ, ◌≡◌, ◌⊎◌, ◌+◌, ◌<◌, ◌≤◌, ◌==◌, ⊤, Bool, true, false, All, List, [], ◌∷◌, ◌++◌, Option, None, Some, Result, Ok, Err, IsSomeAnd, codes, length}
 use Rattle.std.specs.List.{AllByRecursion}
 use Rattle.std.specs.Io.KnownBytes.{Appends, Keeps}
@@ -12,57 +12,57 @@ use Rattle.key_names.specs.Texts.TranscriptGrammar.{LineFits}
 use Rattle.event_script.specs.Feeding.{HasFed, IsWhole}
 use Rattle.event_script.specs.Progress.{EndsWith, GoesOnFrom, IsFaulty, IsLone, IsProgress}
 use Rattle.event_script.specs.Waiting.{IsWaiting}
-use Rattle.event_script.specs.declared.progress.Progress.{Progress}
-use Rattle.event_script.specs.declared.progress.Progress.TheVariants.{Waits}
-use Rattle.caller_run.specs.Alone.{HasMade, IsLawful, IsToldByOne, IsToldOnce}
+use Rattle.event_script.specs.declared.progress.ScriptProgress.{ScriptProgress}
+use Rattle.event_script.specs.declared.progress.ScriptProgress.TheVariants.{Waits}
+use Rattle.caller_run.specs.Alone.{HasMade, IsLawful, IsEmittedByOne, IsEmittedOnce}
 use Rattle.caller_run.specs.declared.alone.LoneRun.{LoneRun}
 use Rattle.transcript_text.specs.Lines.{text_of, whole_line}
 use Rattle.tool_ends.specs.Pairs.{most_script}
 use Rattle.tool_ends.specs.Reads.{WasRead}
-use Rattle.rng_tool.specs.LiveOutcome.{BeginsScript, FailsAtEnd, FailsInside, GoesOn, IsNotAlone, Told, ToldAll, ToldPart, ToldPrefix, ToldToEnd, WasTaken}
+use Rattle.rng_tool.specs.LiveOutcome.{BeginsScript, FailsAtEnd, FailsInside, GoesOn, IsNotAlone, Emitted, EmittedAll, EmittedPart, EmittedPrefix, EmittedToEnd, WasTaken}
 use Rattle.rng_tool.specs.Outcome.{RunOf}
 use Rattle.rng_tool.specs.declared.live.Session.{Session}
 use Rattle.rng_tool.specs.declared.stop.Stop.{Stop}
 use Rattle.rng_tool.specs.declared.stop.Stop.TheVariants.{ReadFault, WriteFault, NoMemory, Refused, NotAlone}
-use Rattle.rng_tool.specs.declared.teller.Teller.{Teller}
+use Rattle.rng_tool.specs.declared.session_writer.SessionWriter.{SessionWriter}
 
--- ---- what was told
+-- ---- what was written
 
--- the first line of a transcript, and these
+-- the text of a transcript's first line and of these lines
 abbrev pub begun : List SeenLine → List ℕ
 begun lines = codes "rngtranscript 1\n" ++ text_of lines
 
--- the run has made the events of this part of a script, and these are their lines
-pub record HasRun (front told : List ℕ) (run : LoneRun) : Type 0 where
+-- a script begins with `front`, the run has made the events of `front`, and `emitted` has the lines of these events
+pub record HasRun (front emitted : List ℕ) (run : LoneRun) : Type 0 where
   pub draft : Draft
   pub next : ℕ
   pub goes : GoesOnFrom front draft next
   pub lone : IsLone draft
-  pub once : AllByRecursion IsToldOnce draft.events
+  pub once : AllByRecursion IsEmittedOnce draft.events
   pub room : length front + 4 ≤ most_script
   pub lines : List SeenLine
   pub fit : AllByRecursion LineFits lines
   pub made : HasMade draft.cpus draft.events run lines
-  pub text : told ≡ begun lines
+  pub text : emitted ≡ begun lines
 
--- the whole script was run
-pub record HasEnded (front told : List ℕ) : Type 0 where
+-- `front` is a whole script, and `emitted` is the output of its run
+pub record HasEnded (front emitted : List ℕ) : Type 0 where
   pub draft : Draft
   pub next : ℕ
   pub ends : EndsWith front draft next
   pub short : length front ≤ most_script
-  pub one : IsToldByOne (script_of_draft draft)
-  pub run : RunOf (script_of_draft draft) told
+  pub one : IsEmittedByOne (script_of_draft draft)
+  pub run : RunOf (script_of_draft draft) emitted
 
--- this was told of this part of a script
-abbrev pub HasTold : Bool → Option LoneRun → List ℕ → List ℕ → Type 0
-HasTold true run front told = (run ≡ None) × HasEnded front told
-HasTold false None front told = told ≡ []
-HasTold false (Some run) front told = HasRun front told run
+-- `emitted` is the output for `front`, a part of a script; the bool is whether the script is over
+abbrev pub HasEmitted : Bool → Option LoneRun → List ℕ → List ℕ → Type 0
+HasEmitted true run front emitted = (run ≡ None) × HasEnded front emitted
+HasEmitted false None front emitted = emitted ≡ []
+HasEmitted false (Some run) front emitted = HasRun front emitted run
 
 -- ---- between two lines
 
--- no whole lines at the front of the text can be followed by events
+-- the text does not begin with whole lines that events may follow
 abbrev pub IsUnopened : List ℕ → Type 0
 IsUnopened text = (front rest : List ℕ) → text ≡ front ++ 10 ∷ rest → GoesOn (front ++ 10 ∷ []) → ⊥
 
@@ -74,7 +74,7 @@ IsPart text = All (λ b. (b == 10) ≡ false) text
 abbrev pub IsHopeless : List ℕ → Type 0
 IsHopeless text = (script : Script) (more : List ℕ) → IsScript script (text ++ more) → ⊥
 
--- no script begins with the text and the next line
+-- no script begins with `front` and the next line, since these two leave no room for the line `end`
 pub record IsStuck (front rest : List ℕ) : Type 0 where
   pub line : List ℕ
   pub more : List ℕ
@@ -83,9 +83,9 @@ pub record IsStuck (front rest : List ℕ) : Type 0 where
   pub hopeless : IsHopeless (front ++ (line ++ 10 ∷ []))
   pub full : most_script < length (front ++ (line ++ 10 ∷ [])) + 4
 
--- before the script's first event
-pub record WaitsAt (text told : List ℕ) : Type 0 where
-  pub nothing : told ≡ []
+-- the session is before the script's first event
+pub record WaitsAt (text emitted : List ℕ) : Type 0 where
+  pub nothing : emitted ≡ []
   pub unopened : IsUnopened text
   pub front : List ℕ
   pub rest : List ℕ
@@ -94,34 +94,34 @@ pub record WaitsAt (text told : List ℕ) : Type 0 where
   pub whole : IsWhole front
   pub waits : IsWaiting front
 
--- in the run
-pub record RunsAt (run : LoneRun) (text told : List ℕ) : Type 0 where
+-- the run is open, and has made the events in a prefix of the text
+pub record RunsAt (run : LoneRun) (text emitted : List ℕ) : Type 0 where
   pub front : List ℕ
   pub rest : List ℕ
   pub parts : text ≡ front ++ rest
-  pub has : HasRun front told run
+  pub has : HasRun front emitted run
   pub rest_is : IsPart rest ⊎ IsStuck front rest
 
--- after the line `end`
-pub record EndedAt (run : Option LoneRun) (text told : List ℕ) : Type 0 where
+-- the session is after the line `end`
+pub record EndedAt (run : Option LoneRun) (text emitted : List ℕ) : Type 0 where
   pub front : List ℕ
   pub rest : List ℕ
   pub parts : text ≡ front ++ rest
   pub none : run ≡ None
-  pub has : HasEnded front told
+  pub has : HasEnded front emitted
 
 abbrev pub At : Bool → Option LoneRun → List ℕ → List ℕ → Type 0
-At true run text told = EndedAt run text told
-At false None text told = WaitsAt text told
-At false (Some run) text told = RunsAt run text told
+At true run text emitted = EndedAt run text emitted
+At false None text emitted = WaitsAt text emitted
+At false (Some run) text emitted = RunsAt run text emitted
 
--- this was told of the text that was read
-abbrev pub IsAt : List ℕ → List ℕ → Teller → Type 0
-IsAt text told t = At t.is_over t.run text told
+-- the session has read `text` and written `emitted`
+abbrev pub IsAt : List ℕ → List ℕ → SessionWriter → Type 0
+IsAt text emitted t = At t.is_over t.run text emitted
 
--- one more line was read, and the script is so far
-pub record ReadsLine (text line told : List ℕ) (progress : Progress) (t : Teller) : Type 0 where
-  pub at : IsAt text told t
+-- one more line was read, and `progress` is how far the script has come
+pub record ReadsLine (text line emitted : List ℕ) (progress : ScriptProgress) (t : SessionWriter) : Type 0 where
+  pub at : IsAt text emitted t
   pub goes_on : t.is_over ≡ false
   pub clean : IsPart line
   pub shown : IsProgress (text ++ (line ++ 10 ∷ [])) progress
@@ -129,63 +129,63 @@ pub record ReadsLine (text line told : List ℕ) (progress : Progress) (t : Tell
 
 -- ---- where it stops
 
--- some part of the text was told
-pub record TellsPart (text told : List ℕ) (t : Teller) : Type 0 where
+-- `emitted` is the output for a prefix of the text
+pub record TellsPart (text emitted : List ℕ) (t : SessionWriter) : Type 0 where
   pub front : List ℕ
   pub rest : List ℕ
   pub parts : text ≡ front ++ rest
-  pub has : HasTold t.is_over t.run front told
+  pub has : HasEmitted t.is_over t.run front emitted
 
--- with one more line, no script of one caller begins
+-- if a whole line follows `front`, no script of one caller begins with `front` and this line
 abbrev pub IsLast : List ℕ → List ℕ → Type 0
 IsLast front rest = (line more : List ℕ) → rest ≡ line ++ 10 ∷ more → BeginsScript (front ++ line ++ 10 ∷ []) → ⊥
 
--- no more than that can be told
-abbrev pub IsAllTold : Bool → Option LoneRun → List ℕ → List ℕ → Type 0
-IsAllTold true run front rest = ⊤
-IsAllTold false None front rest = IsUnopened (front ++ rest)
-IsAllTold false (Some run) front rest = IsLast front rest
+-- after `front`, the text `rest` allows no more output
+abbrev pub IsAllEmitted : Bool → Option LoneRun → List ℕ → List ℕ → Type 0
+IsAllEmitted true run front rest = ⊤
+IsAllEmitted false None front rest = IsUnopened (front ++ rest)
+IsAllEmitted false (Some run) front rest = IsLast front rest
 
--- each event of the text was told
-pub record TellsAll (text told : List ℕ) (t : Teller) : Type 0 where
+-- `emitted` has the line of each event in the text
+pub record TellsAll (text emitted : List ℕ) (t : SessionWriter) : Type 0 where
   pub front : List ℕ
   pub rest : List ℕ
   pub parts : text ≡ front ++ rest
-  pub has : HasTold t.is_over t.run front told
-  pub all : IsAllTold t.is_over t.run front rest
+  pub has : HasEmitted t.is_over t.run front emitted
+  pub all : IsAllEmitted t.is_over t.run front rest
 
--- some front of the text has this fault
+-- a prefix of the text has this fault
 pub record IsFaultyIn (text : List ℕ) (fault : ScriptFault) : Type 0 where
   pub front : List ℕ
   pub rest : List ℕ
   pub parts : text ≡ front ++ rest
   pub is : IsFaulty front fault
 
--- a session stopped after it took this text; `start` is what the sink held before it
+-- the output of a session: `Is` holds of it, and it was written as `Written` states
 pub record StopsBy (Is : List ℕ → Type 0) (Written : List ℕ → Type 0) : Type 0 where
-  pub told : List ℕ
-  pub is : Is told
-  pub written : Written told
+  pub emitted : List ℕ
+  pub is : Is emitted
+  pub written : Written emitted
 
--- more text is no obstacle
-pub record TellsOn (text told : List ℕ) (t : Teller) : Type 0 where
-  pub all : (more : List ℕ) → TellsAll (text ++ more) told t
+-- whatever text follows, `emitted` still has the line of each event
+pub record TellsOn (text emitted : List ℕ) (t : SessionWriter) : Type 0 where
+  pub all : (more : List ℕ) → TellsAll (text ++ more) emitted t
 
-abbrev pub StopsAt : Stop → Option (List ℕ) → Option (List ℕ) → List ℕ → Teller → Type 0
+abbrev pub StopsAt : Stop → Option (List ℕ) → Option (List ℕ) → List ℕ → SessionWriter → Type 0
 StopsAt ReadFault start held text t = ⊥
-StopsAt WriteFault start held text t = StopsBy (λ told. TellsPart text told t) (AppendsPrefix start held)
-StopsAt NoMemory start held text t = StopsBy (λ told. TellsPart text told t) (Appends start held)
+StopsAt WriteFault start held text t = StopsBy (λ emitted. TellsPart text emitted t) (AppendsPrefix start held)
+StopsAt NoMemory start held text t = StopsBy (λ emitted. TellsPart text emitted t) (Appends start held)
 StopsAt (Refused fault) start held text t =
-    StopsBy (λ told. TellsOn text told t × IsFaultyIn text fault) (Appends start held)
+    StopsBy (λ emitted. TellsOn text emitted t × IsFaultyIn text fault) (Appends start held)
 StopsAt (NotAlone number) start held text t =
-    StopsBy (λ told. TellsOn text told t × IsNotAlone text number) (Appends start held)
+    StopsBy (λ emitted. TellsOn text emitted t × IsNotAlone text number) (Appends start held)
 
--- the session goes on after this text, or has stopped
-abbrev pub GoesTo : Result (Unit {0}) Stop → Option (List ℕ) → Option (List ℕ) → List ℕ → Teller → Type 0
-GoesTo (Ok u) start held text t = StopsBy (λ told. IsAt text told t) (Appends start held)
+-- after this text the session goes on, or has stopped; `start` is what the sink held before the session
+abbrev pub GoesTo : Result (Unit {0}) Stop → Option (List ℕ) → Option (List ℕ) → List ℕ → SessionWriter → Type 0
+GoesTo (Ok u) start held text t = StopsBy (λ emitted. IsAt text emitted t) (Appends start held)
 GoesTo (Err stop) start held text t = StopsAt stop start held text t
 
--- the sink counted a fault if the session stopped by one, and none otherwise
+-- the sink counted a fault if the session stopped with a write fault, and none otherwise
 pub record CountsStop (result : Result (Unit {0}) Stop) (faults faults_after : ℕ) : Type 0 where
   pub cut : result ≡ Err WriteFault → Rose faults faults_after
   pub not_counted : (result ≡ Err WriteFault → ⊥) → faults_after ≡ faults
@@ -216,24 +216,24 @@ Ends script lines result held held_after =
 
 -- ---- with the reader
 
--- this was told of the text that the reader was fed
-pub record SessionAt (text told : List ℕ) (s : Session) : Type 0 where
+-- the reader was fed `text`, and the session has written `emitted`
+pub record SessionAt (text emitted : List ℕ) (s : Session) : Type 0 where
   pub fed : HasFed text s.reader
-  pub at : IsAt text told s.teller
+  pub at : IsAt text emitted s.session_writer
 
--- the session goes on after this text, or has stopped
+-- after this text the session goes on with its reader, or has stopped
 abbrev pub SessionGoes : Result (Unit {0}) Stop → Option (List ℕ) → Option (List ℕ) → List ℕ → Session → Type 0
-SessionGoes (Ok u) start held text s = StopsBy (λ told. SessionAt text told s) (Appends start held)
-SessionGoes (Err stop) start held text s = StopsAt stop start held text s.teller
+SessionGoes (Ok u) start held text s = StopsBy (λ emitted. SessionAt text emitted s) (Appends start held)
+SessionGoes (Err stop) start held text s = StopsAt stop start held text s.session_writer
 
--- the text of an input that was taken; of one that is too long, just one byte more than a script has
+-- this text was taken from an input; if the input is too long, exactly one byte more than a script may have was taken
 pub record TakesText (left left_after : Option (List ℕ)) (text : List ℕ) : Type 0 where
   pub taken : WasTaken left left_after text
   pub long : most_script < length text → WasRead most_script left left_after text
 
--- a session stopped, and took no more of the text
-abbrev pub StoppedAt : Stop → Option (List ℕ) → Option (List ℕ) → List ℕ → Teller → Type 0
-StoppedAt ReadFault start held text t = StopsBy (λ told. TellsAll text told t) (Appends start held)
+-- a session stopped after it had taken `text`
+abbrev pub StoppedAt : Stop → Option (List ℕ) → Option (List ℕ) → List ℕ → SessionWriter → Type 0
+StoppedAt ReadFault start held text t = StopsBy (λ emitted. TellsAll text emitted t) (Appends start held)
 StoppedAt stop start held text t = StopsAt stop start held text t
 
 -- the input was read, or the session has stopped
@@ -243,9 +243,9 @@ SessionReads (Ok u) left left_after held held_after s =
     (text : List ℕ) × WasRead most_script left left_after text × (length text ≤ most_script + 1)
     × SessionGoes (Ok u) held held_after text s
 SessionReads (Err stop) left left_after held held_after s =
-    (text : List ℕ) × TakesText left left_after text × StoppedAt stop held held_after text s.teller
+    (text : List ℕ) × TakesText left left_after text × StoppedAt stop held held_after text s.session_writer
 
--- the source counted a fault if the session stopped by one, and none otherwise
+-- the source counted a fault if the session stopped with a read fault, and none otherwise
 pub record CountsReadStop (result : Result (Unit {0}) Stop) (faults faults_after : ℕ) : Type 0 where
   pub read_fault : result ≡ Err ReadFault → Rose faults faults_after
   pub no_read_fault : (result ≡ Err ReadFault → ⊥) → faults_after ≡ faults
@@ -259,24 +259,24 @@ Finishes text (Err ReadFault) = ⊥
 Finishes text (Err WriteFault) = ⊥
 Finishes text (Err (NotAlone number)) = ⊥
 
--- all is told of the script, up to its fault
-pub record ToldToFault (left left_after : Option (List ℕ)) (fault : ScriptFault) (text told : List ℕ) : Type 0 where
-  pub all : ToldAll text told
+-- `emitted` has the line of each event, and the text has this fault
+pub record EmittedToFault (left left_after : Option (List ℕ)) (fault : ScriptFault) (text emitted : List ℕ) : Type 0 where
+  pub all : EmittedAll text emitted
   pub fails : FailsInside text fault ⊎ FailsAtEnd left left_after text fault
 
--- all is told of the script, up to the line that is not for one caller alone
-pub record ToldToLine (number : ℕ) (text told : List ℕ) : Type 0 where
-  pub all : ToldAll text told
+-- `emitted` has the line of each event, and the line of this number is a fork, or an act inside a call
+pub record EmittedToLine (number : ℕ) (text emitted : List ℕ) : Type 0 where
+  pub all : EmittedAll text emitted
   pub not_alone : IsNotAlone text number
 
--- the end of a session without the line of a refusal
+-- how a session ends, before the line of a refusal is written
 abbrev pub SessionEnds : Result (Unit {0}) Stop → Option (List ℕ) → Option (List ℕ) → Option (List ℕ)
     → Option (List ℕ) → Type 0
-SessionEnds (Ok u) left left_after held held_after = ToldToEnd left left_after held held_after
-SessionEnds (Err ReadFault) left left_after held held_after = Told ToldAll left left_after held held_after
-SessionEnds (Err NoMemory) left left_after held held_after = Told ToldPart left left_after held held_after
-SessionEnds (Err WriteFault) left left_after held held_after = ToldPrefix left left_after held held_after
+SessionEnds (Ok u) left left_after held held_after = EmittedToEnd left left_after held held_after
+SessionEnds (Err ReadFault) left left_after held held_after = Emitted EmittedAll left left_after held held_after
+SessionEnds (Err NoMemory) left left_after held held_after = Emitted EmittedPart left left_after held held_after
+SessionEnds (Err WriteFault) left left_after held held_after = EmittedPrefix left left_after held held_after
 SessionEnds (Err (Refused fault)) left left_after held held_after =
-    Told (ToldToFault left left_after fault) left left_after held held_after
+    Emitted (EmittedToFault left left_after fault) left left_after held held_after
 SessionEnds (Err (NotAlone number)) left left_after held held_after =
-    Told (ToldToLine number) left left_after held held_after
+    Emitted (EmittedToLine number) left left_after held held_after

@@ -10,7 +10,7 @@ use Rattle.judge_lines.specs.Clauses.{clause_of}
 use Rattle.transcript_check.specs.Judged.{IsSound}
 use Rattle.transcript_check.specs.declared.check.Verdict.{Verdict}
 use Rattle.transcript_check.specs.declared.check.Verdict.TheVariants.{Yes, No}
-use Rattle.rng_tool.specs.declared.load.Load.{Load}
+use Rattle.rng_tool.specs.declared.load.LoadRequest.{LoadRequest}
 use Rattle.tool_ends.specs.Ends.{EndsWith}
 use Rattle.tool_ends.specs.declared.status.Status.{Status}
 
@@ -22,7 +22,7 @@ pub record AskLoad (texts : List (List ℕ)) (start callers events : ℕ) : Type
   pub events_fit : (1 ≤ events) × (events ≤ 1000)
 
 -- the numbers of a load are within the limits
-pub record IsSmall (load : Load) : Type 0 where
+pub record IsSmall (load : LoadRequest) : Type 0 where
   pub callers : (1 ≤ load.callers) × (load.callers ≤ 64)
   pub events : (1 ≤ load.events) × (load.events ≤ 1000)
 
@@ -45,12 +45,12 @@ abbrev pub data_len : Data → ℕ
 data_len (Bytes len start) = len
 data_len _ = 0
 
--- the output contains how many events the load's script has, and how many bytes the lines of a transcript show; this
--- transcript is lawful for the script
+-- the output is one line with the numbers of callers and of events of the load's script, the number of bytes that a
+-- lawful transcript for this script shows, and `check yes`
 pub record LoadOf (start callers events : ℕ) (output : List ℕ) : Type 0 where
   pub lines : List (List SeenLine)
   pub run : IsSound (load_script start callers events) lines
-  pub told : output ≡ load_line callers (sum_by length (load_script start callers events).callers)
+  pub emitted : output ≡ load_line callers (sum_by length (load_script start callers events).callers)
       (length (bytes_shown (all_lines lines))) Yes
 
 -- how a load ends: the status, and the content of the sink

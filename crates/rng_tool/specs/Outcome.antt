@@ -43,6 +43,6 @@ CallsFor input NoMemory output = ⊥
 abbrev pub RunEnds : Status → Option (List ℕ) → Option (List ℕ) → Option (List ℕ) → Option (List ℕ) → Type 0
 RunEnds = ReadsEnds most_script CallsFor
 
--- the words of a run
+-- the words of the command line are `run` alone
 abbrev pub IsRun : {A : Type 0} → List (String A) → Type 0
 IsRun words = map string_bytes words ≡ codes "run" ∷ []

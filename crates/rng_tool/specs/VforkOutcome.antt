@@ -30,12 +30,12 @@ end_line name bytes = name ++ (encode_lower bytes ++ 10 ∷ [])
 abbrev pub vfork_text : List ℕ → List ℕ → List ℕ
 vfork_text parent child = end_line (codes "parent ") parent ++ end_line (codes "child ") child
 
--- the output has the bytes that parent and child give out, by the only book of a new table
+-- the output has the bytes that parent and child give out; these bytes follow from the only book of a new table
 pub record VforkOf (point : Point) (attempt : Turn) (n : ℕ) (output : List ℕ) : Type 0 where
   pub parent : List ℕ
   pub child : List ℕ
   pub forked : AreForkedBytes attempt point n parent child
-  pub told : output ≡ vfork_text parent child
+  pub emitted : output ≡ vfork_text parent child
 
 -- how a fork ends: the status, and the content of the sink
 abbrev pub VforkEnds : Point → Turn → ℕ → Status → Option (List ℕ) → Option (List ℕ) → Type 0

@@ -18,7 +18,7 @@ use transcript_text::LineWriter;
 ///
 /// # Errors
 ///
-/// `Failed` if the sink failed, which it has counted as a fault. What it got in this call is then a prefix of the
+/// `Failed` if the sink failed. The sink has counted this as a fault, and what it got in this call is a prefix of the
 /// transcript's text.
 pub(crate) fn write_alone<R: Wait, K: Sink, G: Gate>(
     rt: &R,

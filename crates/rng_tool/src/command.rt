@@ -11,10 +11,10 @@ ghost use Rattle.rng_tool.specs.LoadOutcome.{IsLoad};
 ghost use Rattle.rng_tool.specs.Outcome.{IsRun};
 ghost use Rattle.rng_tool.specs.VforkOutcome.{IsVfork};
 
-use crate::draw::{Draw, draw_of};
+use crate::draw::{DrawRequest, draw_of};
 use crate::feed::{Feed, feed_of};
 use crate::judge::{Judge, judge_of};
-use crate::load::{Load, load_of};
+use crate::load::{LoadRequest, load_of};
 use crate::vfork::{Vfork, vfork_of};
 
 /// The forms of the command line, as they are printed for any other words.
@@ -31,16 +31,16 @@ pub(crate) enum Command {
     /// `check` or `replay`
     Judge(Judge),
     /// `load START CALLERS EVENTS`
-    Load(Load),
+    Load(LoadRequest),
     /// `draw C K`
-    Draw(Draw),
+    Draw(DrawRequest),
     /// `vfork POINT ATTEMPT N`
     Vfork(Vfork),
     /// `feed START FEEDERS SAMPLES`
     Feed(Feed),
 }
 
-/// Whether the words are this one alone.
+/// Whether `word` is the only word.
 fn is_only(words: &[String], word: &str) -> bool
     ensures { IsTrue result ↔ (map string_bytes words.now ≡ word.now ∷ []) }
 {
@@ -51,7 +51,7 @@ fn is_only(words: &[String], word: &str) -> bool
 }
 
 impl Command {
-    /// The command of the words, if they are of one of the forms.
+    /// The command that the words of the command line name, or `None` if they name none.
     pub(crate) fn of(words: &[String]) -> Option<Command>
         ensures found { IfSome result (Asks words.now) }
         ensures run { IsRun words.now → result ≡ Some Command.Run }

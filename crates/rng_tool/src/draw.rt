@@ -21,13 +21,13 @@ type DrawText = ArrayString<MOST_BYTES>;
 
 /// How many numbers are drawn, and their bound. If the bound is 0, whole words are drawn.
 #[derive(Clone, Copy, Debug, PartialEq, Eq)]
-pub(crate) struct Draw {
+pub(crate) struct DrawRequest {
     pub(crate) bound: u32,
     pub(crate) count: u32,
 }
 
 /// The draws that three words name.
-fn draw_by(command: &str, bound: &str, count: &str) -> Option<Draw>
+fn draw_by(command: &str, bound: &str, count: &str) -> Option<DrawRequest>
     ensures found { IfSome result (λ draw.
         AskDraw (command.now ∷ bound.now ∷ count.now ∷ []) draw.bound draw.count) }
     ensures only { (below many : ℕ) → AskDraw (command.now ∷ bound.now ∷ count.now ∷ []) below many
@@ -38,11 +38,11 @@ fn draw_by(command: &str, bound: &str, count: &str) -> Option<Draw>
     }
     let bound = number_in(0, u32::MAX, bound)?;
     let count = number_in(1, MOST_DRAWS as u32, count)?;
-    Some(Draw { bound, count })
+    Some(DrawRequest { bound, count })
 }
 
 /// The draws that the words name, if they name draws.
-pub(crate) fn draw_of(words: &[String]) -> Option<Draw>
+pub(crate) fn draw_of(words: &[String]) -> Option<DrawRequest>
     ensures found { IfSome result (λ draw. IsDraw words.now draw.bound draw.count) }
     ensures only { (bound count : ℕ) → IsDraw words.now bound count
         → result ≡ Some (record { bound = bound; count = count }) }
@@ -80,7 +80,7 @@ fn draw_text(drawn: &Drawn) -> DrawText
 }
 
 // Makes draws, and returns their lines.
-fn lines_of<R: Wait>(rt: &R, alloc: Global, draw: Draw) -> Result<DrawText, NoMemory>
+fn lines_of<R: Wait>(rt: &R, alloc: Global, draw: DrawRequest) -> Result<DrawText, NoMemory>
     requires { IsSmallDraw draw }
     ensures { IfOk result (λ text. DrawOf draw.bound draw.count text.bytes) }
 {
@@ -91,7 +91,12 @@ fn lines_of<R: Wait>(rt: &R, alloc: Global, draw: Draw) -> Result<DrawText, NoMe
 }
 
 /// Makes draws on a new table, and writes a line for each.
-pub(crate) fn run_draw<R: Wait, K: Sink>(rt: &R, alloc: Global, draw: Draw, sink: &mut K) -> Status
+pub(crate) fn run_draw<R: Wait, K: Sink>(
+    rt: &R,
+    alloc: Global,
+    draw: DrawRequest,
+    sink: &mut K,
+) -> Status
     requires { IsSmallDraw draw }
     ensures ends { DrawEnds draw.bound draw.count result (K.held sink.old) (K.held sink.new) }
     ensures counted { CountsWriteFault result (K.faults sink.old) (K.faults sink.new) }

@@ -1,14 +1,14 @@
 //! The message on standard error for a transcript that is not lawful: the first line at which its clause fails, and
 //! what was expected there. No function here has a clause, so all of it is only tested.
 
-use crate::told::{MOST_SHOWN, shown_line};
+use crate::messages::{MOST_SHOWN, shown_line};
 use event_script::{Script, read_front};
 use hex::encode;
 use judge_lines::clause::Clause;
 use key_names::{Answer, LaneId, Mark, Word};
 use std::alloc::{AllocError, Global};
 use transcript_check::failing::first_failing_line;
-use transcript_check::place::{Expected, Place};
+use transcript_check::place::{Expected, FailedLine};
 use transcript_text::{LineView, TextError, Transcript, read};
 
 /// The most bytes that the text of a transcript may have.
@@ -87,8 +87,8 @@ fn same_front(left: &[u8], right: &[u8]) -> usize {
     left.len().min(right.len())
 }
 
-// The bytes that were expected instead of the shown ones, at most 32. If there are more, they begin with the first that
-// differs.
+// The bytes that were expected instead of the shown ones, at most 32. If more were expected, the text begins with the
+// first byte that differs.
 fn bytes_text(alloc: Global, bytes: &[u8], shown: &[u8]) -> Result<String, AllocError> {
     if bytes.is_empty() {
         return format!(in alloc; "data -");
@@ -129,7 +129,7 @@ fn expected_text(
         Expected::CpuBelow(cpus) => format!(in alloc; "a CPU below {cpus}"),
         Expected::Entry(mark) => {
             let mark = mark_text(alloc, *mark)?;
-            format!(in alloc; "other steps around {mark}")
+            format!(in alloc; "other steps neighbours {mark}")
         }
         Expected::Steps => format!(in alloc; "other steps"),
         Expected::Answer(answer) => {
@@ -148,7 +148,7 @@ fn expected_text(
 
 // The number of the line in the text. The first line of the text has no event, and the callers' lines follow it, one
 // caller after the other.
-fn number_of(t: &Transcript, place: &Place) -> usize {
+fn number_of(t: &Transcript, place: &FailedLine) -> usize {
     let mut number = place.line.saturating_add(2);
     for caller in 0..t.callers() {
         if caller < place.caller {
@@ -158,7 +158,7 @@ fn number_of(t: &Transcript, place: &Place) -> usize {
     number
 }
 
-fn line_of<'a>(t: &'a Transcript, place: &Place) -> Option<LineView<'a>> {
+fn line_of<'a>(t: &'a Transcript, place: &FailedLine) -> Option<LineView<'a>> {
     if place.caller >= t.callers() {
         return None;
     }
@@ -212,7 +212,12 @@ fn shown_of(text: &[u8], number: usize) -> Option<&str> {
     shown_line(front)
 }
 
-fn told(alloc: Global, clause: u8, failing: &Failing, text: &[u8]) -> Result<String, AllocError> {
+fn emitted(
+    alloc: Global,
+    clause: u8,
+    failing: &Failing,
+    text: &[u8],
+) -> Result<String, AllocError> {
     let number = failing.number;
     let expected = &failing.expected;
     let name = clause_name(clause);
@@ -251,7 +256,7 @@ pub(crate) fn failing_line(
         Err(TextError::NoMemory) => return Err(AllocError),
     };
     match found {
-        Some(failing) => Ok(Some(told(alloc, clause, &failing, text)?)),
+        Some(failing) => Ok(Some(emitted(alloc, clause, &failing, text)?)),
         None => Ok(None),
     }
 }

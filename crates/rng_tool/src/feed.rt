@@ -1,4 +1,4 @@
-//! Feeders: their words, their run, and the line that sums it up.
+//! Feeders: their words, their run, and the line that sums up the run.
 ghost use Rattle.std.specs.Prelude.{◌≡◌, ◌∷◌, [], ℕ, Some, IfOk, IfSome};
 ghost use Rattle.irq_feed.specs.declared.table_feed.FeedSums.{FeedSums};
 ghost use Rattle.rng_tool.specs.FeedOutcome.{FeedEnds, FeedOf, IsFeed, IsSmallFeed, feed_line};
@@ -75,7 +75,7 @@ fn summary<R: Threads + Wait + Sync, G: Gate>(
     Ok(feed_line(feed.feeders, &sums))
 }
 
-/// Runs feeders on a new table, and writes the line that sums it up.
+/// Runs feeders on a new table, and writes the line that sums up the run.
 pub(crate) fn run_feed<R: Threads + Wait + Sync, K: Sink, G: Gate>(
     rt: &R,
     alloc: Global,

@@ -4,7 +4,7 @@ ghost use Rattle.key_names.specs.Texts.ScriptGrammar.{WellFormed};
 ghost use Rattle.key_names.specs.Texts.TranscriptGrammar.{transcript_text};
 ghost use Rattle.rng_tool.specs.JudgeOutcome.{IsJudge, JudgeCalls, JudgeEnds, SaidOf, word_of, yes_line};
 ghost use Rattle.rng_tool.specs.Outcome.{RunOf};
-ghost use Rattle.tool_ends.specs.Behind.{HoldsText, IsApart, compared_with};
+ghost use Rattle.tool_ends.specs.After.{HoldsText, IsApart, compared_with};
 ghost use Rattle.tool_ends.specs.Ends.{CountsReadFault, CountsWriteFault};
 ghost use Rattle.tool_ends.specs.Reads.{WritesEnds};
 
@@ -16,7 +16,7 @@ use serial_replay::replay::{Replayed, replay};
 use std::alloc::Global;
 use std::sync::Wait;
 use std::thread::Threads;
-use tool_ends::behind::Behind;
+use tool_ends::following::After;
 use tool_ends::pair::read_apart;
 use tool_ends::short_lines::{ShortLine, no_line};
 use tool_ends::{Status, put_line, put_refusal};
@@ -80,7 +80,7 @@ fn say_checked<K: Sink>(alloc: Global, script: &Script, t: &Transcript, sink: &m
     }
 }
 
-// Answers with the transcript, its answers and data made again.
+// Answers with the transcript, after its answers and data were made again.
 fn say_replayed<K: Sink>(alloc: Global, script: &Script, t: &Transcript, sink: &mut K) -> Status
     requires { WellFormed script.now }
     ensures ends { WritesEnds (SaidOf Judge.Replay script.now t.now) result (K.held sink.old) (K.held sink.new) }
@@ -116,28 +116,28 @@ fn say<K: Sink>(
     }
 }
 
-// Answers about a script and the text after it. The text was compared with that of a run.
+// Answers about a script and the text after it. If a run was made, the text was compared with the run's output.
 fn say_of_text<K: Sink>(
     alloc: Global,
     judge: Judge,
     script: &Script,
-    behind: Behind,
+    following: After,
     sink: &mut K,
 ) -> Status
     requires well { WellFormed script.now }
-    requires short { (text : List ℕ) × HoldsText text behind × (length text ≤ 2 ^ 31) }
-    requires run { IfSome (compared_with behind) (λ t. (judge ≡ Judge.Check) × RunOf script.now (transcript_text t)) }
-    ensures ends { (input : List ℕ) → IsApart input script.now behind
+    requires short { (text : List ℕ) × HoldsText text following × (length text ≤ 2 ^ 31) }
+    requires run { IfSome (compared_with following) (λ t. (judge ≡ Judge.Check) × RunOf script.now (transcript_text t)) }
+    ensures ends { (input : List ℕ) → IsApart input script.now following
         → WritesEnds (JudgeCalls judge input) result (K.held sink.old) (K.held sink.new) }
     ensures was_read { result ≡ Status.ReadFault → ⊥ }
     ensures counted { CountsWriteFault result (K.faults sink.old) (K.faults sink.new) }
     ensures silent { result ≡ Status.NoMemory → sink.new ≡ sink.old }
 {
     // The output of a run is lawful.
-    if behind.is_whole() {
+    if following.is_whole() {
         return put_line(Status::Done, &yes_line(), sink);
     }
-    match behind.transcript(alloc) {
+    match following.transcript(alloc) {
         Ok(t) => say(alloc, judge, script, &t, sink),
         Err(why) => put_refusal(&why, sink),
     }
@@ -159,7 +159,7 @@ pub(crate) fn judge_input<R: Threads + Wait + Sync, S: Source, K: Sink>(
     ensures counted { CountsWriteFault result (K.faults sink.old) (K.faults sink.new) }
 {
     match read_apart(alloc, source, &Rerun { rt, judge }) {
-        Ok((script, behind)) => say_of_text(alloc, judge, &script, behind, sink),
+        Ok((script, following)) => say_of_text(alloc, judge, &script, following, sink),
         Err(why) => put_refusal(&why, sink),
     }
 }

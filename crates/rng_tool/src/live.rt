@@ -1,5 +1,5 @@
-//! The command `live`: a session. Each event of a script's only caller is made as soon as its line was read, and its
-//! line is written at once.
+//! The command `live`: a session. Each event of a script's only caller is made as soon as the script's line was read,
+//! and the transcript's line is written at once.
 ghost use Rattle.std.specs.Prelude.{◌≡◌, ◌⊎◌, ◌+◌, ◌<◌, ◌++◌, ◌∷◌, [], ℕ, List, None, Option, false, true, length, IfSome};
 ghost use Rattle.std.specs.Io.KnownBytes.{Appends};
 ghost use Rattle.event_script.specs.Feeding.{HasFed};
@@ -7,9 +7,9 @@ ghost use Rattle.rng_tool.specs.LiveOutcome.{LiveEnds};
 ghost use Rattle.rng_tool.specs.LiveSteps.{CountsReadStop, CountsStop, Finishes, IsPart, SessionAt, SessionEnds, SessionGoes, SessionReads};
 ghost use Rattle.tool_ends.specs.Ends.{CountsReadFault, CountsWriteFault};
 
+use crate::session_writer::SessionWriter;
 use crate::stop::Stop;
-use crate::teller::Teller;
-use event_script::{Reader, ScriptError};
+use event_script::{ScriptError, ScriptReader};
 use io_edges::{Gate, Sink, Source};
 use memchr::memchr;
 use std::alloc::Global;
@@ -26,8 +26,8 @@ const PIECE: usize = 64 * 1024;
 /// A script that is being read, and the run of its events so far.
 #[derive(Drop)]
 struct Session {
-    reader: Reader,
-    teller: Teller,
+    reader: ScriptReader,
+    session_writer: SessionWriter,
 }
 
 // The first line of a text with its line feed, and the text after it. After the line `end` no line is looked for.
@@ -50,12 +50,12 @@ impl Session {
         ensures { SessionAt [] [] result }
     {
         Session {
-            reader: Reader::new(alloc),
-            teller: Teller::new(),
+            reader: ScriptReader::new(alloc),
+            session_writer: SessionWriter::new(),
         }
     }
 
-    // Reads a line, and goes on after it.
+    // Feeds a line to the reader, and goes on with the script's progress.
     fn read_line<R: Wait, K: Sink, G: Gate>(
         &mut self,
         rt: &R,
@@ -64,20 +64,20 @@ impl Session {
         gate: &G,
         line: &[u8],
     ) -> Result<(), Stop>
-        requires at { (text told : List ℕ) × SessionAt text told self.old }
-        requires goes_on { self.old.teller.is_over ≡ false }
+        requires at { (text emitted : List ℕ) × SessionAt text emitted self.old }
+        requires goes_on { self.old.session_writer.is_over ≡ false }
         requires line { (front : List ℕ) × (line.now ≡ front ++ 10 ∷ []) × IsPart front }
-        ensures goes { (start : Option (List ℕ)) (text told : List ℕ) → SessionAt text told self.old
-            → Appends start (K.held sink.old) told
+        ensures goes { (start : Option (List ℕ)) (text emitted : List ℕ) → SessionAt text emitted self.old
+            → Appends start (K.held sink.old) emitted
             → SessionGoes result start (K.held sink.new) (text ++ line.now) self.new }
         ensures counted { CountsStop result (K.faults sink.old) (K.faults sink.new) }
     {
         self.reader.feed(alloc, line)?;
         let progress = self.reader.progress();
-        self.teller.go_on(rt, alloc, progress, sink, gate)
+        self.session_writer.go_on(rt, alloc, progress, sink, gate)
     }
 
-    // Reads a piece of the script, line by line. After the line `end` the text is only read.
+    // Feeds a piece of the script, line by line. After the line `end` the rest is fed at once.
     fn read<R: Wait, K: Sink, G: Gate>(
         &mut self,
         rt: &R,
@@ -86,14 +86,14 @@ impl Session {
         gate: &G,
         piece: &[u8],
     ) -> Result<(), Stop>
-        requires { (text told : List ℕ) × SessionAt text told self.old }
-        ensures goes { (start : Option (List ℕ)) (text told : List ℕ) → SessionAt text told self.old
-            → Appends start (K.held sink.old) told
+        requires { (text emitted : List ℕ) × SessionAt text emitted self.old }
+        ensures goes { (start : Option (List ℕ)) (text emitted : List ℕ) → SessionAt text emitted self.old
+            → Appends start (K.held sink.old) emitted
             → SessionGoes result start (K.held sink.new) (text ++ piece.now) self.new }
         ensures counted { CountsStop result (K.faults sink.old) (K.faults sink.new) }
     {
         let mut left = piece;
-        while let Some((line, rest)) = next_line(self.teller.is_over(), left) {
+        while let Some((line, rest)) = next_line(self.session_writer.is_over(), left) {
             self.read_line(rt, alloc, sink, gate, line)?;
             left = rest;
         }
@@ -135,14 +135,14 @@ impl Session {
     }
 }
 
-// Checks that the text which was read is a script.
-fn finish(reader: Reader) -> Result<(), Stop>
+// Checks that the text that the reader was fed is a script.
+fn finish(reader: ScriptReader) -> Result<(), Stop>
     requires { (text : List ℕ) × HasFed text reader }
     ensures { (text : List ℕ) → HasFed text reader → Finishes text result }
 {
     match reader.finish() {
         Ok(script) => {
-            // The program ends after this.
+            // The program ends after this, and the system takes the script's memory at once.
             mem::forget(script);
             Ok(())
         }
@@ -167,14 +167,15 @@ fn run_session<R: Wait, S: Source, K: Sink, G: Gate>(
 {
     let mut session = Session::new(alloc);
     let read = session.read_all(rt, alloc, source, sink, gate);
-    session.teller.close(rt);
+    session.session_writer.close(rt);
     match read {
         Ok(()) => finish(session.reader),
         Err(stop) => Err(stop),
     }
 }
 
-/// Makes the events of a script's only caller as their lines come, and writes each line at once.
+/// Makes each event of a script's only caller as soon as the script's line comes, and writes the transcript's line at
+/// once.
 pub(crate) fn run_live<R: Wait, S: Source, K: Sink, G: Gate>(
     rt: &R,
     alloc: Global,

@@ -1,4 +1,4 @@
-//! A load: its words, its run, and the line that sums it up.
+//! A load: its words, its run, and the line that sums up the run.
 ghost use Rattle.std.specs.Prelude.{◌≡◌, ◌<◌, ◌≤◌, ◌*◌, ◌^◌, ◌∷◌, [], ℕ, Some, IfOk, IfSome, decimal, length, sum_by};
 ghost use Rattle.key_names.specs.Texts.ScriptGrammar.{WellFormed};
 ghost use Rattle.key_names.specs.Transcripts.SeenLine.{bytes_shown};
@@ -27,16 +27,17 @@ const MOST_CALLERS: u32 = 64;
 /// The most calls that each caller of a load makes.
 const MOST_EVENTS: u32 = 1000;
 
-/// The numbers of a load: the start of its script, how many callers it has, and how many calls each makes.
+/// The numbers of a load: the start of its script, the number of callers, and the number of calls that each caller
+/// makes.
 #[derive(Clone, Copy, Debug, PartialEq, Eq)]
-pub(crate) struct Load {
+pub(crate) struct LoadRequest {
     pub(crate) start: u32,
     pub(crate) callers: u32,
     pub(crate) events: u32,
 }
 
 /// The load that the words name, if they name one.
-pub(crate) fn load_of(words: &[String]) -> Option<Load>
+pub(crate) fn load_of(words: &[String]) -> Option<LoadRequest>
     ensures found { IfSome result (λ load. IsLoad words.now load.start load.callers load.events) }
     ensures only { (start callers events : ℕ) → IsLoad words.now start callers events
         → result ≡ Some (record { start = start; callers = callers; events = events }) }
@@ -48,7 +49,7 @@ pub(crate) fn load_of(words: &[String]) -> Option<Load>
         third: (1, MOST_EVENTS),
     };
     let (start, callers, events) = form.numbers(words)?;
-    Some(Load {
+    Some(LoadRequest {
         start,
         callers,
         events,
@@ -136,11 +137,11 @@ fn checked_line(
     Ok(line)
 }
 
-// Runs a load, checks its transcript, and returns the line that sums it up.
+// Runs a load, checks its transcript, and returns the line that sums up the load.
 fn summary<R: Threads + Wait + Sync, G: Gate>(
     rt: &R,
     alloc: Global,
-    load: Load,
+    load: LoadRequest,
     gate: &G,
 ) -> Result<ShortLine, NoMemory>
     requires { IsSmall load }
@@ -152,11 +153,11 @@ fn summary<R: Threads + Wait + Sync, G: Gate>(
     Ok(line)
 }
 
-/// Runs a load, and writes the line that sums it up.
+/// Runs a load, and writes the line that sums up the load.
 pub(crate) fn run_load<R: Threads + Wait + Sync, K: Sink, G: Gate>(
     rt: &R,
     alloc: Global,
-    load: Load,
+    load: LoadRequest,
     sink: &mut K,
     gate: &G,
 ) -> Status

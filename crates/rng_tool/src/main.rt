@@ -1,11 +1,37 @@
-//! `rng`: the Linux random number core, replayed from a script of recorded events.
+//! `rng`: the Linux random number core, replayed from a script of recorded events. `./rng run < examples/first.script`
+//! at the top of the repository proves, builds and runs it; `rng --help` lists the commands, and man/rng.1 describes
+//! them.
 //!
-//! [`run`] carries the main theorem: for every input, every interleaving of callers and every command, it states the
-//! meaning of status and output. `main` adds the standard streams, the line on standard error and the exit code, which
-//! are tested.
+//! `main` adds the standard streams, the line on standard error and the exit code to [`run`]. The program uses the
+//! contracts of the crates below it. Its own work is to parse words, to end each command, and to write the short lines
+//! of all outputs but transcripts.
 //!
-//! The program uses the contracts of the crates below it. Its own work is to parse words, to end each command, and to
-//! write the short lines of all outputs but transcripts.
+//! # Example
+//!
+//! ```rust
+//! let fails = [edges.failing_take].to_vec(alloc)?;
+//! let mut source = MemSource::of(input.to_vec(alloc)?, edges.step, fails);
+//! let fails = [edges.failing_put].to_vec(alloc)?;
+//! let mut sink = MemSink::of(alloc, edges.step, fails, ROOM)?;
+//! if edges.flush_fails {
+//!     sink = sink.failing_at_flush();
+//! }
+//! let status = run(rt, alloc, &words, &mut source, &mut sink, gate);
+//! Ok((status, sink))
+//! ```
+//!
+//! From `crates/rng_tool/src/tests.rt`.
+//!
+//! # Proved
+//!
+//! - [`run`]: the main theorem. For every input, every interleaving of callers and every command, it states the meaning
+//!   of status and output. docs/TRUST.md has a row for each clause.
+//! - [`run_gathered`]: its statements about status and source, over the program's buffered output.
+//!
+//! # Tested only
+//!
+//! The standard streams, the line on standard error and the exit code: `.ci/program_checks`. Each command over sources
+//! and sinks that fail, and the calls of the gate: the module `tests`.
 #![tactic(auto)]
 
 ghost use Rattle.std.specs.Prelude.{◌≡◌, ◌⊎◌, ℕ, List, Option};
@@ -24,19 +50,19 @@ mod feed;
 mod judge;
 mod live;
 mod load;
+mod messages;
 mod rerun;
 mod run;
 mod run_script;
+mod session_writer;
 mod stop;
-mod teller;
 #[cfg(test)]
 mod tests;
-mod told;
 mod vfork;
 
 use crate::judge::Judge;
+use crate::messages::{Why, reason_of, tell};
 use crate::run::run;
-use crate::told::{Why, reason_of, tell};
 use io_edges::{OpenGate, Source, StdSink, StdSource};
 use std::alloc::Global;
 use std::io::{BufWriter, Write};
@@ -49,7 +75,7 @@ use tool_ends::{Status, words};
 /// How many bytes of output are gathered to one write.
 const GATHERED: usize = 64 * 1024;
 
-/// The most bytes of a script: 16 MiB. Of a run or a session all of it is kept, to show the line of a fault.
+/// The most bytes of a script: 16 MiB. A run or a session keeps the whole script, to show the line of a fault.
 const MOST_OF_RUN: usize = 16 * 1024 * 1024;
 
 /// The most bytes of a script and its transcript that are kept, to find the line at which a clause fails: 4 MiB.

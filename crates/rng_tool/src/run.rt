@@ -1,6 +1,6 @@
 //! The top call: it takes the words of a command line, and gives the answer.
 ghost use Rattle.std.specs.Prelude.{◌≡◌, ◌≤◌, ◌↔◌, ◌⊎◌, [], ℕ, IfSome, length};
-ghost use Rattle.caller_run.specs.Alone.{IsToldByOne};
+ghost use Rattle.caller_run.specs.Alone.{IsEmittedByOne};
 ghost use Rattle.io_edges.specs.Faults.{Rose};
 ghost use Rattle.key_names.specs.declared.point.Point.{Point};
 ghost use Rattle.key_names.specs.Texts.ScriptFaults.{front};
@@ -32,7 +32,7 @@ use tool_ends::{Status, end_output};
 
 /// Runs the command of the words.
 ///
-/// Commands without numbers read the input, the others read none. A script has at most 16 MiB, and with a
+/// Commands without numbers read the input, and the others read no input. A script has at most 16 MiB, and with a
 /// transcript after it 96 MiB. A longer input is answered by `refused 0 1`, and only one byte more of it is taken. A
 /// number is spelt as in a script; START is below 2^32.
 ///
@@ -42,18 +42,18 @@ use tool_ends::{Status, end_output};
 /// - `live`: the input is a script of one caller, who forks nobody and acts inside no vgetrandom call. Each event is
 ///   made as soon as its line was read, and its line is written. The output for a whole script is one of `run`. At a
 ///   fault the output ends with the line `refused LINE KIND`, after the lines of the events before it; a fork or an act
-///   is of kind 13, which no fault of a script has. After a fault no more is read, and after the line `end` the input is
-///   read to its end.
+///   is of kind 13, which no fault of a script has. After a fault no more is read, and after the line `end` the input
+///   is read to its end.
 /// - `check`: the input is a script, which ends at its first line `end`, and then a transcript. The output is `yes` if
 ///   the transcript is lawful for the script, and `no K` if clause K is the first that fails. A fault of the script is
 ///   answered as in a run. No thread is started.
-/// - `replay`: the input is the same. The output is the one lawful transcript with these lines, words and steps,
+/// - `replay`: the input is as for `check`. The output is the one lawful transcript with these lines, words and steps,
 ///   whatever answers and data were read; or `no K`, if the text is no transcript's (clause 1), or lines, marks, forms
 ///   or looks fail.
 /// - `load START CALLERS EVENTS`: 1 to 64 callers run the script of a load, with 1 to 1,000 calls each, and their
 ///   transcript is checked. One line sums it up: `callers CALLERS events V bytes B check yes`, with V events in the
 ///   script and B bytes of data in the transcript.
-/// - `draw C K`: 1 to 1,000 numbers below C are drawn, and written one a line. C is below 2^32, and 0 means 2^32. The
+/// - `draw C K`: 1 to 1,000 numbers below C are drawn, and each gets a line. C is below 2^32, and 0 means 2^32. The
 ///   line `spent` is the last if 128 words were all rejected.
 /// - `vfork POINT ATTEMPT N`: a vgetrandom call for N bytes, up to 2^20, is forked at one of four points of one of two
 ///   attempts. The output is `parent HEX` and `child HEX`, the bytes that each gives out.
@@ -68,14 +68,14 @@ use tool_ends::{Status, end_output};
 /// sample of each feeder; for `check`, not at all.
 ///
 /// - `Usage`: the words are no command. The command reads and writes nothing.
-/// - `ReadFault`: the source failed. Nothing is written, except by a session. At most as much was taken as of an input
-///   that is too long.
+/// - `ReadFault`: the source failed. Nothing is written, except by a session. At most one byte more than an input may
+///   have was taken.
 /// - `Refused`: the input has a fault, and the line with the first one was written; or a session has an event that is
 ///   not for one caller alone.
-/// - `WriteFault`: the sink failed at a put, or at the flush after the last. What it got in this call is a prefix of
-///   the output.
-/// - `NoMemory`: memory ran out. Nothing is written, except by a session. At most as much was taken as of an input that
-///   is too long.
+/// - `WriteFault`: the sink failed at a put, or at the flush after the last put. What it got in this call is a prefix
+///   of the output.
+/// - `NoMemory`: memory ran out. Nothing is written, except by a session. At most one byte more than an input may have
+///   was taken.
 /// - `No`: a clause fails, and the line with its number was written.
 /// - `Done`: the input was read to its end, if the command takes one, and the whole output was written.
 ///
@@ -113,7 +113,7 @@ pub fn run<R: Threads + Wait + Sync, S: Source, K: Sink, G: Gate>(
         → (result ≡ Status.Done) ⊎ (result ≡ Status.NoMemory)) }
     ensures live_completes { IsLive words.now
         → (Rose (S.faults source.old) (S.faults source.new) → ⊥) → (Rose (K.faults sink.old) (K.faults sink.new) → ⊥)
-        → IfSome (S.left source.old) (λ all. (script : Script) → IsScript script all → IsToldByOne script
+        → IfSome (S.left source.old) (λ all. (script : Script) → IsScript script all → IsEmittedByOne script
         → (result ≡ Status.Done) ⊎ (result ≡ Status.NoMemory)) }
     ensures judge_completes { (judge : Judge) → IsJudge words.now judge
         → (Rose (S.faults source.old) (S.faults source.new) → ⊥) → (Rose (K.faults sink.old) (K.faults sink.new) → ⊥)

@@ -79,8 +79,8 @@ pub(crate) fn run_input<R: Threads + Wait + Sync, S: Source, K: Sink, G: Gate>(
     match read_script(alloc, source) {
         Ok(script) => {
             let status = run_script(rt, alloc, &script, sink, gate);
-            // The program ends after this, and the system takes its memory at once. To give the events back one by one
-            // takes 3 % of a run of small ones.
+            // The program ends after this, and the system takes its memory at once. Freeing the events one by one takes
+            // 3 % of a run of small events.
             mem::forget(script);
             status
         }

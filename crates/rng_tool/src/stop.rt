@@ -1,4 +1,4 @@
-//! Why a session stopped before its transcript was whole, and the answer to that.
+//! Why a session stopped before its transcript was whole, and the answer to the stop.
 ghost use Rattle.std.specs.Prelude.{◌≡◌, ◌↔◌, ℕ, List, Option, Err};
 ghost use Rattle.rng_tool.specs.LiveOutcome.{LiveEnds, not_alone_line};
 ghost use Rattle.rng_tool.specs.LiveSteps.{CountsStop, SessionEnds};
@@ -54,7 +54,8 @@ pub(crate) fn not_alone_line(number: u32) -> ShortLine
 }
 
 impl Stop {
-    /// Writes the answer: the line of a refusal. What was written before stays; if memory ran out, it is handed on.
+    /// Writes the line of a refusal, if the session stopped by a refusal. If memory ran out, hands on the output so
+    /// far.
     pub(crate) fn answer<K: Sink>(self, sink: &mut K) -> Status
         ensures ends { (left left_after held : Option (List ℕ)) → SessionEnds (Err self) left left_after held (K.held sink.old)
             → LiveEnds result left left_after held (K.held sink.new) }

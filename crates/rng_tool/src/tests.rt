@@ -49,7 +49,7 @@ const PAIR: &[u8] = b"rngscript 1\n\
     0.2 end ok b:1@4 -\n\
     end\n";
 
-// With another answer, and without its bytes.
+// The same pair with another answer and without the bytes of the read.
 const BLANKED_PAIR: &[u8] = b"rngscript 1\n\
     cpus 1\n\
     caller 0\n\
@@ -79,11 +79,11 @@ const READS_SCRIPT: &[u8] = b"rngscript 1\n\
     read 8 0\n\
     end\n";
 
-// More than any output here.
+// More bytes than any output here has.
 const ROOM: usize = 1000;
 
-// How many bytes the source gives and the sink takes a call at most, the number of the call of each that fails (0 for
-// none), and whether the sink can be flushed.
+// The most bytes that the source gives and the sink takes in one call, the number of the failing call of each (0 for
+// none), and whether the flush fails.
 #[derive(Clone, Copy)]
 struct Edges {
     step: usize,
@@ -99,7 +99,7 @@ const WHOLE: Edges = Edges {
     flush_fails: false,
 };
 
-// A byte a call.
+// One byte in each call.
 const SMALL: Edges = Edges { step: 1, ..WHOLE };
 
 // The status of a run with these words over edges in memory, and the content of its sink.
@@ -128,7 +128,7 @@ fn run_over<R: Abort + Threads + Wait + Sync, G: Gate>(
 }
 
 // Words and an input, with the status and the output for them.
-type Row = (
+type UsageRow = (
     &'static [&'static str],
     &'static [u8],
     Status,
@@ -136,7 +136,7 @@ type Row = (
 );
 
 // Another implementation gave the bytes of transcripts, draws and forks; verdicts were worked out by hand.
-const ROWS: [Row; 10] = [
+const ROWS: [UsageRow; 10] = [
     (&["run"], READY_SCRIPT, Status::Done, READY_TRANSCRIPT),
     (&["run"], b"nonsense\n", Status::Refused, b"refused 1 3\n"),
     (&["check"], PAIR, Status::Done, b"yes\n"),
@@ -170,7 +170,7 @@ const ROWS: [Row; 10] = [
     ),
 ];
 
-// One byte a call, and one more call that finds the end. A command without input makes none.
+// The source gives one byte a call, and one more call finds the end. A command without input makes no call.
 #[test]
 fn a_source_that_fails_at_each_call(rt: HostRuntime) -> Result<(), Fail> {
     for (row, (words, input, status, output)) in ROWS.iter().enumerate() {
@@ -197,7 +197,7 @@ fn a_source_that_fails_at_each_call(rt: HostRuntime) -> Result<(), Fail> {
     Ok(())
 }
 
-// One byte a call. The flush comes after the last put.
+// The sink takes one byte a call. The flush comes after the last put.
 #[test]
 fn a_sink_that_fails_at_each_call(rt: HostRuntime) -> Result<(), Fail> {
     for (row, (words, input, status, output)) in ROWS.iter().enumerate() {
@@ -246,8 +246,9 @@ fn first_lines(text: &[u8], lines: usize) -> &[u8] {
     b""
 }
 
-// One byte a call, every eighth of which fails in a run of its own. After line 3 there is a line for each event that was
-// read, and after the last line all of them.
+// The source gives one byte in each call. Each run fails at another call: at every eighth one. From line 3 of the
+// script on, the output has the first line and a line for each event that was read. After the last line the output is
+// whole.
 #[test]
 fn a_session_whose_source_fails(rt: HostRuntime) -> Result<(), Fail> {
     for eighth in 0..=READY_SCRIPT.len() / 8 {
@@ -260,7 +261,7 @@ fn a_session_whose_source_fails(rt: HostRuntime) -> Result<(), Fail> {
         let (ended, sink) = run_over(&rt, rt.alloc(), &["live"], READY_SCRIPT, edges, &OpenGate)?;
         let (read, _) = READY_SCRIPT.split_at(bytes);
         let lines = read.iter().filter(|byte| **byte == b'\n').count();
-        let told = match lines {
+        let emitted = match lines {
             0..=2 => 0,
             12 => 11,
             _ => lines - 2,
@@ -268,14 +269,15 @@ fn a_session_whose_source_fails(rt: HostRuntime) -> Result<(), Fail> {
         assert_eq!(rt; ended, Status::ReadFault, "call {failing_take}");
         assert_eq!(rt;
             sink.held(),
-            first_lines(READY_TRANSCRIPT, told),
+            first_lines(READY_TRANSCRIPT, emitted),
             "call {failing_take}"
         );
     }
     Ok(())
 }
 
-// One byte a call, every twentieth of which fails in a run of its own; and the flushes fail after all was put.
+// The sink takes one byte in each call. Each run fails at another call: at every twentieth one. In the last run only
+// flushes fail.
 #[test]
 fn a_session_whose_sink_fails(rt: HostRuntime) -> Result<(), Fail> {
     for twentieth in 0..=READY_TRANSCRIPT.len() / 20 {
@@ -307,7 +309,7 @@ fn a_session_whose_sink_fails(rt: HostRuntime) -> Result<(), Fail> {
     Ok(())
 }
 
-// The ends of the pieces in which a sink takes a text: each line in its own put, and at most `step` bytes a call.
+// The ends of the pieces in which a sink takes a text: each line in its own put, and at most `step` bytes in each call.
 fn piece_ends(alloc: Global, text: &[u8], step: usize) -> Result<Vec<usize>, AllocError> {
     let mut ends = Vec::new(alloc);
     let mut begin = 0;
@@ -321,7 +323,8 @@ fn piece_ends(alloc: Global, text: &[u8], step: usize) -> Result<Vec<usize>, All
     Ok(ends)
 }
 
-// With room for a line, a sink that fails at put k holds the first k - 1 lines; with less, the pieces before it.
+// If the sink takes a whole line in each call and fails at call k, it holds the first k - 1 lines. If it takes less in
+// each call, it holds the pieces before call k.
 #[test]
 fn a_sink_that_fails_at_each_line(rt: HostRuntime) -> Result<(), Fail> {
     for (step, puts) in [(4096, 11), (7, 36)] {
@@ -367,7 +370,7 @@ fn a_sink_that_fails_at_each_line(rt: HostRuntime) -> Result<(), Fail> {
     Ok(())
 }
 
-// Counts the events before which it was called.
+// A gate that counts the events before which it was called.
 #[derive(Drop)]
 struct Counter {
     calls: AtomicU64,
@@ -416,13 +419,13 @@ fn the_gate_is_called_before_each_event(rt: HostRuntime) -> Result<(), Fail> {
 
 // Holds each of two callers before its read until the other comes too.
 #[derive(Drop)]
-struct Meeting {
+struct CallerMeeting {
     parent: AtomicU64,
     child: AtomicU64,
     late: AtomicU64,
 }
 
-impl Meeting {
+impl CallerMeeting {
     fn meet(&self, mine: &AtomicU64, other: &AtomicU64) {
         mine.store(1, Ordering::SeqCst);
         for _ in 0..100_000_000u32 {
@@ -435,7 +438,7 @@ impl Meeting {
     }
 }
 
-impl Gate for Meeting {
+impl Gate for CallerMeeting {
     fn before<R: Wait>(&self, _rt: &R, caller: u32, event: u32) {
         if caller == 0 && event == 2 {
             self.meet(&self.parent, &self.child);
@@ -448,7 +451,7 @@ impl Gate for Meeting {
 
 #[test]
 fn two_callers_are_inside_their_reads_at_once(rt: HostRuntime) -> Result<(), Fail> {
-    let gate = Meeting {
+    let gate = CallerMeeting {
         parent: AtomicU64::new(0),
         child: AtomicU64::new(0),
         late: AtomicU64::new(0),

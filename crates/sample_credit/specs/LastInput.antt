@@ -1,14 +1,14 @@
--- The state that an input timer keeps of past input events.
+-- What an input timer keeps of past input events.
 use Rattle.std.specs.Prelude.{ℕ, ◌<◌, ◌^◌, ℤ, nat_abs}
 use Rattle.key_names.specs.Kernel.InputTimer.{InputTimer}
 
--- the last value, and the timer of the events that were timed
+-- the last value, and the timer
 pub record LastInput : Type 0 where
   pub value : ℕ
   pub timer : InputTimer
 
--- the last moment and the last difference of two moments are below 2^40, and the last difference of two such
--- differences is below 2^41
+-- the last moment is below 2^40. The last difference of two moments is below 2^40 in absolute value, and the last
+-- difference of two such differences is below 2^41
 pub record IsNear (time : ℕ) (delta delta2 : ℤ) : Type 0 where
   pub time_near : time < 2 ^ 40
   pub delta_near : nat_abs delta < 2 ^ 40

@@ -1,4 +1,4 @@
-//! A CPU's fast pool. Interrupts are mixed into it until there are enough of them for the input pool.
+//! A CPU's fast pool. Interrupts are mixed into it until there are enough of them for a dump into the input pool.
 
 ghost use Rattle.std.specs.Prelude.{◌≡◌};
 ghost use Rattle.key_names.specs.Kernel.FastPool.{dump_bits, dump_bytes, fast_start, fast_step, makes_due, sip_round, word_mixed};
@@ -8,25 +8,25 @@ use byteorder::{ByteOrder, LittleEndian};
 use std::marker::Model;
 use std::mem;
 
-/// Bit 31 of a count: a dump is due, and has not been made yet (`MIX_INFLIGHT`).
+/// Bit 31 of the count: a dump is due and was not made yet (`MIX_INFLIGHT`).
 const MIX_INFLIGHT: u32 = 1 << 31;
 
-/// A dump is due after this number of interrupts.
+/// The number of interrupts after which a dump is due.
 const BURST: u32 = 1024;
 
-/// A second in milliseconds (`HZ`). A dump is due once more than this has passed since the last one.
+/// A second (`HZ`) in milliseconds. A dump is due if the last one is more than a second ago.
 const SECOND: u64 = 1000;
 
 // The four words of a fast pool (`fast_pool.pool`).
 #[derive(Clone, Copy)]
-struct Words {
+struct PoolWords {
     s0: u64,
     s1: u64,
     s2: u64,
     s3: u64,
 }
 
-impl Model for Words {
+impl Model for PoolWords {
     ghost use Rattle.key_names.specs.Kernel.FastPool.{FastWords};
 
     ghost Value = { FastWords };
@@ -36,10 +36,10 @@ impl Model for Words {
     ghost inverse = { λ v. record { s0 = v.s0; s1 = v.s1; s2 = v.s2; s3 = v.s3 } };
 }
 
-impl Words {
+impl PoolWords {
     // One round of SipHash (`FASTMIX_PERM`).
     #[inline(always)]
-    fn permuted(self) -> Words
+    fn permuted(self) -> PoolWords
         ensures { result ≡ sip_round self }
     {
         let a = self.s0.wrapping_add(self.s1);
@@ -52,7 +52,7 @@ impl Words {
         let c = c.wrapping_add(b);
         let b = b.rotate_left(17) ^ c;
         let c = c.rotate_left(32);
-        Words {
+        PoolWords {
             s0: a,
             s1: b,
             s2: c,
@@ -60,17 +60,17 @@ impl Words {
         }
     }
 
-    // One word mixed in: half of the kernel's `fast_mix`.
+    // Mixes in one word: half of the kernel's `fast_mix`.
     #[inline(always)]
-    fn mixed(self, word: u64) -> Words
+    fn mixed(self, word: u64) -> PoolWords
         ensures { result ≡ word_mixed self word }
     {
-        let words = Words {
+        let words = PoolWords {
             s3: self.s3 ^ word,
             ..self
         }
         .permuted();
-        Words {
+        PoolWords {
             s0: words.s0 ^ word,
             ..words
         }
@@ -82,17 +82,17 @@ impl Words {
 pub struct Dump {
     /// The bytes to mix into the input pool.
     pub bytes: [u8; 16],
-    /// The bits to credit for them, 1 to 128.
+    /// The bits to credit for the bytes, 1 to 128.
     pub bits: u32,
 }
 
 /// The kernel's `struct fast_pool`: four words that a CPU's interrupts are mixed into, the number of interrupts since
 /// the last dump, and the moment of that dump in milliseconds.
 ///
-/// Contracts see it as the fast pool of `key_names`, and each call as an entry of the CPU's list.
+/// In contracts it is the fast pool of `key_names`, and each call is an entry of the CPU's list.
 #[derive(Drop)]
 pub struct FastPool {
-    words: Words,
+    words: PoolWords,
     count: u32,
     last: u64,
 }
@@ -110,7 +110,7 @@ impl FastPool {
     pub fn start() -> FastPool
         ensures { result ≡ fast_start }
     {
-        let words = Words {
+        let words = PoolWords {
             s0: 0x736f_6d65_7073_6575,
             s1: 0x646f_7261_6e64_6f6d,
             s2: 0x6c79_6765_6e65_7261,
@@ -123,9 +123,9 @@ impl FastPool {
         }
     }
 
-    /// Mixes the two words of an interrupt at the moment `now` in milliseconds (`fast_mix`), counts it, and returns
-    /// whether it makes a dump due: it is the 1,024th, or comes more than a second after the last dump
-    /// (`add_interrupt_randomness`). While a dump is due, no other becomes due. The count is taken modulo 2^32.
+    /// Mixes the two words of an interrupt (`fast_mix`), and counts the interrupt, modulo 2^32. Returns whether the
+    /// interrupt makes a dump due: it is the 1,024th, or more than a second after the last dump
+    /// (`add_interrupt_randomness`). While a dump is due, no other becomes due. `now` is in milliseconds.
     #[inline]
     pub fn mix(&mut self, v1: u64, v2: u64, now: u64) -> bool
         ensures due { result ≡ makes_due self.old now }
@@ -141,9 +141,9 @@ impl FastPool {
         due
     }
 
-    /// Takes the input pool's share: the first two words, low byte first, and a bit for each 64 interrupts, but at
-    /// least 1 and at most 128 (`mix_interrupt_randomness`). The count goes back to 0, and `now` becomes the moment of
-    /// the last dump. The words stay.
+    /// Returns the first two words, low byte first, for the input pool. The words' credit is a bit for each 64
+    /// interrupts, but at least 1 and at most 128 (`mix_interrupt_randomness`). The count goes back to 0, and `now`
+    /// becomes the moment of the last dump. The words stay.
     pub fn dump(&mut self, now: u64) -> Dump
         ensures bytes { result.bytes ≡ dump_bytes self.old }
         ensures bits { result.bits ≡ dump_bits self.old }

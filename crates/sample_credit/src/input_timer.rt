@@ -1,4 +1,4 @@
-//! How many bits an input event is credited with, by its moment and those of the events before it.
+//! How many bits an input event credits, given its moment and those of earlier events.
 
 ghost use Rattle.std.specs.Prelude.{◌≡◌, ◌≢◌, ◌↔◌, ◌/◌, ◌%◌, ◌^◌, ◌<◌, ◌++◌, IsTrue, min, nat_abs};
 ghost use Rattle.std.specs.Int.{w32, w64, to_le_bytes};
@@ -6,14 +6,14 @@ ghost use Rattle.key_names.specs.Kernel.InputTimer.{binary_digits, input_number,
 
 use std::marker::Model;
 
-/// The most bits that an event is credited with.
+/// The most bits that an event credits.
 const MAX_BITS: u32 = 11;
 
-/// The value of the last input event (`last_value`), and the kernel's `struct timer_rand_state` of the
-/// timed events: the last moment in milliseconds, the last difference of two moments, and the last
-/// difference of two such differences.
+/// The value of the last input event (`last_value`), and the timer of input events (the kernel's `struct
+/// timer_rand_state`): the last moment in milliseconds, the last difference of two moments, and the last difference of
+/// two such differences.
 ///
-/// Contracts see the value and the timer of `key_names`.
+/// In contracts these are the value and the timer of `key_names`.
 #[derive(Drop)]
 pub struct InputTimer {
     last_value: u8,
@@ -36,7 +36,7 @@ impl Model for InputTimer {
 }
 
 impl InputTimer {
-    /// The start of the system: value, moment and differences are 0.
+    /// The timer at the start of the system: value, moment and differences are 0.
     pub fn start() -> InputTimer
         ensures { result ≡ record { value = 0; timer = timer_start } }
     {
@@ -48,7 +48,7 @@ impl InputTimer {
         }
     }
 
-    /// Returns whether the value differs from that of the event before, and keeps it. An event that repeats the value
+    /// Returns whether the value differs from that of the last event, and keeps the value. An event with the same value
     /// is no sample (`add_input_randomness`).
     pub fn fresh(&mut self, value: u8) -> bool
         ensures fresh { IsTrue result ↔ (value ≢ self.old.value) }
@@ -59,10 +59,10 @@ impl InputTimer {
         fresh
     }
 
-    /// Returns the bits, 0 to 11, that an event at the moment `now` is credited with, and keeps the moment and the
-    /// differences (`add_timer_randomness`). They are the number of binary digits of half the least of the first,
-    /// second and third difference of moments, cut to 32 bits as by the kernel's `fls`. `now` is in milliseconds and
-    /// below 2^40. It may be earlier than the last moment.
+    /// Returns the bits, 0 to 11, that an event at the moment `now` credits, and keeps the moment and the differences
+    /// (`add_timer_randomness`). The timer takes half the least of the first, second and third difference of moments,
+    /// and cuts it to 32 bits. The bits are the number of binary digits of the result (the kernel's `fls`), at most 11.
+    /// `now` is in milliseconds and below 2^40. It may be earlier than the last moment.
     pub fn bits(&mut self, now: u64) -> u32
         requires { now < 2 ^ 40 }
         ensures bits { result ≡ timer_bits self.old.timer now }
@@ -78,7 +78,7 @@ impl InputTimer {
     }
 }
 
-// The bits that an event with these differences of moments is credited with.
+// The bits that an event credits, given these differences of moments.
 fn bits_of(delta: i64, delta2: i64, delta3: i64) -> u32
     ensures { let least = min (nat_abs delta) (min (nat_abs delta2) (nat_abs delta3)) in
         result ≡ min (binary_digits (least / 2 % 2 ^ 32)) MAX_BITS }

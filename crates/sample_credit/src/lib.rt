@@ -1,11 +1,44 @@
-//! Samples of interrupts and of input events, and the bits that they are credited with.
+//! Samples of interrupts and of input events, and the bits that they are credited with: `fast_mix`,
+//! `add_interrupt_randomness`, `mix_interrupt_randomness`, `add_input_randomness` and `add_timer_randomness` of
+//! drivers/char/random.c.
 //!
 //! Interrupts are many, and each contributes little. A CPU mixes its own into a [`FastPool`] of four words, and dumps
-//! that into the input pool after 1,024 of them or after a second. An input event is mixed into the input pool at once.
-//! An [`InputTimer`] credits it by how irregular its moment is, and with nothing if the moments keep a pace.
+//! that into the input pool after 1,024 of them, or more than a second after the last dump. An input event is mixed
+//! into the input pool at once. An [`InputTimer`] credits it by how irregular its moment is, and with nothing if the
+//! moments keep a pace. The crate uses `key_names`, and `byteorder` for words.
 //!
-//! The contracts promise the fast pool and the timer that `key_names` defines, entry by entry. The credit is the
-//! kernel's guess; no clause says what a sample is worth. The crate uses `key_names`, and `byteorder` for words.
+//! # Example
+//!
+//! ```rust
+//! let mut pool = FastPool::start();
+//! assert!(rt; pool.mix(0x0123_4567_89ab_cdef, 0xfedc_ba98_7654_3210, 1001));
+//! let dump = Dump {
+//!     bytes: AFTER_ONE_MIX,
+//!     bits: 1,
+//! };
+//! assert_eq!(rt; pool.dump(1001), dump);
+//! ```
+//!
+//! From `crates/test_core/src/sample_credit_tests.rt`.
+//!
+//! # Proved
+//!
+//! - [`FastPool::mix`]: the fast pool is the one that `key_names` defines after the interrupt, and the result is
+//!   whether a dump is due.
+//! - [`FastPool::dump`]: the bytes and the bits of the dump are the defined ones.
+//! - [`InputTimer::bits`]: the bits are those of the defined timer at this moment. [`InputTimer::fresh`] returns
+//!   whether the value differs from the last one.
+//! - [`input_sample`]: the bytes that an input event mixes.
+//!
+//! The credit is the kernel's guess. No clause says how much entropy a sample has.
+//!
+//! # Tested only
+//!
+//! Nothing beyond what is proved. `sample_credit_tests` of `test_core` compares words with those of another SipHash.
+//!
+//! # Differs from the kernel
+//!
+//! A fast pool counts as dumped at moment 0. In the kernel the first interrupt causes a dump.
 #![tactic(auto)]
 
 mod fast_pool;

@@ -1,4 +1,4 @@
--- The clauses on answers and data hold exactly if the lines agree with the lines that were made.
+-- The clauses on answers and data hold exactly if each line agrees with the answer and data made from its steps.
 use Rattle.std.proofs.Common.{◌≡◌, ℕ, zero, suc, ◌+◌, ◌<◌, Option, Some, List, [], ◌∷◌, length, sym, subst, ap, ◌∙◌, arith}
 use Rattle.std.specs.Prelude.{◌↔◌, ⊤, slice_get}
 use Rattle.std.specs.List.{AllByRecursion}
@@ -9,10 +9,10 @@ use Rattle.key_names.specs.Callers.Meaning.{LineMeaning, CallMeaning}
 use Rattle.key_names.specs.Texts.ScriptGrammar.{Script}
 use Rattle.key_names.specs.Transcripts.SeenLine.{SeenLine}
 use Rattle.key_names.specs.Transcripts.IsTranscript.{LinesFit, HasLines, EachCaller, EachAct, EachOfCall, EachLine, script_calls}
-use Rattle.key_names.specs.Transcripts.IsTranscript.{AnswersStand, DataStand}
+use Rattle.key_names.specs.Transcripts.IsTranscript.{AnswersConform, DataConform}
 use Rattle.key_names.proofs.Unique.UniqueMeanings.{OfCall}
 use Rattle.key_names.proofs.Unique.UniqueLines.{Covers, calls_cover}
-use Rattle.judge_log.specs.declared.said.Said.{Said}
+use Rattle.judge_log.specs.declared.said.MadeLine.{MadeLine}
 use Rattle.judge_log.specs.Said.{shown_by, NotedAt, SaysIt, itself}
 use Rattle.serial_replay.specs.Agreement.{Agrees, AllAgree, SameAnswer, SameShown}
 use Rattle.serial_replay.specs.Remade.{said_of_caller}
@@ -20,19 +20,20 @@ use Rattle.serial_replay.specs.Remade.{said_of_caller}
 pub some_one : {X : Type 0} (o : Option X) (a b : X) → o ≡ Some a → o ≡ Some b → a ≡ b
 some_one o a b p q = cc
 
--- each caller's lines have the property Is
+-- each caller's lines have the property `Is`
 abbrev pub AllAre : (ℕ → SeenLine → Type 0) → ℕ → List (List SeenLine) → Type 0
 AllAre Is c [] = ⊤
 AllAre Is c (lines ∷ t) = AllByRecursion (Is c) lines × AllAre Is (suc c) t
 
--- a line has its meaning's answer or data exactly if it agrees with its note, provided that Is holds of the line
-module _ {Noted : Type 0} (IsNoted : ℕ → ℕ → Said → Noted → Type 0) (Same : SeenLine → Noted → Type 0)
+-- `means_same`: a line with the property `Is` has its meaning's answer (or data) exactly if the line agrees with its
+-- note
+module _ {Noted : Type 0} (IsNoted : ℕ → ℕ → MadeLine → Noted → Type 0) (Same : SeenLine → Noted → Type 0)
     (Means : SeenLine → LineMeaning → Type 0) (Is : ℕ → SeenLine → Type 0)
     (means_same : (c : ℕ) (notes : List Noted) (line : SeenLine) (m : LineMeaning) → Is c line →
     (s : SaysIt (NotedAt (IsNoted c) notes) line m) → Means line m ↔ Same line s.is.note)
   where
     module _ (c : ℕ) (notes : List Noted) where
-      abbrev At : ℕ → Said → Type 0
+      abbrev At : ℕ → MadeLine → Type 0
       At = NotedAt (IsNoted c) notes
 
       abbrev Agree : SeenLine → Type 0
@@ -117,7 +118,7 @@ module _ {Noted : Type 0} (IsNoted : ℕ → ℕ → Said → Noted → Type 0) 
           first here rest (suc d) low =
               subst (λ n. AllByRecursion (Agrees Same (notes n)) (list_at t d)) (omega arith) (rest d (omega arith))
 
-    -- the equivalence holds for all lines of a transcript
+    -- `Means` holds of each line of the transcript and its meaning exactly if each line agrees with its note
     pub all_both : (script : Script) (t : List (List SeenLine)) (mss : List (List CallMeaning)) (notes : List (List Noted)) →
         HasLines script t → AllAre Is 0 t →
         EachCaller (λ c calls ms. EachLine (SaysIt (said_of_caller IsNoted notes c)) calls ms) 0 (script_calls script t) mss →
@@ -129,7 +130,7 @@ module _ {Noted : Type 0} (IsNoted : ℕ → ℕ → Said → Noted → Type 0) 
               (h d low))),
         )
 
--- ---- if the notes are whole
+-- ---- notes that are the whole answers and data
 
 abbrev pub Any : ℕ → SeenLine → Type 0
 Any c line = ⊤
@@ -142,19 +143,19 @@ pub all_any : (c : ℕ) (t : List (List SeenLine)) → AllAre Any c t
 all_any c [] = tt
 all_any c (lines ∷ t) = (any_lines lines, all_any (suc c) t)
 
-module _ (script : Script) (t : List (List SeenLine)) (mss : List (List CallMeaning)) (saids : List (List Said))
+module _ (script : Script) (t : List (List SeenLine)) (mss : List (List CallMeaning)) (saids : List (List MadeLine))
     (lines : HasLines script t)
     (says : EachCaller (λ c calls ms. EachLine (SaysIt (said_of_caller itself saids c)) calls ms) 0 (script_calls script t) mss) where
-  pub answers_both : AnswersStand script t mss ↔ AllAgree SameAnswer saids t
+  pub answers_both : AnswersConform script t mss ↔ AllAgree SameAnswer saids t
   answers_both = all_both itself SameAnswer (λ line m. line.answer ≡ m.answer) Any
       (λ c said line m is s.
-      let one : m.answer ≡ s.is.note.answer = s.answer ∙ ap (λ (x : Said). x.answer) (sym s.is.noted) in
+      let one : m.answer ≡ s.is.note.answer = s.answer ∙ ap (λ (x : MadeLine). x.answer) (sym s.is.noted) in
       ((λ e. e ∙ one), (λ e. e ∙ sym one)))
       script t mss saids lines (all_any 0 t) says
 
-  pub data_both : DataStand script t mss ↔ AllAgree SameShown saids t
+  pub data_both : DataConform script t mss ↔ AllAgree SameShown saids t
   data_both = all_both itself SameShown (λ line m. line.shown ≡ m.shown) Any
       (λ c said line m is s.
-      let one : m.shown ≡ shown_by s.is.note.shows = s.shown ∙ ap (λ (x : Said). shown_by x.shows) (sym s.is.noted) in
+      let one : m.shown ≡ shown_by s.is.note.shows = s.shown ∙ ap (λ (x : MadeLine). shown_by x.shows) (sym s.is.noted) in
       ((λ e. e ∙ one), (λ e. e ∙ sym one)))
       script t mss saids lines (all_any 0 t) says

@@ -1,4 +1,4 @@
--- Facts of each caller, by the callers' numbers and in sequence.
+-- A fact that holds for each caller's number gives `EachCaller`. `EachCaller` gives the fact for each number.
 use Rattle.std.proofs.Common.{ℕ, zero, suc, ◌+◌, ◌<◌, List, [], ◌∷◌, length, refl, subst, arith}
 use Rattle.std.specs.List.{AllByRecursion}
 use Rattle.key_names.specs.declared.events.Event.{Event}
@@ -8,7 +8,7 @@ use Rattle.key_names.specs.Transcripts.SeenLine.{SeenLine}
 use Rattle.key_names.specs.Texts.TranscriptGrammar.{StepFits}
 use Rattle.key_names.specs.Callers.Meaning.{CallMeaning}
 use Rattle.key_names.specs.Transcripts.IsTranscript.{LinesFit, EachCaller, EachLine, CallerMeans}
-use Rattle.judge_log.specs.declared.said.Said.{Said}
+use Rattle.judge_log.specs.declared.said.MadeLine.{MadeLine}
 use Rattle.judge_log.specs.Said.{SaysIt, IsSaid, AreCallsOf}
 use Rattle.serial_replay.specs.Remade.{MeansSome}
 
@@ -31,13 +31,13 @@ caller_means lists settings c (calls ∷ callers) (ms ∷ mss) all (suc d) low =
     (caller_means lists settings (suc c) callers mss all.1 d (omega arith))
 
 -- the calls of all callers have meanings, answers and data
-pub record SaidByAll (lists : Lists) (settings : ℕ → Setting) (saids : ℕ → ℕ → Said → Type 0) (c : ℕ)
+pub record SaidByAll (lists : Lists) (settings : ℕ → Setting) (saids : ℕ → ℕ → MadeLine → Type 0) (c : ℕ)
     (callers : List (List Call)) : Type 0 where
   pub mss : List (List CallMeaning)
   pub means : EachCaller (λ c calls ms. CallerMeans lists (settings c) calls ms) c callers mss
   pub says : EachCaller (λ c calls ms. EachLine (SaysIt (saids c)) calls ms) c callers mss
 
-pub said_by_all : (lists : Lists) (settings : ℕ → Setting) (saids : ℕ → ℕ → Said → Type 0) (c : ℕ) (callers : List (List Call)) →
+pub said_by_all : (lists : Lists) (settings : ℕ → Setting) (saids : ℕ → ℕ → MadeLine → Type 0) (c : ℕ) (callers : List (List Call)) →
     ((d : ℕ) → d < length callers → IsSaid lists (settings (c + d)) (list_at callers d) (saids (c + d))) →
     SaidByAll lists settings saids c callers
 said_by_all lists settings saids c [] each = record { mss = []; means = tt; says = tt }
@@ -49,7 +49,7 @@ said_by_all lists settings saids c (calls ∷ callers) each =
     (each (suc d) (omega arith))) in
     record { mss = first.meanings ∷ rest.mss; means = (first.mean, rest.means); says = (first.says, rest.says) }
 
--- a caller's calls are made of these events and lines
+-- the events and the lines that a caller's calls are made of
 pub record CallsOf (calls : List Call) : Type 0 where
   pub events : List Event
   pub lines : List SeenLine

@@ -1,4 +1,4 @@
--- A book is made from lists and sorted marks. Its visits are the marks, each at its place.
+-- A book is made from lists and sorted marks. The book's visits are these marks, and each is at its own place.
 use Rattle.std.proofs.Common.{◌≡◌, ℕ, zero, suc, ◌+◌, Bool, true, false, Some, List, [], ◌∷◌, ◌++◌, length, map, refl, sym, subst, ap, ◌∙◌, arith, append_assoc, length-append}
 use Rattle.std.specs.Prelude.{if◌then◌else◌, IsPermutation}
 use Rattle.std.specs.List.{AllByRecursion, sum_by}
@@ -31,7 +31,7 @@ marks_alone lane (by ∷ marks) = go (is_same_lane by.mark.lane lane) (marks_alo
     go true rest = ap (λ ms. by.mark ∷ ms) rest
     go false rest = rest
 
--- the marks of a lane are on that lane
+-- each mark that `of_lane` picks for a lane is on that lane
 are_there : (lane : LaneId) (marks : List MarkBy) → AllByRecursion (λ by. by.mark.lane ≡ lane) (of_lane lane marks)
 are_there lane [] = tt
 are_there lane (by ∷ marks) = go (is_same_lane by.mark.lane lane) refl (are_there lane marks)
@@ -42,7 +42,7 @@ are_there lane (by ∷ marks) = go (is_same_lane by.mark.lane lane) refl (are_th
     go true is rest = (same_lane by.mark.lane lane is, rest)
     go false is rest = rest
 
--- a fact of the marks of each lane holds of all marks
+-- if `P` holds of each lane's marks, `P` holds of all marks
 by_lanes : (P : MarkBy → Type 0) (marks : List MarkBy) → ((lane : LaneId) → AllByRecursion P (of_lane lane marks)) →
     AllByRecursion P marks
 by_lanes P [] each = tt
@@ -57,7 +57,7 @@ by_lanes P (by ∷ marks) each =
     go lane true all = all.1
     go lane false all = all
 
--- the visits of marks with these entries
+-- the visits that pair each entry with the mark in the same position
 abbrev pub visits : {E : Type 0} → List E → List MarkBy → List (Visit E)
 visits [] bys = []
 visits (e ∷ es) [] = []
@@ -78,7 +78,7 @@ at_end : {E : Type 0} (front : List (Visit E)) (v : Visit E) (rest : List (Visit
 at_end [] v rest = refl
 at_end (x ∷ front) v rest = at_end front v rest
 
--- the visit of each mark is at the mark's place
+-- at each mark's place there is a visit with the mark's stamp and caller
 placed : {E : Type 0} (front : List (Visit E)) (es : List E) (bys : List MarkBy) (i : ℕ) → length front ≡ i →
     InOrder i (map (λ by. by.mark) bys) → length bys ≡ length es →
     AllByRecursion (λ by. stamped (front ++ visits es bys) by.mark.place ≡ Some (by.mark.stamp, by.who)) bys
@@ -95,7 +95,7 @@ placed {E = E} front (e ∷ es) (by ∷ bys) i long order same =
     )
 
 module _ (marks : List MarkBy) where
-  -- the CPUs' visits; c is the number of the first CPU
+  -- the visits of each CPU; the first CPU has the number `c`
   abbrev pub cpu_visits : ℕ → List (List CpuEntry) → List (List (Visit CpuEntry))
   cpu_visits c [] = []
   cpu_visits c (es ∷ ess) = visits es (of_lane (CpuLane c) marks) ∷ cpu_visits (suc c) ess
@@ -129,14 +129,14 @@ module _ (marks : List MarkBy) where
     callers = states;
   }
 
-  -- in the lists, each lane has an entry for each of its marks, and the marks are in order
-  pub record Laid (lists : Lists) : Type 0 where
+  -- each lane's list has as many entries as the lane has marks, and the places of these marks count up from 0
+  pub record Placed (lists : Lists) : Type 0 where
     pub pool : length (lane_marks PoolLane marks) ≡ length lists.pool
     pub base : length (lane_marks BaseLane marks) ≡ length lists.base
     pub cpu : (c : ℕ) → length (lane_marks (CpuLane c) marks) ≡ length (cpu_list lists c)
     pub order : (lane : LaneId) → InOrder 0 (lane_marks lane marks)
 
-  module _ (lists : Lists) (states : List (List (List VEntry))) (laid : Laid lists) where
+  module _ (lists : Lists) (states : List (List (List VEntry))) (stored : Placed lists) where
     bys_long : (lane : LaneId) → length (of_lane lane marks) ≡ length (lane_marks lane marks)
     bys_long lane = sym (map_long (of_lane lane marks)) ∙ ap length (marks_alone lane marks)
       where
@@ -145,18 +145,18 @@ module _ (marks : List MarkBy) where
         map_long (by ∷ bys) = ap suc (map_long bys)
 
     pool_long : length (of_lane PoolLane marks) ≡ length lists.pool
-    pool_long = bys_long PoolLane ∙ laid.pool
+    pool_long = bys_long PoolLane ∙ stored.pool
 
     base_long : length (of_lane BaseLane marks) ≡ length lists.base
-    base_long = bys_long BaseLane ∙ laid.base
+    base_long = bys_long BaseLane ∙ stored.base
 
     cpu_long : (c : ℕ) → length (of_lane (CpuLane c) marks) ≡ length (cpu_list lists c)
-    cpu_long c = bys_long (CpuLane c) ∙ laid.cpu c
+    cpu_long c = bys_long (CpuLane c) ∙ stored.cpu c
 
     cpu_long_0 : (c : ℕ) → length (of_lane (CpuLane (0 + c)) marks) ≡ length (list_at lists.cpus c)
     cpu_long_0 c = ap (λ n. length (of_lane (CpuLane n) marks)) (omega arith) ∙ cpu_long c
 
-    -- the lists of the book that is made are the given lists
+    -- the book that is made has the given lists
     pub lists_back : lists_of (book_of lists states) ≡ record lists { callers = states }
     lists_back = λ i. record {
       pool = entries_back lists.pool (of_lane PoolLane marks) pool_long i;
@@ -168,29 +168,29 @@ module _ (marks : List MarkBy) where
     pub as_many_cpus : length (book_of lists states).cpus ≡ length lists.cpus
     as_many_cpus = cpus_long 0 lists.cpus
 
-    abbrev Stands : MarkBy → Type 0
-    Stands by = stamped_at (book_of lists states) by.mark.lane by.mark.place ≡ Some (by.mark.stamp, by.who)
+    abbrev Conforms : MarkBy → Type 0
+    Conforms by = stamped_at (book_of lists states) by.mark.lane by.mark.place ≡ Some (by.mark.stamp, by.who)
 
     in_order : (lane : LaneId) → InOrder 0 (map (λ by. by.mark) (of_lane lane marks))
-    in_order lane = subst (InOrder 0) (sym (marks_alone lane marks)) (laid.order lane)
+    in_order lane = subst (InOrder 0) (sym (marks_alone lane marks)) (stored.order lane)
 
     on_lane : {E : Type 0} (lane : LaneId) (es : List E) → length (of_lane lane marks) ≡ length es →
         ((place : ℕ) → stamped_at (book_of lists states) lane place ≡ stamped (visits es (of_lane lane marks)) place) →
-        AllByRecursion Stands (of_lane lane marks)
+        AllByRecursion Conforms (of_lane lane marks)
     on_lane lane es long is =
         each_weaker
         (λ (by : MarkBy). (by.mark.lane ≡ lane)
         × (stamped (visits es (of_lane lane marks)) by.mark.place ≡ Some (by.mark.stamp, by.who)))
-        Stands (of_lane lane marks)
+        Conforms (of_lane lane marks)
         (λ by h. ap (λ l. stamped_at (book_of lists states) l by.mark.place) h.0 ∙ is by.mark.place ∙ h.1)
         (each_both (λ (by : MarkBy). by.mark.lane ≡ lane)
         (λ (by : MarkBy). stamped (visits es (of_lane lane marks)) by.mark.place ≡ Some (by.mark.stamp, by.who))
         (of_lane lane marks) (are_there lane marks) (placed [] es (of_lane lane marks) 0 refl (in_order lane) long))
 
-    lane_stands : (lane : LaneId) → AllByRecursion Stands (of_lane lane marks)
-    lane_stands PoolLane = on_lane PoolLane lists.pool pool_long (λ place. refl)
-    lane_stands BaseLane = on_lane BaseLane lists.base base_long (λ place. refl)
-    lane_stands (CpuLane c) = on_lane (CpuLane c) (cpu_list lists c) (cpu_long c) (λ place.
+    lane_conforms : (lane : LaneId) → AllByRecursion Conforms (of_lane lane marks)
+    lane_conforms PoolLane = on_lane PoolLane lists.pool pool_long (λ place. refl)
+    lane_conforms BaseLane = on_lane BaseLane lists.base base_long (λ place. refl)
+    lane_conforms (CpuLane c) = on_lane (CpuLane c) (cpu_list lists c) (cpu_long c) (λ place.
         ap (λ vs. stamped vs place) (cpu_at 0 lists.cpus c
         ∙ ap (λ n. visits (cpu_list lists c) (of_lane (CpuLane n) marks)) (omega arith)))
 
@@ -215,16 +215,16 @@ module _ (marks : List MarkBy) where
         ≡ length (visits lists.pool (of_lane PoolLane marks)) + length (visits lists.base (of_lane BaseLane marks))
         + sum_by (λ vs. length vs) (cpu_visits 0 lists.cpus)
     count_is =
-        let all = marks_counted lists.cpus marks laid.cpu in
+        let all = marks_counted lists.cpus marks stored.cpu in
         let p : length (visits lists.pool (of_lane PoolLane marks)) ≡ length lists.pool =
         visits_long lists.pool (of_lane PoolLane marks) pool_long in
         let b : length (visits lists.base (of_lane BaseLane marks)) ≡ length lists.base =
         visits_long lists.base (of_lane BaseLane marks) base_long in
-        let v = visit_lengths in let lp = laid.pool in let lb = laid.base in omega arith
+        let v = visit_lengths in let lp = stored.pool in let lb = stored.base in omega arith
 
-    pub visits_are : (told : List MarkBy) → IsPermutation told marks → VisitsAre (book_of lists states) told
-    visits_are told moved = record {
-      stand = recursion_from_All Stands told (All-permutation Stands marks told (IsPermutation-sym told marks moved)
-          (All-from_recursion Stands marks (by_lanes Stands marks lane_stands)));
-      no_others = sym (length_permutation told marks moved) ∙ count_is;
+    pub visits_are : (inferred : List MarkBy) → IsPermutation inferred marks → VisitsAre (book_of lists states) inferred
+    visits_are inferred moved = record {
+      conform = recursion_from_All Conforms inferred (All-permutation Conforms marks inferred (IsPermutation-sym inferred marks moved)
+          (All-from_recursion Conforms marks (by_lanes Conforms marks lane_conforms)));
+      no_others = sym (length_permutation inferred marks moved) ∙ count_is;
     }

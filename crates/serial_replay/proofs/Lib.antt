@@ -1,5 +1,5 @@
 pub mod Clauses
-pub mod LooksStand
+pub mod LooksConform
 pub mod MarksCounted
 pub mod LaneVisits
 pub mod StatesAside

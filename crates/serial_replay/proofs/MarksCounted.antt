@@ -1,4 +1,4 @@
--- All marks are those of the pool, of the base and of the CPUs.
+-- The number of all marks is the number of the pool's marks, plus that of the base's, plus that of all CPUs' marks.
 use Rattle.std.proofs.Common.{◌≡◌, ℕ, zero, suc, ◌+◌, ◌<◌, ◌≤◌, Bool, true, false, List, [], ◌∷◌, length, refl, sym, subst, ap, ◌∙◌, arith}
 use Rattle.std.specs.Prelude.{nat_lt, ◌==◌, if◌then◌else◌}
 use Rattle.std.specs.List.{AllByRecursion, sum_by}
@@ -11,12 +11,12 @@ use Rattle.key_names.specs.Transcripts.IsTranscript.{MarkBy, is_same_lane, lane_
 use Rattle.key_names.proofs.History.SortedVisits.{one_if}
 use Rattle.key_names.proofs.Lists.ListFacts.{list_beyond}
 
--- the number of marks of n CPUs from c on
+-- how many marks the `n` CPUs from `c` on have together
 abbrev on_cpus : ℕ → ℕ → List MarkBy → ℕ
 on_cpus c zero marks = 0
 on_cpus c (suc n) marks = length (lane_marks (CpuLane c) marks) + on_cpus (suc c) n marks
 
--- a mark of CPU e counts once if e is one of the n CPUs from c on, and otherwise not
+-- how often a mark of CPU `e` counts: once if `e` is one of the `n` CPUs from `c` on, and otherwise not
 abbrev one_of : ℕ → ℕ → ℕ → ℕ
 one_of c zero e = 0
 one_of c (suc n) e = one_if (e == c) + one_of (suc c) n e
@@ -69,7 +69,7 @@ one_among c (suc n) e from low = go (e == c) refl (λ above. one_among (suc c) n
         let here : one_if (e == c) ≡ 0 = ap one_if is in
         let rest : one_of (suc c) n e ≡ 1 = later above in omega arith
 
--- if the lane is a CPU's, its number is below n
+-- if the lane is a CPU, the CPU's number is below `n`
 abbrev IsThere : ℕ → LaneId → Type 0
 IsThere n PoolLane = 0 ≤ n
 IsThere n BaseLane = 0 ≤ n
@@ -116,7 +116,7 @@ all_counted n (by ∷ marks) all = go by.mark.lane refl all.0 (all_counted n mar
         let one : one_of 0 n c ≡ 1 = one_among 0 n c (omega arith) (omega arith) in
         let z : on_cpus 0 n (by ∷ marks) ≡ one_of 0 n c + on_cpus 0 n marks = cpu_more 0 n c by marks is in omega arith
 
--- if no CPU from n on has a mark, the CPU of each mark is below n
+-- if no CPU from `n` on has a mark, each mark of a CPU is of a CPU below `n`
 below_all : (n : ℕ) (marks : List MarkBy) → ((c : ℕ) → n ≤ c → length (lane_marks (CpuLane c) marks) ≡ 0) →
     AllByRecursion (λ by. IsThere n by.mark.lane) marks
 below_all n [] none = tt

@@ -1,4 +1,4 @@
--- The calls and settings of one caller, by its number.
+-- For caller `c`, the loop over callers has the caller's calls, the setting before each call, and the notes.
 use Rattle.std.proofs.Common.{◌≡◌, ℕ, zero, suc, ◌+◌, ◌<◌, Some, List, [], ◌∷◌, ◌++◌, length, get_or, map, sym, subst, ap, ◌∙◌, arith}
 use Rattle.std.specs.Prelude.{slice_get}
 use Rattle.std.specs.List.{AllByRecursion}
@@ -13,13 +13,13 @@ use Rattle.key_names.specs.Texts.ScriptGrammar.{Script}
 use Rattle.key_names.specs.Transcripts.SeenLine.{SeenLine}
 use Rattle.key_names.proofs.History.CallerOrders.{list_front, list_last}
 use Rattle.key_names.proofs.Lists.ListFacts.{at_list}
-use Rattle.judge_lines.specs.declared.called.Called.{Called}
+use Rattle.judge_lines.specs.declared.called.CalledLines.{CalledLines}
 use Rattle.judge_lines.specs.Called.{seen_call, seen_calls}
 use Rattle.judge_lines.specs.Settings.{settings_from}
 use Rattle.judge_lines.proofs.SettingsFound.{list_found}
-use Rattle.judge_log.specs.declared.said.Said.{Said}
+use Rattle.judge_log.specs.declared.said.MadeLine.{MadeLine}
 use Rattle.judge_log.specs.Said.{NotedAt, CallInRange, IsSaid}
-use Rattle.serial_replay.specs.Remade.{CallersStand, said_lists}
+use Rattle.serial_replay.specs.Remade.{CallersConform, said_lists}
 use Rattle.serial_replay.proofs.Callers.{CallsOf, calls_of_caller}
 
 pub found_at : {X : Type 0} (xs : List X) (i : ℕ) (x : X) → i < length xs → x ≡ get_or xs i x → slice_get xs i ≡ Some x
@@ -27,7 +27,7 @@ found_at [] i x low is = absurd (omega arith)
 found_at (y ∷ xs) zero x low is = ap Some (sym is)
 found_at (y ∷ xs) (suc i) x low is = found_at xs i x (omega arith) is
 
-module _ (callers : List (Vec Called)) (settings : List (Vec Setting)) (c : ℕ) (calls : Vec Called) (found : Vec Setting)
+module _ (callers : List (Vec CalledLines)) (settings : List (Vec Setting)) (c : ℕ) (calls : Vec CalledLines) (found : Vec Setting)
     (low : c < length callers) (calls_is : calls ≡ get_or callers c calls) (long : length settings ≡ length callers)
     (found_is : found ≡ get_or settings c found) where
   pub here : map seen_call calls.items ≡ list_at (seen_calls callers) c
@@ -36,7 +36,7 @@ module _ (callers : List (Vec Called)) (settings : List (Vec Setting)) (c : ℕ)
   pub among : c < length (seen_calls callers)
   among =
       let e : length (seen_calls callers) ≡ length callers =
-      length-map callers (λ (calls : Vec Called). map seen_call calls.items) in
+      length-map callers (λ (calls : Vec CalledLines). map seen_call calls.items) in
       omega arith
 
   pub range_of : AllByRecursion (AllByRecursion CallInRange) (seen_calls callers) →
@@ -44,21 +44,21 @@ module _ (callers : List (Vec Called)) (settings : List (Vec Setting)) (c : ℕ)
   range_of all = subst (AllByRecursion CallInRange) (sym here)
       (at_list (AllByRecursion CallInRange) (seen_calls callers) c among all)
 
-  module _ (script : Script) (t : List (List SeenLine)) (stand : CallersStand script t (seen_calls callers) settings) where
+  module _ (script : Script) (t : List (List SeenLine)) (conform : CallersConform script t (seen_calls callers) settings) where
     pub calls_of : CallsOf (map seen_call calls.items)
     calls_of =
         let whole : CallsOf (list_at (script_calls script t) c) =
-        calls_of_caller 0 script.callers t stand.lines stand.fit c
-        (subst (λ (cs : List (List Call)). c < length cs) stand.calls among) in
-        subst CallsOf (ap (λ (cs : List (List Call)). list_at cs c) (sym stand.calls) ∙ sym here) whole
+        calls_of_caller 0 script.callers t conform.lines conform.fit c
+        (subst (λ (cs : List (List Call)). c < length cs) conform.calls among) in
+        subst CallsOf (ap (λ (cs : List (List Call)). list_at cs c) (sym conform.calls) ∙ sym here) whole
 
     pub settings_are : found.items ≡ settings_from (start_setting (seen_calls callers) c) (map seen_call calls.items)
     settings_are =
-        stand.found.each c found (found_at settings c found (omega arith) found_is)
+        conform.found.each c found (found_at settings c found (omega arith) found_is)
         ∙ ap (settings_from (start_setting (seen_calls callers) c)) (sym here)
 
--- the notes of one more caller are added
-module _ {Noted : Type 0} (IsNoted : ℕ → ℕ → Said → Noted → Type 0) (lists : Lists) (callers : List (List Call))
+-- if the notes of the first `n` callers are right, they stay right when the notes of one more caller are added
+module _ {Noted : Type 0} (IsNoted : ℕ → ℕ → MadeLine → Noted → Type 0) (lists : Lists) (callers : List (List Call))
     (said : List (Vec Noted)) (n : ℕ) (more : Vec Noted) (long : length said ≡ n) where
   abbrev IsSaidBy : ℕ → List Noted → Type 0
   IsSaidBy c notes = IsSaid lists (start_setting callers c) (list_at callers c) (NotedAt (IsNoted c) notes)

@@ -1,4 +1,4 @@
--- A replay is unique: at most one clause can stop it, and none does if the transcript is lawful.
+-- A replay has one result: at most one clause can stop it. If a lawful transcript has these steps, no clause stops it.
 use Rattle.std.proofs.Common.{◌≡◌, ◌⊎◌, List, inl, inr, refl, sym, subst, ap, ◌∙◌}
 use Rattle.key_names.specs.Texts.ScriptGrammar.{Script}
 use Rattle.key_names.specs.Transcripts.SeenLine.{SeenLine}
@@ -17,7 +17,7 @@ use Rattle.serial_replay.proofs.Clauses.{same_clause}
 use Rattle.serial_replay.proofs.Replays.{lawful_book}
 
 module _ (script : Script) (t : List (List SeenLine)) where
-  -- if a clause stops the steps, it fails first, or a book is made
+  -- if a clause stops a replay, that clause is the first that fails, or the steps make a book
   before_book : (c : Clause) → StepsFail script t c → FirstFails script t c ⊎ MadeBook script t
   before_book lines_clause f = inl f
   before_book marks_clause f = inl f
@@ -26,7 +26,7 @@ module _ (script : Script) (t : List (List SeenLine)) where
   before_book data_clause f = absurd f
   before_book looks_clause f = inr f.0
 
-  -- if the steps make a book, only the clause on looks can stop them
+  -- if the steps make a book, only the clause on looks can stop a replay
   at_looks : (c : Clause) → MadeBook script t → StepsFail script t c → c ≡ looks_clause
   at_looks lines_clause made f = absurd (f made.lines)
   at_looks marks_clause made f = absurd (f.1 made.marks)

@@ -1,4 +1,4 @@
--- The looks and visits of steps do not depend on the entries of vgetrandom states.
+-- The effects of steps do not depend on the lists of vgetrandom states. So other lists may replace these lists.
 use Rattle.std.proofs.Common.{◌≡◌, ℕ, true, false, Option, Some, None, List, map, take, refl, sym, subst, ap, ◌∙◌}
 use Rattle.std.specs.Prelude.{if◌then◌else◌, slice_get}
 use Rattle.std.specs.List.{fold}
@@ -16,15 +16,15 @@ use Rattle.key_names.specs.Keys.KeyInUse.{zero_key, call_value_or, cpu_value_in_
 use Rattle.key_names.specs.Keys.KeyInUse.{cpu_value_at, cpu_used_at}
 use Rattle.key_names.specs.Lanes.Book.{Lists, LawfulLanes, cpu_list}
 use Rattle.key_names.specs.Callers.Calls.{Setting, Call}
-use Rattle.key_names.specs.Callers.Deeds.{Deed, at_cpu, deed_or, deed_at, deed_of, deeds_of, cpu_visit, cpu_serves, int_of}
+use Rattle.key_names.specs.Callers.Effects.{Effect, at_cpu, effect_or, effect_at, effect_of, effects_of, cpu_visit, cpu_serves, int_of}
 use Rattle.key_names.specs.Transcripts.IsTranscript.{CallerMeans, EachLine}
 use Rattle.key_names.specs.Callers.Meaning.{CallMeaning}
 use Rattle.judge_log.specs.Tables.{Tables}
 use Rattle.judge_log.specs.Fills.{Fills}
 use Rattle.judge_log.specs.Lawful.{Lawful}
-use Rattle.judge_lines.specs.Told.{FillsCpu}
+use Rattle.judge_lines.specs.Inferred.{FillsCpu}
 
-or_same : {E : Type 0} (f g : E → Deed) → ((e : E) → f e ≡ g e) → (o : Option E) → deed_or f o ≡ deed_or g o
+or_same : {E : Type 0} (f g : E → Effect) → ((e : E) → f e ≡ g e) → (o : Option E) → effect_or f o ≡ effect_or g o
 or_same f g each None = refl
 or_same f g each (Some e) = each e
 
@@ -86,19 +86,19 @@ module _ (lists : Lists) (states : List (List (List VEntry))) where
         serves = serves i;
       }
 
-  lane_same : (lane : LaneId) (place : ℕ) → deed_at aside lane place ≡ deed_at lists lane place
+  lane_same : (lane : LaneId) (place : ℕ) → effect_at aside lane place ≡ effect_at lists lane place
   lane_same PoolLane place = refl
   lane_same BaseLane place = refl
   lane_same (CpuLane c) place = or_same (λ (e : CpuEntry). at_cpu (cpu_visit aside c place e))
       (λ (e : CpuEntry). at_cpu (cpu_visit lists c place e)) (λ e. ap at_cpu (visit_same c place e))
       (slice_get (cpu_list lists c) place)
 
-  deed_same : (step : Step) → deed_of aside step ≡ deed_of lists step
-  deed_same (Look g) = refl
-  deed_same (Marked mark) = lane_same mark.lane mark.place
+  effect_same : (step : Step) → effect_of aside step ≡ effect_of lists step
+  effect_same (Look g) = refl
+  effect_same (Marked mark) = lane_same mark.lane mark.place
 
-  pub deeds_same : (steps : List Step) → deeds_of aside steps ≡ deeds_of lists steps
-  deeds_same steps = λ i. map (λ step. deed_same step i) steps
+  pub effects_same : (steps : List Step) → effects_of aside steps ≡ effects_of lists steps
+  effects_same steps = λ i. map (λ step. effect_same step i) steps
 
   pub lanes_aside : LawfulLanes lists → LawfulLanes aside
   lanes_aside l = record {
@@ -107,8 +107,8 @@ module _ (lists : Lists) (states : List (List (List VEntry))) where
     refills = l.refills;
   }
 
-  pub fills_aside : (told : Tables) → Fills told lists → Fills told aside
-  fills_aside told f = record {
+  pub fills_aside : (inferred : Tables) → Fills inferred lists → Fills inferred aside
+  fills_aside inferred f = record {
     pool_count = f.pool_count;
     base_count = f.base_count;
     cpus_count = f.cpus_count;
@@ -118,8 +118,8 @@ module _ (lists : Lists) (states : List (List (List VEntry))) where
     cpu = λ c k t e is there. subst (FillsCpu t.entry) (sym (visit_same c k e)) (f.cpu c k t e is there);
   }
 
-  pub lawful_aside : (told : Tables) → Lawful told lists → Lawful told aside
-  lawful_aside told l = record {
+  pub lawful_aside : (inferred : Tables) → Lawful inferred lists → Lawful inferred aside
+  lawful_aside inferred l = record {
     lanes = lanes_aside l.lanes;
     dues = l.dues;
     mixes = λ p cpu place is. (let at = l.mixes p cpu place is in record { now = at.now; is = at.is });
@@ -129,6 +129,6 @@ module _ (lists : Lists) (states : List (List (List VEntry))) where
       CallerMeans aside set calls ms
   means_aside set calls ms m = record {
     follows = m.follows;
-    deeds = subst (λ (f : List Step → List Deed). EachLine (λ line m. f line.steps ≡ m.deeds) calls ms)
-        (sym (λ i steps. deeds_same steps i)) m.deeds;
+    effects = subst (λ (f : List Step → List Effect). EachLine (λ line m. f line.steps ≡ m.effects) calls ms)
+        (sym (λ i steps. effects_same steps i)) m.effects;
   }

@@ -1,4 +1,4 @@
--- Lines are written in sequence.
+-- The invariants of the loops that write lines: they hold after one more line, and after one more caller.
 use Rattle.std.proofs.Common.{◌≡◌, ℕ, zero, suc, ◌+◌, ◌<◌, ◌≤◌, Some, List, [], ◌∷◌, ◌++◌, length, get_or, drop, refl, sym, subst, ap, ◌∙◌, arith, append_assoc}
 use Rattle.std.specs.Prelude.{slice_get, slice_index_or}
 use Rattle.std.specs.List.{AllByRecursion}
@@ -8,45 +8,45 @@ use Rattle.key_names.specs.Lanes.Book.{list_at}
 use Rattle.key_names.specs.Transcripts.SeenLine.{SeenLine}
 use Rattle.key_names.specs.Texts.TranscriptGrammar.{LastHasLines}
 use Rattle.key_names.proofs.Lists.ListFacts.{found_dropped}
-use Rattle.judge_log.specs.declared.said.Said.{Said}
+use Rattle.judge_log.specs.declared.said.MadeLine.{MadeLine}
 use Rattle.serial_replay.specs.Agreement.{Agrees}
 use Rattle.serial_replay.specs.Remade.{said_lists}
 use Rattle.serial_replay.specs.Written.{said_of, lines_said, said_into, MayShow}
 
--- one more line of a caller is written
-module _ (said : List Said) (lines : List SeenLine) (n : ℕ) (line : SeenLine) (is : slice_get lines n ≡ Some line) where
+-- the invariants hold after one more line of a caller is written
+module _ (said : List MadeLine) (lines : List SeenLine) (n : ℕ) (line : SeenLine) (is : slice_get lines n ≡ Some line) where
   rest_is : drop n lines ≡ line ∷ drop (n + 1) lines
   rest_is = found_dropped lines n line is
 
-  pub line_more : (told : List SeenLine) → told ++ lines_said said (drop n lines) ≡ lines_said said lines →
-      (told ++ said_of line (slice_get said line.event) ∷ []) ++ lines_said said (drop (n + 1) lines) ≡ lines_said said lines
-  line_more told so_far =
-      append_assoc told (said_of line (slice_get said line.event) ∷ []) (lines_said said (drop (n + 1) lines))
-      ∙ sym (ap (λ (xs : List SeenLine). told ++ lines_said said xs) rest_is) ∙ so_far
+  pub line_more : (inferred : List SeenLine) → inferred ++ lines_said said (drop n lines) ≡ lines_said said lines →
+      (inferred ++ said_of line (slice_get said line.event) ∷ []) ++ lines_said said (drop (n + 1) lines) ≡ lines_said said lines
+  line_more inferred so_far =
+      append_assoc inferred (said_of line (slice_get said line.event) ∷ []) (lines_said said (drop (n + 1) lines))
+      ∙ sym (ap (λ (xs : List SeenLine). inferred ++ lines_said said xs) rest_is) ∙ so_far
 
   pub agree_more : AllByRecursion (Agrees MayShow said) (drop n lines) →
       Agrees MayShow said line × AllByRecursion (Agrees MayShow said) (drop (n + 1) lines)
   agree_more all = subst (λ (xs : List SeenLine). AllByRecursion (Agrees MayShow said) xs) rest_is all
 
-pub lines_end : (said : List Said) (lines told : List SeenLine) (n : ℕ) → length lines ≤ n →
-    told ++ lines_said said (drop n lines) ≡ lines_said said lines → told ≡ lines_said said lines
-lines_end said lines told n high so_far =
-    sym (append-nil told) ∙ sym (ap (λ (xs : List SeenLine). told ++ lines_said said xs) (at_drop_all (λ x. x) lines n high))
+pub lines_end : (said : List MadeLine) (lines inferred : List SeenLine) (n : ℕ) → length lines ≤ n →
+    inferred ++ lines_said said (drop n lines) ≡ lines_said said lines → inferred ≡ lines_said said lines
+lines_end said lines inferred n high so_far =
+    sym (append-nil inferred) ∙ sym (ap (λ (xs : List SeenLine). inferred ++ lines_said said xs) (at_drop_all (λ x. x) lines n high))
     ∙ so_far
 
-pub callers_end : (said : List (Vec Said)) (t told : List (List SeenLine)) (n : ℕ) → length t ≤ n →
-    told ++ said_into (said_lists (drop n said)) (drop n t) ≡ said_into (said_lists said) t → told ≡ said_into (said_lists said) t
-callers_end said t told n high so_far =
-    sym (append-nil told)
-    ∙ sym (ap (λ (u : List (List SeenLine)). told ++ said_into (said_lists (drop n said)) u) (at_drop_all (λ x. x) t n high))
+pub callers_end : (said : List (Vec MadeLine)) (t inferred : List (List SeenLine)) (n : ℕ) → length t ≤ n →
+    inferred ++ said_into (said_lists (drop n said)) (drop n t) ≡ said_into (said_lists said) t → inferred ≡ said_into (said_lists said) t
+callers_end said t inferred n high so_far =
+    sym (append-nil inferred)
+    ∙ sym (ap (λ (u : List (List SeenLine)). inferred ++ said_into (said_lists (drop n said)) u) (at_drop_all (λ x. x) t n high))
     ∙ so_far
 
--- a caller with lines has written lines
-many_lines : (said : List Said) (lines : List SeenLine) → 0 < length lines → 0 < length (lines_said said lines)
+-- if a caller has lines, lines are written for it
+many_lines : (said : List MadeLine) (lines : List SeenLine) → 0 < length lines → 0 < length (lines_said said lines)
 many_lines said [] some = some
 many_lines said (line ∷ lines) some = omega arith
 
-pub last_lines : (saids : List (List Said)) (t : List (List SeenLine)) → LastHasLines t → LastHasLines (said_into saids t)
+pub last_lines : (saids : List (List MadeLine)) (t : List (List SeenLine)) → LastHasLines t → LastHasLines (said_into saids t)
 last_lines saids [] last = last
 last_lines [] (lines ∷ []) last = last
 last_lines (said ∷ saids) (lines ∷ []) last = many_lines said lines last
@@ -54,12 +54,12 @@ last_lines [] (lines ∷ next ∷ t) last = last_lines [] (next ∷ t) last
 last_lines (said ∷ []) (lines ∷ next ∷ t) last = last_lines [] (next ∷ t) last
 last_lines (said ∷ s ∷ saids) (lines ∷ next ∷ t) last = last_lines (s ∷ saids) (next ∷ t) last
 
-pub said_long : (saids : List (List Said)) (t : List (List SeenLine)) → length (said_into saids t) ≡ length t
+pub said_long : (saids : List (List MadeLine)) (t : List (List SeenLine)) → length (said_into saids t) ≡ length t
 said_long saids [] = refl
 said_long [] (lines ∷ t) = ap suc (said_long [] t)
 said_long (said ∷ saids) (lines ∷ t) = ap suc (said_long saids t)
 
--- both ways to find a caller's lines find the same ones
+-- indexing a transcript by a caller's number gives the same lines as `list_at`
 pub lines_at : (t : List (List SeenLine)) (c : ℕ) → slice_index_or t c [] ≡ list_at t c
 lines_at [] c = refl
 lines_at (lines ∷ t) zero = refl

@@ -1,22 +1,22 @@
--- Lines with the answers and data that were made.
+-- When lines agree with the answers and data that were made from their steps.
 use Rattle.std.specs.Prelude.{ℕ, ◌≡◌, ◌<◌, Some, List, length, slice_get}
 use Rattle.std.specs.List.{AllByRecursion}
 use Rattle.key_names.specs.Lanes.Book.{list_at}
 use Rattle.key_names.specs.Transcripts.SeenLine.{SeenLine}
-use Rattle.judge_log.specs.declared.said.Said.{Said}
+use Rattle.judge_log.specs.declared.said.MadeLine.{MadeLine}
 use Rattle.judge_log.specs.Said.{shown_by}
 
--- the line agrees with the note at its event's number
+-- the line agrees with the note that has the number of the line's event
 pub record Agrees {Noted : Type 0} (Same : SeenLine → Noted → Type 0) (notes : List Noted)
     (line : SeenLine) : Type 0 where
   pub one : Noted
   pub is : slice_get notes line.event ≡ Some one
   pub same : Same line one
 
-abbrev pub SameAnswer : SeenLine → Said → Type 0
+abbrev pub SameAnswer : SeenLine → MadeLine → Type 0
 SameAnswer line one = line.answer ≡ one.answer
 
-abbrev pub SameShown : SeenLine → Said → Type 0
+abbrev pub SameShown : SeenLine → MadeLine → Type 0
 SameShown line one = line.shown ≡ shown_by one.shows
 
 -- the lines of each caller agree with the caller's notes

@@ -8,13 +8,13 @@ use Rattle.key_names.specs.Callers.Meaning.{CallMeaning}
 use Rattle.key_names.specs.Texts.TranscriptGrammar.{StepFits}
 use Rattle.key_names.specs.Texts.ScriptGrammar.{Script}
 use Rattle.key_names.specs.Transcripts.SeenLine.{SeenLine}
-use Rattle.key_names.specs.Transcripts.IsTranscript.{MadeBook, SeenStands, FirstFails, EachCaller}
+use Rattle.key_names.specs.Transcripts.IsTranscript.{MadeBook, SeenConforms, FirstFails, EachCaller}
 use Rattle.key_names.specs.Transcripts.IsTranscript.{EachLine, script_calls, HasLines, CallerMeans, start_setting}
 use Rattle.judge_lines.specs.Settings.{AreSettings}
 use Rattle.judge_lines.specs.Clauses.{clause_of}
 use Rattle.judge_lines.specs.declared.clause.Clause.{Clause}
 use Rattle.judge_lines.specs.declared.clause.Clause.TheVariants.{Lines, Marks, Forms}
-use Rattle.judge_log.specs.declared.said.Said.{Said}
+use Rattle.judge_log.specs.declared.said.MadeLine.{MadeLine}
 use Rattle.judge_log.specs.Said.{NotedAt, SaysIt, IsSaid}
 use Rattle.serial_replay.specs.declared.remake.Made.{Made}
 use Rattle.serial_replay.specs.declared.remake.Remade.{Remade}
@@ -31,15 +31,15 @@ IsEarly _ = ⊥
 abbrev pub StepsFit : List (List SeenLine) → Type 0
 StepsFit t = AllByRecursion (AllByRecursion (λ line. AllByRecursion StepFits line.steps)) t
 
--- these are the calls and the settings of the callers
-pub record CallersStand (script : Script) (t : List (List SeenLine)) (callers : List (List Call))
+-- `callers` has the calls of each caller, and `settings` has the setting before each call
+pub record CallersConform (script : Script) (t : List (List SeenLine)) (callers : List (List Call))
     (settings : List (Vec Setting)) : Type 0 where
   pub lines : HasLines script t
   pub fit : StepsFit t
   pub calls : callers ≡ script_calls script t
   pub found : AreSettings callers settings
 
--- one caller's calls have lawful meanings
+-- the calls of one caller have some lawful meanings `ms`
 pub record MeansSome (lists : Lists) (set : Setting) (calls : List Call) : Type 0 where
   pub ms : List CallMeaning
   pub means : CallerMeans lists set calls ms
@@ -56,9 +56,9 @@ said_lists callers = map (λ notes. notes.items) callers
 abbrev pub made_by : {Noted : Type 0} → Made Noted → List (List Noted)
 made_by m = said_lists m.callers.items
 
-module _ {Noted : Type 0} (IsNoted : ℕ → ℕ → Said → Noted → Type 0) where
-  -- the answer and data of a caller's event, by the notes
-  abbrev pub said_of_caller : List (List Noted) → ℕ → ℕ → Said → Type 0
+module _ {Noted : Type 0} (IsNoted : ℕ → ℕ → MadeLine → Noted → Type 0) where
+  -- caller `c`'s note at this event's number is a note of this answer and these data
+  abbrev pub said_of_caller : List (List Noted) → ℕ → ℕ → MadeLine → Type 0
   said_of_caller notes c = NotedAt (IsNoted c) (list_at notes c)
 
   pub record AllSaid (lists : Lists) (callers : List (List Call)) (notes : List (Vec Noted)) : Type 0 where
@@ -66,21 +66,21 @@ module _ {Noted : Type 0} (IsNoted : ℕ → ℕ → Said → Noted → Type 0) 
     pub each : (c : ℕ) → c < length callers →
         IsSaid lists (start_setting callers c) (list_at callers c) (said_of_caller (said_lists notes) c)
 
-  -- the steps make a book; each line's answer and data are noted at its event's number; and looks_stand is whether the
-  -- looks are lawful
+  -- the steps make a book. Each line's answer and data are noted at the number of the line's event. `looks_conform` is
+  -- true exactly if the looks are lawful
   pub record AllMade (script : Script) (t : List (List SeenLine)) (m : Made Noted) : Type 0 where
     pub made : MadeBook script t
     pub long : length (made_by m) ≡ length t
     pub says : EachCaller (λ c calls ms. EachLine (SaysIt (said_of_caller (made_by m) c)) calls ms) 0 (script_calls script t)
         made.meanings
-    pub looks : IsTrue m.looks_stand ↔ SeenStands script t (lists_of made.book)
+    pub looks : IsTrue m.looks_conform ↔ SeenConforms script t (lists_of made.book)
 
 -- the clause is the first that fails, and comes before the answers
 pub record FailsEarly (script : Script) (t : List (List SeenLine)) (clause : Clause) : Type 0 where
   pub early : IsEarly clause
   pub fails : FirstFails script t (clause_of clause)
 
-abbrev pub IsRemade : {Noted : Type 0} → (ℕ → ℕ → Said → Noted → Type 0) → Script → List (List SeenLine) →
+abbrev pub IsRemade : {Noted : Type 0} → (ℕ → ℕ → MadeLine → Noted → Type 0) → Script → List (List SeenLine) →
     Remade Noted → Type 0
 IsRemade IsNoted script t (MadeAll m) = AllMade IsNoted script t m
 IsRemade IsNoted script t (No clause) = FailsEarly script t clause

@@ -1,4 +1,4 @@
--- The generation that a caller has seen, by the data that are kept of the lanes.
+-- The generation that a caller has seen, computed from the data kept of the lanes.
 use Rattle.std.specs.Prelude.{ℕ, ◌≤◌, ⊤, ◌-◌, max, Option, Some, None, List, [], length, slice_get, unwrap_or, option_map}
 use Rattle.std.specs.Global.{Vec}
 use Rattle.key_names.specs.declared.names.LaneId.{LaneId}
@@ -14,30 +14,30 @@ abbrev pub lane_of : Option (Vec KeptCpu) → List KeptCpu
 lane_of None = []
 lane_of (Some lane) = lane.items
 
--- the generation after the visit at a place; a visit of the pool gives none
+-- the generation after the visit at `place` of a lane; for a visit of the pool, none
 abbrev pub left_at : KeptLists → LaneId → ℕ → Option ℕ
 left_at kept PoolLane place = None
 left_at kept BaseLane place = option_map (λ k. k.generation) (slice_get kept.base.items place)
 left_at kept (CpuLane c) place = option_map (λ k. k.generation) (slice_get (lane_of (slice_get kept.cpus.items c)) place)
 
--- the generation that a step shows, if it shows one
+-- the generation that a look found, or that a visit left; for a visit of the pool, none
 abbrev pub found_by : KeptLists → Step → Option ℕ
 found_by kept (Look g) = Some g
 found_by kept (Marked mark) = left_at kept mark.lane mark.place
 
--- the greater of the carried generation and the found one, or none if both are missing
+-- the greater of the carried and the found generation; if one is missing, the other; if both are missing, none
 abbrev pub seen_more : Option ℕ → Option ℕ → Option ℕ
 seen_more carried None = carried
 seen_more carried (Some found) = Some (max (unwrap_or carried 0) found)
 
-abbrev pub seen_behind : KeptLists → Option ℕ → Step → Option ℕ
-seen_behind kept carried step = seen_more carried (found_by kept step)
+abbrev pub seen_past : KeptLists → Option ℕ → Step → Option ℕ
+seen_past kept carried step = seen_more carried (found_by kept step)
 
--- a look finds at least what was seen, and at most the number of reseeds
+-- a look finds at least the generation seen so far, and at most the number of reseeds
 abbrev pub MayLook : ℕ → Option ℕ → Step → Type 0
 MayLook reseeds carried (Look g) = (unwrap_or carried 0 ≤ g) × (g ≤ reseeds)
 MayLook reseeds carried (Marked mark) = ⊤
 
--- the number of reseeds of the base, from its last visit
+-- the number of the base's reseeds, which is the generation after the base's last visit
 abbrev pub reseeds_in : List KeptBase → ℕ
 reseeds_in base = unwrap_or (option_map (λ k. k.generation) (slice_get base (length base - 1))) 0

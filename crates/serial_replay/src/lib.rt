@@ -1,16 +1,39 @@
-//! Answers and bytes, made again from a transcript's words and steps.
+//! Answers and bytes, made again from a transcript's words and steps. No call reads an answer or data of the given
+//! transcript.
 //!
-//! From the steps of a transcript, [`remake::remake`] makes its book, every answer, and recipes for all data. Its user
-//! chooses the notes of each answer and its data. It also hands on the lists of the lanes. If the clauses on lines,
-//! marks and forms do not all hold, it returns the first that fails. [`replay::replay`] writes the result as a
-//! transcript. Neither reads an answer or data of the given transcript.
+//! From a transcript's steps, [`remake::remake`] makes the lists of the lanes, every answer, and recipes for all data.
+//! The argument `how` determines what is noted of each answer and its data. The result also has the lists.
+//! [`replay::replay`] writes the result as a transcript. [`lists::find_lists`] makes only the lists of the lanes, from
+//! which all answers and data are made. The crate uses `judge_lines` for lines, marks and orders. It uses `judge_log`
+//! for the lists, and for the answer and data of each line.
 //!
-//! The contract: a replay is lawful, has the given steps, and is the only transcript with both. `replay` returns a
-//! transcript exactly if the clauses on lines, marks, forms and looks all hold. [`lists::find_lists`] makes only the
-//! lists of the lanes, from which all answers and data are made.
+//! # Example
 //!
-//! The crate uses `judge_lines` for lines, marks and orders, and `judge_log` for the lists, and for the answer and data
-//! of each line.
+//! ```rust
+//! match replay(alloc, script, t) {
+//!     Ok(Replayed::Made(made)) => match write_all(sink, &made) {
+//!         Ok(()) => Status::Done,
+//!         Err(Failed) => Status::WriteFault,
+//!     },
+//!     Ok(Replayed::No(clause)) => put_line(Status::No, &no_line(clause.number()), sink),
+//!     Err(_) => Status::NoMemory,
+//! }
+//! ```
+//!
+//! From `crates/rng_tool/src/judge.rt`.
+//!
+//! # Proved
+//!
+//! - [`replay::replay`]: a transcript that it returns is lawful, and the only lawful one with the given steps. It
+//!   returns one exactly if the clauses on lines, marks, forms and looks all hold.
+//! - [`remake::remake`]: if the clauses on lines, marks and forms do not all hold, it returns the first that fails.
+//!   The result depends only on words and steps.
+//! - [`lists::find_lists`]: it returns the lists, or the first clause that fails. Even if it returns lists, the steps
+//!   of some line may be no form.
+//!
+//! # Tested only
+//!
+//! Nothing beyond what is proved. The tests of `rng_tool` replay a transcript with another answer.
 #![tactic(auto)]
 
 pub mod lists;

@@ -1,14 +1,14 @@
 //! Whether each look is lawful. A lawful look finds at least the greatest generation that its caller has seen, and at
-//! most the base's last.
+//! most the last generation of the base.
 ghost use Rattle.std.specs.Prelude.{◌≡◌, slice_get, option_map};
-ghost use Rattle.serial_replay.specs.Seen.{left_at, seen_more, seen_behind, MayLook, reseeds_in};
+ghost use Rattle.serial_replay.specs.Seen.{left_at, seen_more, seen_past, MayLook, reseeds_in};
 
 use judge_lines::along::Carry;
 use judge_log::{KeptBase, KeptCpu, Lists};
 use key_names::{LaneId, Mark, Step};
 
-/// The generation that a caller has seen is carried along its order. It is the greatest of those that the caller's
-/// looks found and those that its visits of the base and of CPUs left.
+/// Carries along a caller's order the generation that the caller has seen. This is the greatest generation that any of
+/// its looks found, or that any of its visits of the base or of a CPU left.
 #[derive(Drop)]
 pub(crate) struct Looks<'a> {
     lists: &'a Lists,
@@ -69,7 +69,7 @@ fn seen_more(carried: Option<u64>, found: Option<u64>) -> Option<u64>
 }
 
 impl Carry for Looks<'_> {
-    ghost after = { λ looks carried step. seen_behind looks.lists.now carried step };
+    ghost after = { λ looks carried step. seen_past looks.lists.now carried step };
 
     ghost MayFollow = { λ looks carried step. MayLook looks.reseeds carried step };
 

@@ -1,4 +1,4 @@
-//! Every answer and all data of a transcript, made again from its words and steps.
+//! Makes every answer and all data of a transcript again, from its words and steps.
 ghost use Rattle.std.specs.Prelude.{◌≡◌, ◌≤◌, List, length, IfOk, IfSome, IsSome, map};
 ghost use Rattle.std.specs.List.{AllByRecursion};
 ghost use Rattle.key_names.specs.Lanes.Book.{Lists as BookLists, LawfulLanes, list_at};
@@ -11,30 +11,30 @@ ghost use Rattle.judge_lines.specs.Seen.{seen_callers};
 ghost use Rattle.judge_log.specs.Kept.{Keeps};
 ghost use Rattle.judge_log.specs.Filled.{AllCallsFill};
 ghost use Rattle.judge_log.specs.Said.{CallInRange, IsSaid};
-ghost use Rattle.serial_replay.specs.Found.{StandsOn};
-ghost use Rattle.serial_replay.specs.Remade.{IsRemade, CallersStand, StepsFit, AllMeanSome, AllSaid};
+ghost use Rattle.serial_replay.specs.Found.{ConformsOn};
+ghost use Rattle.serial_replay.specs.Remade.{IsRemade, CallersConform, StepsFit, AllMeanSome, AllSaid};
 
-use crate::lists::{Basis, Found, find_lists};
+use crate::lists::{Basis, FoundLists, find_lists};
 use crate::looks::Looks;
 use event_script::Script;
 use judge_lines::along::all_may_follow;
 use judge_lines::bare::BareLine;
-use judge_lines::called::Called;
+use judge_lines::called::CalledLines;
 use judge_lines::clause::Clause;
 use judge_lines::seen::bare_callers;
-use judge_lines::setting::Setting;
+use judge_lines::setting::LineSetting;
 use judge_log::Lists;
 use judge_log::calls::caller_said;
 use judge_log::said::Note;
 use std::alloc::{AllocError, Global};
 use transcript_text::Transcript;
 
-/// The notes of each caller's lines, by the numbers of their events; whether the looks of the transcript are lawful;
-/// and the basis from which all of it was made.
+/// The notes of each caller's lines, whether the looks of the transcript are lawful, and the basis of the notes. The
+/// event number of a line is the index of its note.
 #[derive(Drop)]
 pub struct Made<'a, T: Drop> {
     pub callers: Vec<Vec<T>>,
-    pub looks_stand: bool,
+    pub looks_conform: bool,
     pub basis: Basis<'a>,
 }
 
@@ -47,11 +47,11 @@ pub enum Remade<'a, T: Drop> {
     No(Clause),
 }
 
-// Notes of each caller's lines. `None` if the steps of some line are no form.
+// The notes of each caller's lines. `None` if the steps of some line are no form.
 fn all_said<N: Note>(
     alloc: Global,
-    calls: &[Vec<Called<'_>>],
-    settings: &[Vec<Setting>],
+    calls: &[Vec<CalledLines<'_>>],
+    settings: &[Vec<LineSetting>],
     kept: &Lists,
     how: &N,
 ) -> Result<Option<Vec<Vec<N::Noted>>>, AllocError>
@@ -59,11 +59,11 @@ fn all_said<N: Note>(
     requires long { length settings.now ≡ length calls.now }
     requires in_range { AllByRecursion (AllByRecursion CallInRange) (seen_calls calls.now) }
     ensures some { (script : ScriptLines) (t : List (List SeenLine)) (lists : BookLists) →
-        CallersStand script t (seen_calls calls.now) settings.now → Keeps kept.now lists → LawfulLanes lists →
+        CallersConform script t (seen_calls calls.now) settings.now → Keeps kept.now lists → LawfulLanes lists →
         AllCallsFill lists (seen_calls calls.now) →
         IfOk result (λ o. IfSome o (λ noted. AllSaid (N.IsNoted how.now) lists (seen_calls calls.now) noted.items)) }
     ensures only { (script : ScriptLines) (t : List (List SeenLine)) (lists : BookLists) →
-        CallersStand script t (seen_calls calls.now) settings.now → Keeps kept.now lists → LawfulLanes lists →
+        CallersConform script t (seen_calls calls.now) settings.now → Keeps kept.now lists → LawfulLanes lists →
         AllMeanSome lists (seen_calls calls.now) → IfOk result (λ o. IsSome o) }
 {
     let mut callers = Vec::new(alloc);
@@ -92,27 +92,27 @@ fn of_lines<'a, N: Note>(
     requires well { WellFormed script.now }
     requires fit { StepsFit (seen_callers lines.now) }
     ensures made { IfOk result (λ remade. IsRemade (N.IsNoted how.now) script.now (seen_callers lines.now) remade) }
-    ensures basis { IfOk result (λ remade. StandsOn script.now (seen_callers lines.now) remade) }
+    ensures basis { IfOk result (λ remade. ConformsOn script.now (seen_callers lines.now) remade) }
 {
     let basis = match find_lists(alloc, script, lines)? {
-        Found::No(clause) => return Ok(Remade::No(clause)),
-        Found::Stands(basis) => basis,
+        FoundLists::No(clause) => return Ok(Remade::No(clause)),
+        FoundLists::Conforms(basis) => basis,
     };
     let parts = &basis.parts;
     let Some(callers) = all_said(alloc, &parts.calls, &basis.settings, &basis.lists, how)? else {
         return Ok(Remade::No(Clause::Forms));
     };
     let looks = Looks::of(&basis.lists);
-    let looks_stand = all_may_follow(alloc, &parts.calls, &parts.forks, &looks)?;
+    let looks_conform = all_may_follow(alloc, &parts.calls, &parts.forks, &looks)?;
     Ok(Remade::Made(Made {
         callers,
-        looks_stand,
+        looks_conform,
         basis,
     }))
 }
 
-/// Makes every answer and all data of a transcript again, from its words and steps alone. `how` determines which notes
-/// of them it keeps. It hands on the lists from which they were made.
+/// Makes every answer and all data of a transcript again, from its words and steps alone. `how` determines what is
+/// noted of these answers and data. The result also has the lists from which the answers and data were made.
 ///
 /// # Errors
 ///
@@ -125,9 +125,9 @@ pub fn remake<'a, N: Note>(
 ) -> Result<Remade<'a, N::Noted>, AllocError>
     ensures made { IfOk result (λ remade. IsRemade (N.IsNoted how.now) script.now t.now remade) }
     ensures of_steps { IfOk result (λ remade. IsRemade (N.IsNoted how.now) script.now (map (map bare) t.now) remade) }
-    ensures basis { IfOk result (λ remade. StandsOn script.now (map (map bare) t.now) remade) }
+    ensures basis { IfOk result (λ remade. ConformsOn script.now (map (map bare) t.now) remade) }
 {
-    // The contracts of these two calls state facts of every script and of every transcript.
+    // These two calls are made for their contracts, which state facts of every script and of every transcript.
     let _version = script.version();
     let _callers = t.callers();
     let lines = bare_callers(alloc, t)?;

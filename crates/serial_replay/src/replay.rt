@@ -1,4 +1,4 @@
-//! A transcript, made from its steps.
+//! Writes the transcript that given words and steps determine.
 ghost use Rattle.std.specs.Prelude.{◌≡◌, ◌^◌, ◌<◌, ◌∷◌, [], ◌++◌, List, length, Some, IfOk, OnOk, slice_get};
 ghost use Rattle.std.specs.List.{AllByRecursion};
 ghost use Rattle.key_names.specs.Transcripts.IsTranscript.{IsTranscript};
@@ -17,11 +17,11 @@ ghost use Rattle.serial_replay.specs.Written.{bytes_said, said_of, lines_said, s
 use crate::remake::{Remade, remake};
 use event_script::Script;
 use judge_lines::clause::Clause;
-use judge_log::said::{Said, Shows, Whole};
+use judge_log::said::{MadeLine, ShownRecipe, Whole};
 use std::alloc::{AllocError, Global};
 use transcript_text::{CallerLines, LineView, Shown, Transcript};
 
-/// A transcript that was made again, or the first clause that fails.
+/// A transcript that was made again, or the clause that stopped the replay.
 #[derive(Drop)]
 pub enum Replayed {
     Made(Transcript),
@@ -41,19 +41,19 @@ fn push_line(lines: &mut CallerLines, line: LineView<'_>) -> Result<(), AllocErr
 }
 
 // Replaces the content of the buffer by the bytes of a line.
-fn put_bytes(buffer: &mut Vec<u8>, said: &Said) -> Result<(), AllocError>
+fn put_bytes(buffer: &mut Vec<u8>, said: &MadeLine) -> Result<(), AllocError>
     ensures bytes { OnOk result (buffer.new.items ≡ bytes_said said.now.shows) }
     ensures short { OnOk result (length buffer.new.items < 2 ^ 32) }
 {
     buffer.clear();
     match &said.shows {
-        Shows::Served(served) => served.put(buffer),
-        Shows::Nothing | Shows::Count(_) => Ok(()),
+        ShownRecipe::Served(served) => served.put(buffer),
+        ShownRecipe::Nothing | ShownRecipe::Count(_) => Ok(()),
     }
 }
 
 // The data of a line, with these bytes.
-fn shown_as<'a>(said: &Said, bytes: &'a [u8]) -> Shown<'a>
+fn shown_as<'a>(said: &MadeLine, bytes: &'a [u8]) -> Shown<'a>
     requires bytes { bytes.now ≡ bytes_said said.now.shows }
     requires short { length bytes.now < 2 ^ 32 }
     ensures shown { seen_shown result ≡ shown_by said.now.shows }
@@ -61,19 +61,19 @@ fn shown_as<'a>(said: &Said, bytes: &'a [u8]) -> Shown<'a>
     ensures fits { (word : EventWord) → IsFor word (seen_shown result) → ShownFits word (seen_shown result) }
 {
     match &said.shows {
-        Shows::Nothing => Shown::None,
-        Shows::Count(number) => Shown::Count(*number),
-        Shows::Served(_) => Shown::Bytes(bytes),
+        ShownRecipe::Nothing => Shown::None,
+        ShownRecipe::Count(number) => Shown::Count(*number),
+        ShownRecipe::Served(_) => Shown::Bytes(bytes),
     }
 }
 
-// The line with the answer and data that were made.
-fn told_line<'a>(line: LineView<'a>, said: &Said, bytes: &'a [u8]) -> LineView<'a>
+// The line, with the answer and data of `said` instead of the line's own.
+fn inferred_line<'a>(line: LineView<'a>, said: &MadeLine, bytes: &'a [u8]) -> LineView<'a>
     requires fits { LineFits (seen line) }
     requires kind { MayShow (seen line) said.now }
     requires bytes { bytes.now ≡ bytes_said said.now.shows }
     requires short { length bytes.now < 2 ^ 32 }
-    ensures told { seen result ≡ said_of (seen line.entry) (Some said.now) }
+    ensures inferred { seen result ≡ said_of (seen line.entry) (Some said.now) }
     ensures short { length (bytes_of result.shown) < 2 ^ 32 }
     ensures fits { LineFits (seen result) }
 {
@@ -88,11 +88,11 @@ fn told_line<'a>(line: LineView<'a>, said: &Said, bytes: &'a [u8]) -> LineView<'
     }
 }
 
-// Adds a line with the answer and data that were made. The buffer is for its bytes.
+// Adds a line with the answer and data of `said`. The bytes of the data are put into the buffer first.
 fn push_said(
     lines: &mut CallerLines,
     line: LineView<'_>,
-    said: &Said,
+    said: &MadeLine,
     buffer: &mut Vec<u8>,
 ) -> Result<(), AllocError>
     requires fits { LineFits (seen line) }
@@ -100,14 +100,14 @@ fn push_said(
     ensures { OnOk result (lines.new.lines ≡ lines.old.lines ++ said_of (seen line.entry) (Some said.now) ∷ []) }
 {
     put_bytes(buffer, said)?;
-    push_line(lines, told_line(line, said, buffer))
+    push_line(lines, inferred_line(line, said, buffer))
 }
 
-// Adds a line with the answer and data that were made for its number.
+// Adds a line with the answer and data that were made for the number of the line's event.
 fn push_made(
     lines: &mut CallerLines,
     line: LineView<'_>,
-    said: &[Said],
+    said: &[MadeLine],
     buffer: &mut Vec<u8>,
 ) -> Result<(), AllocError>
     requires fits { LineFits (seen line) }
@@ -124,27 +124,27 @@ fn push_made(
 fn caller_lines(
     alloc: Global,
     lines: &CallerLines,
-    said: &[Said],
+    said: &[MadeLine],
 ) -> Result<CallerLines, AllocError>
     requires { AllByRecursion (Agrees MayShow said.now) lines.now.lines }
-    ensures { IfOk result (λ told. told.lines ≡ lines_said said.now lines.now.lines) }
+    ensures { IfOk result (λ inferred. inferred.lines ≡ lines_said said.now lines.now.lines) }
 {
-    let mut told = CallerLines::with_room(alloc, lines.len(), 0, 0)?;
+    let mut inferred = CallerLines::with_room(alloc, lines.len(), 0, 0)?;
     let mut buffer = Vec::new(alloc);
     for number in 0..lines.len() {
-        push_made(&mut told, lines.line(number), said, &mut buffer)?;
+        push_made(&mut inferred, lines.line(number), said, &mut buffer)?;
     }
-    Ok(told)
+    Ok(inferred)
 }
 
 fn all_lines(
     alloc: Global,
     steps: &Transcript,
-    said: &[Vec<Said>],
+    said: &[Vec<MadeLine>],
 ) -> Result<Transcript, AllocError>
     requires long { length said.now ≡ length steps.now }
     requires kinds { AllAgree MayShow (said_lists said.now) steps.now }
-    ensures { IfOk result (λ told. told ≡ said_into (said_lists said.now) steps.now) }
+    ensures { IfOk result (λ inferred. inferred ≡ said_into (said_lists said.now) steps.now) }
 {
     let mut callers = Vec::new(alloc);
     for caller in 0..steps.callers() {
@@ -153,7 +153,7 @@ fn all_lines(
     Ok(Transcript::of(callers))
 }
 
-// The transcript of these words and steps, or the first clause that fails.
+// The transcript with the words and steps of `steps`, or the first clause that fails.
 fn replay_steps(alloc: Global, script: &Script, steps: &Transcript) -> Result<Replayed, AllocError>
     ensures { IfOk result (λ replayed. IsReplay script.now steps.now replayed) }
 {
@@ -161,7 +161,7 @@ fn replay_steps(alloc: Global, script: &Script, steps: &Transcript) -> Result<Re
         Remade::No(clause) => return Ok(Replayed::No(clause)),
         Remade::Made(made) => made,
     };
-    if !made.looks_stand {
+    if !made.looks_conform {
         return Ok(Replayed::No(Clause::Looks));
     }
     // The memory of the lists is freed before the lines are written.
@@ -169,8 +169,8 @@ fn replay_steps(alloc: Global, script: &Script, steps: &Transcript) -> Result<Re
     Ok(Replayed::Made(all_lines(alloc, steps, &made.callers)?))
 }
 
-/// The transcript with these words and steps, and with its answers and data made again, or the first clause that fails.
-/// The answers and data of `steps` are not read.
+/// The transcript with the words and steps of `steps`, and with its answers and data made again. If a clause on lines,
+/// marks, forms or looks fails, the first such clause. The answers and data of `steps` are not read.
 ///
 /// # Errors
 ///

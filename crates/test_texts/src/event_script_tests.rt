@@ -1,9 +1,9 @@
-//! Facts without a clause: an ordinary text is read, a reader shows each event once its line is whole, and a load has
-//! the expected content. `.ci/program_checks` tries each fault on the built program.
+//! Facts that no contract states: an ordinary text is read, a reader shows each event once its line is whole, and a
+//! load has the expected content. `.ci/program_checks` tries each fault on the built program.
 ghost use Rattle.std.specs.Prelude.{◌≡◌, ℕ, List, OnOk};
 ghost use Rattle.event_script.specs.Feeding.{HasFed};
 
-use event_script::{Progress, Reader, Script, read, read_front};
+use event_script::{Script, ScriptProgress, ScriptReader, read, read_front};
 use key_names::{Event, Text};
 use std::alloc::{AllocError, Global};
 use std::test::Fail;
@@ -82,7 +82,7 @@ fn a_load_has_the_events_of_its_text(rt: HostRuntime) -> Result<(), Fail> {
 #[test]
 fn loads_at_their_limits(rt: HostRuntime) -> Result<(), Fail> {
     let text = Text::of(rt.alloc(), [0x8f, 1, 0, 0, 0, 0, 0, 0].to_vec(rt.alloc())?)?;
-    // The number of events and the last one, computed by another program.
+    // The number of events and the last event in each row were computed by another program.
     let rows = [
         (1, 8, 400, 3216, Event::Write { text }),
         (u32::MAX, 64, 1000, 64_128, Event::Int64),
@@ -104,7 +104,8 @@ fn loads_at_their_limits(rt: HostRuntime) -> Result<(), Fail> {
     Ok(())
 }
 
-/// An answer of `progress`, with the number of finished blocks, of events in the last block, and of a line.
+/// A summary of what `progress` returns: the number of finished blocks, the number of events in the last block, and the
+/// number of the next or the faulty line.
 #[derive(Clone, Copy, Debug, PartialEq, Eq)]
 enum Summary {
     Waits,
@@ -113,12 +114,12 @@ enum Summary {
     Faulty(u32),
 }
 
-fn summary_of(progress: Progress<'_>) -> Summary {
+fn summary_of(progress: ScriptProgress<'_>) -> Summary {
     match progress {
-        Progress::Waits => Summary::Waits,
-        Progress::Open(view) => Summary::Open(view.blocks, view.events.len(), view.number),
-        Progress::Ended(view) => Summary::Ended(view.blocks, view.events.len(), view.number),
-        Progress::Faulty(fault) => Summary::Faulty(fault.line),
+        ScriptProgress::Waits => Summary::Waits,
+        ScriptProgress::Open(view) => Summary::Open(view.blocks, view.events.len(), view.number),
+        ScriptProgress::Ended(view) => Summary::Ended(view.blocks, view.events.len(), view.number),
+        ScriptProgress::Faulty(fault) => Summary::Faulty(fault.line),
     }
 }
 
@@ -134,8 +135,8 @@ const LINES: [(&[u8], Summary); 9] = [
     (b"bits", Summary::Faulty(9)),
 ];
 
-/// Feeds a piece. Returns what the reader shows after it.
-fn next(alloc: Global, reader: &mut Reader, piece: &[u8]) -> Result<Summary, AllocError>
+/// Feeds a piece. Returns the summary of the reader's progress after this piece.
+fn next(alloc: Global, reader: &mut ScriptReader, piece: &[u8]) -> Result<Summary, AllocError>
     requires { (text : List ℕ) × HasFed text reader.old }
     ensures { OnOk result ((text : List ℕ) × HasFed text reader.new) }
 {
@@ -146,8 +147,8 @@ fn next(alloc: Global, reader: &mut Reader, piece: &[u8]) -> Result<Summary, All
 #[test]
 fn events_are_shown_once_their_line_is_whole(rt: HostRuntime) -> Result<(), Fail> {
     let alloc = rt.alloc();
-    let mut by_bytes = Reader::new(alloc);
-    let mut by_lines = Reader::new(alloc);
+    let mut by_bytes = ScriptReader::new(alloc);
+    let mut by_lines = ScriptReader::new(alloc);
     for (line, shown) in LINES {
         for byte in line {
             assert_eq!(rt; next(alloc, &mut by_bytes, &[*byte])?, Summary::Waits);
@@ -162,13 +163,13 @@ fn events_are_shown_once_their_line_is_whole(rt: HostRuntime) -> Result<(), Fail
 
 #[test]
 fn a_view_has_the_head_and_the_events(rt: HostRuntime) -> Result<(), Fail> {
-    let mut reader = Reader::new(rt.alloc());
+    let mut reader = ScriptReader::new(rt.alloc());
     reader.feed(
         rt.alloc(),
         b"rngscript 2\ncpus 3\ncaller 0\nuread 4\nkread 5\n",
     )?;
     let open = match reader.progress() {
-        Progress::Open(view) => Some(view),
+        ScriptProgress::Open(view) => Some(view),
         _ => None,
     };
     let view = open.ok_or("not open")?;

@@ -1,4 +1,5 @@
-//! Facts without a clause: the adapters work over real readers and writers, and each call is tried once to its end.
+//! Facts that no contract states: the adapters work over real readers and writers. Each call of a source or sink in
+//! memory is made to fail once.
 ghost use Rattle.std.specs.Prelude.{◌≤◌, length};
 
 use io_edges::{

@@ -1,4 +1,4 @@
-//! A small transcript, and changed ones. For each, the test has the first clause about lines and marks that fails.
+//! A small transcript and changed ones, each with the first clause on lines and marks that fails.
 use event_script::{Script, read};
 use judge_lines::begin::{Begun, begin};
 use judge_lines::clause::Clause;
@@ -10,13 +10,13 @@ use transcript_text::Transcript;
 const SCRIPT: &[u8] =
     b"rngscript 1\ncpus 1\ncaller 0\nwrite 616263\nfork 1\nbits\ncaller 1\nread 16 4\nend\n";
 
-// Each transcript comes with the clause that fails, which was found by hand.
+// The clause that fails for each transcript was found by hand.
 const CASES: [(&[u8], Option<Clause>); 8] = [
     (
         b"rngtranscript 1\n0.0 write ok p:0@1 -\n0.1 fork ok b:0@2 -\n0.2 bits ok p:2@5 -\n0.3 end ok b:2@6 -\n1.0 read ok ~0,p:1@3,b:1@4 -\n1.1 end ok b:3@7 -\nend\n",
         None,
     ),
-    // The line of the bits has another event's number.
+    // The line of the `bits` event has the number of another event.
     (
         b"rngtranscript 1\n0.0 write ok p:0@1 -\n0.1 fork ok b:0@2 -\n0.4 bits ok p:2@5 -\n0.3 end ok b:2@6 -\n1.0 read ok ~0,p:1@3,b:1@4 -\n1.1 end ok b:3@7 -\nend\n",
         Some(Clause::Lines),
@@ -36,12 +36,12 @@ const CASES: [(&[u8], Option<Clause>); 8] = [
         b"rngtranscript 1\n0.0 write ok p:0@1 -\n0.1 fork ok b:0@2 -\n0.2 bits ok p:2@5 -\n0.3 end ok b:2@6 -\n1.0 read ok ~0,p:1@3,b:1@7 -\n1.1 end ok b:3@8 -\nend\n",
         Some(Clause::Marks),
     ),
-    // The child's first visit has a stamp below that of its fork.
+    // The child's first visit has a lower stamp than the fork of the child.
     (
         b"rngtranscript 1\n0.0 write ok p:0@1 -\n0.1 fork ok b:0@4 -\n0.2 bits ok p:2@6 -\n0.3 end ok b:2@7 -\n1.0 read ok ~0,p:1@3,b:1@5 -\n1.1 end ok b:3@8 -\nend\n",
         Some(Clause::Marks),
     ),
-    // A visit of a CPU that does not exist has a place too.
+    // A visit of a CPU that does not exist must also have the right place.
     (
         b"rngtranscript 1\n0.0 write ok p:0@1 -\n0.1 fork ok b:0@2 -\n0.2 bits ok p:2@5 -\n0.3 end ok b:2@6 -\n1.0 read ok ~0,p:1@3,b:1@4 -\n1.1 end ok b:3@7,c9:0@8 -\nend\n",
         None,
@@ -57,12 +57,12 @@ fn first_fault<'a>(
     script: &'a Script,
     transcript: &'a Transcript,
 ) -> Result<Option<Clause>, AllocError> {
-    // The contract of this call gives the fact that the script is well-formed, which `begin` requires.
+    // This call is made for its contract: the script is well-formed, which `begin` requires.
     let _version = script.version();
     let lines = bare_callers(alloc, transcript)?;
     match begin(alloc, script, &lines)? {
         Begun::No(clause) => Ok(Some(clause)),
-        Begun::Stands(_) => Ok(None),
+        Begun::Conforms(_) => Ok(None),
     }
 }
 

@@ -1,16 +1,19 @@
 ghost use Rattle.std.specs.Prelude.{IfOk, All, ◌<◌, ◌^◌, length, map};
 ghost use Rattle.judge_log.specs.Tables.{CpuIsWide, InRange, tables_of};
-ghost use Rattle.judge_log.specs.declared.told.ToldCpu.{ToldCpu};
+ghost use Rattle.judge_log.specs.declared.inferred.InferredCpu.{InferredCpu};
 
 use input_pool::Crossing;
-use judge_lines::told::{BaseTold, CpuTold};
-use judge_log::{KeptBase, KeptCpu, KeptPool, Root, Source, Told, ToldCpu, ToldPool, replay_lists};
+use judge_lines::inferred::{BaseInferred, CpuInferred};
+use judge_log::{
+    BytesSource, InferredCpu, InferredEntries, InferredPool, KeptBase, KeptCpu, KeptPool, KeptRoot,
+    replay_lists,
+};
 use key_names::{BaseEntry, CpuEntry, PoolNote, Taken};
 use std::alloc::{AllocError, Global};
 
 // The first root of a pool that "abc" was mixed into, by Python's hashlib. Then bytes 32 to 64 of the root's keystream,
-// and bytes 0 to 32 of the keystream of these, by a ChaCha20 in Python that was compared with the first block of a zero
-// key.
+// which are the CPU's key, and bytes 0 to 32 of the keystream of the CPU's key. These two are by a ChaCha20 in Python
+// that was compared with the first block of a zero key.
 const ROOT: [u8; 32] = *b"\x9d\x59\x8e\x47\xdd\x3e\x9a\x6d\x9a\xfd\x89\x9d\x2d\xd9\x0d\x9e\
           \x4d\xe1\xae\x08\xe9\x40\x57\xb0\x37\x48\x00\x45\xc0\x1c\x69\x37";
 
@@ -20,9 +23,9 @@ const CPU_KEY: [u8; 32] = *b"\x2e\x6b\xb5\xff\x0f\xe2\x62\xf6\x61\x31\xc5\xe0\x6
 const NEXT_CPU_KEY: [u8; 32] = *b"\x42\x19\x7a\xa5\xc5\x59\xd1\x11\x3a\xd6\x70\x26\x58\x6e\x0e\x84\
           \x5d\xfd\x68\x71\xd4\x3c\x8d\x6c\x76\xbe\x10\xad\xb6\xe6\xa0\x36";
 
-fn lane(alloc: Global, look: u64) -> Result<Vec<Vec<ToldCpu>>, AllocError>
+fn lane(alloc: Global, look: u64) -> Result<Vec<Vec<InferredCpu>>, AllocError>
     ensures few { IfOk result (λ cpus. length (map (λ lane. lane.items) cpus.items) < 2 ^ 32) }
-    ensures wide { IfOk result (λ cpus. All (λ lane. All (λ (t : ToldCpu). CpuIsWide t.entry) lane)
+    ensures wide { IfOk result (λ cpus. All (λ lane. All (λ (t : InferredCpu). CpuIsWide t.entry) lane)
         (map (λ lane. lane.items) cpus.items)) }
 {
     let read = CpuEntry::Read {
@@ -30,18 +33,18 @@ fn lane(alloc: Global, look: u64) -> Result<Vec<Vec<ToldCpu>>, AllocError>
         refill: Some(1),
         taken: Taken::User(16),
     };
-    let integer = CpuTold::Batch { look, width: 8 };
+    let integer = CpuInferred::Batch { look, width: 8 };
     let mut cpus = Vec::new(alloc);
     cpus.push([
-        ToldCpu {
-            entry: CpuTold::Is(read),
+        InferredCpu {
+            entry: CpuInferred::Is(read),
             dumps: false,
         },
-        ToldCpu {
+        InferredCpu {
             entry: integer,
             dumps: false,
         },
-        ToldCpu {
+        InferredCpu {
             entry: integer,
             dumps: false,
         },
@@ -57,28 +60,28 @@ fn reseeded<'a>(
     root: u64,
     refill: u64,
     look: u64,
-) -> Result<Told<'a>, AllocError>
-    ensures { IfOk result (λ told. InRange (tables_of told)) }
+) -> Result<InferredEntries<'a>, AllocError>
+    ensures { IfOk result (λ inferred. InRange (tables_of inferred)) }
 {
-    Ok(Told {
+    Ok(InferredEntries {
         pool: [
-            ToldPool::Is(PoolNote::Mix {
+            InferredPool::Is(PoolNote::Mix {
                 text: b"abc",
                 bits: 256,
             }),
-            ToldPool::Is(PoolNote::Extract {
+            InferredPool::Is(PoolNote::Extract {
                 hw: [0; 32],
                 base_place: extraction,
             }),
         ]
         .to_vec(alloc)?,
         base: [
-            BaseTold::Crossed {
+            BaseInferred::Crossed {
                 root,
                 now: 0,
                 credit: 0,
             },
-            BaseTold::Is(BaseEntry::Refill {
+            BaseInferred::Is(BaseEntry::Refill {
                 cpu: 0,
                 cpu_place: refill,
             }),
@@ -107,7 +110,7 @@ fn kept_cpu(entry: CpuEntry, key: [u8; 32], served: u32) -> KeptCpu {
     KeptCpu {
         entry,
         generation: 1,
-        source: Source {
+        source: BytesSource {
             key: Some(key),
             served,
         },
@@ -116,14 +119,14 @@ fn kept_cpu(entry: CpuEntry, key: [u8; 32], served: u32) -> KeptCpu {
 
 #[test]
 fn keys_of_a_refilled_cpu(rt: HostRuntime) -> Result<(), AllocError> {
-    let told = reseeded(rt.alloc(), 0, 1, 0, 1)?;
-    let kept = replay_lists(rt.alloc(), &told)?;
+    let inferred = reseeded(rt.alloc(), 0, 1, 0, 1)?;
+    let kept = replay_lists(rt.alloc(), &inferred)?;
     assert!(rt; kept.is_some());
     if let Some(kept) = kept {
         let extracted = KeptPool {
             before: 256,
             crossing: Crossing::None,
-            root: Some(Root {
+            root: Some(KeptRoot {
                 value: ROOT,
                 base_place: 0,
             }),
@@ -160,8 +163,8 @@ fn names_that_are_not_answered(rt: HostRuntime) -> Result<(), AllocError> {
         (0, 1, 1, 1, false),
         (0, 1, 0, 2, false),
     ] {
-        let told = reseeded(rt.alloc(), extraction, root, refill, look)?;
-        let kept = replay_lists(rt.alloc(), &told)?;
+        let inferred = reseeded(rt.alloc(), extraction, root, refill, look)?;
+        let kept = replay_lists(rt.alloc(), &inferred)?;
         assert_eq!(rt;
             kept.is_some(),
             lawful,
@@ -171,27 +174,28 @@ fn names_that_are_not_answered(rt: HostRuntime) -> Result<(), AllocError> {
     Ok(())
 }
 
-// An interrupt that makes a dump due, since it is the first one more than a second after the start. The dump follows.
-fn dumped<'a>(alloc: Global, dumps: bool, place: u64) -> Result<Told<'a>, AllocError>
-    ensures { IfOk result (λ told. InRange (tables_of told)) }
+// An interrupt that makes a dump due, since it is the first interrupt more than a second after the start. The dump
+// follows.
+fn dumped<'a>(alloc: Global, dumps: bool, place: u64) -> Result<InferredEntries<'a>, AllocError>
+    ensures { IfOk result (λ inferred. InRange (tables_of inferred)) }
 {
     let now = 1001;
     let mut cpus = Vec::new(alloc);
     cpus.push([
-        ToldCpu {
-            entry: CpuTold::Is(CpuEntry::Irq { v1: 1, v2: 2, now }),
+        InferredCpu {
+            entry: CpuInferred::Is(CpuEntry::Irq { v1: 1, v2: 2, now }),
             dumps,
         },
-        ToldCpu {
-            entry: CpuTold::Is(CpuEntry::Dump { now }),
+        InferredCpu {
+            entry: CpuInferred::Is(CpuEntry::Dump { now }),
             dumps: false,
         },
     ]
     .to_vec(alloc)?)?;
-    Ok(Told {
+    Ok(InferredEntries {
         pool: [
-            ToldPool::Dumped { cpu: 0, place },
-            ToldPool::Is(PoolNote::Bits),
+            InferredPool::Dumped { cpu: 0, place },
+            InferredPool::Is(PoolNote::Bits),
         ]
         .to_vec(alloc)?,
         base: Vec::new(alloc),
@@ -202,8 +206,8 @@ fn dumped<'a>(alloc: Global, dumps: bool, place: u64) -> Result<Told<'a>, AllocE
 #[test]
 fn dumps_that_are_due(rt: HostRuntime) -> Result<(), AllocError> {
     for (dumps, place, lawful) in [(true, 1, true), (false, 1, false), (true, 0, false)] {
-        let told = dumped(rt.alloc(), dumps, place)?;
-        let kept = replay_lists(rt.alloc(), &told)?;
+        let inferred = dumped(rt.alloc(), dumps, place)?;
+        let kept = replay_lists(rt.alloc(), &inferred)?;
         assert_eq!(rt; kept.is_some(), lawful, "{dumps} {place}");
         if let Some(kept) = kept {
             for (pool, before) in kept.pool.iter().zip([0, 1]) {

@@ -1,6 +1,6 @@
-use judge_vread::follow::{Course, follow};
+use judge_vread::follow::{VreadPath, follow};
 use judge_vread::inside::{Inside, Reached};
-use judge_vread::seen::Seen;
+use judge_vread::seen::SeenStep;
 use judge_vread::served::Served;
 use judge_vread::system_call::system_call;
 use key_names::{Answer, InsideAct, Point};
@@ -27,20 +27,20 @@ fn made(alloc: Global, served: &Served) -> Result<Vec<u8>, Fail> {
     Ok(out)
 }
 
-fn checked(course: Option<Course>) -> Result<Course, Fail> {
-    Ok(course.ok_or("no course")?)
+fn checked(path: Option<VreadPath>) -> Result<VreadPath, Fail> {
+    Ok(path.ok_or("no path")?)
 }
 
 #[test]
 fn a_current_key_serves(rt: HostRuntime) -> Result<(), Fail> {
     let mut st = VState::keyed([0; 32], 2);
-    let seen = [Seen::Ready(1), Seen::Ready(1), Seen::Ready(1)];
+    let seen = [SeenStep::Ready(1), SeenStep::Ready(1), SeenStep::Ready(1)];
     let mut inside = Inside::none();
     inside.add(Point::Written, InsideAct::Wipe);
-    let course = checked(follow(&mut st, 32, 0, inside, &seen))?;
-    assert_eq!(rt; course.answer, Answer::Ok);
-    assert_eq!(rt; course.reached, Reached::AllButWritten);
-    assert!(rt; course.served.is(&ZERO_KEY_AT_0));
+    let path = checked(follow(&mut st, 32, 0, inside, &seen))?;
+    assert_eq!(rt; path.answer, Answer::Ok);
+    assert_eq!(rt; path.reached, Reached::AllButWritten);
+    assert!(rt; path.served.is(&ZERO_KEY_AT_0));
     assert_eq!(rt; st.left(), 64);
     Ok(())
 }
@@ -48,19 +48,19 @@ fn a_current_key_serves(rt: HostRuntime) -> Result<(), Fail> {
 #[test]
 fn a_key_is_read_first(rt: HostRuntime) -> Result<(), Fail> {
     let seen = [
-        Seen::Ready(1),
-        Seen::Ready(1),
-        Seen::Ready(1),
-        Seen::Ready(1),
-        Seen::Cpu([0; 32]),
-        Seen::Ready(1),
+        SeenStep::Ready(1),
+        SeenStep::Ready(1),
+        SeenStep::Ready(1),
+        SeenStep::Ready(1),
+        SeenStep::Cpu([0; 32]),
+        SeenStep::Ready(1),
     ];
     let mut inside = Inside::none();
     inside.add(Point::Serve, InsideAct::Reseed);
     let mut st = VState::wiped();
-    let course = checked(follow(&mut st, 32, 0, inside, &seen))?;
-    assert_eq!(rt; course.reached, Reached::All);
-    assert!(rt; course.served.is(&CALL_KEY_AT_0));
+    let path = checked(follow(&mut st, 32, 0, inside, &seen))?;
+    assert_eq!(rt; path.reached, Reached::All);
+    assert!(rt; path.served.is(&CALL_KEY_AT_0));
     assert_eq!(rt; st.generation(), 2);
     let short = follow(&mut VState::wiped(), 32, 0, inside, &seen[..5]);
     assert!(rt; short.is_none());
@@ -70,24 +70,24 @@ fn a_key_is_read_first(rt: HostRuntime) -> Result<(), Fail> {
 #[test]
 fn a_wipe_and_a_reseed_lead_to_the_system_call(rt: HostRuntime) -> Result<(), Fail> {
     let seen = [
-        Seen::Ready(1),
-        Seen::Ready(1),
-        Seen::Ready(1),
-        Seen::Ready(1),
-        Seen::Ready(1),
-        Seen::Ready(1),
-        Seen::Cpu([0; 32]),
-        Seen::Ready(2),
-        Seen::Ready(2),
-        Seen::Ready(2),
-        Seen::Cpu([0; 32]),
+        SeenStep::Ready(1),
+        SeenStep::Ready(1),
+        SeenStep::Ready(1),
+        SeenStep::Ready(1),
+        SeenStep::Ready(1),
+        SeenStep::Ready(1),
+        SeenStep::Cpu([0; 32]),
+        SeenStep::Ready(2),
+        SeenStep::Ready(2),
+        SeenStep::Ready(2),
+        SeenStep::Cpu([0; 32]),
     ];
     let mut inside = Inside::none();
     inside.add(Point::End, InsideAct::Wipe);
     let mut st = VState::keyed([7; 32], 2);
-    let course = checked(follow(&mut st, 32, 0, inside, &seen))?;
-    assert_eq!(rt; course.reached, Reached::AllButWritten);
-    let bytes = made(rt.alloc(), &course.served)?;
+    let path = checked(follow(&mut st, 32, 0, inside, &seen))?;
+    assert_eq!(rt; path.reached, Reached::AllButWritten);
+    let bytes = made(rt.alloc(), &path.served)?;
     assert!(rt; Served::of_user(&[0; 32], 32).is(&bytes));
     assert!(rt; !st.is_in_use());
     Ok(())
@@ -115,70 +115,76 @@ fn a_long_read_in_pieces(rt: HostRuntime) -> Result<(), Fail> {
 }
 
 #[derive(Drop)]
-struct Row<'a> {
+struct VreadRow<'a> {
     len: u32,
     flags: u32,
-    seen: &'a [Seen],
+    seen: &'a [SeenStep],
     answer: Option<Answer>,
 }
 
 #[test]
 fn system_calls_by_their_steps(rt: HostRuntime) {
-    let base = Seen::Base([0; 32]);
-    let cpu = Seen::Cpu([0; 32]);
+    let base = SeenStep::Base([0; 32]);
+    let cpu = SeenStep::Cpu([0; 32]);
     let rows = [
-        Row {
+        VreadRow {
             len: 8,
             flags: 6,
             seen: &[],
             answer: Some(Answer::Invalid),
         },
-        Row {
+        VreadRow {
             len: 8,
             flags: 1,
-            seen: &[Seen::Unready],
+            seen: &[SeenStep::Unready],
             answer: Some(Answer::Again),
         },
-        Row {
+        VreadRow {
             len: 8,
             flags: 4,
-            seen: &[Seen::Unready, Seen::Pool, base],
+            seen: &[SeenStep::Unready, SeenStep::Pool, base],
             answer: Some(Answer::Ok),
         },
-        Row {
+        VreadRow {
             len: 8,
             flags: 0,
-            seen: &[Seen::Unready, base, base],
+            seen: &[SeenStep::Unready, base, base],
             answer: Some(Answer::Interrupted),
         },
-        Row {
+        VreadRow {
             len: 8,
             flags: 0,
-            seen: &[Seen::Unready, base, Seen::Resumed, Seen::Ready(1), cpu],
+            seen: &[
+                SeenStep::Unready,
+                base,
+                SeenStep::Resumed,
+                SeenStep::Ready(1),
+                cpu,
+            ],
             answer: Some(Answer::Ok),
         },
-        Row {
+        VreadRow {
             len: 8,
             flags: 0,
-            seen: &[Seen::Ready(1), Seen::Ready(1), base, cpu],
+            seen: &[SeenStep::Ready(1), SeenStep::Ready(1), base, cpu],
             answer: Some(Answer::Ok),
         },
-        Row {
+        VreadRow {
             len: 0,
             flags: 0,
-            seen: &[Seen::Ready(1)],
+            seen: &[SeenStep::Ready(1)],
             answer: Some(Answer::Ok),
         },
-        Row {
+        VreadRow {
             len: 8,
             flags: 0,
-            seen: &[Seen::Ready(1)],
+            seen: &[SeenStep::Ready(1)],
             answer: None,
         },
-        Row {
+        VreadRow {
             len: 8,
             flags: 0,
-            seen: &[Seen::Ready(1), Seen::Ready(1), Seen::Elsewhere],
+            seen: &[SeenStep::Ready(1), SeenStep::Ready(1), SeenStep::Elsewhere],
             answer: None,
         },
     ];

@@ -1,5 +1,5 @@
-//! Long texts that make little sense. The fault of each is found in one pass, with no memory for more than the text
-//! itself.
+//! Long texts that make little sense. The fault of each text is found in one pass, with no memory for more than the
+//! text itself.
 ghost use Rattle.std.specs.Prelude.{◌≤◌, ◌^◌, length};
 
 use std::alloc::{AllocError, Global};
@@ -10,7 +10,7 @@ const HEAD: &[u8] = b"rngtranscript 1\n";
 
 const LONG: usize = 16 << 20;
 
-/// A text in which a byte is repeated `times` times between front and back.
+/// A text in which a byte is repeated `times` times between `front` and `back`.
 fn text_of(
     alloc: Global,
     front: &[u8],
@@ -24,7 +24,7 @@ fn text_of(
     Ok(text)
 }
 
-/// The number of the first faulty line; or 0 for a transcript, or the greatest number if memory ran out.
+/// The number of the text's first faulty line; 0 if the text is a transcript's; the greatest number if memory ran out.
 fn fault(alloc: Global, text: &[u8]) -> u32 {
     if text.len() > 1 << 31 {
         return u32::MAX;

@@ -215,7 +215,7 @@ fn a_long_line_has_its_bytes_in_their_order(rt: HostRuntime) -> Result<(), Fail>
 }
 
 #[test]
-fn a_line_is_filled_in_behind_a_later_one(rt: HostRuntime) -> Result<(), Fail> {
+fn a_line_is_filled_in_after_a_later_one(rt: HostRuntime) -> Result<(), Fail> {
     let mut lines = CallerLines::with_room(rt.alloc(), 3, 0, 7)?;
     lines.push(plain(0, Word::Read, Answer::Ok, Shown::Bytes(&[1, 2])));
     lines.push(plain(1, Word::Inside, Answer::Unused, Shown::None));
@@ -305,7 +305,7 @@ fn the_number_of_bits_is_read(rt: HostRuntime) -> Result<(), Fail> {
     Ok(())
 }
 
-/// The number of the first faulty line of a text with this head, or 0 if it has none.
+/// The number of the first faulty line of a text with this head, or 0 if the text has no fault.
 fn fault(rt: &impl Abort, alloc: Global, head: &str, rest: &str) -> Result<u32, AllocError> {
     let text = format!(in alloc; "{head}{rest}")?;
     assert!(rt; text.len() < 1 << 20);

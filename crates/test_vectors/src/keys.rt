@@ -7,7 +7,7 @@ use blake2s_core::{Blake2s, hash};
 use chacha_blocks::{erase_and_fill, fill, user_read};
 use std::alloc::Global;
 
-/// The bytes of a row end before this position of a stream.
+/// A row's bytes must end before this position of a stream.
 const STREAM_END: u64 = 1 << 39;
 
 /// The most bytes that a row may ask for.
@@ -40,7 +40,7 @@ pub fn hash_row(alloc: Global, key: &str, text: &str, size: &str) -> Result<Stri
     Ok(hex::encode(alloc, digest)?)
 }
 
-// Room for the bytes that a row asks for.
+// Memory for the bytes that a row asks for.
 fn room(alloc: Global, len: &str) -> Result<Vec<u8>>
     ensures { IfOk result (λ bytes. length bytes.items ≤ 4096) }
 {
@@ -61,18 +61,18 @@ pub fn stream_row(alloc: Global, key: &str, from: &str, len: &str) -> Result<Str
 
 /// The reader: the kernel or a user.
 #[derive(Clone, Copy)]
-pub enum Reader {
+pub enum ReadBy {
     Kernel,
     User,
 }
 
 /// `kernel KEY LEN` and `user KEY LEN`
-pub fn read_row(alloc: Global, reader: Reader, key: &str, len: &str) -> Result<String> {
+pub fn read_row(alloc: Global, reader: ReadBy, key: &str, len: &str) -> Result<String> {
     let mut key = key_of(key)?;
     let mut bytes = room(alloc, len)?;
     match reader {
-        Reader::Kernel => erase_and_fill(&mut key, &mut bytes),
-        Reader::User => user_read(&mut key, &mut bytes),
+        ReadBy::Kernel => erase_and_fill(&mut key, &mut bytes),
+        ReadBy::User => user_read(&mut key, &mut bytes),
     }
     let key = hex::encode(alloc, key)?;
     let bytes = shown(alloc, &bytes)?;

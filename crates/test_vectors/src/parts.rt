@@ -12,9 +12,9 @@ use std::alloc::Global;
 /// Moments are below this.
 const LAST_MOMENT: u64 = 1 << 40;
 
-/// An input pool, a fast pool, an input timer and a base, each as it is when the kernel starts.
+/// An input pool, a fast pool, an input timer and a base, each in its state when the kernel starts.
 #[derive(Drop)]
-pub struct Parts {
+pub struct KernelParts {
     pool: Pool,
     fast: FastPool,
     timer: InputTimer,
@@ -30,10 +30,10 @@ fn moment_of(field: &str) -> Result<u64>
     Ok(moment)
 }
 
-impl Parts {
+impl KernelParts {
     /// The parts before the first row.
-    pub fn start() -> Parts {
-        Parts {
+    pub fn start() -> KernelParts {
+        KernelParts {
             pool: Pool::start(),
             fast: FastPool::start(),
             timer: InputTimer::start(),

@@ -1,4 +1,5 @@
--- The places of a needle in all of some bytes, and in their last part.
+-- To find a line `end` that came with the last bytes, the code searches only the last bytes and the four bytes before
+-- them.
 use Rattle.std.proofs.Common.{◌≡◌, ℕ, ◌+◌, ◌-◌, ◌≤◌, ◌⊎◌, inl, inr, List, ◌++◌, length, Option, None, Some, IsTrue}
 use Rattle.std.proofs.Common.{refl, sym, ap, ◌∙◌, arith, length-append, length-drop}
 use Rattle.std.specs.Prelude.{◌↔◌, drop, slice_index}
@@ -9,9 +10,9 @@ use Rattle.memchr.specs.Find.{FindsNeedle, OccursAt}
 use Rattle.key_names.proofs.Transcripts.TranscriptBooks.{lt_or_le}
 use Rattle.tool_ends.specs.Intakes.{HasEndLine, last_part}
 
-occurs_behind : (from : ℕ) (xs needle : List ℕ) (k : ℕ) → from ≤ length xs → OccursAt (drop from xs) needle k
+occurs_after : (from : ℕ) (xs needle : List ℕ) (k : ℕ) → from ≤ length xs → OccursAt (drop from xs) needle k
     → OccursAt xs needle (from + k)
-occurs_behind from xs needle k le h = record {
+occurs_after from xs needle k le h = record {
   fits = let fits = h.fits in omega (arith, length-drop from xs);
   reads = λ j lt.
       let p : from + k + j ≡ from + (k + j) = omega arith in
@@ -27,10 +28,10 @@ occurs_in_rest from xs needle place le at = record {
       get_or-drop from xs (place - from + j) 0 ∙ ap (λ m. slice_index xs m) p ∙ at.reads j lt;
 }
 
-pub found_behind : (from : ℕ) (xs needle : List ℕ) (r : Option ℕ) → from ≤ length xs
+pub found_after : (from : ℕ) (xs needle : List ℕ) (r : Option ℕ) → from ≤ length xs
     → FindsNeedle (drop from xs) needle 0 r → IsTrue (is_some r) → (k : ℕ) × OccursAt xs needle k
-found_behind from xs needle None le finds is = cc
-found_behind from xs needle (Some k) le finds is = (from + k, occurs_behind from xs needle k le finds.1)
+found_after from xs needle None le finds is = cc
+found_after from xs needle (Some k) le finds is = (from + k, occurs_after from xs needle k le finds.1)
 
 -- a search finds a needle exactly if the bytes contain it
 pub found_exactly : (xs needle : List ℕ) (r : Option ℕ) → FindsNeedle xs needle 0 r
@@ -39,7 +40,7 @@ found_exactly xs needle None nowhere =
     (λ is. cc, λ at. let fits = at.1.fits in absurd (nowhere at.0 (omega arith) (omega arith) at.1))
 found_exactly xs needle (Some k) finds = (λ is. (k, finds.1), λ at. refl)
 
--- if a longer text has a line `end`, it was there before or came with the last bytes
+-- if `text ++ more` has a line `end`, the line was in `text` or came with `more`
 end_line_comes : (text more : List ℕ) → HasEndLine (text ++ more)
     → HasEndLine text ⊎ HasEndLine (last_part (length more) (text ++ more))
 end_line_comes text more (place, at) =
@@ -56,7 +57,7 @@ end_line_comes text more (place, at) =
       )
     ]
 
--- a longer text has no line `end` if there was none before and none came with the last bytes
+-- if `text` has no line `end`, and none came with `more`, `text ++ more` has none
 pub no_end_line : (text more : List ℕ) → (HasEndLine text → ⊥)
     → (HasEndLine (last_part (length more) (text ++ more)) → ⊥) → HasEndLine (text ++ more) → ⊥
 no_end_line text more none nowhere has = elim (end_line_comes text more has) [

@@ -21,11 +21,11 @@ appends_kept (Some x) (Some y) (Some z) xs h k = k ∙ h
 prefix_kept : (a b c : Option (List ℕ)) (xs : List ℕ) → AppendsPrefix a b xs → Keeps b c → AppendsPrefix a c xs
 prefix_kept a b c xs p k = (p.0, p.1, appends_kept a b c _ p.2 k)
 
--- if an answer was put whole and then not handed on, the sink has a prefix of it
+-- if a whole answer was appended, and then the sink was kept as it was, a prefix of the answer was appended
 whole_cut : (a b c : Option (List ℕ)) (xs : List ℕ) → Appends a b xs → Keeps b c → AppendsPrefix a c xs
 whole_cut a b c xs h k = prefix_kept a b c xs (AppendsPrefix-of_whole a b xs h) k
 
--- a, b and c are the sink's counts of faults before a command, after it, and after the end of its output
+-- `a`, `b` and `c` are the sink's counts of faults before a command, after it, and after the end of its output
 module _ (status result : Status) (a b c : ℕ) (ended : AtOutputEnd status result b c)
     (same : (status ≡ WriteFault → ⊥) → b ≡ a) where
   -- if the result is a write fault, the sink failed in the command or at the end of its output
@@ -35,7 +35,7 @@ module _ (status result : Status) (a b c : ℕ) (ended : AtOutputEnd status resu
     | inr cut ↦ subst (λ n. Rose n c) (same (λ is. subst IsAnswered is cut.0)) cut.2
   ]
 
-  -- if the result is no write fault, the sink failed in neither
+  -- if the result is no write fault, the sink failed neither in the command nor at the end of its output
   pub same_at_end : (result ≡ WriteFault → ⊥) → c ≡ a
   same_at_end unfailed = elim ended [
     | inl stays ↦ stays.1 ∙ same (λ is. unfailed (stays.0 ∙ is))
@@ -68,7 +68,7 @@ module _ (Of : List ℕ → Type 0) (a b c : Option (List ℕ)) (k : Keeps b c) 
   cut ReadFault is e = absurd is
   cut Refused is e = absurd e
 
-  -- if a command reads no input and ends as its contract states, it does so after the end of its output too
+  -- if a command that reads no input ends as its contract states, it still ends so after the end of its output
   pub ends_after : (status result : Status) (m n : ℕ) → AtOutputEnd status result m n → EndsWith Of status a b
       → EndsWith Of result a c
   ends_after status result m n ended e = elim ended [
@@ -76,7 +76,7 @@ module _ (Of : List ℕ → Type 0) (a b c : Option (List ℕ)) (k : Keeps b c) 
     | inr faulty ↦ subst (λ s. EndsWith Of s a c) (sym faulty.1) (cut status faulty.0 e)
   ]
 
--- if an input was read to its end, it is all that was left
+-- if an input was read to its end, the input is all that was left in the source
 all_read : (Is : List ℕ → List ℕ → Type 0) (left left_after : Option (List ℕ)) (input output : List ℕ)
     → Consumes left left_after input → IsAtEnd left_after → Is input output → IfSome left (λ all. Is all output)
 all_read Is None after input output read end is = tt
@@ -160,7 +160,7 @@ module _ (most : ℕ) (Of : List ℕ → Status → List ℕ → Type 0) (left l
     read_cut WriteFault is e = absurd is
     read_cut NoMemory is e = absurd is
 
-    -- if a command reads its input and ends as its contract states, it does so after the end of its output too
+    -- if a command that reads its input ends as its contract states, it still ends so after the end of its output
     pub reads_end_after : (status result : Status) (m n : ℕ) → AtOutputEnd status result m n
         → ReadsEnds most Of status left left_after a b → ReadsEnds most Of result left left_after a c
     reads_end_after status result m n ended e = elim ended [

@@ -19,7 +19,7 @@ onto_joined t b [] more some = absurd (let e = some.is in cc)
 onto_joined true b (line ∷ lines) more some = refl
 onto_joined false b (line ∷ lines) more some = refl
 
--- a line feed cuts a text in two, and the lines of both parts are its lines
+-- the lines of a text with a line feed are the lines before the line feed, and then the lines after it
 parts_joined : (a b : List ℕ) → parts 10 (a ++ 10 ∷ b) ≡ parts 10 a ++ parts 10 b
 parts_joined [] b = refl
 parts_joined (x ∷ a) b =
@@ -28,12 +28,12 @@ parts_joined (x ∷ a) b =
 
 -- ---- the front of lines
 
--- if there is a line after some lines, they have a first one
+-- if more lines follow some lines, all of them together have a first line
 first_joined : (lines more : List (List ℕ)) → HasFirst more → HasFirst (lines ++ more)
 first_joined [] more some = some
 first_joined (line ∷ lines) more some = record { first = line; others = lines ++ more; is = refl }
 
--- if the first line is `end`, the front ends with it, and otherwise goes on
+-- the front ends after the first line if this line is `end`, and otherwise goes on
 front_by : (line : List ℕ) (lines : List (List ℕ)) → HasFirst lines
     → front_lines (line ∷ lines) ≡ cond (bytes_eq line (codes "end")) (line ∷ [] ∷ []) (line ∷ front_lines lines)
 front_by line [] some = absurd (let e = some.is in cc)

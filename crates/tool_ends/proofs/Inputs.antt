@@ -1,4 +1,4 @@
--- An output for the part of an input that was read is one for the whole input.
+-- If an output is right for the part of an input that was read, it is right for the whole input.
 use Rattle.std.proofs.Common.{ℕ, ◌+◌, ◌≡◌, ◌≤◌, ◌<◌, ◌⊎◌, List, [], Option, None, Some, length, take, sym, ap, ◌∙◌, subst, arith, inl, inr}
 use Rattle.std.specs.Prelude.{IfSome}
 use Rattle.std.specs.Io.KnownBytes.{Consumes}
@@ -10,7 +10,7 @@ use Rattle.tool_ends.specs.Reads.{ReadsEnds, SomeAnswer, WasRead, WritesEnds}
 use Rattle.tool_ends.specs.declared.status.Status.{Status}
 use Rattle.tool_ends.specs.declared.status.Status.TheVariants.{Done, No, Usage, ReadFault, WriteFault, Refused, NoMemory}
 
--- if each output of one kind is of another kind, a command that ends with the first ends with the second
+-- if `Wide` allows each output that `Of` allows, a command that ends with an output of `Of` ends with one of `Wide`
 pub wider : (Of Wide : Status → List ℕ → Type 0) → ((s : Status) (o : List ℕ) → Of s o → Wide s o) →
     (status : Status) (a b : Option (List ℕ)) → WritesEnds Of status a b → WritesEnds Wide status a b
 wider Of Wide is Done a b e = (e.0, is Done e.0 e.1, e.2)
@@ -21,7 +21,7 @@ wider Of Wide is NoMemory a b e = e
 wider Of Wide is Usage a b e = e
 wider Of Wide is ReadFault a b e = e
 
--- outputs of this kind answer no input above the limit, and refuse all inputs above it alike
+-- outputs of this kind answer no input above the limit, and refuse all inputs above the limit alike
 pub record IsLimited (limit : ℕ) (Of : List ℕ → Status → List ℕ → Type 0) : Type 0 where
   pub done : (input output : List ℕ) → Of input Done output → length input ≤ limit
   pub no : (input output : List ℕ) → Of input No output → length input ≤ limit
@@ -29,7 +29,7 @@ pub record IsLimited (limit : ℕ) (Of : List ℕ → Status → List ℕ → Ty
       Of input Refused output → Of all Refused output
 
 module _ (limit : ℕ) (Of : List ℕ → Status → List ℕ → Type 0) (limited : IsLimited limit Of) where
-  -- the part that was read is the whole input, or both are above the limit
+  -- the part that was read is the whole input, or the part and the whole input are above the limit
   read_or_too_long : (all input : List ℕ) → input ≡ take (limit + 1) all →
       (input ≡ all) ⊎ ((limit < length input) × (limit < length all))
   read_or_too_long all input is = elim (cases_lt limit (length all)) [
@@ -37,7 +37,7 @@ module _ (limit : ℕ) (Of : List ℕ → Status → List ℕ → Type 0) (limit
     | inr short ↦ inl (is ∙ take_all (limit + 1) all (omega arith))
   ]
 
-  -- an output for the part of a long input that was read is one for all of it
+  -- if an output is right for the part of a long input that was read, it is right for the whole input
   of_long : (status : Status) → IsAnswered status → (input all output : List ℕ) → limit < length input →
       limit < length all → Of input status output → Of all status output
   of_long Done answered input all output long too is =
@@ -65,14 +65,14 @@ module _ (limit : ℕ) (Of : List ℕ → Status → List ℕ → Type 0) (limit
   some_of_all (Some all) input output front is =
       (is.0, is.1, of_all is.0 is.1 (Some all) input output front is.2)
 
-  -- of an input above the limit, at most one byte more than the limit was taken
+  -- if the input was read up to one byte above the limit, at most that many bytes were taken
   taken_at_most : (left left_after : Option (List ℕ)) (input : List ℕ) → Consumes left left_after input →
       IfSome left (λ all. input ≡ take (limit + 1) all) → ConsumesUpTo (limit + 1) left left_after
   taken_at_most None left_after input read front = ([], omega arith, tt)
   taken_at_most (Some all) left_after input read front =
       (input, omega (arith, ap length front, length-take (limit + 1) all), read)
 
-  -- a command that read this and wrote this ends as its contract states
+  -- a command that read `input` and wrote an output for it ends as its contract states
   pub reads_end : (left left_after held held_after : Option (List ℕ)) (input : List ℕ) →
       WasRead limit left left_after input → (status : Status) → WritesEnds (Of input) status held held_after →
       ReadsEnds limit Of status left left_after held held_after
@@ -115,7 +115,7 @@ module _ (limit : ℕ) (Of : List ℕ → Status → List ℕ → Type 0) (limit
 
 -- ---- one answer
 
--- if a text is an answer with this status, so is any equal answer with an equal status
+-- if a text is an answer with this status, so is any equal text with an equal status
 pub the_answer : (Of : Status → List ℕ → Type 0) (status : Status) (text : List ℕ) → Of status text →
     (s : Status) (o : List ℕ) → (s ≡ status) × (o ≡ text) → Of s o
 the_answer Of status text of s o is = subst (λ s. Of s o) (sym is.0) (subst (Of status) (sym is.1) of)

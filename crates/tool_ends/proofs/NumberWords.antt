@@ -4,7 +4,7 @@ use Rattle.std.specs.Prelude.{decimal}
 use Rattle.key_names.specs.Texts.ScriptFaults.{number_below}
 use Rattle.key_names.proofs.Script.Numbers.{number_again}
 
--- a number that is spelt is read
+-- if a word spells a number that is at most `most`, number_below finds this number
 pub number_read : (most n : ℕ) (word : List ℕ) → most < 2 ^ 32 → word ≡ decimal n → n ≤ most →
     number_below (most + 1) word ≡ Some n
 number_read most n word fits spelt few =

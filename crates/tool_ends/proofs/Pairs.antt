@@ -1,5 +1,5 @@
--- A script's transcript has exactly one line for each event and one more for each caller. If an input is no script with
--- a transcript after it, it is refused.
+-- A script's transcript has exactly one line for each event and one more for each caller. An input that is no script
+-- with a transcript after it is refused.
 use Rattle.std.proofs.Common.{◌≡◌, ◌<◌, ℕ, suc, ◌+◌, ◌≤◌, refl, List, [], ◌∷◌, length, sym, ◌∙◌, arith, inl, inr, true, ltb, Some}
 use Rattle.std.specs.List.{sum_by}
 use Rattle.std.proofs.lemmas.Bool.{lt-ltb}
@@ -13,7 +13,7 @@ use Rattle.key_names.specs.Texts.ScriptGrammar.{Script, IsScript, WellFormed}
 use Rattle.key_names.specs.Transcripts.SeenLine.{SeenLine}
 use Rattle.key_names.proofs.Samples.Lines.{AllFit, fits_long}
 use Rattle.transcript_text.specs.ReadTexts.{HasMoreLines}
-use Rattle.tool_ends.specs.Pairs.{IsNoPair, IsNoText, LacksLines, RefusalOf, TellsFault, behind, no_line, pair_fault, refusal_line}
+use Rattle.tool_ends.specs.Pairs.{IsNoPair, IsNoText, LacksLines, RefusalOf, TellsFault, following, no_line, pair_fault, refusal_line}
 use Rattle.tool_ends.specs.declared.pair.NotRead.{NotRead}
 use Rattle.tool_ends.specs.declared.pair.NotRead.TheVariants.{ReadFault, Refused, NoTranscript, TooManyLines, NoMemory}
 use Rattle.key_names.specs.declared.faults.ScriptFault.{ScriptFault}
@@ -38,7 +38,7 @@ pub few_lines : (script : Script) (t : List (List SeenLine)) → WellFormed scri
     → sum_by length t ≤ 65600
 few_lines script t ok fit = omega (arith, ok.events, ok.callers.1, lines_of_all 0 script.callers t fit)
 
--- if a transcript has more lines than any script's, it lacks the lines of this script
+-- if a transcript has more lines than the transcript of any script, it lacks the lines of this script
 pub too_many : (script : Script) (text : List ℕ) → WellFormed script → HasMoreLines 65600 text → LacksLines script text
 too_many script text ok more = record {
   lines = more.callers;
@@ -64,9 +64,9 @@ too_long_alike input all output long too tells = record {
   line = tells.line;
 }
 
--- if the text after a script is not read for this reason, neither is the input
+-- if the text after a script is not read for some reason, the input is not read for the same reason
 pub no_pair : (input : List ℕ) (script : Script) → length input ≤ 100663296 → IsScript script (front input) →
-    (why : NotRead) → IsNoText (behind input) why → IsNoPair input why
+    (why : NotRead) → IsNoText (following input) why → IsNoPair input why
 no_pair input script short is ReadFault not = absurd not
 no_pair input script short is (Refused fault) not = absurd not
 no_pair input script short is NoTranscript not = record {
@@ -80,7 +80,7 @@ no_pair input script short is TooManyLines not = (
     short = short;
     script = script;
     is_script = is;
-    clause = inr (refl, too_many script (behind input) is.well_formed not);
+    clause = inr (refl, too_many script (following input) is.well_formed not);
   },
   not,
 )

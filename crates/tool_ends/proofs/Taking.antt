@@ -1,4 +1,4 @@
--- An input is taken piece by piece.
+-- If an input is taken piece by piece, what is kept fits the input taken so far, and at the end the whole input.
 use Rattle.std.proofs.Common.{◌≡◌, ℕ, ◌+◌, ◌≤◌, List, [], ◌++◌, Option, None, Some, length, sym, ap, subst, ◌∙◌, append-nil, arith}
 use Rattle.std.specs.Prelude.{Result, Ok, Err, IfErr, IfOk, IfSome, IsErrAnd, OnOk, drop, take}
 use Rattle.std.proofs.lemmas.List.{drop-append-le, length-append, take_all, take_at}
@@ -7,11 +7,11 @@ use Rattle.key_names.specs.declared.faults.ScriptFault.{ScriptFault}
 use Rattle.key_names.specs.Texts.ScriptFaults.{first_fault, front}
 use Rattle.key_names.specs.Texts.ScriptGrammar.{Script, IsScript}
 use Rattle.std.specs.Io.KnownBytes.{Consumes, IsAtEnd}
-use Rattle.tool_ends.specs.Behind.{GivesApart, HoldsText, IsApart}
+use Rattle.tool_ends.specs.After.{GivesApart, HoldsText, IsApart}
 use Rattle.tool_ends.specs.Fed.{GivesNoText}
 use Rattle.tool_ends.specs.Intakes.{HasEndLine, IsFound}
-use Rattle.tool_ends.specs.declared.behind.Behind.{Behind}
-use Rattle.tool_ends.specs.Pairs.{GivesNone, GivesScript, IsNoPair, IsNoText, behind, most_input, most_script}
+use Rattle.tool_ends.specs.declared.following.After.{After}
+use Rattle.tool_ends.specs.Pairs.{GivesNone, GivesScript, IsNoPair, IsNoText, following, most_input, most_script}
 use Rattle.tool_ends.specs.Reads.{WasRead}
 use Rattle.tool_ends.specs.declared.pair.NotRead.{NotRead}
 use Rattle.tool_ends.specs.declared.pair.NotRead.TheVariants.{ReadFault, Refused, NoTranscript, TooManyLines, NoMemory}
@@ -26,12 +26,12 @@ pub ok_both : {T E : Type 0} (A B : Type 0) (answer : Result T E) → OnOk answe
 ok_both A B (Ok x) a b = (a, b)
 ok_both A B (Err e) a b = tt
 
--- after the script was found, one more piece joins the text after it
-pub found_on : (input piece : List ℕ) (script : Script) (text next : Behind) → HasEndLine input
-    → IsFound input script text → HoldsText (behind input ++ piece) next → IsFound (input ++ piece) script next
+-- after the script was found, one more piece joins the text that follows the script
+pub found_on : (input piece : List ℕ) (script : Script) (text next : After) → HasEndLine input
+    → IsFound input script text → HoldsText (following input ++ piece) next → IsFound (input ++ piece) script next
 found_on input piece script text next end f holds =
     let stays = front_stays input piece end in
-    let more : behind (input ++ piece) ≡ behind input ++ piece =
+    let more : following (input ++ piece) ≡ following input ++ piece =
     ap (λ text. drop (length text) (input ++ piece)) stays ∙ drop-append-le (length (front input)) input piece f.within in
     record {
       is_script = subst (IsScript script) (sym stays) f.is_script;
@@ -50,7 +50,7 @@ pub record TakenSoFar (left left_now : Option (List ℕ)) (Has : List ℕ → Ty
   pub has : Has input
   pub len : length input ≡ count
 
--- one more piece was taken
+-- `TakenSoFar` holds again after one more piece was taken
 pub piece_taken : (left now after : Option (List ℕ)) (Has Next : List ℕ → Type 0) (count more : ℕ) (piece : List ℕ)
     → (s : TakenSoFar left now Has count) → Consumes now after piece → length piece ≡ more
     → (Has s.input → Next (s.input ++ piece)) → TakenSoFar left after Next (count + more)
@@ -72,7 +72,7 @@ module _ (most : ℕ) where
       let whole : all ≡ input = read ∙ ap (λ r. input ++ r) end ∙ append-nil input in
       sym whole ∙ sym (take_all (most + 1) all (omega (arith, ap length whole)))
 
-  -- the source has reached its end, so the input is all of it
+  -- if the source has reached its end, the input is all that was left in the source
   pub ends_read : (left now after : Option (List ℕ)) (input : List ℕ) → Consumes left now input
       → Consumes now after [] → IsAtEnd after → length input ≤ most + 1 → WasRead most left after input
   ends_read left now after input read none end short =
@@ -87,7 +87,7 @@ module _ (most : ℕ) where
   front_read (Some all) (Some rest) input read len =
       sym (ap (take (most + 1)) read ∙ take_at input rest (most + 1) len)
 
-  -- one byte more than is allowed was read
+  -- if one byte more than is allowed was taken, the bytes taken are the input that was read
   pub long_read : (left now : Option (List ℕ)) (input : List ℕ) → Consumes left now input → length input ≡ most + 1
       → WasRead most left now input
   long_read left now input read len = record {
@@ -111,7 +111,7 @@ module _ (most : ℕ) where
     gives_none left after input (Ok x) read few not is = tt
     gives_none left after input (Err why) read few not is = no_input left after input why read few is not
 
-    -- an answer that has the reason why the reading ended satisfies its contract
+    -- if an answer has the reason why the reading ended, the contract of the answer holds
     pub broken_off : {T : Type 0} (left after : Option (List ℕ)) (why : NotRead) (answer : Result T NotRead)
         → IsErrAnd answer (λ e. e ≡ why) → GivesNone most Is left after why → IfErr answer (GivesNone most Is left after)
     broken_off left after why (Ok x) is gives = absurd is
@@ -132,7 +132,7 @@ module _ (most : ℕ) where
     no_read_fault Q input (Ok x) not is = tt
     no_read_fault Q input (Err why) not is = λ e. absurd (not (subst (Is input) e is))
 
-pub gives_apart : {E : Type 0} (left after : Option (List ℕ)) (input : List ℕ) (answer : Result (Script × Behind) E)
+pub gives_apart : {E : Type 0} (left after : Option (List ℕ)) (input : List ℕ) (answer : Result (Script × After) E)
     → WasRead most_input left after input → IfOk answer (λ both. IsApart input both.0 both.1)
     → IfOk answer (λ both. GivesApart left after both.0 both.1)
 gives_apart left after input (Ok both) read is = (input, read, is)
@@ -146,7 +146,7 @@ gives_script left after input (Err e) read is = tt
 
 -- if the text after a script is not read, the answer has this reason for the input
 pub no_pair_for : {T : Type 0} (input : List ℕ) (script : Script) (why : NotRead) (answer : Result T NotRead)
-    → length input ≤ most_input → IsScript script (front input) → IsNoText (behind input) why
+    → length input ≤ most_input → IsScript script (front input) → IsNoText (following input) why
     → IsErrAnd answer (λ e. e ≡ why) → IfErr answer (λ e. IsNoPair input e)
 no_pair_for input script why (Ok x) short is not same = tt
 no_pair_for input script why (Err e) short is not same =

@@ -4,7 +4,7 @@ use Rattle.tool_ends.specs.Pairs.{GivesNone}
 use Rattle.tool_ends.specs.Reads.{WasRead}
 use Rattle.tool_ends.specs.declared.pair.NotRead.{NotRead}
 
--- a text of this many bytes was read, to its end or to one byte above the limit, and `Has` holds of it
+-- the source was read to its end, or to one byte above the limit; `Has` holds of this text, which has `count` bytes
 pub record GivesText (limit : ℕ) (left left_after : Option (List ℕ)) (Has : List ℕ → Type 0) (count : ℕ) : Type 0 where
   pub text : List ℕ
   pub read : WasRead limit left left_after text

@@ -5,9 +5,9 @@ use Rattle.key_names.specs.Texts.ScriptFaults.{first_fault, front}
 use Rattle.key_names.specs.Texts.ScriptGrammar.{Script, IsScript}
 use Rattle.memchr.specs.Find.{OccursAt}
 use Rattle.key_names.specs.Transcripts.SeenLine.{SeenLine}
-use Rattle.tool_ends.specs.Behind.{HoldsText, compared_with}
-use Rattle.tool_ends.specs.Pairs.{behind}
-use Rattle.tool_ends.specs.declared.behind.Behind.{Behind}
+use Rattle.tool_ends.specs.After.{HoldsText, compared_with}
+use Rattle.tool_ends.specs.Pairs.{following}
+use Rattle.tool_ends.specs.declared.following.After.{After}
 use Rattle.tool_ends.specs.declared.intake.Intake.{Intake}
 use Rattle.tool_ends.specs.declared.intake.Intake.TheVariants.{Front, Opened as IsOpen}
 use Rattle.tool_ends.specs.declared.intake.Opened.{Opened}
@@ -17,15 +17,16 @@ use Rattle.tool_ends.specs.declared.intake.Opened.TheVariants.{Script as Found, 
 abbrev pub HasEndLine : List ℕ → Type 0
 HasEndLine bytes = (place : ℕ) × OccursAt bytes (10 ∷ 101 ∷ 110 ∷ 100 ∷ 10 ∷ []) place
 
--- the last `count` of these bytes, and the four before them: a line `end` that came with the last `count` is in these
+-- the last `count` bytes, and the four before them. If a line `end` came with the last `count` bytes, this part
+-- contains the line
 abbrev pub last_part : ℕ → List ℕ → List ℕ
 last_part count bytes = drop (length bytes - count - 4) bytes
 
 -- the input begins with the script, and this is the text after it
-pub record IsFound (input : List ℕ) (script : Script) (text : Behind) : Type 0 where
+pub record IsFound (input : List ℕ) (script : Script) (text : After) : Type 0 where
   pub is_script : IsScript script (front input)
   pub within : length (front input) ≤ length input
-  pub holds : HoldsText (behind input) text
+  pub holds : HoldsText (following input) text
 
 -- the result for the script at the start of the input
 abbrev pub IsOpened : List ℕ → Opened → Type 0
@@ -46,7 +47,8 @@ abbrev pub made_in : Intake → Option (Script × List (List SeenLine))
 made_in (Front bytes) = None
 made_in (IsOpen opened) = made_of opened
 
--- the input was taken, and a transcript that was made for its script is one of the maker's
+-- the input was taken. If a transcript was made for the input's script, the maker's fact `Made` holds of the script and
+-- the transcript
 pub record Fills (MayMake : Type 0) (Made : Script → List (List SeenLine) → Type 0) (input : List ℕ) (intake : Intake)
     : Type 0 where
   pub taken : HasTaken input intake

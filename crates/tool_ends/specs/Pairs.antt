@@ -32,20 +32,20 @@ abbrev pub most_script_lines : ℕ
 most_script_lines = 65600
 
 -- the text after the script
-abbrev pub behind : List ℕ → List ℕ
-behind input = drop (length (front input)) input
+abbrev pub following : List ℕ → List ℕ
+following input = drop (length (front input)) input
 
 pub record IsPair (input : List ℕ) (script : Script) (t : List (List SeenLine)) : Type 0 where
   pub short : length input ≤ most_input
   pub is_script : IsScript script (front input)
-  pub text : IsTranscriptText (behind input) t
+  pub text : IsTranscriptText (following input) t
 
 -- the first fault of an input: it is too long, or its script has a fault
 abbrev pub pair_fault : List ℕ → Option ScriptFault
 pair_fault input =
     if nat_lt most_input (length input) then Some (record { line = 0; kind = TooLong }) else first_fault (front input)
 
--- the text is no transcript's
+-- the text is that of no transcript
 abbrev pub IsNoTranscript : List ℕ → Type 0
 IsNoTranscript text = (lines : List (List SeenLine)) → IsTranscriptText text lines → ⊥
 
@@ -55,13 +55,13 @@ pub record LacksLines (script : Script) (text : List ℕ) : Type 0 where
   pub is_text : IsTranscriptText text lines
   pub fails : HasLines script lines → ⊥
 
--- the text after a script is no transcript's and fails clause 1, or its transcript lacks the script's lines and fails
--- clause 2
+-- the text after the script fails clause 1, since it is that of no transcript; or it fails clause 2, since its
+-- transcript lacks the script's lines
 pub record FailsAsText (input : List ℕ) (number : ℕ) : Type 0 where
   pub short : length input ≤ most_input
   pub script : Script
   pub is_script : IsScript script (front input)
-  pub clause : (number ≡ 1) × IsNoTranscript (behind input) ⊎ (number ≡ 2) × LacksLines script (behind input)
+  pub clause : (number ≡ 1) × IsNoTranscript (following input) ⊎ (number ≡ 2) × LacksLines script (following input)
 
 -- this is the reason why a text is not read as a transcript
 abbrev pub IsNoText : List ℕ → NotRead → Type 0
@@ -84,7 +84,7 @@ abbrev pub IsNoPair : List ℕ → NotRead → Type 0
 IsNoPair input ReadFault = ⊥
 IsNoPair input (Refused fault) = pair_fault input ≡ Some fault
 IsNoPair input NoTranscript = FailsAsText input 1
-IsNoPair input TooManyLines = FailsAsText input 2 × HasMoreLines most_script_lines (behind input)
+IsNoPair input TooManyLines = FailsAsText input 2 × HasMoreLines most_script_lines (following input)
 IsNoPair input NoMemory = ⊤
 
 -- ---- from a source
@@ -98,8 +98,8 @@ GivesScript left left_after script =
 abbrev pub GivesPair : Option (List ℕ) → Option (List ℕ) → Script → List (List SeenLine) → Type 0
 GivesPair left left_after script t = (input : List ℕ) × WasRead most_input left left_after input × IsPair input script t
 
--- an input was read, and `Is` holds of it and the reason for its refusal. Or the source failed or memory ran out, after
--- at most one byte more than is allowed was taken
+-- an input was read, and `Is` holds of the input and of the reason for its refusal. Or the source failed or memory ran
+-- out, after at most one byte more than is allowed was taken
 abbrev pub GivesNone : ℕ → (List ℕ → NotRead → Type 0) → Option (List ℕ) → Option (List ℕ) → NotRead → Type 0
 GivesNone most Is left left_after ReadFault = ConsumesUpTo (most + 1) left left_after
 GivesNone most Is left left_after (Refused fault) =

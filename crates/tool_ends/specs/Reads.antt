@@ -10,7 +10,7 @@ use Rattle.tool_ends.specs.declared.status.Status.TheVariants.{Done, No, Usage, 
 abbrev pub SomeAnswer : (Status → List ℕ → Type 0) → List ℕ → Type 0
 SomeAnswer Of output = (status : Status) × IsAnswered status × Of status output
 
--- these outputs are those of one kind, with the status Done
+-- the outputs of one kind, all with the status Done
 abbrev pub OnlyDone : (List ℕ → Type 0) → Status → List ℕ → Type 0
 OnlyDone Is Done output = Is output
 OnlyDone Is No output = ⊥
@@ -35,9 +35,10 @@ WritesEnds Of NoMemory held held_after = Keeps held held_after
 WritesEnds Of Usage held held_after = ⊥
 WritesEnds Of ReadFault held held_after = ⊥
 
--- ---- with the reading, of at most `most` bytes and one more; `Of` gives the right outputs for an input
+-- ---- for the input, of which at most `most` bytes and one more are read; `Of` gives the right outputs for an input
 
--- the input was read: it is all that was left in the source, or one byte more than is allowed
+-- the input was read: it is all that was left in the source, or only the front of that, with one byte more than is
+-- allowed
 pub record WasRead (most : ℕ) (left left_after : Option (List ℕ)) (input : List ℕ) : Type 0 where
   pub read : Consumes left left_after input
   pub whole : length input ≤ most → IsAtEnd left_after
@@ -53,7 +54,8 @@ pub record WasAnswered (most : ℕ) (Is : List ℕ → List ℕ → Type 0) (lef
   pub is : Is input output
   pub written : Appends held held_after output
 
--- the input that was read was refused, and the refusal was written; all that was left has the same refusal
+-- the input that was read was refused, and the refusal was written. The refusal is also that of all that was left in
+-- the source
 pub record WasRefused (most : ℕ) (Is : List ℕ → List ℕ → Type 0) (left left_after held held_after : Option (List ℕ))
     : Type 0 where
   pub input : List ℕ
@@ -63,8 +65,8 @@ pub record WasRefused (most : ℕ) (Is : List ℕ → List ℕ → Type 0) (left
   pub of_all : IfSome left (λ all. Is all output)
   pub written : Appends held held_after output
 
--- the sink failed and holds a prefix of an output. It is an output for the input that was read, and for all that was
--- left
+-- the sink failed and holds a prefix of an output. This output is right for the input that was read, and for all that
+-- was left in the source
 pub record WasCutShort (most : ℕ) (Is : List ℕ → List ℕ → Type 0) (left left_after held held_after : Option (List ℕ))
     : Type 0 where
   pub input : List ℕ

@@ -1,4 +1,4 @@
--- The part that a source or a sink has kept of what passed through it.
+-- What a source or a sink keeps of the text that passes through it: a source the front, and a sink the last piece.
 use Rattle.std.specs.Prelude.{ℕ, ◌≡◌, ◌≤◌, ◌++◌, IsTrue, List, length, take}
 use Rattle.tool_ends.specs.declared.tee.TeeSource.{TeeSource}
 use Rattle.tool_ends.specs.declared.tee.TeeSink.{TeeSink}
@@ -11,8 +11,8 @@ tee_sink tee = tee.sink
 
 -- this text was taken, and at most `most` of its first bytes were kept
 pub record HasGiven {S : Type 0} (text : List ℕ) (tee : TeeSource S) : Type 0 where
-  pub behind : List ℕ
-  pub front : text ≡ tee.front.items ++ behind
+  pub following : List ℕ
+  pub front : text ≡ tee.front.items ++ following
   pub whole : IsTrue tee.is_whole → text ≡ tee.front.items
   pub few : length tee.front.items ≤ tee.most
 

@@ -9,7 +9,7 @@ use std::io;
 ///
 /// # Errors
 ///
-/// The status of the program if there are no such words: `NoMemory`, or `Usage` if a word is no text.
+/// The status to end with if the words cannot be had: `NoMemory`, or `Usage` if a word is no text.
 pub fn words<R: Env + AllocGlobal>(rt: &R) -> Result<Vec<String>, Status>
     ensures { IfErr result (λ status. (status ≡ Status.NoMemory) ⊎ (status ≡ Status.Usage)) }
 {

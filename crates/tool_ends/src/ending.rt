@@ -6,7 +6,7 @@ ghost use Rattle.tool_ends.specs.Ends.{AtOutputEnd, IsAnswered};
 use crate::status::Status;
 use io_edges::{Failed, Sink};
 
-/// Ends the output of a command with this status. If an answer was put, it is handed on, unless the sink fails.
+/// Ends the output of a command with this status. If an answer was put, the answer is handed on, unless the sink fails.
 pub fn end_output<K: Sink>(status: Status, sink: &mut K) -> Status
     ensures ended { AtOutputEnd status result (K.faults sink.old) (K.faults sink.new) }
     ensures handed_on { IsAnswered result → K.kept_back sink.new ≡ [] }

@@ -6,15 +6,15 @@ ghost use Rattle.tool_ends.specs.Fed.{GivesNoText, GivesText};
 
 use crate::maker::NoMaker;
 use crate::pair::NotRead;
-use event_script::Reader;
+use event_script::ScriptReader;
 use io_edges::Source;
 use std::alloc::{AllocError, Global};
 
 /// The bytes of one piece.
 const PIECE: usize = 64 * 1024;
 
-/// A reader to feed a text to. It may compare the text with a maker's transcript.
-pub(crate) trait Fed<M> {
+/// A reader that is fed a text, and may compare the text with a maker's transcript.
+pub(crate) trait TextTaker<M> {
     ghost use Rattle.std.specs.Prelude.{List, ℕ};
 
     /// The reader was fed this text.
@@ -24,14 +24,14 @@ pub(crate) trait Fed<M> {
     ///
     /// # Errors
     ///
-    /// `AllocError` if there is no memory for it.
+    /// `AllocError` if there is no memory for the piece.
     fn feed_piece(&mut self, alloc: Global, maker: &M, piece: &[u8]) -> Result<(), AllocError>
         requires { (text : List ℕ) × was_fed maker.now text self.old × (length text + length piece.now ≤ 2 ^ 31) }
         ensures { OnOk result ((text : List ℕ) → was_fed maker.now text self.old
             → was_fed maker.now (text ++ piece.now) self.new) };
 }
 
-impl Fed<NoMaker> for Reader {
+impl TextTaker<NoMaker> for ScriptReader {
     ghost was_fed = { λ _ text reader. HasFed text reader };
 
     fn feed_piece(
@@ -44,12 +44,13 @@ impl Fed<NoMaker> for Reader {
     }
 }
 
-/// Feeds the text that a source gives, to its end or to one byte above the limit. Returns how many bytes were fed.
+/// Feeds the text that a source gives, to the end of the text or to one byte above the limit. Returns how many bytes
+/// were fed.
 ///
 /// # Errors
 ///
 /// `ReadFault` or `NoMemory`. The bytes that were taken are lost.
-pub(crate) fn feed_to_limit<S: Source, M, F: Fed<M>>(
+pub(crate) fn feed_to_limit<S: Source, M, F: TextTaker<M>>(
     alloc: Global,
     source: &mut S,
     limit: usize,

@@ -1,11 +1,11 @@
 //! An input is taken piece by piece: a script, and the text of a transcript after it.
 ghost use Rattle.std.specs.Prelude.{◌≡◌, ◌+◌, ◌≤◌, ◌^◌, ◌++◌, ℕ, List, Some, length, IfErr, IfOk, IfSome, OnOk};
-ghost use Rattle.tool_ends.specs.Behind.{IsApart, compared_with};
+ghost use Rattle.tool_ends.specs.After.{IsApart, compared_with};
 ghost use Rattle.tool_ends.specs.Intakes.{Fills, HasEndLine, HasTaken, IsOpened, made_in, made_of};
 ghost use Rattle.tool_ends.specs.Pairs.{IsNoPair, most_input};
 
-use crate::behind::Behind;
-use crate::feeding::Fed;
+use crate::feeding::TextTaker;
+use crate::following::After;
 use crate::maker::Maker;
 use crate::pair::NotRead;
 use crate::script_end::has_end_line;
@@ -17,7 +17,7 @@ use std::alloc::{AllocError, Global};
 #[derive(Drop)]
 pub(crate) enum Opened {
     /// The script, and the text after it.
-    Script(Script, Behind),
+    Script(Script, After),
     /// The script's first fault.
     Faulty(ScriptFault),
 }
@@ -41,7 +41,7 @@ fn open<M: Maker>(alloc: Global, maker: &M, input: &[u8]) -> Result<Opened, Allo
         Err(ScriptError::Fault(fault)) => return Ok(Opened::Faulty(fault)),
         Err(ScriptError::NoMemory) => return Err(AllocError),
     };
-    let mut text = Behind::nothing(alloc, maker.make(alloc, &script))?;
+    let mut text = After::nothing(alloc, maker.make(alloc, &script))?;
     text.take(alloc, &input[len as usize..])?;
     Ok(Opened::Script(script, text))
 }
@@ -61,7 +61,7 @@ impl Opened {
         }
     }
 
-    fn finish(self) -> Result<(Script, Behind), NotRead>
+    fn finish(self) -> Result<(Script, After), NotRead>
         ensures read { (input : List ℕ) → IsOpened input self → length input ≤ most_input
             → IfOk result (λ both. IsApart input both.0 both.1) }
         ensures not_read { (input : List ℕ) → IsOpened input self → length input ≤ most_input
@@ -108,7 +108,7 @@ impl Intake {
         self,
         alloc: Global,
         maker: &M,
-    ) -> Result<(Script, Behind), NotRead>
+    ) -> Result<(Script, After), NotRead>
         requires short { (input : List ℕ) × HasTaken input self × (length input ≤ 2 ^ 31) }
         requires may { M.may_make maker.now }
         ensures read { (input : List ℕ) → HasTaken input self → length input ≤ most_input
@@ -125,7 +125,7 @@ impl Intake {
     }
 }
 
-impl<M: Maker> Fed<M> for Intake {
+impl<M: Maker> TextTaker<M> for Intake {
     ghost was_fed = { λ maker input intake. Fills (M.may_make maker) (M.made maker) input intake };
 
     fn feed_piece(&mut self, alloc: Global, maker: &M, piece: &[u8]) -> Result<(), AllocError> {

@@ -1,23 +1,45 @@
 //! How this repository's programs end: their statuses, their input and output, and the short lines that are the whole
-//! answer to an input.
+//! answer to an input. The crate uses `io_edges` for sources and sinks, and `event_script` and `transcript_text` for
+//! the grammar of an input.
 //!
-//! [`read_script`] reads a script, and [`pair::read_pair`] one with a transcript after it. If there is none, they
-//! return the reason, and [`put_refusal`] answers with it. A [`tee::TeeSource`] keeps the front of the text that was
-//! taken, and a [`tee::TeeSink`] the last piece that was put, for a program that shows the faulty line;
-//! [`refusal::fault_in`] finds the fault in the answer. [`pair::read_apart`] compares the text after the script with
+//! [`read_script`] reads a script, and [`pair::read_pair`] one with a transcript after it. If the text is faulty, they
+//! return the reason, and [`put_refusal`] answers with it. [`pair::read_apart`] compares the text after the script with
 //! that of a transcript that a [`maker::Maker`] makes, and reads it as soon as it differs. [`put_answer`], [`put_line`]
-//! and [`end_output`] write an answer and hand it on. `specs/Reads` defines the promise of each status about a source
-//! and a sink.
+//! and [`end_output`] write an answer and hand it on. A [`tee::TeeSource`] keeps the front of the text that was taken,
+//! and a [`tee::TeeSink`] the last piece that was put, for a program that shows the faulty line; [`refusal::fault_in`]
+//! finds the fault in the answer.
 //!
-//! The crate uses `io_edges` for sources and sinks, and `event_script` and `transcript_text` for the grammar of an
-//! input.
+//! # Example
+//!
+//! ```rust
+//! match read_pair(alloc, source) {
+//!     Ok((script, t)) => tell(alloc, ask, &script, t, sink),
+//!     Err(why) => put_refusal(&why, sink),
+//! }
+//! ```
+//!
+//! From `crates/key_audit/src/audit.rt`.
+//!
+//! # Proved
+//!
+//! - [`read_script`] and [`pair::read_pair`]: what each result means for the source (`specs/Reads`). A read fault is
+//!   reported exactly if it was counted.
+//! - [`put_answer`] and [`put_line`]: the sink has got the whole answer, or the status is `WriteFault`. [`put_refusal`]
+//!   does the same with the line for a reason, and writes nothing after a read fault or without memory.
+//! - [`end_output`]: after an answer the sink keeps nothing back.
+//! - [`refusal::fault_in`]: a fault that is found is that of the line.
+//!
+//! # Tested only
+//!
+//! That [`refusal::fault_in`] finds the fault in each such line, that [`tee::TeeSource::line`] returns the line of this
+//! number, and the texts on standard error: `.ci/program_checks`.
 #![tactic(auto)]
 
 mod answers;
-pub mod behind;
 mod command_line;
 mod ending;
 mod feeding;
+pub mod following;
 mod intake;
 pub mod maker;
 pub mod numbers;

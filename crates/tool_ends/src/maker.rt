@@ -6,7 +6,8 @@ use event_script::Script;
 use std::alloc::Global;
 use transcript_text::Transcript;
 
-/// A maker of a transcript for a script. The text after the script is compared with it as it comes.
+/// A maker of a transcript for a script. As the text after the script comes, it is compared with that transcript's
+/// text.
 pub trait Maker {
     ghost use Rattle.std.specs.Prelude.{List};
     ghost use Rattle.key_names.specs.Transcripts.SeenLine.{SeenLine};

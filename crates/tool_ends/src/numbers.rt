@@ -48,7 +48,7 @@ impl Form<'_> {
         Some((first, second, third))
     }
 
-    /// The numbers of the words, if these are the command's name and three numbers in its bounds.
+    /// The numbers of the words, if the words are the command's name and three numbers in the command's bounds.
     pub fn numbers(&self, words: &[String]) -> Option<(u32, u32, u32)>
         ensures found { IfSome result (λ n. Asks self.now (map string_bytes words.now) n.0 n.1 n.2) }
         ensures only { (a b c : ℕ) → Asks self.now (map string_bytes words.now) a b c → result ≡ Some (a, b, c) }

@@ -1,12 +1,12 @@
 //! A script and a transcript after it, read from one input.
 ghost use Rattle.std.specs.Prelude.{◌≡◌, ◌≤◌, IfErr, IfOk, IfSome, OnOk};
 ghost use Rattle.io_edges.specs.Faults.{Rose};
-ghost use Rattle.tool_ends.specs.Behind.{GivesApart, compared_with};
+ghost use Rattle.tool_ends.specs.After.{GivesApart, compared_with};
 ghost use Rattle.tool_ends.specs.Pairs.{GivesPair, GivesNoPair};
 ghost use Rattle.tool_ends.specs.declared.pair.NotRead.TheVariants.{NoMemory, ReadFault};
 
-use crate::behind::Behind;
 use crate::feeding::feed_to_limit;
+use crate::following::After;
 use crate::intake::Intake;
 use crate::maker::{Maker, NoMaker};
 use event_script::Script;
@@ -50,9 +50,9 @@ impl From<AllocError> for NotRead {
 }
 
 /// The script that a source gives, and all of the text after it. The source is read to its end, or to one byte more
-/// than is allowed. If the maker makes a transcript of the script, the text is compared with that transcript's as it
-/// comes, and is not kept as long as both are equal. Any other text is read line by line. After the piece with the
-/// script's last line, only the lines that were read and one incomplete line are kept.
+/// than is allowed. If the maker makes a transcript of the script, the text is compared with that transcript's text as
+/// it comes, and is not kept as long as the two texts are equal. Any other text is read line by line. After the piece
+/// with the script's last line, only the lines that were read and one incomplete line are kept.
 ///
 /// # Errors
 ///
@@ -62,7 +62,7 @@ pub fn read_apart<S: Source, M: Maker>(
     alloc: Global,
     source: &mut S,
     maker: &M,
-) -> Result<(Script, Behind), NotRead>
+) -> Result<(Script, After), NotRead>
     requires { M.may_make maker.now }
     ensures read { IfOk result (λ both. GivesApart (S.left source.old) (S.left source.new) both.0 both.1) }
     ensures made { IfOk result (λ both. IfSome (compared_with both.1) (M.made maker.now both.0)) }

@@ -21,7 +21,8 @@ const KINDS: [FaultKind; 12] = [
     FaultKind::Unfinished,
 ];
 
-/// The fault in a text, if the text is a line `refused LINE KIND`. Tests cover that it is found in each such line.
+/// The fault in a text, if the text is a line `refused LINE KIND`. Tests cover that the fault is found in each such
+/// line.
 pub fn fault_in(text: &[u8]) -> Option<ScriptFault>
     ensures { IfSome result (λ fault. text.now ≡ refusal_line fault) }
 {
@@ -36,7 +37,8 @@ pub fn fault_in(text: &[u8]) -> Option<ScriptFault>
     None
 }
 
-/// The number of the clause in a text, if the text is a line `no K`. Tests cover that it is found in each such line.
+/// The number of the clause in a text, if the text is a line `no K`. Tests cover that the number is found in each such
+/// line.
 pub fn clause_in(text: &[u8]) -> Option<u8>
     ensures { IfSome result (λ clause. text.now ≡ no_line clause) }
 {

@@ -8,7 +8,7 @@ ghost use Rattle.tool_ends.specs.Pairs.{GivesNoScript, GivesScript, IsNoScript};
 use crate::feeding::feed_to_limit;
 use crate::maker::NoMaker;
 use crate::pair::NotRead;
-use event_script::{Reader, Script, ScriptError};
+use event_script::{Script, ScriptError, ScriptReader};
 use io_edges::Source;
 use std::alloc::Global;
 
@@ -16,7 +16,7 @@ use std::alloc::Global;
 const MOST_SCRIPT_BYTES: usize = 16_777_216;
 
 // The script in the text that a reader was fed.
-fn script_of(reader: Reader) -> Result<Script, NotRead>
+fn script_of(reader: ScriptReader) -> Result<Script, NotRead>
     requires { (text : List ℕ) × HasFed text reader }
     ensures read { (text : List ℕ) → HasFed text reader → IfOk result (λ script. IsScript script text) }
     ensures not_read { (text : List ℕ) → HasFed text reader → IfErr result (IsNoScript text) }
@@ -45,7 +45,7 @@ pub fn read_script<S: Source>(alloc: Global, source: &mut S) -> Result<Script, N
     ensures no_fault { IfErr result (λ why. (why ≡ NotRead.ReadFault → ⊥) → S.faults source.new ≡ S.faults source.old) }
     ensures not_counted { OnOk result (S.faults source.new ≡ S.faults source.old) }
 {
-    let mut reader = Reader::new(alloc);
+    let mut reader = ScriptReader::new(alloc);
     feed_to_limit(alloc, source, MOST_SCRIPT_BYTES, &NoMaker, &mut reader)?;
     script_of(reader)
 }

@@ -7,10 +7,10 @@ use memchr::memmem;
 /// A script's last line, after another line.
 const END_LINE: &[u8] = b"\nend\n";
 
-/// Whether a line `end` came with the last `count` bytes. It may begin in the bytes before them.
+/// Whether a line `end` came with the last `count` bytes. The line may begin before these bytes.
 pub(crate) fn has_end_line(given: &[u8], count: usize) -> bool
     ensures came { IsTrue result ↔ HasEndLine (last_part count given.now) }
-    ensures stands { IsTrue result → HasEndLine given.now }
+    ensures conforms { IsTrue result → HasEndLine given.now }
 {
     let before = given.len().saturating_sub(count);
     let from = before.saturating_sub(END_LINE.len() - 1);

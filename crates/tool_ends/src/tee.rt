@@ -1,5 +1,5 @@
-//! A source that keeps the front of what was taken from it, and a sink that keeps the last piece that was put to it, for
-//! the message of a refusal.
+//! A source that keeps the front of what was taken from it, and a sink that keeps the last piece that was put to it,
+//! for the message of a refusal.
 ghost use Rattle.std.specs.Prelude.{◌≡◌, ◌<◌, ◌≤◌, ◌++◌, [], ℕ, List, length, take, IfOk, IfSome, OnOk, OnErr};
 ghost use Rattle.std.specs.Io.{ReadsAtMost, WritesAtMost};
 ghost use Rattle.std.specs.Io.KnownBytes.{Keeps, Appends, Consumes, IsAtEnd};
@@ -17,7 +17,7 @@ const MOST_GOT: usize = 32;
 #[derive(Drop)]
 pub struct TeeSource<S: Source + Drop> {
     source: S,
-    // How many bytes are kept at most.
+    // The most bytes that are kept.
     most: usize,
     front: Vec<u8>,
     // Whether `front` is all that was taken.
@@ -25,7 +25,7 @@ pub struct TeeSource<S: Source + Drop> {
 }
 
 impl<S: Source + Drop> TeeSource<S> {
-    /// A source that takes from this one. It has kept no byte yet, and will keep at most `most`.
+    /// A source that takes from this one. It has kept no byte yet, and will keep at most `most` bytes.
     pub fn of(alloc: Global, source: S, most: usize) -> TeeSource<S>
         ensures source { tee_source result ≡ source }
         ensures given { HasGiven [] result }
@@ -124,7 +124,8 @@ impl<K: Sink + Drop> TeeSink<K> {
         }
     }
 
-    /// The first bytes of the last piece that was put, at most 32. A short line that was put in one piece is whole.
+    /// The first bytes of the last piece that was put, at most 32. A line of up to 32 bytes that was put in one piece
+    /// is whole.
     pub fn last(&self) -> &[u8]
         ensures { (piece : List ℕ) → HasGot piece self.now → result.now ≡ take 32 piece }
     {

@@ -1,10 +1,11 @@
--- Lines are compared with the answers and data that follow from their steps, each line with those at its place.
+-- Each line is compared with the answer and data that were made for the line's event. All lines agree exactly if the
+-- clauses on answers and data hold.
 use Rattle.std.proofs.Common.{◌≡◌, ℕ, zero, suc, ◌+◌, ◌≤◌, Some, List, [], ◌∷◌, length, refl, sym, subst, ap, ◌∙◌, arith}
 use Rattle.std.specs.Prelude.{◌↔◌, IsTrue, slice_get}
 use Rattle.std.specs.List.{AllByRecursion}
 use Rattle.key_names.specs.declared.events.Event.{Event}
 use Rattle.key_names.specs.Lanes.Book.{list_at}
-use Rattle.key_names.specs.Transcripts.IsTranscript.{LinesFit, EachCaller, HasLines, AnswersStand, DataStand, script_calls, EachLine}
+use Rattle.key_names.specs.Transcripts.IsTranscript.{LinesFit, EachCaller, HasLines, AnswersConform, DataConform, script_calls, EachLine}
 use Rattle.key_names.specs.Callers.Meaning.{CallMeaning}
 use Rattle.key_names.specs.Transcripts.SeenLine.{SeenLine}
 use Rattle.key_names.specs.Texts.ScriptGrammar.{Script}
@@ -16,20 +17,20 @@ use Rattle.serial_replay.proofs.Agreement.{AllAre, all_both}
 use Rattle.transcript_check.specs.declared.compare.Same.{Same}
 use Rattle.transcript_check.specs.Compared.{IsCompared}
 
--- ---- the line of an event
+-- ---- a caller has no line past its last one, and an absent caller has no lines
 
-pub none_behind : {X : Type 0} (xs : List X) (n : ℕ) (x : X) → length xs ≤ n → slice_get xs n ≡ Some x → ⊥
-none_behind [] n x high is = cc
-none_behind (y ∷ xs) zero x high is = absurd (omega arith)
-none_behind (y ∷ xs) (suc n) x high is = none_behind xs n x (omega arith) is
+pub none_after : {X : Type 0} (xs : List X) (n : ℕ) (x : X) → length xs ≤ n → slice_get xs n ≡ Some x → ⊥
+none_after [] n x high is = cc
+none_after (y ∷ xs) zero x high is = absurd (omega arith)
+none_after (y ∷ xs) (suc n) x high is = none_after xs n x (omega arith) is
 
 pub none_of_another : {X : Type 0} (t : List (List X)) (c n : ℕ) (x : X) → length t ≤ c →
     slice_get (list_at t c) n ≡ Some x → ⊥
-none_of_another [] c n x high is = none_behind [] n x (omega arith) is
+none_of_another [] c n x high is = none_after [] n x (omega arith) is
 none_of_another (xs ∷ t) zero n x high is = absurd (omega arith)
 none_of_another (xs ∷ t) (suc c) n x high is = none_of_another t c n x (omega arith) is
 
--- ---- each line has its place
+-- ---- each line is in its caller's list, at the number of its event
 
 abbrev Placed : List (List SeenLine) → ℕ → SeenLine → Type 0
 Placed t c line = slice_get (list_at t c) line.event ≡ Some line
@@ -62,7 +63,7 @@ callers_placed t c (es ∷ ess) (lines ∷ rest) fit among = (
   callers_placed t (suc c) ess rest fit.1 (λ d. among (suc d) ∙ ap (list_at t) (omega arith)),
 )
 
--- ---- the notes on all lines
+-- ---- the clause on answers holds exactly if each line's answer agrees by its note; so too for data
 
 abbrev pub AnswerSame : SeenLine → Same → Type 0
 AnswerSame line same = IsTrue same.answer
@@ -77,7 +78,7 @@ module _ (script : Script) (t : List (List SeenLine)) (mss : List (List CallMean
   placed : AllAre (Placed t) 0 t
   placed = callers_placed t 0 script.callers t lines (λ d. ap (list_at t) (omega arith))
 
-  pub answers_same : AnswersStand script t mss ↔ AllAgree AnswerSame notes t
+  pub answers_same : AnswersConform script t mss ↔ AllAgree AnswerSame notes t
   answers_same = all_both (IsCompared t) AnswerSame (λ line m. line.answer ≡ m.answer) (Placed t)
       (λ c ns line m is s. (
         (λ e. s.is.noted.answer.1 (λ other found.
@@ -86,7 +87,7 @@ module _ (script : Script) (t : List (List SeenLine)) (mss : List (List CallMean
       ))
       script t mss notes lines placed says
 
-  pub data_same : DataStand script t mss ↔ AllAgree DataSame notes t
+  pub data_same : DataConform script t mss ↔ AllAgree DataSame notes t
   data_same = all_both (IsCompared t) DataSame (λ line m. line.shown ≡ m.shown) (Placed t)
       (λ c ns line m is s. (
         (λ e. s.is.noted.shown.1 (λ other found.

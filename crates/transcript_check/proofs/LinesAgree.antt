@@ -1,4 +1,4 @@
--- Lines and callers that are compared one after the other.
+-- The loops over a caller's lines and over callers keep their invariants in each round.
 use Rattle.std.proofs.Common.{◌≡◌, ℕ, ◌+◌, Some, List, ◌∷◌, drop, sym, subst}
 use Rattle.std.specs.Prelude.{◌↔◌, slice_get}
 use Rattle.std.specs.List.{AllByRecursion}
@@ -6,7 +6,8 @@ use Rattle.key_names.specs.Transcripts.SeenLine.{SeenLine}
 use Rattle.key_names.proofs.Lists.ListFacts.{found_dropped}
 use Rattle.transcript_check.specs.declared.compare.Same.{Same}
 
--- one more element has the property P
+-- suppose all of `xs` have `P` exactly if the elements from `n` on do, and element `n` has `P`; then all of `xs` have
+-- `P` exactly if the elements after `n` do
 pub one_more : {X : Type 0} (P : X → Type 0) (xs : List X) (n : ℕ) (x : X) → slice_get xs n ≡ Some x → P x →
     (AllByRecursion P xs ↔ AllByRecursion P (drop n xs)) → AllByRecursion P xs ↔ AllByRecursion P (drop (n + 1) xs)
 one_more {X = X} P xs n x is here rest =
@@ -16,7 +17,7 @@ one_more {X = X} P xs n x is here rest =
       (λ h. (let whole : AllByRecursion P (x ∷ drop (n + 1) xs) = (here, h) in rest.1 (subst All (sym e) whole))),
     )
 
--- a property of notes and lines holds of equal notes and lines
+-- if `Q` holds of notes and lines, `Q` holds of equal notes and equal lines
 pub moved : (Q : List Same → List SeenLine → Type 0) (s s' : List Same) (ls ls' : List SeenLine) → s ≡ s' → ls ≡ ls' →
     Q s ls → Q s' ls'
 moved Q s s' ls ls' e e' q = subst (Q s') e' (subst (λ x. Q x ls) e q)

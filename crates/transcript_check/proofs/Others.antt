@@ -1,4 +1,4 @@
--- If a line differs from the result of its steps, no lawful transcript with the same steps contains it.
+-- If a line differs from the result of its steps, no lawful transcript with the same steps contains this line.
 use Rattle.std.proofs.Common.{◌≡◌, ℕ, zero, suc, Some, List, [], ◌∷◌, length, sym, subst, ◌∙◌, inl, inr}
 use Rattle.std.specs.Prelude.{slice_get}
 use Rattle.std.specs.List.{AllByRecursion}
@@ -7,7 +7,7 @@ use Rattle.std.proofs.lemmas.Option.{same_Some}
 use Rattle.key_names.specs.Lanes.Book.{list_at}
 use Rattle.key_names.specs.Transcripts.SeenLine.{SeenLine}
 use Rattle.key_names.specs.Texts.ScriptGrammar.{Script}
-use Rattle.judge_log.specs.declared.said.Said.{Said}
+use Rattle.judge_log.specs.declared.said.MadeLine.{MadeLine}
 use Rattle.serial_replay.specs.Agreement.{Agrees, AllAgree, SameAnswer, SameShown}
 use Rattle.serial_replay.specs.Remade.{made_by}
 use Rattle.serial_replay.proofs.Replays.{answers_agree, data_agree}
@@ -20,8 +20,8 @@ each_found P [] n x all is = cc
 each_found P (y ∷ xs) zero x all is = subst P (same_Some y x is) all.0
 each_found P (y ∷ xs) (suc n) x all is = each_found P xs n x all.1 is
 
--- a line that differs from its result is not among lines that all agree with theirs
-none_of : (IsSaid : SeenLine → Said → Type 0) (script : Script) (t u : List (List SeenLine)) (c n : ℕ)
+-- if the line of `t` differs from its result, and all lines of `u` agree with their results, `u` lacks this line
+none_of : (IsSaid : SeenLine → MadeLine → Type 0) (script : Script) (t u : List (List SeenLine)) (c n : ℕ)
     (has : HasOther IsSaid script t c n) → AllAgree IsSaid (made_by has.made) u →
     slice_get (list_at t c) n ≡ slice_get (list_at u c) n → ⊥
 none_of IsSaid script t u c n has all same =

@@ -1,14 +1,14 @@
--- The verdict of a check is right, by the lists that were made of the lines.
+-- The verdict of a check is right: it follows from the answers, data and lists made of the transcript's steps.
 use Rattle.std.proofs.Common.{◌≡◌, ℕ, ◌≤◌, List, [], ◌∷◌, max, refl, subst, ap, arith}
 use Rattle.std.specs.Prelude.{◌↔◌, IsTrue}
 use Rattle.key_names.specs.Lanes.BaseList.{base_after}
 use Rattle.key_names.specs.Lanes.Book.{Book, lists_of}
-use Rattle.key_names.specs.Callers.Deeds.{Deed, looked, at_pool, at_base, at_cpu, nothing_there, deeds_of}
-use Rattle.key_names.specs.Callers.History.{LooksStand, caller_orders}
+use Rattle.key_names.specs.Callers.Effects.{Effect, looked, at_pool, at_base, at_cpu, nothing_there, effects_of}
+use Rattle.key_names.specs.Callers.History.{LooksConform, caller_orders}
 use Rattle.key_names.specs.Callers.CallerOrders.{LooksFrom}
 use Rattle.key_names.specs.Transcripts.IsTranscript.{IsTranscript, IsTranscriptBy, FirstFails}
 use Rattle.key_names.specs.Transcripts.IsTranscript.{answers_clause, data_clause, looks_clause}
-use Rattle.key_names.specs.Transcripts.IsTranscript.{AnswersStand, DataStand, script_calls}
+use Rattle.key_names.specs.Transcripts.IsTranscript.{AnswersConform, DataConform, script_calls}
 use Rattle.key_names.specs.Callers.Meaning.{CallMeaning}
 use Rattle.key_names.specs.Texts.ScriptGrammar.{Script, WellFormed}
 use Rattle.key_names.specs.Transcripts.SeenLine.{SeenLine}
@@ -32,37 +32,37 @@ use Rattle.transcript_check.specs.Compared.{IsCompared}
 use Rattle.transcript_check.specs.Judged.{IsSound, IsJudged}
 use Rattle.transcript_check.proofs.Compared.{AnswerSame, DataSame, answers_same, data_same}
 
--- the looks of an order never fall, if each finds at least the generation that was seen before it
+-- if each look of an order finds at least the generation seen before the look, the looks never fall
 
 lower : (a b : ℕ) (xs : List ℕ) → a ≤ b → NeverFall (b ∷ xs) → NeverFall (a ∷ xs)
 lower a b [] le h = tt
 lower a b (x ∷ xs) le h = (let first : b ≤ x = h.0 in omega arith, h.1)
 
-never_from : (reseeds seen : ℕ) (deeds : List Deed) → LooksFrom reseeds seen deeds → NeverFall (seen ∷ looks_of deeds)
+never_from : (reseeds seen : ℕ) (effects : List Effect) → LooksFrom reseeds seen effects → NeverFall (seen ∷ looks_of effects)
 never_from reseeds seen [] h = tt
-never_from reseeds seen (looked g ∷ deeds) h =
+never_from reseeds seen (looked g ∷ effects) h =
     let le : seen ≤ g = h.0.0 in
     let same : max seen g ≡ g = omega arith in
-    (le, subst (λ n. NeverFall (n ∷ looks_of deeds)) same (never_from reseeds (max seen g) deeds h.1))
-never_from reseeds seen (at_pool v ∷ deeds) h = never_from reseeds seen deeds h.1
-never_from reseeds seen (at_base v ∷ deeds) h =
-    lower seen (max seen v.after.generation) (looks_of deeds) (omega arith)
-    (never_from reseeds (max seen v.after.generation) deeds h.1)
-never_from reseeds seen (at_cpu v ∷ deeds) h =
-    lower seen (max seen v.after.generation) (looks_of deeds) (omega arith)
-    (never_from reseeds (max seen v.after.generation) deeds h.1)
-never_from reseeds seen (nothing_there ∷ deeds) h = never_from reseeds seen deeds h.1
+    (le, subst (λ n. NeverFall (n ∷ looks_of effects)) same (never_from reseeds (max seen g) effects h.1))
+never_from reseeds seen (at_pool v ∷ effects) h = never_from reseeds seen effects h.1
+never_from reseeds seen (at_base v ∷ effects) h =
+    lower seen (max seen v.after.generation) (looks_of effects) (omega arith)
+    (never_from reseeds (max seen v.after.generation) effects h.1)
+never_from reseeds seen (at_cpu v ∷ effects) h =
+    lower seen (max seen v.after.generation) (looks_of effects) (omega arith)
+    (never_from reseeds (max seen v.after.generation) effects h.1)
+never_from reseeds seen (nothing_there ∷ effects) h = never_from reseeds seen effects h.1
 
-behind_first : (a : ℕ) (xs : List ℕ) → NeverFall (a ∷ xs) → NeverFall xs
-behind_first a [] h = tt
-behind_first a (x ∷ xs) h = h.1
+after_first : (a : ℕ) (xs : List ℕ) → NeverFall (a ∷ xs) → NeverFall xs
+after_first a [] h = tt
+after_first a (x ∷ xs) h = h.1
 
-looks_rise : (reseeds : ℕ) (deeds : List Deed) → LooksStand reseeds [] deeds → NeverFall (looks_of deeds)
-looks_rise reseeds deeds h = behind_first 0 (looks_of deeds)
-    (never_from reseeds 0 deeds ((looks_are_counted reseeds [] deeds).0 h))
+looks_rise : (reseeds : ℕ) (effects : List Effect) → LooksConform reseeds [] effects → NeverFall (looks_of effects)
+looks_rise reseeds effects h = after_first 0 (looks_of effects)
+    (never_from reseeds 0 effects ((looks_are_counted reseeds [] effects).0 h))
 
 module _ (script : Script) (t : List (List SeenLine)) (well : WellFormed script) where
-  -- a lawful transcript is sound
+  -- a lawful transcript has all that `IsSound` states: a disjoint book, bytes of named keys, and looks that never fall
   pub lawful_is_sound : (book : Book) (meanings : List (List CallMeaning)) → IsTranscriptBy script t book meanings →
       IsSound script t
   lawful_is_sound book meanings lawful = record {
@@ -72,46 +72,46 @@ module _ (script : Script) (t : List (List SeenLine)) (well : WellFormed script)
     disjoint = lawful_is_disjoint (lists_of book) (transcript_is_lawful script t book meanings lawful);
     printed = transcript_prints_named script t book meanings well lawful;
     rising = each_weaker
-        (λ order. LooksStand (base_after (lists_of book).base).generation [] (deeds_of (lists_of book) order))
-        (λ order. NeverFall (looks_of (deeds_of (lists_of book) order)))
+        (λ order. LooksConform (base_after (lists_of book).base).generation [] (effects_of (lists_of book) order))
+        (λ order. NeverFall (looks_of (effects_of (lists_of book) order)))
         (caller_orders (script_calls script t))
-        (λ order h. looks_rise (base_after (lists_of book).base).generation (deeds_of (lists_of book) order) h)
+        (λ order h. looks_rise (base_after (lists_of book).base).generation (effects_of (lists_of book) order) h)
         lawful.looks;
   }
 
   module _ (m : Made Same) (a : AllMade (IsCompared t) script t m) where
-    abbrev Answers : Type 0
-    Answers = AllAgree AnswerSame (made_by m) t
+    abbrev ComparedAnswer : Type 0
+    ComparedAnswer = AllAgree AnswerSame (made_by m) t
 
-    abbrev Data : Type 0
-    Data = AllAgree DataSame (made_by m) t
+    abbrev ComparedData : Type 0
+    ComparedData = AllAgree DataSame (made_by m) t
 
-    answers : AnswersStand script t a.made.meanings ↔ Answers
+    answers : AnswersConform script t a.made.meanings ↔ ComparedAnswer
     answers = answers_same script t a.made.meanings (made_by m) a.made.lines a.says
 
-    shown : DataStand script t a.made.meanings ↔ Data
+    shown : DataConform script t a.made.meanings ↔ ComparedData
     shown = data_same script t a.made.meanings (made_by m) a.made.lines a.says
 
-    pub other_answers : (Answers → ⊥) → FirstFails script t answers_clause
-    other_answers differ = (a.made, (λ stand. differ (answers.0 stand)))
+    pub other_answers : (ComparedAnswer → ⊥) → FirstFails script t answers_clause
+    other_answers differ = (a.made, (λ conform. differ (answers.0 conform)))
 
-    pub other_data : Answers → (Data → ⊥) → FirstFails script t data_clause
-    other_data same differ = (a.made, answers.1 same, (λ stand. differ (shown.0 stand)))
+    pub other_data : ComparedAnswer → (ComparedData → ⊥) → FirstFails script t data_clause
+    other_data same differ = (a.made, answers.1 same, (λ conform. differ (shown.0 conform)))
 
-    pub other_looks : Answers → Data → (IsTrue m.looks_stand → ⊥) → FirstFails script t looks_clause
-    other_looks same same' fall = (a.made, answers.1 same, shown.1 same', (λ stand. fall (a.looks.1 stand)))
+    pub other_looks : ComparedAnswer → ComparedData → (IsTrue m.looks_conform → ⊥) → FirstFails script t looks_clause
+    other_looks same same' fall = (a.made, answers.1 same, shown.1 same', (λ conform. fall (a.looks.1 conform)))
 
-    pub all_same : Answers → Data → IsTrue m.looks_stand → IsSound script t
-    all_same same same' stand = lawful_is_sound a.made.book a.made.meanings (record {
+    pub all_same : ComparedAnswer → ComparedData → IsTrue m.looks_conform → IsSound script t
+    all_same same same' conform = lawful_is_sound a.made.book a.made.meanings (record {
       lines = a.made.lines;
       marks = a.made.marks;
       forms = a.made.forms;
       answers = answers.1 same;
       shown = shown.1 same';
-      looks = a.looks.0 stand;
+      looks = a.looks.0 conform;
     })
 
--- at most one verdict is right
+-- ---- at most one verdict is right
 
 pub yes_of : (script : Script) (t : List (List SeenLine)) (v : Verdict) → IsJudged script t v → IsTranscript script t → v ≡ Yes
 yes_of script t Yes j is = refl

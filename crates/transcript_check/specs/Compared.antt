@@ -1,16 +1,16 @@
--- The notes on a line that is compared with the result of its steps.
+-- What is noted of a line when the line is compared with the answer and data of its steps.
 use Rattle.std.specs.Prelude.{ℕ, ◌≡◌, ◌↔◌, IsTrue, Some, List, slice_get}
 use Rattle.key_names.specs.Lanes.Book.{list_at}
 use Rattle.key_names.specs.Transcripts.SeenLine.{SeenLine}
-use Rattle.judge_log.specs.declared.said.Said.{Said}
+use Rattle.judge_log.specs.declared.said.MadeLine.{MadeLine}
 use Rattle.serial_replay.specs.Agreement.{SameAnswer, SameShown}
 use Rattle.transcript_check.specs.declared.compare.Same.{Same}
 
 -- if the event has a line, this part of the line agrees with the result
-abbrev pub SameThere : (SeenLine → Said → Type 0) → List (List SeenLine) → ℕ → ℕ → Said → Type 0
+abbrev pub SameThere : (SeenLine → MadeLine → Type 0) → List (List SeenLine) → ℕ → ℕ → MadeLine → Type 0
 SameThere Part t caller event said =
     (line : SeenLine) → slice_get (list_at t caller) event ≡ Some line → Part line said
 
-pub record IsCompared (t : List (List SeenLine)) (caller event : ℕ) (said : Said) (same : Same) : Type 0 where
+pub record IsCompared (t : List (List SeenLine)) (caller event : ℕ) (said : MadeLine) (same : Same) : Type 0 where
   pub answer : IsTrue same.answer ↔ SameThere SameAnswer t caller event said
   pub shown : IsTrue same.shown ↔ SameThere SameShown t caller event said

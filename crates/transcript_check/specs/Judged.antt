@@ -1,8 +1,8 @@
--- The verdict of a check, and what a lawful transcript's lines have.
+-- What the verdict of a check means. `Yes` means that the transcript is lawful, and more: see `IsSound`.
 use Rattle.std.specs.Prelude.{⊤, List}
 use Rattle.std.specs.List.{AllByRecursion}
 use Rattle.key_names.specs.Lanes.Book.{Book, lists_of}
-use Rattle.key_names.specs.Callers.Deeds.{deeds_of}
+use Rattle.key_names.specs.Callers.Effects.{effects_of}
 use Rattle.key_names.specs.Callers.History.{caller_orders}
 use Rattle.key_names.specs.Transcripts.IsTranscript.{IsTranscriptBy, FirstFails, script_calls}
 use Rattle.key_names.specs.Callers.Meaning.{CallMeaning}
@@ -12,21 +12,21 @@ use Rattle.key_names.specs.Transcripts.SeenLine.{SeenLine}
 use Rattle.key_names.specs.Keys.Uses.{IsDisjoint}
 use Rattle.key_names.specs.Callers.VreadSteps.{NeverFall, looks_of}
 use Rattle.judge_lines.specs.Clauses.{clause_of}
-use Rattle.serial_replay.specs.Found.{BasisStands}
+use Rattle.serial_replay.specs.Found.{BasisConforms}
 use Rattle.transcript_check.specs.declared.check.Judged.{Judged}
 use Rattle.transcript_check.specs.declared.check.Judged.TheVariants.{Lawful, Unlawful}
 use Rattle.transcript_check.specs.declared.check.Verdict.{Verdict}
 use Rattle.transcript_check.specs.declared.check.Verdict.TheVariants.{Yes, No}
 
--- the transcript is lawful with its book, which uses no byte of a key twice. The lines show bytes of named keys, each
--- byte at most once. Along each caller's order no look is below an earlier one
+-- the transcript is lawful with `book`, and `book` uses no byte of a key twice. The lines show bytes of named keys, and
+-- each such byte at most once. Along each caller's order no look is below an earlier look
 pub record IsSound (script : Script) (t : List (List SeenLine)) : Type 0 where
   pub book : Book
   pub meanings : List (List CallMeaning)
   pub lawful : IsTranscriptBy script t book meanings
   pub disjoint : IsDisjoint (lists_of book)
   pub printed : PrintsNamed script t book meanings
-  pub rising : AllByRecursion (λ order. NeverFall (looks_of (deeds_of (lists_of book) order)))
+  pub rising : AllByRecursion (λ order. NeverFall (looks_of (effects_of (lists_of book) order)))
       (caller_orders (script_calls script t))
 
 abbrev pub IsJudged : Script → List (List SeenLine) → Verdict → Type 0
@@ -37,7 +37,7 @@ abbrev pub verdict_of : Judged → Verdict
 verdict_of (Lawful basis) = Yes
 verdict_of (Unlawful clause) = No clause
 
--- if the transcript is lawful, the lists are made of its lines
+-- if the verdict is that the transcript is lawful, `basis` has the kept data of lists that match the transcript's lines
 abbrev pub HasLists : Script → List (List SeenLine) → Judged → Type 0
-HasLists script t (Lawful basis) = BasisStands script t basis
+HasLists script t (Lawful basis) = BasisConforms script t basis
 HasLists script t (Unlawful clause) = ⊤

@@ -1,31 +1,31 @@
--- A line of a transcript that differs from the result of its steps.
+-- When a line of a transcript differs from the result of its steps.
 use Rattle.std.specs.Prelude.{ℕ, ◌≡◌, ◌≢◌, Some, List, slice_get, map}
 use Rattle.key_names.specs.Lanes.Book.{list_at}
 use Rattle.key_names.specs.Transcripts.IsTranscript.{IsTranscript}
 use Rattle.key_names.specs.Transcripts.SameSteps.{SameSteps, bare}
 use Rattle.key_names.specs.Transcripts.SeenLine.{SeenLine}
 use Rattle.key_names.specs.Texts.ScriptGrammar.{Script}
-use Rattle.judge_log.specs.declared.said.Said.{Said}
+use Rattle.judge_log.specs.declared.said.MadeLine.{MadeLine}
 use Rattle.judge_log.specs.Said.{itself}
 use Rattle.serial_replay.specs.declared.remake.Made.{Made}
 use Rattle.serial_replay.specs.Remade.{AllMade, made_by}
 
--- the line differs from the result at its event's number
-pub record IsOther (IsSaid : SeenLine → Said → Type 0) (notes : List Said) (line : SeenLine) : Type 0 where
-  pub one : Said
+-- the line differs from the result that was made for the number of the line's event
+pub record IsOther (IsSaid : SeenLine → MadeLine → Type 0) (notes : List MadeLine) (line : SeenLine) : Type 0 where
+  pub one : MadeLine
   pub said : slice_get notes line.event ≡ Some one
   pub other : IsSaid line one → ⊥
 
--- the caller has a line with this number, and it differs from its result
-pub record IsOtherAt (IsSaid : SeenLine → Said → Type 0) (notes : List Said) (lines : List SeenLine) (number : ℕ) : Type 0 where
+-- the caller has a line with this number, and this line differs from its result
+pub record IsOtherAt (IsSaid : SeenLine → MadeLine → Type 0) (notes : List MadeLine) (lines : List SeenLine) (number : ℕ) : Type 0 where
   pub line : SeenLine
   pub there : slice_get lines number ≡ Some line
   pub is : IsOther IsSaid notes line
 
 -- the caller's line with this number differs from the result of the transcript's steps
-pub record HasOther (IsSaid : SeenLine → Said → Type 0) (script : Script) (t : List (List SeenLine))
+pub record HasOther (IsSaid : SeenLine → MadeLine → Type 0) (script : Script) (t : List (List SeenLine))
     (caller number : ℕ) : Type 0 where
-  pub made : Made Said
+  pub made : Made MadeLine
   pub says : AllMade itself script (map (map bare) t) made
   pub other : IsOtherAt IsSaid (list_at (made_by made) caller) (list_at t caller) number
 

@@ -1,4 +1,4 @@
-//! The check of a transcript.
+//! Checks whether a transcript is lawful for a script.
 ghost use Rattle.std.specs.Prelude.{◌≡◌, IfOk, map};
 ghost use Rattle.key_names.specs.Texts.ScriptGrammar.{WellFormed};
 ghost use Rattle.key_names.specs.Transcripts.IsTranscript.{IsTranscript, FirstFails};
@@ -6,7 +6,7 @@ ghost use Rattle.key_names.specs.Transcripts.SameSteps.{bare};
 ghost use Rattle.judge_lines.specs.Clauses.{clause_of};
 ghost use Rattle.transcript_check.specs.Judged.{HasLists, IsJudged, verdict_of};
 
-use crate::compare::{Answers, Compare, Data, all_agree};
+use crate::compare::{Compare, ComparedAnswer, ComparedData, all_agree};
 use event_script::Script;
 use judge_lines::clause::Clause;
 use serial_replay::lists::Basis;
@@ -52,21 +52,21 @@ fn judge<'a>(alloc: Global, script: &'a Script, t: &'a Transcript) -> Result<Jud
         Remade::No(clause) => return Ok(Judged::Unlawful(clause)),
         Remade::Made(made) => made,
     };
-    if !all_agree(&Answers, t, &made.callers) {
+    if !all_agree(&ComparedAnswer, t, &made.callers) {
         return Ok(Judged::Unlawful(Clause::Answers));
     }
-    if !all_agree(&Data, t, &made.callers) {
+    if !all_agree(&ComparedData, t, &made.callers) {
         return Ok(Judged::Unlawful(Clause::Data));
     }
-    if made.looks_stand {
+    if made.looks_conform {
         Ok(Judged::Lawful(made.basis))
     } else {
         Ok(Judged::Unlawful(Clause::Looks))
     }
 }
 
-/// Whether a transcript is lawful for a script. If it is, returns the lists of its lanes, which are made only of the
-/// words and steps. The answers and data agree with these lists.
+/// Whether a transcript is lawful for a script. If the transcript is lawful, returns the lists of its lanes. They are
+/// made from the transcript's words and steps alone. The transcript's answers and data agree with these lists.
 ///
 /// # Errors
 ///
@@ -79,12 +79,12 @@ pub fn check_lists<'a>(
     ensures judged { IfOk result (λ judged. IsJudged script.now t.now (verdict_of judged)) }
     ensures lists { IfOk result (λ judged. HasLists script.now (map (map bare) t.now) judged) }
 {
-    // The contract of this call gives the facts that hold of every script.
+    // This call is made for its contract, which states facts about every script.
     let _version = script.version();
     judge(alloc, script, t)
 }
 
-/// Whether a transcript is lawful for a script, and if not, the first clause that fails.
+/// Whether a transcript is lawful for a script. If the transcript is not lawful, the first clause that fails.
 ///
 /// # Errors
 ///

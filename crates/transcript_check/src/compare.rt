@@ -1,5 +1,5 @@
-//! Compares lines with the answers and data of their steps as soon as these are made. Notes, part by part, whether each
-//! line agrees.
+//! As soon as the answer and data of a line's steps are made, compares the line with them. Notes whether the answer
+//! agrees, and whether the data agree.
 ghost use Rattle.std.specs.Prelude.{◌≡◌, ◌↔◌, IsTrue, Some, length, slice_get, MatchOption};
 ghost use Rattle.std.specs.List.{AllByRecursion};
 ghost use Rattle.key_names.specs.Lanes.Book.{list_at};
@@ -12,26 +12,26 @@ ghost use Rattle.serial_replay.specs.Remade.{said_lists};
 ghost use Rattle.transcript_check.specs.declared.compare.Same.{Same as IsLineSame};
 ghost use Rattle.transcript_check.specs.Compared.{IsCompared};
 
-use judge_log::said::{Note, Said, Shows};
+use judge_log::said::{MadeLine, Note, ShownRecipe};
 use judge_vread::served::Served;
 use transcript_text::{CallerLines, LineView, Shown, Transcript};
 
-/// Whether the parts of a line agree with those of its steps.
+/// Whether a line's answer agrees with that of its steps, and whether the line's data agree with those of its steps.
 #[derive(Clone, Copy, Drop)]
 pub(crate) struct Same {
     pub answer: bool,
     pub shown: bool,
 }
 
-/// Notes whether the lines of a transcript agree with their steps.
+/// Notes for each line of the transcript `t` whether its answer and its data agree with its steps.
 #[derive(Drop)]
 pub(crate) struct Compare<'a> {
     pub t: &'a Transcript,
 }
 
-/// A part of a line.
+/// A part of a line: its answer, or its data.
 pub(crate) trait Part {
-    /// By this note, this part of the line agrees.
+    /// This note records that this part of the line agrees.
     ghost IsSame: { Self → IsLineSame → Type 0 };
 
     fn is_same(&self, same: Same) -> bool
@@ -39,10 +39,10 @@ pub(crate) trait Part {
 }
 
 /// A line's answer.
-pub(crate) struct Answers;
+pub(crate) struct ComparedAnswer;
 
 /// The data of a line.
-pub(crate) struct Data;
+pub(crate) struct ComparedData;
 
 fn shows_nothing(shown: Shown<'_>) -> bool
     ensures { IsTrue result ↔ (seen_shown shown.entry ≡ no_data) }
@@ -73,17 +73,17 @@ fn shows_bytes(shown: Shown<'_>, served: &Served) -> bool
     }
 }
 
-fn is_shown(shown: Shown<'_>, shows: &Shows) -> bool
+fn is_shown(shown: Shown<'_>, shows: &ShownRecipe) -> bool
     ensures { IsTrue result ↔ (seen_shown shown.entry ≡ shown_by shows.now) }
 {
     match shows {
-        Shows::Nothing => shows_nothing(shown),
-        Shows::Count(number) => shows_count(shown, *number),
-        Shows::Served(served) => shows_bytes(shown, served),
+        ShownRecipe::Nothing => shows_nothing(shown),
+        ShownRecipe::Count(number) => shows_count(shown, *number),
+        ShownRecipe::Served(served) => shows_bytes(shown, served),
     }
 }
 
-pub(crate) fn compared(line: LineView<'_>, said: &Said) -> Same
+pub(crate) fn compared(line: LineView<'_>, said: &MadeLine) -> Same
     ensures answer { IsTrue result.answer ↔ SameAnswer (seen line.entry) said.now }
     ensures shown { IsTrue result.shown ↔ SameShown (seen line.entry) said.now }
 {
@@ -117,7 +117,7 @@ impl Note for Compare<'_> {
     ghost IsNoted = { λ compare caller event said same. IsCompared compare.t.now caller event said same };
 
     #[inline(always)]
-    fn note(&self, caller: u32, event: u32, said: Said) -> Same {
+    fn note(&self, caller: u32, event: u32, said: MadeLine) -> Same {
         match self.line(caller, event) {
             Some(line) => compared(line, &said),
             None => Same {
@@ -128,7 +128,7 @@ impl Note for Compare<'_> {
     }
 }
 
-impl Part for Answers {
+impl Part for ComparedAnswer {
     ghost IsSame = { λ _ same. IsTrue same.answer };
 
     fn is_same(&self, same: Same) -> bool {
@@ -136,7 +136,7 @@ impl Part for Answers {
     }
 }
 
-impl Part for Data {
+impl Part for ComparedData {
     ghost IsSame = { λ _ same. IsTrue same.shown };
 
     fn is_same(&self, same: Same) -> bool {
@@ -164,7 +164,7 @@ fn lines_agree<P: Part>(part: &P, lines: &CallerLines, noted: &[Same]) -> bool
     true
 }
 
-/// Whether this part of each line agrees with its steps.
+/// Whether in each line this part agrees with the line's steps.
 pub(crate) fn all_agree<P: Part>(part: &P, t: &Transcript, noted: &[Vec<Same>]) -> bool
     requires { length noted.now ≡ length t.now }
     ensures { IsTrue result ↔ AllAgree (λ _. P.IsSame part.now) (said_lists noted.now) t.now }

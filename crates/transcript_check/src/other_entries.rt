@@ -1,17 +1,18 @@
-//! The first line with a visit that no list of its lane can contain after the visits before it.
+//! Takes the visits in the order of their stamps, and finds the first that cannot follow the earlier visits in any
+//! lists.
 ghost use Rattle.std.specs.Prelude.{◌≡◌, ℕ, IfOk, length, take};
 ghost use Rattle.judge_log.specs.Tables.{InRange, tables_of};
 ghost use Rattle.transcript_check.specs.Rows.{AreWide};
 
-use crate::place::{Expected, Place};
+use crate::place::{Expected, FailedLine};
 use crate::uncounted::{VisitOf, all_visits};
 use judge_lines::bare::BareLine;
-use judge_lines::told::BaseTold;
-use judge_log::{Told, ToldCpu, ToldPool, replay_lists};
+use judge_lines::inferred::BaseInferred;
+use judge_log::{InferredCpu, InferredEntries, InferredPool, replay_lists};
 use key_names::{BaseEntry, LaneId, PoolNote};
 use std::alloc::{AllocError, Global};
 
-/// How many rows of each lane are looked at.
+/// How many inferred rows of each lane are kept, from its first row on.
 #[derive(Drop)]
 struct Ends {
     pool: usize,
@@ -20,7 +21,7 @@ struct Ends {
 }
 
 impl Ends {
-    // The rows of the first visits.
+    // Keeps the rows of these visits.
     fn of(alloc: Global, cpus: usize, visits: &[VisitOf]) -> Result<Ends, AllocError> {
         let mut ends = Ends {
             pool: 0,
@@ -42,29 +43,29 @@ impl Ends {
         self.cpus.get(cpu).copied().unwrap_or(0)
     }
 
-    // Also looks at the row of a CPU at this place.
+    // Also keeps the rows of a CPU up to this place.
     fn reach(&mut self, cpu: u32, place: usize) {
         if let Some(end) = self.cpus.get_mut(cpu as usize) {
             *end = (*end).max(place.saturating_add(1));
         }
     }
 
-    // Also looks at the visit that each extraction and each refill names.
-    fn reach_named(&mut self, told: &Told<'_>) {
-        for row in told.pool.iter().take(self.pool) {
-            if let ToldPool::Is(PoolNote::Extract { base_place, .. }) = row {
+    // Also keeps the rows up to each place that a kept extraction or a kept refill names.
+    fn reach_named(&mut self, inferred: &InferredEntries<'_>) {
+        for row in inferred.pool.iter().take(self.pool) {
+            if let InferredPool::Is(PoolNote::Extract { base_place, .. }) = row {
                 self.base = self.base.max((*base_place as usize).saturating_add(1));
             }
         }
-        for row in told.base.iter().take(self.base) {
-            if let BaseTold::Is(BaseEntry::Refill { cpu, cpu_place }) = row {
+        for row in inferred.base.iter().take(self.base) {
+            if let BaseInferred::Is(BaseEntry::Refill { cpu, cpu_place }) = row {
                 self.reach(*cpu, *cpu_place as usize);
             }
         }
     }
 }
 
-// The first rows of a list.
+// The first `end` rows of a list, or all rows if there are fewer.
 fn front<T: Copy>(alloc: Global, rows: &[T], end: usize) -> Result<Vec<T>, AllocError>
     ensures { IfOk result (λ front. (n : ℕ) × (front.items ≡ take n rows.now)) }
 {
@@ -76,9 +77,9 @@ fn front<T: Copy>(alloc: Global, rows: &[T], end: usize) -> Result<Vec<T>, Alloc
 
 fn cut_lanes(
     alloc: Global,
-    lanes: &[Vec<ToldCpu>],
+    lanes: &[Vec<InferredCpu>],
     ends: &Ends,
-) -> Result<Vec<Vec<ToldCpu>>, AllocError>
+) -> Result<Vec<Vec<InferredCpu>>, AllocError>
     requires { AreWide lanes.now }
     ensures long { IfOk result (λ cut. length cut.items ≡ length lanes.now) }
     ensures wide { IfOk result (λ cut. AreWide cut.items) }
@@ -90,30 +91,39 @@ fn cut_lanes(
     Ok(cut)
 }
 
-// Whether some lists begin with the first rows of each lane.
-fn begins(alloc: Global, told: &Told<'_>, visits: &[VisitOf]) -> Result<bool, AllocError>
-    requires { InRange (tables_of told.now) }
+// Whether some lists match the rows of these visits, and the rows up to each place that these rows name.
+fn begins(
+    alloc: Global,
+    inferred: &InferredEntries<'_>,
+    visits: &[VisitOf],
+) -> Result<bool, AllocError>
+    requires { InRange (tables_of inferred.now) }
 {
-    let mut ends = Ends::of(alloc, told.cpus.len(), visits)?;
-    ends.reach_named(told);
-    let cut = Told {
-        pool: front(alloc, &told.pool, ends.pool)?,
-        base: front(alloc, &told.base, ends.base)?,
-        cpus: cut_lanes(alloc, &told.cpus, &ends)?,
+    let mut ends = Ends::of(alloc, inferred.cpus.len(), visits)?;
+    ends.reach_named(inferred);
+    let cut = InferredEntries {
+        pool: front(alloc, &inferred.pool, ends.pool)?,
+        base: front(alloc, &inferred.base, ends.base)?,
+        cpus: cut_lanes(alloc, &inferred.cpus, &ends)?,
     };
     let lists = replay_lists(alloc, &cut)?;
     Ok(lists.is_some())
 }
 
-// How many of the first visits some lists begin with. No lists begin with one visit more. Bisection finds the number.
-fn most_visits(alloc: Global, told: &Told<'_>, visits: &[VisitOf]) -> Result<usize, AllocError>
-    requires { InRange (tables_of told.now) }
+// The result, found by bisection, is a number of first visits. Some lists begin with the rows of these visits, but no
+// lists begin with those rows and the row of the next visit.
+fn most_visits(
+    alloc: Global,
+    inferred: &InferredEntries<'_>,
+    visits: &[VisitOf],
+) -> Result<usize, AllocError>
+    requires { InRange (tables_of inferred.now) }
 {
     let mut least = 0;
     let mut most = visits.len();
     while most - least > 1 {
         let middle = least + (most - least) / 2;
-        if begins(alloc, told, &visits[..middle])? {
+        if begins(alloc, inferred, &visits[..middle])? {
             least = middle;
         } else {
             most = middle;
@@ -122,20 +132,20 @@ fn most_visits(alloc: Global, told: &Told<'_>, visits: &[VisitOf]) -> Result<usi
     Ok(least)
 }
 
-/// The line of the first visit, in the order of stamps, such that no lists begin with the inferred rows up to it
-/// (tested). No lists match the whole tables.
+/// Takes the visits in the order of their stamps. Returns the line of the first visit such that no lists begin with the
+/// inferred rows up to this visit. This is tested, not proved. The whole tables must match no lists.
 pub(crate) fn first_other_entry(
     alloc: Global,
-    told: &Told<'_>,
+    inferred: &InferredEntries<'_>,
     lines: &[Vec<BareLine<'_>>],
-) -> Result<Option<Place>, AllocError>
-    requires { InRange (tables_of told.now) }
+) -> Result<Option<FailedLine>, AllocError>
+    requires { InRange (tables_of inferred.now) }
 {
     let mut visits = all_visits(alloc, lines)?;
     visits.sort_by_key(|visit| visit.mark.stamp)?;
-    let count = most_visits(alloc, told, &visits)?;
+    let count = most_visits(alloc, inferred, &visits)?;
     Ok(
-        visits.get(count).map(|visit| Place {
+        visits.get(count).map(|visit| FailedLine {
             caller: visit.caller,
             line: visit.line,
             expected: Expected::Entry(visit.mark),

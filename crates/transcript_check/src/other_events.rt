@@ -1,11 +1,11 @@
-//! The first line that differs from the line of its event.
+//! Finds the first line that is not the line of its event.
 
-use crate::place::{Expected, Place};
+use crate::place::{Expected, FailedLine};
 use event_script::Script;
 use judge_lines::bare::BareLine;
 use key_names::Word;
 
-// The word of a caller's line with this number, if the script has an event or the end there.
+// The word that a caller's line with this number must have. None if the script has neither an event nor the end there.
 fn word_at(script: &Script, caller: u32, number: usize) -> Option<Word> {
     if caller >= script.callers() {
         return None;
@@ -22,7 +22,7 @@ fn is_line(line: &BareLine<'_>, caller: u32, event: usize, word: Word) -> bool {
     line.caller == caller && line.event as usize == event && line.word == word
 }
 
-// What was expected of a caller's line with this number, if the line differs from it.
+// The line that was expected as a caller's line with this number. None if `line` is the expected line.
 fn expected_at(
     script: &Script,
     caller: u32,
@@ -42,10 +42,10 @@ fn expected_at(
     }
 }
 
-fn first_of_caller(script: &Script, caller: u32, lines: &[BareLine<'_>]) -> Option<Place> {
+fn first_of_caller(script: &Script, caller: u32, lines: &[BareLine<'_>]) -> Option<FailedLine> {
     for line in 0..lines.len() + 1 {
         if let Some(expected) = expected_at(script, caller, line, lines.get(line)) {
-            return Some(Place {
+            return Some(FailedLine {
                 caller,
                 line,
                 expected,
@@ -55,8 +55,11 @@ fn first_of_caller(script: &Script, caller: u32, lines: &[BareLine<'_>]) -> Opti
     None
 }
 
-/// The first line that differs from the line of its event, or that is missing (tested).
-pub(crate) fn first_other_event(script: &Script, callers: &[Vec<BareLine<'_>>]) -> Option<Place> {
+/// The first line that is missing, or that is not the line of its event. This is tested, not proved.
+pub(crate) fn first_other_event(
+    script: &Script,
+    callers: &[Vec<BareLine<'_>>],
+) -> Option<FailedLine> {
     for caller in 0..script.callers() {
         let Some(lines) = callers.get(caller as usize) else {
             return first_of_caller(script, caller, &[]);

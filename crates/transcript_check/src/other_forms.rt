@@ -1,4 +1,4 @@
-//! The first line with steps that are no form of its event in a book with all other lines.
+//! Finds the first line at which the clause on forms fails.
 ghost use Rattle.std.specs.Prelude.{◌≡◌, map};
 ghost use Rattle.std.specs.List.{AllByRecursion};
 ghost use Rattle.key_names.specs.Texts.ScriptGrammar.{WellFormed};
@@ -6,12 +6,12 @@ ghost use Rattle.judge_lines.specs.Called.{seen_call, seen_calls};
 ghost use Rattle.judge_log.specs.Said.{CallInRange};
 
 use crate::other_entries::first_other_entry;
-use crate::place::{Expected, Place};
+use crate::place::{Expected, FailedLine};
 use event_script::Script;
 use judge_lines::bare::BareLine;
 use judge_lines::begin::{Begun, begin};
-use judge_lines::called::Called;
-use judge_lines::setting::Setting;
+use judge_lines::called::CalledLines;
+use judge_lines::setting::LineSetting;
 use judge_lines::settings::all_settings;
 use judge_log::calls::caller_said;
 use judge_log::gather::gather;
@@ -34,11 +34,11 @@ fn has_absent(cpus: u32, steps: &[Step]) -> bool {
 }
 
 // The first line that visits a CPU which the script does not have.
-fn first_absent(cpus: u32, callers: &[Vec<BareLine<'_>>]) -> Option<Place> {
+fn first_absent(cpus: u32, callers: &[Vec<BareLine<'_>>]) -> Option<FailedLine> {
     for lines in callers {
         for (line, bare) in lines.iter().enumerate() {
             if has_absent(cpus, bare.steps) {
-                return Some(Place {
+                return Some(FailedLine {
                     caller: bare.caller,
                     line,
                     expected: Expected::CpuBelow(cpus),
@@ -49,12 +49,12 @@ fn first_absent(cpus: u32, callers: &[Vec<BareLine<'_>>]) -> Option<Place> {
     None
 }
 
-// Whether the steps of these calls are forms. The answers and data that follow from them are dropped, so the number of
-// their caller does not matter.
+// Whether the steps of these calls are forms. The answers and data made from the steps are dropped, so the caller's
+// number does not matter.
 fn are_forms(
     alloc: Global,
-    calls: &[Called<'_>],
-    settings: &[Setting],
+    calls: &[CalledLines<'_>],
+    settings: &[LineSetting],
     lists: &Lists,
 ) -> Result<bool, AllocError>
     requires { AllByRecursion CallInRange (map seen_call calls.now) }
@@ -63,12 +63,12 @@ fn are_forms(
     Ok(said.is_some())
 }
 
-// How many of a caller's first calls have steps that are forms. The next call's steps are no form. Bisection finds the
-// number.
+// The result, found by bisection, is a number of first calls of a caller. The steps of these calls are forms, but the
+// steps of the next call are not.
 fn most_forms(
     alloc: Global,
-    calls: &[Called<'_>],
-    settings: &[Setting],
+    calls: &[CalledLines<'_>],
+    settings: &[LineSetting],
     lists: &Lists,
 ) -> Result<usize, AllocError>
     requires { AllByRecursion CallInRange (map seen_call calls.now) }
@@ -86,21 +86,23 @@ fn most_forms(
     Ok(least)
 }
 
-// The line of a call. For a `vread` with acts inside it, it is the line of the `vread`.
-fn line_of<'a>(call: &Called<'a>) -> BareLine<'a> {
+// The line of a call. If the call is a `vread` with acts inside it, this is the line of the `vread`.
+fn line_of<'a>(call: &CalledLines<'a>) -> BareLine<'a> {
     match call {
-        Called::Alone { line, .. } | Called::Vread { line, .. } | Called::Ending(line) => *line,
-        Called::Unbound(act) => act.line,
+        CalledLines::Alone { line, .. }
+        | CalledLines::Vread { line, .. }
+        | CalledLines::Ending(line) => *line,
+        CalledLines::Unbound(act) => act.line,
     }
 }
 
 // The first line of a caller with steps that are no form.
 fn first_of_caller(
     alloc: Global,
-    calls: &[Called<'_>],
-    settings: &[Setting],
+    calls: &[CalledLines<'_>],
+    settings: &[LineSetting],
     lists: &Lists,
-) -> Result<Option<Place>, AllocError>
+) -> Result<Option<FailedLine>, AllocError>
     requires { AllByRecursion CallInRange (map seen_call calls.now) }
 {
     if are_forms(alloc, calls, settings, lists)? {
@@ -111,7 +113,7 @@ fn first_of_caller(
         return Ok(None);
     };
     let line = line_of(call);
-    Ok(Some(Place {
+    Ok(Some(FailedLine {
         caller: line.caller,
         line: line.event as usize,
         expected: Expected::Steps,
@@ -120,10 +122,10 @@ fn first_of_caller(
 
 fn first_of_all(
     alloc: Global,
-    callers: &[Vec<Called<'_>>],
-    settings: &[Vec<Setting>],
+    callers: &[Vec<CalledLines<'_>>],
+    settings: &[Vec<LineSetting>],
     lists: &Lists,
-) -> Result<Option<Place>, AllocError>
+) -> Result<Option<FailedLine>, AllocError>
     requires { AllByRecursion (AllByRecursion CallInRange) (seen_calls callers.now) }
 {
     for (caller, calls) in callers.iter().enumerate() {
@@ -138,9 +140,9 @@ fn first_of_all(
     Ok(None)
 }
 
-/// The first line that visits an absent CPU. Otherwise, the line of the first visit at which the lane allows no entry
-/// that fits the line's steps. Otherwise, the first line with steps that are no form (tested). The clauses on lines and
-/// marks must hold.
+/// The first line that visits an absent CPU. If there is none, the line of the first visit at which the lane allows no
+/// entry that fits the line's steps. If there is none, the first line with steps that are no form. This is tested, not
+/// proved. The clauses on lines and marks must hold.
 ///
 /// # Errors
 ///
@@ -149,7 +151,7 @@ pub(crate) fn first_other_form(
     alloc: Global,
     script: &Script,
     lines: &[Vec<BareLine<'_>>],
-) -> Result<Option<Place>, AllocError>
+) -> Result<Option<FailedLine>, AllocError>
     requires { WellFormed script.now }
 {
     let place = first_absent(script.cpus(), lines);
@@ -157,15 +159,15 @@ pub(crate) fn first_other_form(
         return Ok(place);
     }
     let parts = match begin(alloc, script, lines)? {
-        Begun::Stands(parts) => parts,
+        Begun::Conforms(parts) => parts,
         Begun::No(_) => return Ok(None),
     };
     let settings = all_settings(alloc, &parts.calls, &parts.forks)?;
-    let Some(told) = gather(alloc, script, &parts, &settings)? else {
+    let Some(inferred) = gather(alloc, script, &parts, &settings)? else {
         return Ok(None);
     };
-    match replay_lists(alloc, &told)? {
+    match replay_lists(alloc, &inferred)? {
         Some(lists) => first_of_all(alloc, &parts.calls, &settings, &lists),
-        None => first_other_entry(alloc, &told, lines),
+        None => first_other_entry(alloc, &inferred, lines),
     }
 }

@@ -1,57 +1,57 @@
-//! The first line with an answer, or with data, that its steps do not give.
+//! Finds the first line with an answer, or with data, that its steps do not give.
 ghost use Rattle.std.specs.Prelude.{◌≡◌, ◌↔◌, IsTrue, IfOk, IfSome, length};
 ghost use Rattle.key_names.specs.Lanes.Book.{list_at};
 ghost use Rattle.key_names.specs.Transcripts.SeenLine.{SeenLine};
-ghost use Rattle.judge_log.specs.declared.said.Said.{Said as SaidOfLine};
+ghost use Rattle.judge_log.specs.declared.said.MadeLine.{MadeLine as SaidOfLine};
 ghost use Rattle.serial_replay.specs.Agreement.{SameAnswer, SameShown};
 ghost use Rattle.serial_replay.specs.Remade.{said_lists};
 ghost use Rattle.transcript_text.specs.Views.{seen};
 ghost use Rattle.transcript_check.specs.Others.{HasOther, IsOther, IsOtherAt};
 
-use crate::compare::{Answers, Data, compared};
-use crate::place::{Expected, Place};
+use crate::compare::{ComparedAnswer, ComparedData, compared};
+use crate::place::{Expected, FailedLine};
 use event_script::Script;
-use judge_log::said::{Said, Shows, Whole};
+use judge_log::said::{MadeLine, ShownRecipe, Whole};
 use serial_replay::remake::{Remade, remake};
 use std::alloc::{AllocError, Global};
 use transcript_text::{CallerLines, LineView, Transcript};
 
 /// A part of a line that its steps determine.
 pub(crate) trait SaidPart {
-    /// The part of the line agrees with the result of its steps.
+    /// This part of the line agrees with the result of the line's steps.
     ghost IsSaid: { Self → SeenLine → SaidOfLine → Type 0 };
 
-    fn is_said(&self, line: LineView<'_>, said: &Said) -> bool
+    fn is_said(&self, line: LineView<'_>, said: &MadeLine) -> bool
         ensures { IsTrue result ↔ IsSaid self.now (seen line.entry) said.now };
 
     /// The expected part of the line.
-    fn expected(&self, alloc: Global, said: &Said) -> Result<Expected, AllocError>;
+    fn expected(&self, alloc: Global, said: &MadeLine) -> Result<Expected, AllocError>;
 }
 
-impl SaidPart for Answers {
+impl SaidPart for ComparedAnswer {
     ghost IsSaid = { λ _ line said. SameAnswer line said };
 
-    fn is_said(&self, line: LineView<'_>, said: &Said) -> bool {
+    fn is_said(&self, line: LineView<'_>, said: &MadeLine) -> bool {
         compared(line, said).answer
     }
 
-    fn expected(&self, _alloc: Global, said: &Said) -> Result<Expected, AllocError> {
+    fn expected(&self, _alloc: Global, said: &MadeLine) -> Result<Expected, AllocError> {
         Ok(Expected::Answer(said.answer))
     }
 }
 
-impl SaidPart for Data {
+impl SaidPart for ComparedData {
     ghost IsSaid = { λ _ line said. SameShown line said };
 
-    fn is_said(&self, line: LineView<'_>, said: &Said) -> bool {
+    fn is_said(&self, line: LineView<'_>, said: &MadeLine) -> bool {
         compared(line, said).shown
     }
 
-    fn expected(&self, alloc: Global, said: &Said) -> Result<Expected, AllocError> {
+    fn expected(&self, alloc: Global, said: &MadeLine) -> Result<Expected, AllocError> {
         match &said.shows {
-            Shows::Nothing => Ok(Expected::NoData),
-            Shows::Count(number) => Ok(Expected::Count(*number)),
-            Shows::Served(served) => {
+            ShownRecipe::Nothing => Ok(Expected::NoData),
+            ShownRecipe::Count(number) => Ok(Expected::Count(*number)),
+            ShownRecipe::Served(served) => {
                 let mut bytes = Vec::new(alloc);
                 served.put(&mut bytes)?;
                 Ok(Expected::Bytes(bytes))
@@ -60,7 +60,7 @@ impl SaidPart for Data {
     }
 }
 
-fn is_other<P: SaidPart>(part: &P, line: LineView<'_>, said: &[Said]) -> bool
+fn is_other<P: SaidPart>(part: &P, line: LineView<'_>, said: &[MadeLine]) -> bool
     ensures { IsTrue result → IsOther (P.IsSaid part.now) said.now (seen line.entry) }
 {
     match said.get(line.event as usize) {
@@ -69,8 +69,8 @@ fn is_other<P: SaidPart>(part: &P, line: LineView<'_>, said: &[Said]) -> bool
     }
 }
 
-// The first line of a caller that differs from the result at its number.
-fn first_of_caller<P: SaidPart>(part: &P, lines: &CallerLines, said: &[Said]) -> Option<usize>
+// The number of a caller's first line that differs from the result made for its event.
+fn first_of_caller<P: SaidPart>(part: &P, lines: &CallerLines, said: &[MadeLine]) -> Option<usize>
     ensures { IfSome result (IsOtherAt (P.IsSaid part.now) said.now lines.now.lines) }
 {
     for number in 0..lines.len() {
@@ -86,7 +86,7 @@ fn expected_of<P: SaidPart>(
     alloc: Global,
     part: &P,
     line: LineView<'_>,
-    said: &[Said],
+    said: &[MadeLine],
 ) -> Result<Expected, AllocError> {
     match said.get(line.event as usize) {
         Some(one) => part.expected(alloc, one),
@@ -98,8 +98,8 @@ fn first_of_all<P: SaidPart>(
     alloc: Global,
     part: &P,
     t: &Transcript,
-    said: &[Vec<Said>],
-) -> Result<Option<Place>, AllocError>
+    said: &[Vec<MadeLine>],
+) -> Result<Option<FailedLine>, AllocError>
     requires { length said.now ≡ length t.now }
     ensures { IfOk result (λ o. IfSome o (λ p. IsOtherAt (P.IsSaid part.now) (list_at (said_lists said.now) p.caller)
         (list_at t.now p.caller) p.line)) }
@@ -109,7 +109,7 @@ fn first_of_all<P: SaidPart>(
         let said = &said[caller as usize];
         if let Some(line) = first_of_caller(part, lines, said) {
             let expected = expected_of(alloc, part, lines.line(line), said)?;
-            return Ok(Some(Place {
+            return Ok(Some(FailedLine {
                 caller,
                 line,
                 expected,
@@ -120,7 +120,7 @@ fn first_of_all<P: SaidPart>(
 }
 
 /// The first line with an answer, or with data, that its steps do not give. `None` if the clause on lines, marks or
-/// forms fails. Tests cover that no line before it differs.
+/// forms fails. Tests cover that no earlier line differs.
 ///
 /// # Errors
 ///
@@ -130,7 +130,7 @@ pub(crate) fn first_other<P: SaidPart>(
     script: &Script,
     t: &Transcript,
     part: &P,
-) -> Result<Option<Place>, AllocError>
+) -> Result<Option<FailedLine>, AllocError>
     ensures { IfOk result (λ o. IfSome o (λ p. HasOther (P.IsSaid part.now) script.now t.now p.caller p.line)) }
 {
     match remake(alloc, script, t, &Whole)? {

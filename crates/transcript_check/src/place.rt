@@ -2,7 +2,7 @@
 
 use key_names::{Answer, Mark, Word};
 
-/// The expected part of a line, or the line that was expected.
+/// What was expected: a part of a line, a whole line, or no line.
 #[derive(Drop)]
 pub enum Expected {
     /// The line of this event.
@@ -31,7 +31,7 @@ pub enum Expected {
     Count(u32),
     /// These bytes.
     Bytes(Vec<u8>),
-    /// A look that finds from `least` to `most`.
+    /// A look that finds a generation from `least` to `most`.
     Look {
         least: u64,
         most: u64,
@@ -40,10 +40,10 @@ pub enum Expected {
 
 /// A line of a transcript that fails, with the part or the line that was expected.
 #[derive(Drop)]
-pub struct Place {
+pub struct FailedLine {
     pub caller: u32,
-    /// The number of the line among those of the caller, from 0. If a line is missing at the end, it is the number of
-    /// the caller's lines.
+    /// The number of the line among the caller's lines, from 0. If a line is missing at the end, this is how many lines
+    /// the caller has.
     pub line: usize,
     pub expected: Expected,
 }

@@ -1,6 +1,6 @@
-//! The first line with a visit at another place than its number in the lane.
+//! Finds the first line with a visit whose place is not the visit's number in its lane.
 
-use crate::place::{Expected, Place};
+use crate::place::{Expected, FailedLine};
 use judge_lines::bare::BareLine;
 use key_names::{LaneId, Mark, Step};
 use std::alloc::{AllocError, Global};
@@ -49,8 +49,9 @@ pub(crate) fn all_visits(
     Ok(visits)
 }
 
-// The visit that was expected after another in its lane, or as the lane's first.
-fn expected_behind(last: Option<Mark>, place: u64, mark: Mark) -> Option<Expected> {
+// What was expected instead of `mark`, a visit's mark. The visit before it in its lane is `last`, if any. `None` if
+// the visit's stamp is above that of `last`, and its place is `place`.
+fn expected_after(last: Option<Mark>, place: u64, mark: Mark) -> Option<Expected> {
     if let Some(last) = last {
         if mark.stamp <= last.stamp {
             return Some(Expected::StampAbove(last.stamp));
@@ -63,19 +64,19 @@ fn expected_behind(last: Option<Mark>, place: u64, mark: Mark) -> Option<Expecte
     }
 }
 
-fn is_before(visit: VisitOf, found: &Option<Place>) -> bool {
+fn is_before(visit: VisitOf, found: &Option<FailedLine>) -> bool {
     match found {
         Some(place) => (visit.caller, visit.line) < (place.caller, place.line),
         None => true,
     }
 }
 
-/// The first line with a visit at another place than its number by stamps in the lane, or with the stamp of another
-/// visit of the lane (tested).
+/// The visits of each lane are counted in the order of their stamps. Returns the first line with a visit whose place is
+/// not its count, or whose stamp another visit of the lane has. This is tested, not proved.
 pub(crate) fn first_uncounted(
     alloc: Global,
     callers: &[Vec<BareLine<'_>>],
-) -> Result<Option<Place>, AllocError> {
+) -> Result<Option<FailedLine>, AllocError> {
     let mut visits = all_visits(alloc, callers)?;
     visits.sort_by_key(|visit| (lane_rank(visit.mark.lane), visit.mark.stamp))?;
     let mut found = None;
@@ -87,9 +88,9 @@ pub(crate) fn first_uncounted(
             Some(_) => place.saturating_add(1),
             None => 0,
         };
-        if let Some(expected) = expected_behind(last, place, visit.mark) {
+        if let Some(expected) = expected_after(last, place, visit.mark) {
             if is_before(*visit, &found) {
-                found = Some(Place {
+                found = Some(FailedLine {
                     caller: visit.caller,
                     line: visit.line,
                     expected,

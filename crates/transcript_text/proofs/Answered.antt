@@ -1,4 +1,4 @@
--- If a text spells no value, the answer is none.
+-- If a text spells no value, None meets the contract of a function that reads a value.
 use Rattle.std.proofs.Common.{◌≡◌, ℕ, List, Option, Some, None}
 use Rattle.std.specs.Prelude.{MatchOption}
 use Rattle.transcript_text.specs.Reading.{Reads}

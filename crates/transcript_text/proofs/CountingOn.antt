@@ -1,4 +1,4 @@
--- Lines of a text that are read in sequence, and not kept.
+-- Reading the lines of a text in sequence without keeping them.
 use Rattle.std.proofs.Common.{◌≡◌, ℕ, zero, suc, ◌+◌, ◌-◌, ◌<◌, List, [], ◌∷◌, ◌++◌, length, refl, sym, ap, subst, ◌∙◌, arith}
 use Rattle.std.proofs.lemmas.List.{length_push}
 use Rattle.key_names.specs.Transcripts.SeenLine.{SeenLine}
@@ -8,7 +8,7 @@ use Rattle.transcript_text.specs.ReadTexts.{HasMoreLines, IsPassed}
 use Rattle.transcript_text.proofs.GroupedLines.{groups_next, groups_push}
 use Rattle.transcript_text.proofs.ReadingOn.{goes_on, gives_so_far, found}
 
--- the finished callers, after empty ones were added up to a later caller
+-- `next` and `last` have the same lines by caller, with `caller` as the current caller; each added caller has no lines
 record Grown (done : List (List SeenLine)) (current : List SeenLine) (caller : ℕ) : Type 0 where
   next : List (List SeenLine)
   last : List SeenLine
@@ -27,15 +27,15 @@ grown (suc more) done current caller is =
       groups = λ lines g. r.groups lines (groups_next done (done ++ current ∷ []) current lines refl g);
     }
 
-pub passes : (text rest line behind : List ℕ) (least number caller : ℕ) → CountedSoFar text least rest number
-    → rest ≡ line ++ 10 ∷ behind → IsPassed line least caller → CountedSoFar text caller behind (number + 1)
-passes text rest line behind least number caller s cut a =
+pub passes : (text rest line following : List ℕ) (least number caller : ℕ) → CountedSoFar text least rest number
+    → rest ≡ line ++ 10 ∷ following → IsPassed line least caller → CountedSoFar text caller following (number + 1)
+passes text rest line following least number caller s cut a =
     let g = grown (caller - least) s.done s.current caller (omega (arith, s.many, a.later)) in
     let current = g.last ++ a.line ∷ [] in
     record {
       done = g.next;
       current = current;
-      read = goes_on text rest line behind s.done g.next s.current current number s.read cut (record {
+      read = goes_on text rest line following s.done g.next s.current current number s.read cut (record {
         line = a.line;
         fits = a.fits;
         spelt = a.spelt;
@@ -49,7 +49,7 @@ passes text rest line behind least number caller s cut a =
       many = g.many;
     }
 
--- if the text ends with these lines and they exceed the limit, it has more lines than the limit
+-- if the text ends after these lines, and their number exceeds the limit, the text is a transcript with too many lines
 pub more_lines : (text : List ℕ) (least count most : ℕ) → CountedSoFar text least (line_end ++ 10 ∷ []) (count + 1)
     → most < count → HasMoreLines most text
 more_lines text least count most s more =

@@ -21,11 +21,11 @@ digits_counted (suc k) n low high fits =
     let front = digits_counted k (n / 10) (omega arith) (omega arith) (omega arith) in
     ap length (decimal_step n (omega arith) fits) ∙ length-append (decimal (n / 10)) ((48 + n % 10) ∷ []) ∙ omega (arith, front)
 
--- digits are written over the bytes of a text from len on
+-- if the digits are written over a text from byte `len` on, they follow the first `len` bytes
 pub written_on : (len : ℕ) (digits old new rest : List ℕ) → take len new ≡ take len old → drop len new ≡ digits ++ rest
     → take (len + length digits) new ≡ take len old ++ digits
-written_on len digits old new rest before behind =
+written_on len digits old new rest before following =
     take-add len (length digits) new
     ∙ ap (λ (xs : List ℕ). xs ++ take (length digits) (drop len new)) before
-    ∙ ap (λ (xs : List ℕ). take len old ++ take (length digits) xs) behind
+    ∙ ap (λ (xs : List ℕ). take len old ++ take (length digits) xs) following
     ∙ ap (λ (xs : List ℕ). take len old ++ xs) (take-append_seam digits rest)

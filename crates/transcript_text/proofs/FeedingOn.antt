@@ -1,18 +1,19 @@
--- A text that is read piece by piece.
+-- `IsAfter` and `HasFed` stay true of a reader that is fed piece by piece. The reader finds the first fault or the
+-- transcript.
 use Rattle.std.proofs.Common.{◌≡◌, ℕ, ◌+◌, ◌<◌, ◌≤◌, Bool, true, false, List, [], ◌∷◌, ◌++◌, length, refl, sym, ap, subst, ◌∙◌, append_assoc, append-nil, arith}
 use Rattle.std.specs.Prelude.{vec_len, Result, Ok, Err, IfOk, MatchBool}
 use Rattle.std.proofs.lemmas.List.{length-append, length-map}
 use Rattle.key_names.specs.Transcripts.SeenLine.{SeenLine}
 use Rattle.key_names.specs.Texts.Spelling.{lined}
 use Rattle.key_names.specs.Texts.TranscriptGrammar.{IsFirstFault, IsTranscriptText, all_lines}
-use Rattle.transcript_text.specs.Feeding.{CountedSoFar, HasFed, HasTold, IsBehind, IsUnread, ReadSoFar, StandsAs, StandsAt, front_of, with_line, head_line, line_end}
+use Rattle.transcript_text.specs.Feeding.{CountedSoFar, HasFed, HasEmitted, IsAfter, IsUnread, ReadSoFar, ConformsAs, ConformsAt, front_of, with_line, head_line, line_end}
 use Rattle.transcript_text.specs.Grouping.{Gives, Groups, seen_callers}
 use Rattle.transcript_text.specs.ReadTexts.{AddsLine, IsNoLine, IsPassed}
 use Rattle.transcript_text.specs.Reading.{lacks}
-use Rattle.transcript_text.specs.declared.reader.Reader.{Reader}
-use Rattle.transcript_text.specs.declared.so_far.SoFar.{SoFar}
-use Rattle.transcript_text.specs.declared.so_far.Stage.{Stage}
-use Rattle.transcript_text.specs.declared.so_far.Stage.TheVariants.{Head, Lines, Ended, Faulty}
+use Rattle.transcript_text.specs.declared.parsing.reader.TranscriptReader.{TranscriptReader}
+use Rattle.transcript_text.specs.declared.parsing.so_far.SoFar.{SoFar}
+use Rattle.transcript_text.specs.declared.parsing.so_far.TranscriptStage.{TranscriptStage}
+use Rattle.transcript_text.specs.declared.parsing.so_far.TranscriptStage.TheVariants.{Head, Lines, Ended, Faulty}
 use Rattle.transcript_text.proofs.CountingOn.{passes}
 use Rattle.transcript_text.proofs.Cutting.{lacks-append}
 use Rattle.transcript_text.proofs.ReadingOn.{begins, fault_after, fault_line, fault_missing, few_done, found, goes_on, other_head, uncut_head}
@@ -40,61 +41,61 @@ more_counted text more least rest number c = record {
   many = c.many;
 }
 
-more_told : (s : SoFar) (text rest more : List ℕ) → HasTold s text rest → HasTold s (text ++ more) (rest ++ more)
-more_told s text rest more t = record {
+more_emitted : (s : SoFar) (text rest more : List ℕ) → HasEmitted s text rest → HasEmitted s (text ++ more) (rest ++ more)
+more_emitted s text rest more t = record {
   counted = more_counted text more (vec_len s.done) rest (s.lines + 1) t.counted;
   kept = λ few.
       more_read text more (seen_callers s.done.items) s.current.lines rest (s.lines + 1) (t.kept few);
 }
 
-more_stands : (stage : Stage) (s : SoFar) (text rest more : List ℕ) → StandsAs stage s text rest
-    → StandsAs stage s (text ++ more) (rest ++ more)
-more_stands Head s text rest more at = (at.0, ap (λ x. x ++ more) at.1)
-more_stands Lines s text rest more t = more_told s text rest more t
-more_stands Ended s text rest more t = more_told s text (line_end ++ 10 ∷ rest) more t
-more_stands (Faulty line) s text rest more fault = λ behind.
-    subst (λ x. IsFirstFault x line) (sym (append_assoc text more behind)) (fault (more ++ behind))
+more_conforms : (stage : TranscriptStage) (s : SoFar) (text rest more : List ℕ) → ConformsAs stage s text rest
+    → ConformsAs stage s (text ++ more) (rest ++ more)
+more_conforms Head s text rest more at = (at.0, ap (λ x. x ++ more) at.1)
+more_conforms Lines s text rest more t = more_emitted s text rest more t
+more_conforms Ended s text rest more t = more_emitted s text (line_end ++ 10 ∷ rest) more t
+more_conforms (Faulty line) s text rest more fault = λ following.
+    subst (λ x. IsFirstFault x line) (sym (append_assoc text more following)) (fault (more ++ following))
 
 -- ---- one more line
 
-begin_lines : (s : SoFar) (text line behind : List ℕ) → IsUnread s → text ≡ line ++ 10 ∷ behind → line ≡ head_line
-    → HasTold s text behind
-begin_lines s text line behind none cut is = record {
+begin_lines : (s : SoFar) (text line following : List ℕ) → IsUnread s → text ≡ line ++ 10 ∷ following → line ≡ head_line
+    → HasEmitted s text following
+begin_lines s text line following none cut is = record {
   counted = record {
     done = [];
     current = [];
-    read = subst (λ n. ReadSoFar text [] [] behind (n + 1)) (sym none.lines)
-        (begins text line behind [] [] cut is refl refl);
+    read = subst (λ n. ReadSoFar text [] [] following (n + 1)) (sym none.lines)
+        (begins text line following [] [] cut is refl refl);
     many = omega (arith, s.done.ok.0, ap length none.done);
   };
-  kept = λ few. subst (λ n. ReadSoFar text (seen_callers s.done.items) s.current.lines behind (n + 1)) (sym none.lines)
-      (begins text line behind (seen_callers s.done.items) s.current.lines cut is (ap seen_callers none.done)
+  kept = λ few. subst (λ n. ReadSoFar text (seen_callers s.done.items) s.current.lines following (n + 1)) (sym none.lines)
+      (begins text line following (seen_callers s.done.items) s.current.lines cut is (ap seen_callers none.done)
       none.current);
 }
 
-pub begun : (s : SoFar) (text line behind : List ℕ) → IsUnread s → lacks 10 line ≡ true → text ≡ line ++ 10 ∷ behind
-    → line ≡ head_line → StandsAs Lines s text behind
-begun s text line behind none clean cut is = begin_lines s text line behind none cut is
+pub begun : (s : SoFar) (text line following : List ℕ) → IsUnread s → lacks 10 line ≡ true → text ≡ line ++ 10 ∷ following
+    → line ≡ head_line → ConformsAs Lines s text following
+begun s text line following none clean cut is = begin_lines s text line following none cut is
 
-pub not_begun : (s : SoFar) (text line behind : List ℕ) → lacks 10 line ≡ true → text ≡ line ++ 10 ∷ behind
-    → (line ≡ head_line → ⊥) → StandsAs (Faulty 1) s text behind
-not_begun s text line behind clean cut not = λ more.
-    other_head (text ++ more) line (behind ++ more)
-    (ap (λ x. x ++ more) cut ∙ append_assoc line (10 ∷ behind) more) clean not
+pub not_begun : (s : SoFar) (text line following : List ℕ) → lacks 10 line ≡ true → text ≡ line ++ 10 ∷ following
+    → (line ≡ head_line → ⊥) → ConformsAs (Faulty 1) s text following
+not_begun s text line following clean cut not = λ more.
+    other_head (text ++ more) line (following ++ more)
+    (ap (λ x. x ++ more) cut ∙ append_assoc line (10 ∷ following) more) clean not
 
-pub ended : (s : SoFar) (text line behind : List ℕ) → HasTold s text (line ++ 10 ∷ behind) → line ≡ line_end
-    → StandsAs Ended s text behind
-ended s text line behind t is = subst (λ x. HasTold s text (x ++ 10 ∷ behind)) is t
+pub ended : (s : SoFar) (text line following : List ℕ) → HasEmitted s text (line ++ 10 ∷ following) → line ≡ line_end
+    → ConformsAs Ended s text following
+ended s text line following t is = subst (λ x. HasEmitted s text (x ++ 10 ∷ following)) is t
 
 module _ (s next : SoFar) (line : List ℕ) (most : next.most ≡ s.most) (lines : next.lines ≡ s.lines) where
-  -- a line that is kept is read and counted
+  -- a line within the limit is kept and counted
   kept_line : s.lines < s.most
       → AddsLine line (seen_callers s.done.items) (seen_callers next.done.items) s.current.lines next.current.lines
-      → (text behind : List ℕ) → HasTold s text (line ++ 10 ∷ behind) → HasTold (with_line next) text behind
-  kept_line few adds text behind t =
-      let read : ReadSoFar text (seen_callers next.done.items) next.current.lines behind (next.lines + 1 + 1) =
-      subst (λ n. ReadSoFar text (seen_callers next.done.items) next.current.lines behind (n + 1 + 1)) (sym lines)
-      (goes_on text (line ++ 10 ∷ behind) line behind (seen_callers s.done.items) (seen_callers next.done.items)
+      → (text following : List ℕ) → HasEmitted s text (line ++ 10 ∷ following) → HasEmitted (with_line next) text following
+  kept_line few adds text following t =
+      let read : ReadSoFar text (seen_callers next.done.items) next.current.lines following (next.lines + 1 + 1) =
+      subst (λ n. ReadSoFar text (seen_callers next.done.items) next.current.lines following (n + 1 + 1)) (sym lines)
+      (goes_on text (line ++ 10 ∷ following) line following (seen_callers s.done.items) (seen_callers next.done.items)
       s.current.lines next.current.lines (s.lines + 1) (t.kept (omega arith)) refl adds) in
       record {
         counted = record {
@@ -108,17 +109,17 @@ module _ (s next : SoFar) (line : List ℕ) (most : next.most ≡ s.most) (lines
 
   -- a line after the limit is counted, and not kept
   passed_line : s.most ≤ s.lines → IsPassed line (vec_len s.done) (vec_len next.done)
-      → (text behind : List ℕ) → HasTold s text (line ++ 10 ∷ behind) → HasTold (with_line next) text behind
-  passed_line many passed text behind t = record {
-    counted = subst (λ n. CountedSoFar text (vec_len next.done) behind (n + 1 + 1)) (sym lines)
-        (passes text (line ++ 10 ∷ behind) line behind (vec_len s.done) (s.lines + 1) (vec_len next.done) t.counted refl
+      → (text following : List ℕ) → HasEmitted s text (line ++ 10 ∷ following) → HasEmitted (with_line next) text following
+  passed_line many passed text following t = record {
+    counted = subst (λ n. CountedSoFar text (vec_len next.done) following (n + 1 + 1)) (sym lines)
+        (passes text (line ++ 10 ∷ following) line following (vec_len s.done) (s.lines + 1) (vec_len next.done) t.counted refl
         passed);
     kept = λ few. absurd (omega (arith, many, most, lines, few));
   }
 
   abbrev Taken : Bool → Type 0
-  Taken is = MatchBool is ((text behind : List ℕ) → HasTold s text (line ++ 10 ∷ behind)
-      → HasTold (with_line next) text behind) (IsNoLine line (vec_len s.done))
+  Taken is = MatchBool is ((text following : List ℕ) → HasEmitted s text (line ++ 10 ∷ following)
+      → HasEmitted (with_line next) text following) (IsNoLine line (vec_len s.done))
 
   pub kept_or_none : {E : Type 0} (answer : Result Bool E) → s.lines < s.most
       → IfOk answer (λ is. MatchBool is
@@ -135,19 +136,20 @@ module _ (s next : SoFar) (line : List ℕ) (most : next.most ≡ s.most) (lines
   passed_or_none (Ok false) many none = none
   passed_or_none (Err e) many none = tt
 
--- the text has a fault in this line, whatever follows
-pub no_line : (s next : SoFar) (text line behind : List ℕ) → HasTold s text (line ++ 10 ∷ behind)
+-- if a line is neither the last line nor a line that a caller may have next, this line is the first fault, whatever
+-- follows
+pub no_line : (s next : SoFar) (text line following : List ℕ) → HasEmitted s text (line ++ 10 ∷ following)
     → lacks 10 line ≡ true → (line ≡ line_end → ⊥) → IsNoLine line (vec_len s.done) → next.lines ≡ s.lines
-    → StandsAs (Faulty (next.lines + 2)) next text behind
-no_line s next text line behind t clean not none lines = λ more.
-    let c = more_counted text more (vec_len s.done) (line ++ 10 ∷ behind) (s.lines + 1) t.counted in
+    → ConformsAs (Faulty (next.lines + 2)) next text following
+no_line s next text line following t clean not none lines = λ more.
+    let c = more_counted text more (vec_len s.done) (line ++ 10 ∷ following) (s.lines + 1) t.counted in
     let n : s.lines + 1 + 1 ≡ next.lines + 2 = omega (arith, lines) in
     subst (IsFirstFault (text ++ more)) n
-    (fault_line (text ++ more) ((line ++ 10 ∷ behind) ++ more) line (behind ++ more) c.done c.current (s.lines + 1)
-    (vec_len s.done) c.read (append_assoc line (10 ∷ behind) more) clean not (sym c.many) none)
+    (fault_line (text ++ more) ((line ++ 10 ∷ following) ++ more) line (following ++ more) c.done c.current (s.lines + 1)
+    (vec_len s.done) c.read (append_assoc line (10 ∷ following) more) clean not (sym c.many) none)
 
--- more text after the last line is a fault
-goes_past : (s : SoFar) (text rest : List ℕ) → HasTold s text (line_end ++ 10 ∷ rest) → (rest ≡ [] → ⊥)
+-- if text follows the last line, the line after the last line is the first fault
+goes_past : (s : SoFar) (text rest : List ℕ) → HasEmitted s text (line_end ++ 10 ∷ rest) → (rest ≡ [] → ⊥)
     → IsFirstFault text (s.lines + 3)
 goes_past s text rest t some =
     let n : s.lines + 1 + 2 ≡ s.lines + 3 = omega arith in
@@ -155,97 +157,97 @@ goes_past s text rest t some =
     (fault_after text (line_end ++ 10 ∷ rest) rest line_end t.counted.done t.counted.current (s.lines + 1)
     t.counted.read refl refl some)
 
-pub stays_past : (s next : SoFar) (text line behind : List ℕ) → StandsAt s text (line ++ 10 ∷ behind)
-    → s.stage ≡ Ended → StandsAs (Faulty (s.lines + 3)) next text behind
-stays_past s next text line behind at is = λ more.
-    let t : HasTold s text (line_end ++ 10 ∷ (line ++ 10 ∷ behind)) =
-    subst (λ x. StandsAs x s text (line ++ 10 ∷ behind)) is at in
-    goes_past s (text ++ more) ((line ++ 10 ∷ behind) ++ more)
-    (more_told s text (line_end ++ 10 ∷ (line ++ 10 ∷ behind)) more t)
+pub stays_past : (s next : SoFar) (text line following : List ℕ) → ConformsAt s text (line ++ 10 ∷ following)
+    → s.stage ≡ Ended → ConformsAs (Faulty (s.lines + 3)) next text following
+stays_past s next text line following at is = λ more.
+    let t : HasEmitted s text (line_end ++ 10 ∷ (line ++ 10 ∷ following)) =
+    subst (λ x. ConformsAs x s text (line ++ 10 ∷ following)) is at in
+    goes_past s (text ++ more) ((line ++ 10 ∷ following) ++ more)
+    (more_emitted s text (line_end ++ 10 ∷ (line ++ 10 ∷ following)) more t)
     (λ none. absurd (omega (
       arith,
       ap length none,
-      length-append (line ++ 10 ∷ behind) more,
-      length-append line (10 ∷ behind),
+      length-append (line ++ 10 ∷ following) more,
+      length-append line (10 ∷ following),
     )))
 
 -- ---- a reader, and the rest of a piece
 
--- a reader that was fed the earlier text has the new piece unread
-pub piece_begins : (text piece : List ℕ) (r : Reader) → HasFed text r → IsBehind (text ++ piece) r piece
+-- after a piece is added to the text that a reader was fed, exactly this piece is unread
+pub piece_begins : (text piece : List ℕ) (r : TranscriptReader) → HasFed text r → IsAfter (text ++ piece) r piece
 piece_begins text piece r fed = record {
-  stands = subst (StandsAt r.so_far (text ++ piece)) (ap (λ x. x ++ piece) (append-nil r.rest.items))
-      (more_stands r.so_far.stage r.so_far text (r.rest.items ++ []) piece fed.stands);
+  conforms = subst (ConformsAt r.so_far (text ++ piece)) (ap (λ x. x ++ piece) (append-nil r.rest.items))
+      (more_conforms r.so_far.stage r.so_far text (r.rest.items ++ []) piece fed.conforms);
   clean = fed.clean;
   bound = omega (arith, fed.bound, length-append text piece);
 }
 
--- the unread rest of a piece is the start of a line
-pub rest_kept : (text unread : List ℕ) (r next : Reader) → IsBehind text r unread → lacks 10 unread ≡ true
+-- if the unread rest of a piece has no line feed, the reader keeps this rest as the start of a line
+pub rest_kept : (text unread : List ℕ) (r next : TranscriptReader) → IsAfter text r unread → lacks 10 unread ≡ true
     → next.so_far ≡ r.so_far → next.rest.items ≡ r.rest.items ++ unread → HasFed text next
 rest_kept text unread r next at clean same rest = record {
-  stands = rw same (subst (StandsAt r.so_far text) (sym (append-nil next.rest.items ∙ rest)) at.stands);
+  conforms = rw same (subst (ConformsAt r.so_far text) (sym (append-nil next.rest.items ∙ rest)) at.conforms);
   clean = rw rest (lacks-append 10 r.rest.items unread at.clean clean);
   bound = omega (arith, at.bound, ap (λ s. s.lines) same, ap length rest, length-append r.rest.items unread);
 }
 
--- a line ends in this piece; the reader had the line's start
-pub line_ends : (text behind end line : List ℕ) (r next : Reader) → IsBehind text r (end ++ 10 ∷ behind)
+-- if the unread bytes have the end of the line whose start the reader kept, the reader takes that line
+pub line_ends : (text following end line : List ℕ) (r next : TranscriptReader) → IsAfter text r (end ++ 10 ∷ following)
     → lacks 10 end ≡ true → line ≡ r.rest.items ++ end → next.rest.items ≡ []
     → next.so_far.lines ≤ r.so_far.lines + 1
-    → (lacks 10 line ≡ true → StandsAt r.so_far text (line ++ 10 ∷ behind) → StandsAt next.so_far text behind)
-    → IsBehind text next behind
-line_ends text behind end line r next at clean is empty few stands = record {
-  stands = subst (λ x. StandsAt next.so_far text (x ++ behind)) (sym empty)
-      (stands (rw is (lacks-append 10 r.rest.items end at.clean clean))
-      (subst (StandsAt r.so_far text) (sym (append_assoc r.rest.items end (10 ∷ behind))
-      ∙ ap (λ x. x ++ 10 ∷ behind) (sym is)) at.stands));
+    → (lacks 10 line ≡ true → ConformsAt r.so_far text (line ++ 10 ∷ following) → ConformsAt next.so_far text following)
+    → IsAfter text next following
+line_ends text following end line r next at clean is empty few conforms = record {
+  conforms = subst (λ x. ConformsAt next.so_far text (x ++ following)) (sym empty)
+      (conforms (rw is (lacks-append 10 r.rest.items end at.clean clean))
+      (subst (ConformsAt r.so_far text) (sym (append_assoc r.rest.items end (10 ∷ following))
+      ∙ ap (λ x. x ++ 10 ∷ following) (sym is)) at.conforms));
   clean = rw empty refl;
-  bound = omega (arith, at.bound, few, ap length empty, length-append end (10 ∷ behind));
+  bound = omega (arith, at.bound, few, ap length empty, length-append end (10 ∷ following));
 }
 
 -- ---- after the text
 
-pub cut_at_head : (text : List ℕ) (r : Reader) → HasFed text r → r.so_far.stage ≡ Head → IsFirstFault text 1
+pub cut_at_head : (text : List ℕ) (r : TranscriptReader) → HasFed text r → r.so_far.stage ≡ Head → IsFirstFault text 1
 cut_at_head text r fed is =
-    let at : StandsAs Head r.so_far text (r.rest.items ++ []) = subst (λ x. StandsAs x r.so_far text (r.rest.items ++ []))
-    is fed.stands in
+    let at : ConformsAs Head r.so_far text (r.rest.items ++ []) = subst (λ x. ConformsAs x r.so_far text (r.rest.items ++ []))
+    is fed.conforms in
     uncut_head text (subst (λ x. lacks 10 x ≡ true) (sym (at.1 ∙ append-nil r.rest.items)) fed.clean)
 
-pub cut_at_line : (text : List ℕ) (r : Reader) → HasFed text r → r.so_far.stage ≡ Lines
+pub cut_at_line : (text : List ℕ) (r : TranscriptReader) → HasFed text r → r.so_far.stage ≡ Lines
     → IsFirstFault text (r.so_far.lines + 2)
 cut_at_line text r fed is =
-    let t : HasTold r.so_far text (r.rest.items ++ []) = subst (λ x. StandsAs x r.so_far text (r.rest.items ++ [])) is
-    fed.stands in
+    let t : HasEmitted r.so_far text (r.rest.items ++ []) = subst (λ x. ConformsAs x r.so_far text (r.rest.items ++ [])) is
+    fed.conforms in
     let n : r.so_far.lines + 1 + 1 ≡ r.so_far.lines + 2 = omega arith in
     subst (IsFirstFault text) n
     (fault_missing text (r.rest.items ++ []) t.counted.done t.counted.current (r.so_far.lines + 1) t.counted.read
     (subst (λ x. lacks 10 x ≡ true) (sym (append-nil r.rest.items)) fed.clean))
 
-at_end : (text : List ℕ) (r : Reader) → HasFed text r → r.so_far.stage ≡ Ended
-    → HasTold r.so_far text (line_end ++ 10 ∷ r.rest.items)
-at_end text r fed is = subst (λ x. HasTold r.so_far text (line_end ++ 10 ∷ x)) (append-nil r.rest.items)
-    (subst (λ x. StandsAs x r.so_far text (r.rest.items ++ [])) is fed.stands)
+at_end : (text : List ℕ) (r : TranscriptReader) → HasFed text r → r.so_far.stage ≡ Ended
+    → HasEmitted r.so_far text (line_end ++ 10 ∷ r.rest.items)
+at_end text r fed is = subst (λ x. HasEmitted r.so_far text (line_end ++ 10 ∷ x)) (append-nil r.rest.items)
+    (subst (λ x. ConformsAs x r.so_far text (r.rest.items ++ [])) is fed.conforms)
 
-pub goes_on_past : (text : List ℕ) (r : Reader) → HasFed text r → r.so_far.stage ≡ Ended → (r.rest.items ≡ [] → ⊥)
+pub goes_on_past : (text : List ℕ) (r : TranscriptReader) → HasFed text r → r.so_far.stage ≡ Ended → (r.rest.items ≡ [] → ⊥)
     → IsFirstFault text (r.so_far.lines + 3)
 goes_on_past text r fed is some = goes_past r.so_far text r.rest.items (at_end text r fed is) some
 
-pub is_faulty : (text : List ℕ) (r : Reader) (line : ℕ) → HasFed text r → r.so_far.stage ≡ Faulty line
+pub is_faulty : (text : List ℕ) (r : TranscriptReader) (line : ℕ) → HasFed text r → r.so_far.stage ≡ Faulty line
     → IsFirstFault text line
 is_faulty text r line fed is = subst (λ x. IsFirstFault x line) (append-nil text)
-    (subst (λ x. StandsAs x r.so_far text (r.rest.items ++ [])) is fed.stands [])
+    (subst (λ x. ConformsAs x r.so_far text (r.rest.items ++ [])) is fed.conforms [])
 
 -- ---- the transcript
 
-pub few_callers : (s : SoFar) (text rest : List ℕ) → HasTold s text rest → vec_len s.done < 64
+pub few_callers : (s : SoFar) (text rest : List ℕ) → HasEmitted s text rest → vec_len s.done < 64
 few_callers s text rest t = omega (
   arith,
   t.counted.many,
   few_done text rest t.counted.done t.counted.current (s.lines + 1) t.counted.read,
 )
 
-pub whole : (s : SoFar) (text : List ℕ) (callers : List (List SeenLine)) → HasTold s text (line_end ++ 10 ∷ [])
+pub whole : (s : SoFar) (text : List ℕ) (callers : List (List SeenLine)) → HasEmitted s text (line_end ++ 10 ∷ [])
     → s.lines ≤ s.most
     → ((lines : List SeenLine) → Groups (seen_callers s.done.items) s.current.lines lines → Gives callers lines)
     → IsTranscriptText text callers × (length (all_lines callers) ≤ s.most)

@@ -1,4 +1,5 @@
--- The first line that no transcript has at its place.
+-- The lines before a text's first faulty line begin some transcript; together with that line they begin none. A text
+-- has only one first faulty line.
 use Rattle.std.proofs.Common.{◌≡◌, ℕ, ◌+◌, ◌<◌, ◌≤◌, ◌⊎◌, inl, inr, true, List, [], ◌∷◌, ◌++◌, length, map, refl, sym, ap, subst, ◌∙◌, append_assoc, append-nil, arith}
 use Rattle.std.specs.Prelude.{codes}
 use Rattle.std.specs.List.{AllByRecursion}
@@ -19,7 +20,8 @@ use Rattle.transcript_text.proofs.RisingLines.{all_lines_rise, same_callers}
 tail_of : (x : List ℕ) (a b : List (List ℕ)) → x ∷ a ≡ x ∷ b → a ≡ b
 tail_of x a b e = cc
 
--- the line after some lines of a transcript is its last line, or a line of the same caller or of a later one
+-- after some lines of a transcript, the next line is the transcript's last line, or one of the same caller or a later
+-- one
 pub next_is : (least : ℕ) (lines others : List SeenLine) (line : List ℕ) (more : List (List ℕ)) → Rising least lines
     → Rising least others
     → (map line_text lines ++ line ∷ []) ++ more ≡ map line_text others ++ line_end ∷ []
@@ -35,7 +37,7 @@ next_is least (l ∷ lines) (o ∷ others) line more f g e =
     next_is l.caller lines others line more f.3 (subst (λ (c : ℕ). Rising c others)
     (sym (ap (λ (x : SeenLine). x.caller) same)) g.3) tail
 
--- no line comes after the end
+-- no line comes after the line `end`
 pub after_end : (lines others : List SeenLine) (line : List ℕ) (more : List (List ℕ))
     → (map line_text lines ++ line_end ∷ []) ++ (line ∷ more) ≡ map line_text others ++ line_end ∷ [] → ⊥
 after_end [] [] line more e = cc
@@ -43,7 +45,7 @@ after_end [] (o ∷ others) line more e = let h : line_end ≡ line_text o = cc 
 after_end (l ∷ lines) [] line more e = let h : line_text l ≡ line_end = cc in no_end l h
 after_end (l ∷ lines) (o ∷ others) line more e = after_end lines others line more cc
 
--- without the end the lines are no transcript
+-- lines without the last line `end` are no transcript
 pub no_whole : (lines others : List SeenLine) → map line_text lines ≡ map line_text others ++ line_end ∷ [] → ⊥
 no_whole [] [] e = cc
 no_whole [] (o ∷ others) e = cc
@@ -55,15 +57,15 @@ no_whole (l ∷ lines) (o ∷ others) e = no_whole lines others cc
 abbrev AllLack : List (List ℕ) → Type 0
 AllLack lines = AllByRecursion (λ line. lacks 10 line ≡ true) lines
 
-pub record LinesBehind (front lines : List (List ℕ)) (rest : List ℕ) : Type 0 where
-  pub behind : List (List ℕ)
-  pub whole : lines ≡ front ++ behind
-  pub text : rest ≡ lined behind
+pub record LinesAfter (front lines : List (List ℕ)) (rest : List ℕ) : Type 0 where
+  pub following : List (List ℕ)
+  pub whole : lines ≡ front ++ following
+  pub text : rest ≡ lined following
 
-pub lines_behind : (front lines : List (List ℕ)) (rest : List ℕ) → AllLack front → AllLack lines
-    → lined front ++ rest ≡ lined lines → LinesBehind front lines rest
-lines_behind [] lines rest f g e = record { behind = lines; whole = refl; text = e }
-lines_behind (x ∷ front) [] rest f g e = absurd (let n : length (lined (x ∷ front) ++ rest) ≡ 0 = ap length e in
+pub lines_after : (front lines : List (List ℕ)) (rest : List ℕ) → AllLack front → AllLack lines
+    → lined front ++ rest ≡ lined lines → LinesAfter front lines rest
+lines_after [] lines rest f g e = record { following = lines; whole = refl; text = e }
+lines_after (x ∷ front) [] rest f g e = absurd (let n : length (lined (x ∷ front) ++ rest) ≡ 0 = ap length e in
     omega (
       arith,
       n,
@@ -71,14 +73,14 @@ lines_behind (x ∷ front) [] rest f g e = absurd (let n : length (lined (x ∷ 
       length-append (x ++ codes "\n") (lined front),
       length-append x (codes "\n"),
     ))
-lines_behind (x ∷ front) (y ∷ lines) rest f g e =
+lines_after (x ∷ front) (y ∷ lines) rest f g e =
     let left : lined (x ∷ front) ++ rest ≡ x ++ 10 ∷ (lined front ++ rest) =
     append_assoc (x ++ codes "\n") (lined front) rest ∙ append_assoc x (codes "\n") (lined front ++ rest) in
     let right : lined (y ∷ lines) ≡ y ++ 10 ∷ lined lines = append_assoc y (codes "\n") (lined lines) in
     let parts = same_cut 10 x y (lined front ++ rest) (lined lines) f.0 g.0 (sym left ∙ e ∙ right) in
-    let more = lines_behind front lines rest f.1 g.1 parts.1 in
+    let more = lines_after front lines rest f.1 g.1 parts.1 in
     record {
-      behind = more.behind;
+      following = more.following;
       whole = ap (λ (l : List ℕ). l ∷ lines) (sym parts.0)
           ∙ ap (λ (ls : List (List ℕ)). x ∷ ls) more.whole;
       text = more.text;
@@ -123,30 +125,30 @@ stops_here lines rest rising not line more cut begins =
           next.1.2 next.1.3
     ]
 
--- a text that stops after some lines is no transcript's
-none_behind : (text : List ℕ) (front : List (List ℕ)) (rest : List ℕ) → AllLack front → text ≡ lined front ++ rest
+-- if no transcript has the lines of `front` and then the next line of `rest`, the text is no transcript's
+none_after : (text : List ℕ) (front : List (List ℕ)) (rest : List ℕ) → AllLack front → text ≡ lined front ++ rest
     → Stops front rest
     → ((callers : List (List SeenLine)) → rest ≡ [] → front ≡ transcript_lines callers → ⊥)
     → (callers : List (List SeenLine)) → IsTranscriptText text callers → ⊥
 unfolding transcript_text Stops
-none_behind text front rest lack parts stops unended callers t =
-    let b = lines_behind front (transcript_lines callers) rest lack (whole_lacks callers (rises callers t.fits t.own))
+none_after text front rest lack parts stops unended callers t =
+    let b = lines_after front (transcript_lines callers) rest lack (whole_lacks callers (rises callers t.fits t.own))
     (sym parts ∙ t.spelled) in
-    at_tail b.behind b.whole b.text
+    at_tail b.following b.whole b.text
   where
-    at_tail : (behind : List (List ℕ)) → transcript_lines callers ≡ front ++ behind → rest ≡ lined behind → ⊥
+    at_tail : (following : List (List ℕ)) → transcript_lines callers ≡ front ++ following → rest ≡ lined following → ⊥
     at_tail [] whole text = unended callers text (sym (whole ∙ append-nil front))
-    at_tail (x ∷ behind) whole text = stops x (lined behind) text
+    at_tail (x ∷ following) whole text = stops x (lined following) text
         (record {
           callers = callers;
-          rest = behind;
+          rest = following;
           fits = t.fits;
           own = t.own;
           lines =
-              append_assoc front (x ∷ []) behind ∙ sym whole;
+              append_assoc front (x ∷ []) following ∙ sym whole;
         })
 
--- if no transcript has the next line after these lines, the next line is the first fault
+-- if no transcript goes on from these lines with the next line, the next line is the first fault
 pub fault_here : (text rest : List ℕ) (lines : List SeenLine) (number : ℕ) (callers : List (List SeenLine))
     → Gives callers lines → Rising 0 lines
     → text ≡ lined (front_of lines) ++ rest → number ≡ length lines + 2 → NoNext lines rest → IsFirstFault text number
@@ -164,18 +166,18 @@ fault_here text rest lines number callers gives rising parts is not = record {
     lines = ap (λ (ls : List SeenLine). (head_line ∷ map line_text ls) ++ line_end ∷ []) (sym gives.all);
   };
   stops = stops_here lines rest rising not;
-  none = none_behind text (front_of lines) rest (front_lacks lines rising) parts (stops_here lines rest rising not)
+  none = none_after text (front_of lines) rest (front_lacks lines rising) parts (stops_here lines rest rising not)
       (λ others nothing e. no_whole lines (all_lines others)
       (tail_of head_line (map line_text lines) (map line_text (all_lines others) ++ line_end ∷ []) e));
 }
 
--- more text after the last line is the first fault
-pub fault_behind : (text rest : List ℕ) (lines : List SeenLine) (number : ℕ) (callers : List (List SeenLine))
+-- if text follows the last line, the line after the last line is the first fault
+pub fault_later : (text rest : List ℕ) (lines : List SeenLine) (number : ℕ) (callers : List (List SeenLine))
     → Gives callers lines → Rising 0 lines
     → text ≡ lined (transcript_lines callers) ++ rest → (rest ≡ [] → ⊥) → number ≡ length lines + 3
     → IsFirstFault text number
 unfolding Stops
-fault_behind text rest lines number callers gives rising parts some is =
+fault_later text rest lines number callers gives rising parts some is =
     let stops : Stops (transcript_lines callers) rest = λ line more cut begins.
     after_end (all_lines callers) (all_lines begins.callers) line begins.rest
     (sym (append_assoc (map line_text (all_lines callers) ++ line_end ∷ []) (line ∷ []) begins.rest)
@@ -201,11 +203,11 @@ fault_behind text rest lines number callers gives rising parts some is =
             append-nil (transcript_lines callers);
       };
       stops = stops;
-      none = none_behind text (transcript_lines callers) rest
+      none = none_after text (transcript_lines callers) rest
           (whole_lacks callers (rises callers gives.fits gives.own)) parts stops (λ others nothing e. some nothing);
     }
 
--- a text without the first line has its first fault there
+-- if a text does not begin with a transcript's first line, line 1 is the first fault
 pub no_head : (text : List ℕ) → ((line more : List ℕ) → text ≡ line ++ 10 ∷ more → line ≡ head_line → ⊥)
     → IsFirstFault text 1
 unfolding Stops
@@ -225,7 +227,7 @@ no_head text not =
         lines = refl;
       };
       stops = stops;
-      none = none_behind text [] text tt refl stops (λ others nothing e. absurd cc);
+      none = none_after text [] text tt refl stops (λ others nothing e. absurd cc);
     }
 
 pub gives_nothing : Gives [] []
@@ -234,8 +236,8 @@ gives_nothing = record { fits = record { few_callers = omega arith; last = tt; l
 -- ---- no other transcript
 
 lined_once : (front lines : List (List ℕ)) → AllLack front → AllLack lines → lined front ≡ lined lines
-    → LinesBehind front lines []
-lined_once front lines f g e = lines_behind front lines [] f g (append-nil (lined front) ∙ e)
+    → LinesAfter front lines []
+lined_once front lines f g e = lines_after front lines [] f g (append-nil (lined front) ∙ e)
 
 same_lines : (least : ℕ) (lines others : List SeenLine) (more : List (List ℕ)) → Rising least lines
     → Rising least others
@@ -260,9 +262,9 @@ one_transcript text a b s t =
     let both = lined_once (transcript_lines a) (transcript_lines b) (whole_lacks a rise_a) (whole_lacks b rise_b)
     (sym s.spelled ∙ t.spelled) in
     let tail = tail_of head_line (map line_text (all_lines b) ++ line_end ∷ [])
-    ((map line_text (all_lines a) ++ line_end ∷ []) ++ both.behind) both.whole in
+    ((map line_text (all_lines a) ++ line_end ∷ []) ++ both.following) both.whole in
     same_callers 0 a b s.own t.own s.fits.last t.fits.last
-    (same_lines 0 (all_lines a) (all_lines b) both.behind rise_a rise_b tail)
+    (same_lines 0 (all_lines a) (all_lines b) both.following rise_a rise_b tail)
 
 -- ---- one first fault
 

@@ -1,4 +1,4 @@
--- The start of a text is read in one way, if no digit follows it.
+-- A lane, a visit or a step at the start of a text is read in only one way, if no digit follows it.
 use Rattle.std.proofs.Common.{◌≡◌, ℕ, ◌-◌, ◌^◌, ◌<◌, ◌≤◌, ◌⊎◌, inl, inr, List, [], ◌∷◌, ◌++◌, length, refl, sym, ap, subst, ◌∙◌, append_assoc, arith}
 use Rattle.std.specs.Prelude.{decimal}
 use Rattle.std.specs.List.{flat_map, AllByRecursion}
@@ -11,7 +11,7 @@ use Rattle.key_names.specs.Texts.TranscriptGrammar.{lane_text, mark_text, step_t
 use Rattle.event_script.specs.ValueFronts.{EndsNumber, IsFront, NoFront}
 use Rattle.transcript_text.specs.Reading.{StepsFit}
 use Rattle.transcript_text.proofs.StepLists.{next_text, steps_text-cons}
-use Rattle.transcript_text.proofs.StepTexts.{StepsRead, behind_read, heads, no_mark_behind}
+use Rattle.transcript_text.proofs.StepTexts.{StepsRead, after_read, heads, no_mark_after}
 
 -- ---- lanes
 
@@ -46,23 +46,23 @@ unfolding lane_text
 base_front text rest is =
     record { fits = tt; whole = is; only = λ y other fits after e. only_base rest y other (sym is ∙ e) }
 
-pub cpu_front : (text behind rest : List ℕ) (cpu : ℕ) → text ≡ 99 ∷ behind
-    → IsFront decimal (λ n. n ≤ 2 ^ 32 - 1) behind cpu rest → IsFront lane_text LaneFits text (Cpu cpu) rest
+pub cpu_front : (text following rest : List ℕ) (cpu : ℕ) → text ≡ 99 ∷ following
+    → IsFront decimal (λ n. n ≤ 2 ^ 32 - 1) following cpu rest → IsFront lane_text LaneFits text (Cpu cpu) rest
 unfolding lane_text
-cpu_front text behind rest cpu is f = record {
+cpu_front text following rest cpu is f = record {
   fits = omega (arith, f.fits);
   whole = is ∙ ap (λ (x : List ℕ). 99 ∷ x) f.whole;
   only = λ y other fits after e.
-      let p = only_cpu behind y other (sym is ∙ e) in
+      let p = only_cpu following y other (sym is ∙ e) in
       let small : p.0 < 2 ^ 32 = subst LaneFits p.1 fits in
       let same = f.only p.0 other (omega arith) after p.2 in
       (p.1 ∙ ap Cpu same.0, same.1);
 }
 
-pub no_cpu_front : (text behind : List ℕ) → text ≡ 99 ∷ behind → NoFront decimal (λ n. n ≤ 2 ^ 32 - 1) behind
+pub no_cpu_front : (text following : List ℕ) → text ≡ 99 ∷ following → NoFront decimal (λ n. n ≤ 2 ^ 32 - 1) following
     → NoFront lane_text LaneFits text
-no_cpu_front text behind is none y other fits after e =
-    let p = only_cpu behind y other (sym is ∙ e) in
+no_cpu_front text following is none y other fits after e =
+    let p = only_cpu following y other (sym is ∙ e) in
     let small : p.0 < 2 ^ 32 = subst LaneFits p.1 fits in
     none p.0 other (omega arith) after p.2
 
@@ -99,7 +99,7 @@ only_look : (digits : List ℕ) (y : Step) (other : List ℕ) → 126 ∷ digits
     → (n : ℕ) × (y ≡ Look n) × (digits ≡ decimal n ++ other)
 unfolding step_text
 only_look digits (Look n) other e = (n, refl, cc)
-only_look digits (Visit mark) other e = absurd (no_mark_behind digits other mark e)
+only_look digits (Visit mark) other e = absurd (no_mark_after digits other mark e)
 
 pub look_front : (text digits rest : List ℕ) (n : ℕ) → text ≡ 126 ∷ digits
     → IsFront decimal (λ m. m ≤ 2 ^ 63 - 1) digits n rest → IsFront step_text StepFits text (Look n) rest
@@ -151,7 +151,7 @@ no_empty_front text none =
 
 -- ---- steps in a row
 
--- the rest begins with a step, which the end or a comma follows
+-- the rest begins with a step, and after that step the rest ends or has a comma
 record BeginsSo (rest : List ℕ) : Type 0 where
   step : Step
   other : List ℕ
@@ -159,22 +159,22 @@ record BeginsSo (rest : List ℕ) : Type 0 where
   whole : rest ≡ step_text step ++ other
   after : (other ≡ []) ⊎ ((r : List ℕ) × (other ≡ 44 ∷ r))
 
-begins_behind : (rest : List ℕ) (behind : List Step) → 0 < length behind → AllByRecursion StepFits behind
-    → rest ≡ steps_text behind → BeginsSo rest
-begins_behind rest [] some fits e = absurd (omega arith)
-begins_behind rest (s ∷ []) some fits e = record {
+begins_after : (rest : List ℕ) (following : List Step) → 0 < length following → AllByRecursion StepFits following
+    → rest ≡ steps_text following → BeginsSo rest
+begins_after rest [] some fits e = absurd (omega arith)
+begins_after rest (s ∷ []) some fits e = record {
   step = s;
   other = [];
   fits = fits.0;
   whole = e ∙ steps_text-cons s [];
   after = inl refl;
 }
-begins_behind rest (s ∷ t ∷ behind) some fits e = record {
+begins_after rest (s ∷ t ∷ following) some fits e = record {
   step = s;
-  other = flat_map next_text (t ∷ behind);
+  other = flat_map next_text (t ∷ following);
   fits = fits.0;
-  whole = e ∙ steps_text-cons s (t ∷ behind);
-  after = inr (step_text t ++ flat_map next_text behind, refl);
+  whole = e ∙ steps_text-cons s (t ∷ following);
+  after = inr (step_text t ++ flat_map next_text following, refl);
 }
 
 ends_step : (other : List ℕ) → (other ≡ []) ⊎ ((r : List ℕ) × (other ≡ 44 ∷ r)) → EndsNumber other
@@ -187,17 +187,17 @@ ends_step other after =
 module _ (text rest : List ℕ) (read : List Step) (so_far : StepsRead text read rest) where
   begins_next : (all : List Step) → StepsFit all → text ≡ steps_text all → BeginsSo rest
   begins_next all fits e =
-      let b = behind_read text rest read all so_far fits e in begins_behind rest b.behind b.some b.fits b.spelt
+      let b = after_read text rest read all so_far fits e in begins_after rest b.following b.some b.fits b.spelt
 
-  -- a text whose rest begins with no step spells no steps
+  -- if the rest of a text begins with no step, the text spells no steps
   pub no_next_front : NoFront step_text StepFits rest → (all : List Step) → StepsFit all → text ≡ steps_text all → ⊥
   no_next_front none all fits e =
       let b = begins_next all fits e in none b.step b.other b.fits (ends_step b.other b.after) b.whole
 
-  -- a text spells no steps if another byte than a comma follows the next step
-  pub no_comma : (step : Step) (behind : List ℕ) → IsFront step_text StepFits rest step behind → (behind ≡ [] → ⊥)
-      → ((r : List ℕ) → behind ≡ 44 ∷ r → ⊥) → (all : List Step) → StepsFit all → text ≡ steps_text all → ⊥
-  no_comma step behind f some other all fits e =
+  -- if a byte other than a comma follows the next step, the text spells no steps
+  pub no_comma : (step : Step) (following : List ℕ) → IsFront step_text StepFits rest step following → (following ≡ [] → ⊥)
+      → ((r : List ℕ) → following ≡ 44 ∷ r → ⊥) → (all : List Step) → StepsFit all → text ≡ steps_text all → ⊥
+  no_comma step following f some other all fits e =
       let b = begins_next all fits e in
       let same = f.only b.step b.other b.fits (ends_step b.other b.after) b.whole in
       elim b.after [ inl none ↦ some (same.1 ∙ none) | inr comma ↦ other comma.0 (same.1 ∙ comma.1) ]

@@ -1,4 +1,4 @@
--- Lines in sequence, grouped by their callers.
+-- Lines in sequence stay grouped by caller (`Groups`) after one line more, and when a caller is finished.
 use Rattle.std.proofs.Common.{◌≡◌, ℕ, suc, ◌+◌, ◌<◌, List, [], ◌∷◌, ◌++◌, length, refl, sym, ap, subst, ◌∙◌, append_assoc, append-nil, arith}
 use Rattle.std.proofs.lemmas.List.{flat_map_more, map_push}
 use Rattle.key_names.specs.Transcripts.SeenLine.{SeenLine}
@@ -61,7 +61,7 @@ finished callers done current lines is fits g = record {
   all = ap all_lines is ∙ all_lines-push done current ∙ g.whole;
 }
 
--- one more caller is finished, with these lines
+-- if one more caller is finished, its lines come after those of the callers that were finished before
 pub seen_callers-push : (old new : List CallerLines) (caller : CallerLines) (lines : List SeenLine)
     → new ≡ old ++ caller ∷ [] → caller.lines ≡ lines
     → seen_callers new ≡ seen_callers old ++ lines ∷ []

@@ -1,4 +1,5 @@
--- Bytes and steps that are appended do not change the earlier lines, and a new line refers to its own.
+-- Appending bytes and steps leaves the earlier lines as they were. A new line refers to the bytes and steps that were
+-- appended for it.
 use Rattle.std.proofs.Common.{◌≡◌, ℕ, zero, suc, ◌+◌, ◌<◌, ◌≤◌, List, [], ◌∷◌, ◌++◌, length, take, drop, set, map, get_or, refl, ap, sym, subst, ◌∙◌, append-nil, All, arith}
 use Rattle.std.specs.List.{AllByRecursion}
 use Rattle.std.proofs.lemmas.List.{length-append, length-drop, take-append-drop, take-append-le, drop-append-le, take_all, drop_at, map_push, map-set}
@@ -14,7 +15,7 @@ use Rattle.transcript_text.specs.declared.view.LineView.{LineView}
 use Rattle.transcript_text.specs.declared.view.Shown.{Shown}
 use Rattle.transcript_text.specs.declared.view.Shown.TheVariants.{None as ShowsNone, Bytes as ShowsBytes, Count as ShowsCount}
 use Rattle.transcript_text.specs.Gathered.{IsWithin, LineWithin, IsKept, bytes_from, data_from, kept_line}
-use Rattle.transcript_text.specs.declared.line.ReadLine.{ReadLine}
+use Rattle.transcript_text.specs.declared.parsing.line.ReadLine.{ReadLine}
 use Rattle.transcript_text.specs.ReadLines.{seen_read}
 use Rattle.transcript_text.specs.Views.{bytes_of, seen, seen_shown}
 
@@ -84,14 +85,14 @@ module _ (bs more : List ℕ) (steps others : List Step) where
     all_within_more lines within.1,
   )
 
-  -- lines stay lines of a caller when more is kept
+  -- kept lines still fit when more bytes and steps are appended
   pub kept_more : (lines : List Line) → IsKept bs steps lines → IsKept (bs ++ more) (steps ++ others) lines
   kept_more lines old = record {
     within = all_within_more lines old.within;
     fits = rw (seen_lines-more lines old.within) old.fits;
   }
 
--- a line that is appended has this content
+-- if a line has the content `now`, appending the line appends this content
 seen_one : (bs : List ℕ) (steps : List Step) (lines : List Line) (line : Line) (now : SeenLine) (before : List SeenLine)
     → seen_line bs steps line ≡ now → seen_lines bs steps lines ≡ before
     → seen_lines bs steps (lines ++ line ∷ []) ≡ before ++ now ∷ []
@@ -106,7 +107,7 @@ kept_one bs steps lines line now is within fits old = record {
       (each_more LineFits (seen_lines bs steps lines) now old.fits fits);
 }
 
--- a caller's line whose bytes and steps were kept last has its content
+-- if a line's bytes and steps were appended last, the kept line has the content of the line
 module _ (bs after_bs : List ℕ) (steps after_steps : List Step) (line : LineView) (named : Line)
     (bytes_are : after_bs ≡ bs ++ bytes_of line.shown) (steps_are : after_steps ≡ steps ++ line.steps.now)
     (named_is : named ≡ kept_line (length steps) (length bs) line) where
@@ -141,11 +142,11 @@ module _ (bs after_bs : List ℕ) (steps after_steps : List Step) (line : LineVi
         (seen line) old.fits fits);
   }
 
--- a list that begins with the old bytes is the old bytes and the rest after them
+-- a list that begins with `bs` is `bs` and then the rest of the list
 grown : (bs after : List ℕ) → take (length bs) after ≡ bs → bs ++ drop (length bs) after ≡ after
 grown bs after e = ap (λ x. x ++ drop (length bs) after) (sym e) ∙ take-append-drop (length bs) after
 
--- a line was read: its steps were kept last, and its data refer to bytes that begin with the old ones
+-- a line was read: its steps were appended, and the bytes after reading begin with the old bytes
 module _ (bs after : List ℕ) (steps : List Step) (begins : take (length bs) after ≡ bs) where
   pub seen_grown : (others : List Step) (lines : List Line) → IsKept bs steps lines
       → seen_lines after (steps ++ others) lines ≡ seen_lines bs steps lines

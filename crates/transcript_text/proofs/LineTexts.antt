@@ -14,10 +14,10 @@ use Rattle.key_names.specs.declared.names.Step.{Step}
 use Rattle.key_names.specs.Transcripts.SeenLine.{Shown, no_data, bytes, count, SeenLine}
 use Rattle.key_names.specs.Texts.Spelling.{AllLower, is_lower_digit, word_text, spaced}
 use Rattle.key_names.specs.Texts.TranscriptGrammar.{answer_text, steps_text, step_text, shown_text, line_text, StepFits, ShownFits, LineFits}
-use Rattle.transcript_text.specs.declared.line.Numbers.{Numbers}
+use Rattle.transcript_text.specs.declared.parsing.line.LineNumbers.{LineNumbers}
 use Rattle.event_script.specs.ValueFronts.{IsFront, NoFront}
 use Rattle.transcript_text.specs.Reading.{lacks, StepsFit}
-use Rattle.transcript_text.specs.declared.line.ReadLine.{ReadLine}
+use Rattle.transcript_text.specs.declared.parsing.line.ReadLine.{ReadLine}
 use Rattle.transcript_text.specs.ReadLines.{numbers_text, NumbersFit, FitsShowing, IsSplit, IsRead, seen_read}
 use Rattle.transcript_text.proofs.Cutting.{lacks-append, lacks-decimal, not_lacking, same_cut}
 use Rattle.transcript_text.proofs.NameTexts.{same_word, same_answer, word_lacks_space, word_lacks_feed, answer_lacks_space, answer_lacks_feed}
@@ -26,36 +26,36 @@ use Rattle.transcript_text.proofs.StepTexts.{no_digit_below, IsOutside, comma_ou
 
 -- ---- numbers
 
-dot : (numbers : Numbers) → NumbersFit numbers → lacks 46 (decimal numbers.caller) ≡ true
+dot : (numbers : LineNumbers) → NumbersFit numbers → lacks 46 (decimal numbers.caller) ≡ true
 dot numbers fits = lacks-decimal 46 numbers.caller (no_digit_below 46 (omega arith)) (omega arith)
 
-numbers_text-parts : (numbers : Numbers) → numbers_text numbers ≡ decimal numbers.caller ++ 46 ∷ decimal numbers.event
+numbers_text-parts : (numbers : LineNumbers) → numbers_text numbers ≡ decimal numbers.caller ++ 46 ∷ decimal numbers.event
 numbers_text-parts numbers = append_assoc (decimal numbers.caller) (codes ".") (decimal numbers.event)
 
 pub spells_numbers : (text caller event : List ℕ) → text ≡ caller ++ 46 ∷ event → lacks 46 caller ≡ true
-    → (numbers : Numbers) → NumbersFit numbers
+    → (numbers : LineNumbers) → NumbersFit numbers
     → text ≡ numbers_text numbers → (caller ≡ decimal numbers.caller) × (event ≡ decimal numbers.event)
 spells_numbers text caller event cut lack numbers fits e =
     same_cut 46 caller (decimal numbers.caller) event (decimal numbers.event) lack (dot numbers fits) (sym cut ∙ e
     ∙ numbers_text-parts numbers)
 
-module _ (text behind digits : List ℕ) (caller : ℕ) (front : IsFront decimal (λ n. n ≤ 2 ^ 32 - 1) text caller behind)
-    (point : behind ≡ 46 ∷ digits) where
-  event_at : (numbers : Numbers) → NumbersFit numbers → text ≡ numbers_text numbers → digits ≡ decimal numbers.event
+module _ (text following digits : List ℕ) (caller : ℕ) (front : IsFront decimal (λ n. n ≤ 2 ^ 32 - 1) text caller following)
+    (point : following ≡ 46 ∷ digits) where
+  event_at : (numbers : LineNumbers) → NumbersFit numbers → text ≡ numbers_text numbers → digits ≡ decimal numbers.event
   event_at numbers fits e =
       let only = front.only numbers.caller (46 ∷ decimal numbers.event) (omega arith) (λ d. omega arith)
       (e ∙ numbers_text-parts numbers) in
       let same : 46 ∷ digits ≡ 46 ∷ decimal numbers.event = sym point ∙ only.1 in
       cc
 
-  pub no_event : NoFront decimal (λ n. n ≤ 2 ^ 32 - 1) digits → (numbers : Numbers) → NumbersFit numbers
+  pub no_event : NoFront decimal (λ n. n ≤ 2 ^ 32 - 1) digits → (numbers : LineNumbers) → NumbersFit numbers
       → text ≡ numbers_text numbers → ⊥
   no_event none numbers fits e =
       none numbers.event [] (omega arith) tt (event_at numbers fits e ∙ sym (append-nil (decimal numbers.event)))
 
-  pub more_behind : (event : ℕ) (rest : List ℕ) → IsFront decimal (λ n. n ≤ 2 ^ 32 - 1) digits event rest
-      → (rest ≡ [] → ⊥) → (numbers : Numbers) → NumbersFit numbers → text ≡ numbers_text numbers → ⊥
-  more_behind event rest f some numbers fits e =
+  pub more_after : (event : ℕ) (rest : List ℕ) → IsFront decimal (λ n. n ≤ 2 ^ 32 - 1) digits event rest
+      → (rest ≡ [] → ⊥) → (numbers : LineNumbers) → NumbersFit numbers → text ≡ numbers_text numbers → ⊥
+  more_after event rest f some numbers fits e =
       some (f.only numbers.event [] (omega arith) tt
       (event_at numbers fits e ∙ sym (append-nil (decimal numbers.event)))).1
 
@@ -65,43 +65,43 @@ pub uncut_first : (line : List ℕ) → lacks 32 line ≡ true → (a b c d e : 
 uncut_first line lack a b c d e s = not_lacking 32 a (spaced (b ∷ c ∷ d ∷ e ∷ []))
     (subst (λ (x : List ℕ). lacks 32 x ≡ true) s.whole lack)
 
-behind_first : (line x r : List ℕ) → line ≡ x ++ 32 ∷ r → lacks 32 x ≡ true → (a b c d e : List ℕ)
+after_first : (line x r : List ℕ) → line ≡ x ++ 32 ∷ r → lacks 32 x ≡ true → (a b c d e : List ℕ)
     → IsSplit line a b c d e → (x ≡ a) × (r ≡ spaced (b ∷ c ∷ d ∷ e ∷ []))
-behind_first line x r cut lack a b c d e s = same_cut 32 x a r (spaced (b ∷ c ∷ d ∷ e ∷ [])) lack s.first (sym cut
+after_first line x r cut lack a b c d e s = same_cut 32 x a r (spaced (b ∷ c ∷ d ∷ e ∷ [])) lack s.first (sym cut
     ∙ s.whole)
 
 pub uncut_second : (line x r : List ℕ) → line ≡ x ++ 32 ∷ r → lacks 32 x ≡ true → lacks 32 r ≡ true
     → (a b c d e : List ℕ) → IsSplit line a b c d e → ⊥
 uncut_second line x r cut lack lack2 a b c d e s =
     not_lacking 32 b (spaced (c ∷ d ∷ e ∷ [])) (subst (λ (y : List ℕ). lacks 32 y ≡ true)
-    (behind_first line x r cut lack a b c d e s).1 lack2)
+    (after_first line x r cut lack a b c d e s).1 lack2)
 
-behind_second : (line x r y q : List ℕ) → line ≡ x ++ 32 ∷ r → lacks 32 x ≡ true → r ≡ y ++ 32 ∷ q → lacks 32 y ≡ true
+after_second : (line x r y q : List ℕ) → line ≡ x ++ 32 ∷ r → lacks 32 x ≡ true → r ≡ y ++ 32 ∷ q → lacks 32 y ≡ true
     → (a b c d e : List ℕ) → IsSplit line a b c d e → (y ≡ b) × (q ≡ spaced (c ∷ d ∷ e ∷ []))
-behind_second line x r y q cut lack cut2 lack2 a b c d e s =
+after_second line x r y q cut lack cut2 lack2 a b c d e s =
     same_cut 32 y b q (spaced (c ∷ d ∷ e ∷ [])) lack2 s.second (sym cut2
-    ∙ (behind_first line x r cut lack a b c d e s).1)
+    ∙ (after_first line x r cut lack a b c d e s).1)
 
 pub uncut_third : (line x r y q : List ℕ) → line ≡ x ++ 32 ∷ r → lacks 32 x ≡ true → r ≡ y ++ 32 ∷ q
     → lacks 32 y ≡ true → lacks 32 q ≡ true
     → (a b c d e : List ℕ) → IsSplit line a b c d e → ⊥
 uncut_third line x r y q cut lack cut2 lack2 lack3 a b c d e s =
     not_lacking 32 c (spaced (d ∷ e ∷ [])) (subst (λ (z : List ℕ). lacks 32 z ≡ true)
-    (behind_second line x r y q cut lack cut2 lack2 a b c d e s).1 lack3)
+    (after_second line x r y q cut lack cut2 lack2 a b c d e s).1 lack3)
 
-behind_third : (line x r y q z p : List ℕ) → line ≡ x ++ 32 ∷ r → lacks 32 x ≡ true → r ≡ y ++ 32 ∷ q
+after_third : (line x r y q z p : List ℕ) → line ≡ x ++ 32 ∷ r → lacks 32 x ≡ true → r ≡ y ++ 32 ∷ q
     → lacks 32 y ≡ true → q ≡ z ++ 32 ∷ p → lacks 32 z ≡ true
     → (a b c d e : List ℕ) → IsSplit line a b c d e → (z ≡ c) × (p ≡ spaced (d ∷ e ∷ []))
-behind_third line x r y q z p cut lack cut2 lack2 cut3 lack3 a b c d e s =
+after_third line x r y q z p cut lack cut2 lack2 cut3 lack3 a b c d e s =
     same_cut 32 z c p (spaced (d ∷ e ∷ [])) lack3 s.third (sym cut3
-    ∙ (behind_second line x r y q cut lack cut2 lack2 a b c d e s).1)
+    ∙ (after_second line x r y q cut lack cut2 lack2 a b c d e s).1)
 
 pub uncut_fourth : (line x r y q z p : List ℕ) → line ≡ x ++ 32 ∷ r → lacks 32 x ≡ true → r ≡ y ++ 32 ∷ q
     → lacks 32 y ≡ true → q ≡ z ++ 32 ∷ p → lacks 32 z ≡ true
     → lacks 32 p ≡ true → (a b c d e : List ℕ) → IsSplit line a b c d e → ⊥
 uncut_fourth line x r y q z p cut lack cut2 lack2 cut3 lack3 lack4 a b c d e s =
     not_lacking 32 d e (subst (λ (w : List ℕ). lacks 32 w ≡ true)
-    (behind_third line x r y q z p cut lack cut2 lack2 cut3 lack3 a b c d e s).1 lack4)
+    (after_third line x r y q z p cut lack cut2 lack2 cut3 lack3 a b c d e s).1 lack4)
 
 -- two texts have the same five fields
 pub record SameFields (a b c d e v w x y z : List ℕ) : Type 0 where
@@ -114,7 +114,7 @@ pub record SameFields (a b c d e v w x y z : List ℕ) : Type 0 where
 pub same_fields : (line a b c d e v w x y z : List ℕ) → IsSplit line a b c d e → IsSplit line v w x y z
     → SameFields a b c d e v w x y z
 same_fields line a b c d e v w x y z s t =
-    let one = behind_first line a (spaced (b ∷ c ∷ d ∷ e ∷ [])) s.whole s.first v w x y z t in
+    let one = after_first line a (spaced (b ∷ c ∷ d ∷ e ∷ [])) s.whole s.first v w x y z t in
     let two = same_cut 32 b w (spaced (c ∷ d ∷ e ∷ [])) (spaced (x ∷ y ∷ z ∷ [])) s.second t.second one.1 in
     let three = same_cut 32 c x (spaced (d ∷ e ∷ [])) (spaced (y ∷ z ∷ [])) s.third t.third two.1 in
     let four = same_cut 32 d y e z s.fourth t.fourth three.1 in
@@ -133,13 +133,13 @@ steps_lack byte out dash comma (s ∷ t ∷ steps) fits =
     (lacks-append byte (step_text s) (codes ",") (step_lacks byte out s fits.0) comma)
     (steps_lack byte out dash comma (t ∷ steps) fits.1)
 
-abbrev pub numbers_in : SeenLine → Numbers
+abbrev pub numbers_in : SeenLine → LineNumbers
 numbers_in line = record { caller = line.caller; event = line.event }
 
 pub numbers_fit : (line : SeenLine) → LineFits line → NumbersFit (numbers_in line)
 numbers_fit line fits = record { caller = fits.caller; event = fits.event }
 
-pub numbers_lack : (byte : ℕ) → IsOutside byte → lacks byte (codes ".") ≡ true → (numbers : Numbers)
+pub numbers_lack : (byte : ℕ) → IsOutside byte → lacks byte (codes ".") ≡ true → (numbers : LineNumbers)
     → NumbersFit numbers → lacks byte (numbers_text numbers) ≡ true
 numbers_lack byte out point numbers fits =
     lacks-append byte (decimal numbers.caller ++ codes ".") (decimal numbers.event)
@@ -290,12 +290,12 @@ is_read text a b c d read s numbers numbers_are word answer steps steps_are =
       short = last_short text a b c d read.shown.now s;
     }
 
--- the line of a text has the caller that was read
+-- if a text spells a line, the line's caller is the caller that was read
 pub same_caller : (text : List ℕ) (read : ReadLine) → IsRead text read → (line : SeenLine) → LineFits line
     → text ≡ line_text line → line.caller ≡ read.caller
 same_caller text read is line fits e = ap (λ (l : SeenLine). l.caller) (is.only line fits e).0
 
--- the last field spells the data of the text's line
+-- the last field that was read spells the data of the line that the text spells
 pub shows_data : (text : List ℕ) (read : ReadLine) → IsRead text read → (line : SeenLine) → LineFits line
     → text ≡ line_text line → ShownFits read.word line.shown × (read.shown.now ≡ shown_text line.shown)
 shows_data text read is line fits e =

@@ -1,4 +1,4 @@
--- No two words have the same spelling, and no word or answer has a space or a line feed in it.
+-- No two words have the same spelling. No word or answer has a space or a line feed in it.
 use Rattle.std.proofs.Common.{◌≡◌, ℕ, true, List, [], ◌∷◌, Option, Some, None, refl, sym, ap, ◌∙◌}
 use Rattle.std.specs.Prelude.{⊤, IfSome, find}
 use Rattle.std.specs.Str.{bytes_eq}

@@ -1,4 +1,4 @@
--- Places in the text of a transcript.
+-- The text after a place is the next piece, and then the text after the next place.
 use Rattle.std.proofs.Common.{◌≡◌, ℕ, zero, suc, ◌+◌, ◌<◌, ◌≤◌, List, [], ◌∷◌, ◌++◌, Option, length, drop, take, slice_get, Some, refl, ap, sym, subst, ◌∙◌, append_assoc, arith}
 use Rattle.std.specs.Prelude.{codes, IfSome}
 use Rattle.std.specs.List.{flat_map}
@@ -10,8 +10,8 @@ use Rattle.key_names.proofs.Lists.ListFacts.{found_dropped}
 use Rattle.transcript_text.specs.Heads.{head_text}
 use Rattle.transcript_text.specs.Lines.{text_of}
 use Rattle.transcript_text.specs.Places.{HasShown, IsFrom, IsIn, callers_left, callers_text, data_left, left_from, line_left, lines_left, most_pieces, text_left}
-use Rattle.transcript_text.specs.declared.place.Coming.TheVariants.{Head}
-use Rattle.transcript_text.specs.declared.place.Place.{Place}
+use Rattle.transcript_text.specs.declared.printing.place.Coming.TheVariants.{Head}
+use Rattle.transcript_text.specs.declared.printing.place.TextPosition.{TextPosition}
 use Rattle.transcript_text.specs.Views.{seen, seen_shown}
 use Rattle.transcript_text.specs.declared.view.LineView.{LineView}
 use Rattle.transcript_text.proofs.HexPieces.{next_hex}
@@ -23,7 +23,7 @@ use Rattle.transcript_text.proofs.WholeTexts.{line_is, transcript_text-parts}
 pub none_shown : (n : ℕ) (shown : Shown) → n ≡ 0 → data_left n shown ≡ shown_text shown
 none_shown n shown e = rw e refl
 
--- after the head of a line is put, its data and line feed are left
+-- after the head of a line is put, the line's data and line feed are left
 pub head_put : (line : LineView) (n : ℕ) (head : List ℕ) → n ≡ 0
     → head ≡ head_text line.caller line.event line.word line.answer line.steps.now
     → (head ++ data_left n (seen_shown line.shown)) ++ codes "\n" ≡ line_left n (seen line)
@@ -33,7 +33,7 @@ pub begun : (n : ℕ) (line : SeenLine) → 0 < n → data_left n line.shown ++ 
 begun zero line some = absurd (omega (arith, some))
 begun (suc n) line some = refl
 
--- of bytes, the hex of those that were not put is left
+-- if the data are bytes, the hex of the bytes not yet put is left
 pub bytes_left : (n : ℕ) (shown : List ℕ) → data_left n (bytes shown) ≡ encode_lower (drop n shown)
 unfolding shown_text
 bytes_left zero shown = refl
@@ -47,14 +47,14 @@ pub left_of_bytes : (n : ℕ) (shown : List ℕ) → 0 < length shown
     → data_left n (bytes_or_none shown) ≡ encode_lower (drop n shown)
 left_of_bytes n shown some = ap (data_left n) (some_bytes shown some) ∙ bytes_left n shown
 
--- after the next bytes are put, the others are left
+-- after the next bytes are put, the other bytes are left
 pub bytes_on : (n count : ℕ) (shown rest front piece new : List ℕ) → rest ≡ drop n shown → front ≡ take count rest
     → new ≡ piece ++ encode_lower front
     → new ++ encode_lower (drop (n + count) shown) ≡ piece ++ encode_lower (drop n shown)
-bytes_on n count shown rest front piece new behind is put =
-    let next : drop (n + count) shown ≡ drop count rest = sym (drop-drop count n shown) ∙ ap (drop count) (sym behind) in
+bytes_on n count shown rest front piece new following is put =
+    let next : drop (n + count) shown ≡ drop count rest = sym (drop-drop count n shown) ∙ ap (drop count) (sym following) in
     sym (next_hex piece new rest front (drop (n + count) shown) count put is next)
-    ∙ ap (λ bytes. piece ++ encode_lower bytes) behind
+    ∙ ap (λ bytes. piece ++ encode_lower bytes) following
 
 -- ---- lines
 
@@ -74,11 +74,11 @@ pub has_shown : (n i : ℕ) (lines : List SeenLine) (line : SeenLine) → slice_
     → n ≤ length (bytes_in line.shown) → HasShown n (drop i lines)
 has_shown n i lines line at few = subst (HasShown n) (sym (found_dropped lines i line at)) few
 
--- the piece and the data that are left spell what is left of the line
+-- the piece, the data that are left and a line feed spell what is left of the line
 abbrev pub Begins : ℕ → List ℕ → Option SeenLine → Type 0
 Begins n piece found = IfSome found (λ line. (piece ++ data_left n line.shown) ++ codes "\n" ≡ line_left n line)
 
--- after the rest of a line is put, the lines after it are left
+-- after the whole rest of a line is put, the lines after that line are left
 pub line_ended : (n i : ℕ) (lines : List SeenLine) (line : SeenLine) (head piece new : List ℕ)
     → slice_get lines i ≡ Some line → Begins n head (slice_get lines i) → piece ≡ head ++ data_left n line.shown
     → new ≡ piece ++ codes "\n"
@@ -88,7 +88,7 @@ line_ended n i lines line head piece new at begins is end =
     from_line n i lines line at ∙ ap (λ text. text ++ text_of (drop (i + 1) lines)) (sym whole)
     ∙ ap (λ text. new ++ text) (sym (lines_whole (drop (i + 1) lines)))
 
--- after a part of the rest is put, some of the line is left
+-- after a part of a line's rest is put, the other part and the lines after this line are left
 pub line_goes_on : (n more i : ℕ) (lines : List SeenLine) (line : SeenLine) (head piece : List ℕ)
     → slice_get lines i ≡ Some line → Begins n head (slice_get lines i) → 0 < more
     → piece ++ data_left more line.shown ≡ head ++ data_left n line.shown
@@ -111,7 +111,7 @@ callers_whole (lines ∷ callers) =
     ∙ sym (append_assoc (text_of lines) (flat_map text_of callers) (codes "end\n"))
 
 -- after the first line is put, the callers' lines are left
-pub head_done : (place : Place) (callers : List (List SeenLine)) (piece : List ℕ) → place.coming ≡ Head
+pub head_done : (place : TextPosition) (callers : List (List SeenLine)) (piece : List ℕ) → place.coming ≡ Head
     → IsIn place callers → piece ≡ codes "rngtranscript 1\n"
     → text_left place callers ≡ piece ++ callers_left place.line place.shown (drop place.caller callers)
 head_done place callers piece is within put =
@@ -121,8 +121,8 @@ head_done place callers piece is within put =
     ap (λ coming. left_from coming place callers) is ∙ transcript_text-parts callers
     ∙ ap (λ text. text ++ callers_text callers) (sym put) ∙ ap (λ text. piece ++ text) (sym left)
 
--- fewer pieces are left after one that has a byte
-pub fewer_pieces : (old new : Place) (callers : List (List SeenLine)) (piece : List ℕ)
+-- putting a piece with at least one byte lowers most_pieces
+pub fewer_pieces : (old new : TextPosition) (callers : List (List SeenLine)) (piece : List ℕ)
     → text_left old callers ≡ piece ++ text_left new callers → 0 < length piece → new.caller ≡ old.caller
     → most_pieces new callers < most_pieces old callers
 fewer_pieces old new callers piece is some same =
@@ -132,7 +132,7 @@ fewer_pieces old new callers piece is some same =
     ap (λ caller. length (drop caller callers)) same in
     omega (arith, text, rest, some)
 
--- before the end, the last line is left
+-- before the end of the text, at least the last line is left
 pub some_left : (line shown : ℕ) (callers : List (List SeenLine)) → 0 < length (callers_left line shown callers)
 some_left line shown [] = omega arith
 some_left line shown (lines ∷ callers) =

@@ -11,12 +11,12 @@ use Rattle.transcript_text.specs.Grouping.{Groups, Gives}
 use Rattle.transcript_text.specs.Reading.{lacks}
 use Rattle.transcript_text.specs.ReadLines.{IsRead, PushesRead, seen_read}
 use Rattle.transcript_text.specs.Shows.{SpellsNoData}
-use Rattle.transcript_text.specs.declared.line.ReadLine.{ReadLine}
+use Rattle.transcript_text.specs.declared.parsing.line.ReadLine.{ReadLine}
 use Rattle.transcript_text.specs.ReadTexts.{AddsLine, Answers, HasMoreLines, IsNoLine, IsReadAs}
-use Rattle.transcript_text.specs.declared.error.TextError.{TextError}
-use Rattle.transcript_text.specs.declared.error.TextError.TheVariants.{Fault, NoMemory, TooManyLines}
+use Rattle.transcript_text.specs.declared.parsing.error.TextError.{TextError}
+use Rattle.transcript_text.specs.declared.parsing.error.TextError.TheVariants.{Fault, NoMemory, TooManyLines}
 use Rattle.transcript_text.proofs.Cutting.{same_cut, not_lacking}
-use Rattle.transcript_text.proofs.FirstFaults.{NoNext, fault_here, fault_behind, no_head, gives_nothing, one_transcript}
+use Rattle.transcript_text.proofs.FirstFaults.{NoNext, fault_here, fault_later, no_head, gives_nothing, one_transcript}
 use Rattle.transcript_text.proofs.GroupedLines.{LastHasLines-push, finished, groups_push, no_groups}
 use Rattle.transcript_text.proofs.LineTexts.{shows_data}
 use Rattle.transcript_text.proofs.RisingLines.{Rising-push, last_caller-push}
@@ -34,21 +34,21 @@ begins text head rest done current cut is none nothing = record {
   begun = λ e. refl;
 }
 
-pub goes_on : (text rest line behind : List ℕ) (done new : List (List SeenLine)) (current next : List SeenLine)
+pub goes_on : (text rest line following : List ℕ) (done new : List (List SeenLine)) (current next : List SeenLine)
     (number : ℕ) → ReadSoFar text done current rest number
-    → rest ≡ line ++ 10 ∷ behind → AddsLine line done new current next → ReadSoFar text new next behind (number + 1)
-goes_on text rest line behind done new current next number r cut a = record {
+    → rest ≡ line ++ 10 ∷ following → AddsLine line done new current next → ReadSoFar text new next following (number + 1)
+goes_on text rest line following done new current next number r cut a = record {
   lines = r.lines ++ a.line ∷ [];
   groups = a.groups r.lines r.groups;
   rising = Rising-push 0 r.lines a.line r.rising (omega (arith, r.last, a.later)) a.below a.fits;
   last = last_caller-push 0 r.lines a.line ∙ sym a.len;
   parts = r.parts ∙ ap (λ (x : List ℕ). lined (front_of r.lines) ++ x) (cut
-      ∙ ap (λ (x : List ℕ). x ++ 10 ∷ behind) a.spelt)
-      ∙ sym (ap (λ (x : List (List ℕ)). lined (head_line ∷ x) ++ behind) (map_push line_text r.lines a.line)
-      ∙ ap (λ (x : List ℕ). x ++ behind) (sym (flat_map_more (λ (l : List ℕ). l ++ codes "\n") [] (front_of r.lines)
+      ∙ ap (λ (x : List ℕ). x ++ 10 ∷ following) a.spelt)
+      ∙ sym (ap (λ (x : List (List ℕ)). lined (head_line ∷ x) ++ following) (map_push line_text r.lines a.line)
+      ∙ ap (λ (x : List ℕ). x ++ following) (sym (flat_map_more (λ (l : List ℕ). l ++ codes "\n") [] (front_of r.lines)
       (line_text a.line)))
-      ∙ append_assoc (lined (front_of r.lines)) (line_text a.line ++ codes "\n") behind
-      ∙ ap (λ (x : List ℕ). lined (front_of r.lines) ++ x) (append_assoc (line_text a.line) (codes "\n") behind));
+      ∙ append_assoc (lined (front_of r.lines)) (line_text a.line ++ codes "\n") following
+      ∙ ap (λ (x : List ℕ). lined (front_of r.lines) ++ x) (append_assoc (line_text a.line) (codes "\n") following));
   count = omega (arith, r.count, length_push r.lines a.line);
   begun = λ e. absurd (omega (arith, a.some, ap length e));
 }
@@ -142,52 +142,52 @@ fault_missing text rest done current number r lack =
     absurd (not_lacking 10 line more (subst (λ (x : List ℕ). lacks 10 x ≡ true) cut lack)) in
     fault_here text rest r.lines (number + 1) g.0 g.1 r.rising r.parts (omega (arith, r.count)) not
 
-pub fault_line : (text rest line behind : List ℕ) (done : List (List SeenLine)) (current : List SeenLine)
+pub fault_line : (text rest line following : List ℕ) (done : List (List SeenLine)) (current : List SeenLine)
     (number least : ℕ) → ReadSoFar text done current rest number
-    → rest ≡ line ++ 10 ∷ behind → lacks 10 line ≡ true → (line ≡ line_end → ⊥) → least ≡ length done
+    → rest ≡ line ++ 10 ∷ following → lacks 10 line ≡ true → (line ≡ line_end → ⊥) → least ≡ length done
     → IsNoLine line least → IsFirstFault text (number + 1)
 unfolding NoNext
-fault_line text rest line behind done current number least r cut clean end is none =
+fault_line text rest line following done current number least r cut clean end is none =
     let g = gives_so_far text rest done current number r in
     let not : NoNext r.lines rest = λ other more cut2 clean2.
-    let same = same_cut 10 line other behind more clean clean2 (sym cut ∙ cut2) in (
+    let same = same_cut 10 line other following more clean clean2 (sym cut ∙ cut2) in (
       λ e. end (same.0 ∙ e),
       λ l fits low high e. none l fits (omega (arith, is, r.last, low)) high (same.0 ∙ e),
     ) in
     fault_here text rest r.lines (number + 1) g.0 g.1 r.rising r.parts (omega (arith, r.count)) not
 
 -- the text up to and including the last line is the text of a transcript
-whole_text : (callers : List (List SeenLine)) (lines : List SeenLine) (text rest behind : List ℕ)
+whole_text : (callers : List (List SeenLine)) (lines : List SeenLine) (text rest following : List ℕ)
     → all_lines callers ≡ lines → text ≡ lined (front_of lines) ++ rest
-    → rest ≡ line_end ++ 10 ∷ behind → text ≡ lined (transcript_lines callers) ++ behind
-whole_text callers lines text rest behind all parts cut =
+    → rest ≡ line_end ++ 10 ∷ following → text ≡ lined (transcript_lines callers) ++ following
+whole_text callers lines text rest following all parts cut =
     parts ∙ ap (λ (x : List ℕ). lined (front_of lines) ++ x) cut
-    ∙ sym (ap (λ (ls : List SeenLine). lined (front_of ls ++ line_end ∷ []) ++ behind) all
-    ∙ ap (λ (x : List ℕ). x ++ behind) (sym (flat_map_more (λ (l : List ℕ). l ++ codes "\n") [] (front_of lines)
+    ∙ sym (ap (λ (ls : List SeenLine). lined (front_of ls ++ line_end ∷ []) ++ following) all
+    ∙ ap (λ (x : List ℕ). x ++ following) (sym (flat_map_more (λ (l : List ℕ). l ++ codes "\n") [] (front_of lines)
     line_end))
-    ∙ append_assoc (lined (front_of lines)) (line_end ++ codes "\n") behind)
+    ∙ append_assoc (lined (front_of lines)) (line_end ++ codes "\n") following)
 
-pub fault_after : (text rest behind line : List ℕ) (done : List (List SeenLine)) (current : List SeenLine)
+pub fault_after : (text rest following line : List ℕ) (done : List (List SeenLine)) (current : List SeenLine)
     (number : ℕ) → ReadSoFar text done current rest number
-    → rest ≡ line ++ 10 ∷ behind → line ≡ line_end → (behind ≡ [] → ⊥) → IsFirstFault text (number + 2)
-fault_after text rest behind line done current number r cut is some =
+    → rest ≡ line ++ 10 ∷ following → line ≡ line_end → (following ≡ [] → ⊥) → IsFirstFault text (number + 2)
+fault_after text rest following line done current number r cut is some =
     let g = gives_so_far text rest done current number r in
-    fault_behind text behind r.lines (number + 2) g.0 g.1 r.rising
-    (whole_text g.0 r.lines text rest behind g.1.all r.parts (cut ∙ ap (λ (x : List ℕ). x ++ 10 ∷ behind) is)) some
+    fault_later text following r.lines (number + 2) g.0 g.1 r.rising
+    (whole_text g.0 r.lines text rest following g.1.all r.parts (cut ∙ ap (λ (x : List ℕ). x ++ 10 ∷ following) is)) some
     (omega (arith, r.count))
 
-pub found : (text rest behind line : List ℕ) (done : List (List SeenLine)) (current : List SeenLine) (number : ℕ)
+pub found : (text rest following line : List ℕ) (done : List (List SeenLine)) (current : List SeenLine) (number : ℕ)
     (callers : List (List SeenLine))
-    → ReadSoFar text done current rest number → rest ≡ line ++ 10 ∷ behind → line ≡ line_end → behind ≡ []
+    → ReadSoFar text done current rest number → rest ≡ line ++ 10 ∷ following → line ≡ line_end → following ≡ []
     → ((lines : List SeenLine) → Groups done current lines → Gives callers lines) → IsTranscriptText text callers
 unfolding transcript_text
-found text rest behind line done current number callers r cut is none gives =
+found text rest following line done current number callers r cut is none gives =
     let g = gives r.lines r.groups in
     record {
       fits = g.fits;
       own = g.own;
-      spelled = whole_text callers r.lines text rest behind g.all r.parts (cut
-          ∙ ap (λ (x : List ℕ). x ++ 10 ∷ behind) is) ∙ ap (λ (x : List ℕ). lined (transcript_lines callers) ++ x) none
+      spelled = whole_text callers r.lines text rest following g.all r.parts (cut
+          ∙ ap (λ (x : List ℕ). x ++ 10 ∷ following) is) ∙ ap (λ (x : List ℕ). lined (transcript_lines callers) ++ x) none
           ∙ append-nil (lined (transcript_lines callers));
     }
 
@@ -213,7 +213,7 @@ few_lines (line ∷ lines) = omega (
   length-append line (codes "\n"),
 )
 
--- a text has more bytes than lines
+-- a text with more than `most` lines has more than `most` bytes
 has_few : (most : ℕ) (text : List ℕ) → HasMoreLines most text → most < length text
 unfolding transcript_text
 has_few most text more = omega (

@@ -44,7 +44,7 @@ all_lines_rise least first (lines ∷ callers) low few own fits =
 
 -- ---- from lines to callers
 
--- each line is of caller `first` or a later one
+-- each line is of caller `first` or of a later caller
 From : ℕ → List SeenLine → Type 0
 From first lines = AllByRecursion (λ line. first ≤ line.caller) lines
 
@@ -62,7 +62,7 @@ from_all least first [] low own = tt
 from_all least first (lines ∷ callers) low own = from_lines least first lines (all_lines callers) low own.0
     (from_all least (suc first) callers (omega arith) own.1)
 
--- equal sequences have the same lines of the first caller, and the same lines of the others
+-- equal sequences have the same lines of the first caller, and the same lines of the other callers
 same_first : (caller : ℕ) (a b more rest : List SeenLine) → OfCaller caller a → OfCaller caller b
     → From (suc caller) more → From (suc caller) rest
     → a ++ more ≡ b ++ rest → (a ≡ b) × (more ≡ rest)

@@ -1,4 +1,4 @@
--- Data are read from their spelling, and no other data have that spelling.
+-- A line's data are read from their spelling. No other data of the same word have that spelling.
 use Rattle.std.proofs.Common.{◌≡◌, ℕ, ◌<◌, ◌^◌, Bool, List, [], ◌∷◌, length, Option, Some, None, Result, Ok, Err, refl, sym, ap, subst, ◌∙◌, arith}
 use Rattle.std.specs.Prelude.{codes, decimal, IfOk, IfSome, MatchBool}
 use Rattle.std.specs.Option.{is_some, option_map}
@@ -33,7 +33,7 @@ spelt_bytes word text (bytes []) not fits e none = omega (arith, fits.1)
 spelt_bytes word text (bytes (b ∷ shown)) not fits e none = let p = ap bytes_of e ∙ bytes_again (b ∷ shown) fits.2 in cc
 spelt_bytes word text (count n) not fits e none = not fits.0
 
--- on the line of any word but bits, the data are bytes or none
+-- on a line whose word is not `bits`, a text that spells bytes spells data
 pub reads_bytes : (word : Word) (text : List ℕ) (shown : List ℕ) → (word ≡ Bits → ⊥) → Some shown ≡ bytes_of text
     → ShownFits word (bytes_or_none shown) × (text ≡ shown_text (bytes_or_none shown))
 reads_bytes word text shown not e =
@@ -43,7 +43,7 @@ pub reads_no_bytes : (word : Word) (text : List ℕ) → (word ≡ Bits → ⊥)
     → ShownFits word shown → text ≡ shown_text shown → ⊥
 reads_no_bytes word text not e shown fits is = spelt_bytes word text shown not fits is (sym e)
 
--- on the line of bits, the data are a number
+-- on a line whose word is `bits`, a number below 2 ^ 32 in decimal spells data
 pub reads_count : (word : Word) (text : List ℕ) (n : ℕ) → word ≡ Bits → n < 2 ^ 32 → text ≡ decimal n
     → ShownFits word (count n) × (text ≡ shown_text (count n))
 unfolding shown_text

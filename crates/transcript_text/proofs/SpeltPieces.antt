@@ -1,4 +1,4 @@
--- Hex digits are read piece by piece.
+-- Reading hex digits piece by piece gives the same bytes as reading them at once.
 use Rattle.std.proofs.Common.{◌≡◌, ℕ, zero, suc, ◌+◌, ◌-◌, ◌*◌, ◌/◌, ◌%◌, ◌<◌, ◌≤◌, Option, Some, None, List, [], ◌∷◌, ◌++◌, length, take, drop, refl, ap, sym, subst, ◌∙◌, append_assoc, append-nil, length-append, arith}
 use Rattle.std.proofs.lemmas.List.{take-append-drop}
 use Rattle.hex.specs.Hex.{IsBytes, encode_with, encode_lower, lower_digits}
@@ -11,8 +11,8 @@ use Rattle.key_names.proofs.Script.HexFields.{bytes_takes, bytes_again}
 use Rattle.transcript_text.specs.Gathered.{bytes_from}
 use Rattle.transcript_text.specs.Shows.{AppendsSpelt, NamesSpelt}
 
--- the text is the digits of these bytes, and then the rest; if the whole text is the digits of some bytes, the rest is
--- too
+-- `text` is the digits of `bytes`, and then `rest`. If the whole `text` spells bytes, `rest` is the digits of some
+-- bytes.
 pub record SpeltSoFar (text bytes rest : List ℕ) : Type 0 where
   pub whole : text ≡ encode_lower bytes ++ rest
   pub small : IsBytes bytes
@@ -20,12 +20,12 @@ pub record SpeltSoFar (text bytes rest : List ℕ) : Type 0 where
   pub even : length rest ≡ 2 * half
   pub only : (all : List ℕ) → bytes_of text ≡ Some all → (last : List ℕ) × (rest ≡ encode_lower last) × IsBytes last
 
--- a text of digits is in two parts, and the first spells whole bytes
-record Split (front behind : List ℕ) : Type 0 where
+-- `front` and `following` are each the digits of whole bytes
+record Split (front following : List ℕ) : Type 0 where
   first : List ℕ
   last : List ℕ
   first_is : front ≡ encode_lower first
-  last_is : behind ≡ encode_lower last
+  last_is : following ≡ encode_lower last
   first_small : IsBytes first
   last_small : IsBytes last
 
@@ -44,15 +44,15 @@ none_spelt text not = go (bytes_of text) refl
     go None e = sym e
     go (Some all) e = absurd (not all e)
 
-cons_hex : (a b x : ℕ) (front behind first z : List ℕ) → (a ∷ b ∷ front) ++ behind ≡ encode_lower (x ∷ z)
+cons_hex : (a b x : ℕ) (front following first z : List ℕ) → (a ∷ b ∷ front) ++ following ≡ encode_lower (x ∷ z)
     → front ≡ encode_lower first → a ∷ b ∷ front ≡ encode_lower (x ∷ first)
 unfolding encode_with
-cons_hex a b x front behind first z e is = cc
+cons_hex a b x front following first z e is = cc
 
-split_hex : (k : ℕ) (front behind z : List ℕ) → length front ≡ 2 * k → front ++ behind ≡ encode_lower z → IsBytes z
-    → Split front behind
+split_hex : (k : ℕ) (front following z : List ℕ) → length front ≡ 2 * k → front ++ following ≡ encode_lower z → IsBytes z
+    → Split front following
 unfolding encode_with
-split_hex zero [] behind z long e small = record {
+split_hex zero [] following z long e small = record {
   first = [];
   last = z;
   first_is = refl;
@@ -60,17 +60,17 @@ split_hex zero [] behind z long e small = record {
   first_small = λ i. omega arith;
   last_small = small;
 }
-split_hex zero (a ∷ front) behind z long e small = absurd (omega arith)
-split_hex (suc k) [] behind z long e small = absurd (omega arith)
-split_hex (suc k) (a ∷ []) behind z long e small = absurd (omega arith)
-split_hex (suc k) (a ∷ b ∷ front) behind [] long e small = absurd cc
-split_hex (suc k) (a ∷ b ∷ front) behind (x ∷ z) long e small =
-    let tail : front ++ behind ≡ encode_lower z = cc in
-    let s = split_hex k front behind z (omega arith) tail (λ i. small (suc i)) in
+split_hex zero (a ∷ front) following z long e small = absurd (omega arith)
+split_hex (suc k) [] following z long e small = absurd (omega arith)
+split_hex (suc k) (a ∷ []) following z long e small = absurd (omega arith)
+split_hex (suc k) (a ∷ b ∷ front) following [] long e small = absurd cc
+split_hex (suc k) (a ∷ b ∷ front) following (x ∷ z) long e small =
+    let tail : front ++ following ≡ encode_lower z = cc in
+    let s = split_hex k front following z (omega arith) tail (λ i. small (suc i)) in
     record {
       first = x ∷ s.first;
       last = s.last;
-      first_is = cons_hex a b x front behind s.first z e s.first_is;
+      first_is = cons_hex a b x front following s.first z e s.first_is;
       last_is = s.last_is;
       first_small = small_more x s.first (small 0) s.first_small;
       last_small = s.last_small;
@@ -89,9 +89,9 @@ again : (text bytes : List ℕ) → 0 < length text → text ≡ encode_lower by
     → bytes_of text ≡ Some bytes
 again text bytes some e small = ap bytes_of (hex_some bytes text some e) ∙ bytes_again bytes small
 
-pub parts_of : (n : ℕ) (rest front behind : List ℕ) → front ≡ take n rest → behind ≡ drop n rest
-    → rest ≡ front ++ behind
-parts_of n rest front behind f b = sym (rw (f, b) (take-append-drop n rest))
+pub parts_of : (n : ℕ) (rest front following : List ℕ) → front ≡ take n rest → following ≡ drop n rest
+    → rest ≡ front ++ following
+parts_of n rest front following f b = sym (rw (f, b) (take-append-drop n rest))
 
 pub spelt_begins : (text none : List ℕ) → none ≡ [] → 1 < length text → length text % 2 ≡ 0
     → SpeltSoFar text none text
@@ -103,41 +103,41 @@ spelt_begins text none is some even = record {
   only = λ all e. let p = bytes_takes text all e in (all, hex_back all text some p.0, p.1);
 }
 
-module _ (text bytes rest front behind : List ℕ) (k : ℕ) (so_far : SpeltSoFar text bytes rest)
-    (parts : rest ≡ front ++ behind) (long : length front ≡ 2 * k) (some : 0 < k) where
+module _ (text bytes rest front following : List ℕ) (k : ℕ) (so_far : SpeltSoFar text bytes rest)
+    (parts : rest ≡ front ++ following) (long : length front ≡ 2 * k) (some : 0 < k) where
   pub spelt_more : (piece more : List ℕ) → Some piece ≡ bytes_of front → more ≡ bytes ++ piece
-      → SpeltSoFar text more behind
+      → SpeltSoFar text more following
   spelt_more piece more e more_is =
       let p = bytes_takes front piece (sym e) in
       let front_is : front ≡ encode_lower piece = hex_back piece front (omega (arith, long, some)) p.0 in
       record {
         whole =
-            so_far.whole ∙ ap (λ r. encode_lower bytes ++ r) (parts ∙ ap (λ f. f ++ behind) front_is)
-            ∙ sym (append_assoc (encode_lower bytes) (encode_lower piece) behind)
-            ∙ ap (λ l. l ++ behind) (sym (encode_with-append lower_digits bytes piece) ∙ ap encode_lower (sym more_is));
+            so_far.whole ∙ ap (λ r. encode_lower bytes ++ r) (parts ∙ ap (λ f. f ++ following) front_is)
+            ∙ sym (append_assoc (encode_lower bytes) (encode_lower piece) following)
+            ∙ ap (λ l. l ++ following) (sym (encode_with-append lower_digits bytes piece) ∙ ap encode_lower (sym more_is));
         small = subst IsBytes (sym more_is) (small_append bytes piece so_far.small p.1);
         half = so_far.half - k;
-        even = omega (arith, so_far.even, ap length parts, length-append front behind, long);
+        even = omega (arith, so_far.even, ap length parts, length-append front following, long);
         only = λ all found.
             let o = so_far.only all found in
-            let s = split_hex k front behind o.0 long (sym parts ∙ o.1) o.2 in (s.last, s.last_is, s.last_small);
+            let s = split_hex k front following o.0 long (sym parts ∙ o.1) o.2 in (s.last, s.last_is, s.last_small);
       }
 
   pub spelt_nowhere : None ≡ bytes_of front → None ≡ bytes_of text
   spelt_nowhere none = none_spelt text (λ all found.
       let o = so_far.only all found in
-      let s = split_hex k front behind o.0 long (sym parts ∙ o.1) o.2 in
+      let s = split_hex k front following o.0 long (sym parts ∙ o.1) o.2 in
       let same : bytes_of front ≡ Some s.first =
       again front s.first (omega (arith, long, some)) s.first_is s.first_small in
       absurd cc)
 
--- if no rest is left, the text is the digits of these bytes
+-- if `rest` is empty, `text` spells exactly `bytes`
 pub spelt_whole : (text bytes rest : List ℕ) → SpeltSoFar text bytes rest → rest ≡ [] → 0 < length text
     → Some bytes ≡ bytes_of text
 spelt_whole text bytes rest s done some =
     sym (again text bytes some (s.whole ∙ ap (λ r. encode_lower bytes ++ r) done ∙ append-nil (encode_lower bytes)) s.small)
 
--- like SpeltSoFar, and the bytes are appended to old
+-- like SpeltSoFar; and `new` is `old` with the bytes appended
 pub record AppendedSoFar (text old new rest : List ℕ) : Type 0 where
   pub bytes : List ℕ
   pub whole : new ≡ old ++ bytes
@@ -168,7 +168,7 @@ names_bytes text old new start len a from_here long some = record {
     named start len [] e some = absurd (omega arith)
     named start len (b ∷ bytes) e some = ap (λ (n : ℕ). Bytes n start) e
 
--- a text has at least as many digits as its bytes
+-- a text has at least as many digits as the bytes that it spells
 pub spelt_short : (text old new : List ℕ) → AppendsSpelt text old new → length new ≤ length old + length text
 spelt_short text old new a =
     let is = (bytes_takes text a.bytes a.spelt).0 in

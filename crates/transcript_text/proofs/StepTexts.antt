@@ -116,16 +116,16 @@ same_lane (Cpu a) (Cpu b) f g e =
     let digits : decimal a ≡ decimal b = cc in
     ap Cpu (decimal_injective a b (omega arith) (omega arith) digits)
 
--- the parts of a text spell a mark
+-- the three parts spell the mark's lane, place and stamp
 pub record SpellsMark (lane place stamp : List ℕ) (mark : Mark) : Type 0 where
   pub lane_is : lane ≡ lane_text mark.lane
   pub place_is : place ≡ decimal mark.place
   pub stamp_is : stamp ≡ decimal mark.stamp
 
-pub place_behind : (text lane rest : List ℕ) (mark : Mark) → text ≡ lane ++ 58 ∷ rest → lacks 58 lane ≡ true
+pub place_after : (text lane rest : List ℕ) (mark : Mark) → text ≡ lane ++ 58 ∷ rest → lacks 58 lane ≡ true
     → MarkFits mark → text ≡ mark_text mark
     → (lane ≡ lane_text mark.lane) × (rest ≡ place_text mark)
-place_behind text lane rest mark cut before fits e =
+place_after text lane rest mark cut before fits e =
     same_cut 58 lane (lane_text mark.lane) rest (place_text mark) before (lane_lacks_colon mark.lane fits.lane)
     (sym cut ∙ e ∙ mark_text-parts mark)
 
@@ -133,10 +133,10 @@ pub spells_mark : (text lane rest place stamp : List ℕ) (mark : Mark) → text
     → rest ≡ place ++ 64 ∷ stamp → lacks 64 place ≡ true → MarkFits mark → text ≡ mark_text mark
     → SpellsMark lane place stamp mark
 spells_mark text lane rest place stamp mark cut before cut2 before2 fits e =
-    let behind = place_behind text lane rest mark cut before fits e in
+    let following = place_after text lane rest mark cut before fits e in
     let parts = same_cut 64 place (decimal mark.place) stamp (decimal mark.stamp) before2
-    (place_lacks_at mark.place fits.place) (sym cut2 ∙ behind.1) in
-    record { lane_is = behind.0; place_is = parts.0; stamp_is = parts.1 }
+    (place_lacks_at mark.place fits.place) (sym cut2 ∙ following.1) in
+    record { lane_is = following.0; place_is = parts.0; stamp_is = parts.1 }
 
 abbrev made_mark : LaneId → ℕ → ℕ → Mark
 made_mark lane place stamp = record { lane = lane; place = place; stamp = stamp }
@@ -151,7 +151,7 @@ same_mark a b f g e =
     ∙ ap (λ (s : ℕ). made_mark b.lane b.place s) (decimal_injective a.stamp b.stamp (omega (arith, f.stamp))
     (omega (arith, g.stamp)) parts.stamp_is)
 
--- the name of a lane begins with a letter from b to p
+-- the name of a lane begins with a letter from `b` to `p`
 lane_begins : (lane : LaneId) (rest : List ℕ) → (98 ≤ first_byte (lane_text lane ++ rest))
     × (first_byte (lane_text lane ++ rest) ≤ 112)
 unfolding lane_text first_byte
@@ -191,9 +191,9 @@ no_step text (Visit mark) rest e =
     omega arith
 
 -- a tilde begins no visit
-pub no_mark_behind : (text other : List ℕ) (mark : Mark) → 126 ∷ text ≡ mark_text mark ++ other → ⊥
+pub no_mark_after : (text other : List ℕ) (mark : Mark) → 126 ∷ text ≡ mark_text mark ++ other → ⊥
 unfolding first_byte
-no_mark_behind text other mark e =
+no_mark_after text other mark e =
     let bounds = lane_begins mark.lane (58 ∷ (place_text mark ++ other)) in
     let same : 126 ≡ first_byte (lane_text mark.lane ++ 58 ∷ (place_text mark ++ other)) =
     ap first_byte (e ∙ ap (λ (x : List ℕ). x ++ other) (mark_text-parts mark)
@@ -202,7 +202,7 @@ no_mark_behind text other mark e =
 
 -- ---- steps in a row
 
--- each step is followed by a comma
+-- the text of the steps, with a comma after each step
 abbrev pub commas : List Step → List ℕ
 commas steps = flat_map (λ step. step_text step ++ codes ",") steps
 
@@ -215,34 +215,34 @@ steps_text-push (s ∷ t ∷ steps) step = ap (λ (x : List ℕ). step_text s ++
     (steps_text-push (t ∷ steps) step) ∙ sym (append_assoc (step_text s ++ codes ",") (commas (t ∷ steps))
     (step_text step))
 
--- some steps come after those that were read
-pub record StepsBehind (read all : List Step) (rest : List ℕ) : Type 0 where
-  pub behind : List Step
-  pub some : 0 < length behind
-  pub whole : all ≡ read ++ behind
-  pub fits : AllByRecursion StepFits behind
-  pub spelt : rest ≡ steps_text behind
+-- `all` has at least one step after those in `read`, and `rest` spells these further steps
+pub record StepsAfter (read all : List Step) (rest : List ℕ) : Type 0 where
+  pub following : List Step
+  pub some : 0 < length following
+  pub whole : all ≡ read ++ following
+  pub fits : AllByRecursion StepFits following
+  pub spelt : rest ≡ steps_text following
 
-pub steps_behind : (read all : List Step) (rest : List ℕ) → AllByRecursion StepFits read → AllByRecursion StepFits all
+pub steps_after : (read all : List Step) (rest : List ℕ) → AllByRecursion StepFits read → AllByRecursion StepFits all
     → 0 < length all
-    → commas read ++ rest ≡ steps_text all → StepsBehind read all rest
+    → commas read ++ rest ≡ steps_text all → StepsAfter read all rest
 unfolding steps_text
-steps_behind [] all rest f g some e = record { behind = all; some = some; whole = refl; fits = g; spelt = e }
-steps_behind (r ∷ read) [] rest f g some e = absurd (omega arith)
-steps_behind (r ∷ read) (a ∷ []) rest f g some e =
+steps_after [] all rest f g some e = record { following = all; some = some; whole = refl; fits = g; spelt = e }
+steps_after (r ∷ read) [] rest f g some e = absurd (omega arith)
+steps_after (r ∷ read) (a ∷ []) rest f g some e =
     let lack = step_lacks 44 comma_outside a g.0 in
     let cut : step_text r ++ 44 ∷ (commas read ++ rest) ≡ step_text a = simp append_assoc at e in
     absurd (not_lacking 44 (step_text r) (commas read ++ rest)
     (subst (λ (x : List ℕ). lacks 44 x ≡ true) (sym cut) lack))
-steps_behind (r ∷ read) (a ∷ b ∷ all) rest f g some e =
+steps_after (r ∷ read) (a ∷ b ∷ all) rest f g some e =
     let cut : step_text r ++ 44 ∷ (commas read ++ rest) ≡ step_text a ++ 44 ∷ steps_text (b ∷ all) =
     simp append_assoc at e in
     let parts = same_cut 44 (step_text r) (step_text a) (commas read ++ rest) (steps_text (b ∷ all))
     (step_lacks 44 comma_outside r f.0) (step_lacks 44 comma_outside a g.0) cut in
     let same = same_step r a f.0 g.0 parts.0 in
-    let more = steps_behind read (b ∷ all) rest f.1 g.1 (omega arith) parts.1 in
+    let more = steps_after read (b ∷ all) rest f.1 g.1 (omega arith) parts.1 in
     record {
-      behind = more.behind;
+      following = more.following;
       some = more.some;
       whole = ap (λ (s : Step). s ∷ (b ∷ all)) (sym same) ∙ ap (λ (ss : List Step). r ∷ ss) more.whole;
       fits = more.fits;
@@ -257,7 +257,7 @@ begins_so byte (b ∷ text) some e = let n : suc (length text) - 1 ≡ length te
 
 -- ---- reading steps in sequence
 
--- the steps that were read, and the text after them
+-- `text` is the steps that were read, with a comma after each, and then `rest`
 pub record StepsRead (text : List ℕ) (read : List Step) (rest : List ℕ) : Type 0 where
   pub each : AllByRecursion StepFits read
   pub some : text ≡ codes "-" → ⊥
@@ -268,17 +268,17 @@ unfolding steps_text
 some_steps text [] not e = absurd (not e)
 some_steps text (a ∷ all) not e = omega arith
 
-pub behind_read : (text rest : List ℕ) (read all : List Step) → StepsRead text read rest → StepsFit all
-    → text ≡ steps_text all → StepsBehind read all rest
-behind_read text rest read all so_far fits e =
-    steps_behind read all rest so_far.each fits.each (some_steps text all so_far.some e) (sym so_far.whole ∙ e)
+pub after_read : (text rest : List ℕ) (read all : List Step) → StepsRead text read rest → StepsFit all
+    → text ≡ steps_text all → StepsAfter read all rest
+after_read text rest read all so_far fits e =
+    steps_after read all rest so_far.each fits.each (some_steps text all so_far.some e) (sym so_far.whole ∙ e)
 
 -- if twenty steps with a comma after each were read, the text spells too many steps
 pub too_many : (text rest : List ℕ) (read : List Step) → StepsRead text read rest → 20 ≤ length read
     → (all : List Step) → StepsFit all → text ≡ steps_text all → ⊥
 too_many text rest read so_far many all fits e =
-    let b = behind_read text rest read all so_far fits e in
-    omega (arith, fits.few, b.some, ap length b.whole, length-append read b.behind)
+    let b = after_read text rest read all so_far fits e in
+    omega (arith, fits.few, b.some, ap length b.whole, length-append read b.following)
 
 pub reads_last : (text rest : List ℕ) (read new : List Step) (step : Step) → StepsRead text read rest → StepFits step
     → rest ≡ step_text step

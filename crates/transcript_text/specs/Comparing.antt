@@ -1,9 +1,9 @@
--- A text is compared with the text of a transcript.
+-- Comparing a text with the text of a transcript.
 use Rattle.std.specs.Prelude.{ℕ, ◌≡◌, ◌≢◌, ◌≤◌, List, ◌++◌, drop, length}
 use Rattle.key_names.specs.Transcripts.SeenLine.{SeenLine}
 use Rattle.key_names.specs.Texts.TranscriptGrammar.{transcript_text}
 use Rattle.transcript_text.specs.Places.{IsIn, text_left}
-use Rattle.transcript_text.specs.declared.place.Place.{Place}
+use Rattle.transcript_text.specs.declared.printing.place.TextPosition.{TextPosition}
 
 -- the transcript, and the compared text, which is a prefix of the transcript's text
 pub record Compared : Type 0 where
@@ -12,11 +12,11 @@ pub record Compared : Type 0 where
 
 -- no text that begins with `text` and goes on with these bytes is the transcript's
 abbrev pub IsOther : List (List SeenLine) → List ℕ → List ℕ → Type 0
-IsOther made text bytes = (behind : List ℕ) → text ++ bytes ++ behind ≢ transcript_text made
+IsOther made text bytes = (following : List ℕ) → text ++ bytes ++ following ≢ transcript_text made
 
--- the first `same` bytes of the text were found equal; its rest is that of the piece from `from` on, and the text after
--- place
-pub record IsBefore (made : List (List SeenLine)) (same : ℕ) (piece : List ℕ) (from : ℕ) (place : Place) : Type 0 where
+-- the first `same` bytes of the transcript's text were found equal; the rest of that text is the piece from byte `from`
+-- on, and then the text after the place
+pub record IsBefore (made : List (List SeenLine)) (same : ℕ) (piece : List ℕ) (from : ℕ) (place : TextPosition) : Type 0 where
   pub within : IsIn place made
   pub in_piece : from ≤ length piece
   pub few : same ≤ length (transcript_text made)

@@ -5,10 +5,10 @@ use Rattle.key_names.specs.Texts.Spelling.{lined}
 use Rattle.key_names.specs.Texts.TranscriptGrammar.{line_text, LineFits, IsFirstFault}
 use Rattle.transcript_text.specs.Grouping.{Groups, seen_callers}
 use Rattle.transcript_text.specs.Reading.{lacks}
-use Rattle.transcript_text.specs.declared.reader.Reader.{Reader}
-use Rattle.transcript_text.specs.declared.so_far.SoFar.{SoFar}
-use Rattle.transcript_text.specs.declared.so_far.Stage.{Stage}
-use Rattle.transcript_text.specs.declared.so_far.Stage.TheVariants.{Head, Lines, Ended, Faulty}
+use Rattle.transcript_text.specs.declared.parsing.reader.TranscriptReader.{TranscriptReader}
+use Rattle.transcript_text.specs.declared.parsing.so_far.SoFar.{SoFar}
+use Rattle.transcript_text.specs.declared.parsing.so_far.TranscriptStage.{TranscriptStage}
+use Rattle.transcript_text.specs.declared.parsing.so_far.TranscriptStage.TheVariants.{Head, Lines, Ended, Faulty}
 
 -- ---- the lines of a text
 
@@ -31,7 +31,8 @@ line_end = codes "end"
 abbrev pub front_of : List SeenLine → List (List ℕ)
 front_of lines = head_line ∷ map line_text lines
 
--- the lines that were read, by their callers, and the rest of the text after them
+-- `text` is the first line, the lines that were read, and then `rest`. `done` and `current` have the read lines by
+-- caller.
 pub record ReadSoFar (text : List ℕ) (done : List (List SeenLine)) (current : List SeenLine) (rest : List ℕ)
     (number : ℕ) : Type 0 where
   pub lines : List SeenLine
@@ -42,7 +43,7 @@ pub record ReadSoFar (text : List ℕ) (done : List (List SeenLine)) (current : 
   pub count : number ≡ length lines + 1
   pub begun : current ≡ [] → lines ≡ []
 
--- the lines that were read, kept or not; the last one is of caller `least`
+-- the lines before `rest` were read, kept or not; the last line read is of caller `least`
 pub record CountedSoFar (text : List ℕ) (least : ℕ) (rest : List ℕ) (number : ℕ) : Type 0 where
   pub done : List (List SeenLine)
   pub current : List SeenLine
@@ -57,8 +58,8 @@ pub record IsUnread (s : SoFar) : Type 0 where
   pub current : s.current.lines ≡ []
   pub lines : s.lines ≡ 0
 
--- the lines before this rest were read and counted; they are kept, unless they exceed the limit
-pub record HasTold (s : SoFar) (text rest : List ℕ) : Type 0 where
+-- the lines before `rest` were read and counted; they are all kept, unless their number exceeds the limit
+pub record HasEmitted (s : SoFar) (text rest : List ℕ) : Type 0 where
   pub counted : CountedSoFar text (vec_len s.done) rest (s.lines + 1)
   pub kept : s.lines ≤ s.most → ReadSoFar text (seen_callers s.done.items) s.current.lines rest (s.lines + 1)
 
@@ -67,25 +68,25 @@ abbrev pub with_line : SoFar → SoFar
 with_line s = record s { lines = s.lines + 1 }
 
 -- at this stage, the text is the lines that were read and then this rest
-abbrev pub StandsAs : Stage → SoFar → List ℕ → List ℕ → Type 0
-StandsAs Head s text rest = IsUnread s × (text ≡ rest)
-StandsAs Lines s text rest = HasTold s text rest
-StandsAs Ended s text rest = HasTold s text (line_end ++ 10 ∷ rest)
-StandsAs (Faulty line) s text rest = (more : List ℕ) → IsFirstFault (text ++ more) line
+abbrev pub ConformsAs : TranscriptStage → SoFar → List ℕ → List ℕ → Type 0
+ConformsAs Head s text rest = IsUnread s × (text ≡ rest)
+ConformsAs Lines s text rest = HasEmitted s text rest
+ConformsAs Ended s text rest = HasEmitted s text (line_end ++ 10 ∷ rest)
+ConformsAs (Faulty line) s text rest = (more : List ℕ) → IsFirstFault (text ++ more) line
 
-abbrev pub StandsAt : SoFar → List ℕ → List ℕ → Type 0
-StandsAt s text rest = StandsAs s.stage s text rest
+abbrev pub ConformsAt : SoFar → List ℕ → List ℕ → Type 0
+ConformsAt s text rest = ConformsAs s.stage s text rest
 
--- the reader was fed the text, all but its unread last part
-pub record IsBehind (text : List ℕ) (reader : Reader) (unread : List ℕ) : Type 0 where
-  pub stands : StandsAt reader.so_far text (reader.rest.items ++ unread)
+-- the reader has read all of the text except `unread`, its end
+pub record IsAfter (text : List ℕ) (reader : TranscriptReader) (unread : List ℕ) : Type 0 where
+  pub conforms : ConformsAt reader.so_far text (reader.rest.items ++ unread)
   pub clean : lacks 10 reader.rest.items ≡ true
   pub bound : reader.so_far.lines + length reader.rest.items + length unread ≤ length text
 
 -- the reader was fed this text
-abbrev pub HasFed : List ℕ → Reader → Type 0
-HasFed text reader = IsBehind text reader []
+abbrev pub HasFed : List ℕ → TranscriptReader → Type 0
+HasFed text reader = IsAfter text reader []
 
 -- the most lines that the reader keeps
-abbrev pub most_lines : Reader → ℕ
+abbrev pub most_lines : TranscriptReader → ℕ
 most_lines reader = reader.so_far.most

@@ -20,7 +20,7 @@ pub record Gathered : Type 0 where
   pub byte_room : ℕ
   pub step_room : ℕ
 
--- the line's bytes, at least one, are among the first n
+-- if the data are bytes, there is at least one, and all are among the first `n` kept bytes
 abbrev pub IsWithin : ℕ → Data → Type 0
 IsWithin n (Bytes len start) = (0 < len) × (start + len ≤ n)
 IsWithin n _ = ⊤
@@ -30,7 +30,7 @@ pub record LineWithin (bytes steps : ℕ) (line : Line) : Type 0 where
   pub shown : IsWithin bytes line.shown
   pub steps' : line.first_step + line.step_count ≤ steps
 
--- the lines refer to places in the kept bytes and steps, and with the content there they fit a transcript
+-- The lines refer to places in the kept bytes and steps. With the content at these places, the lines fit a transcript.
 pub record IsKept (bytes : List ℕ) (steps : List Step) (lines : List Line) : Type 0 where
   pub within : AllByRecursion (LineWithin (length bytes) (length steps)) lines
   pub fits : AllByRecursion LineFits (seen_lines bytes steps lines)
@@ -39,13 +39,13 @@ abbrev pub bytes_from : ℕ → List ℕ → Data
 bytes_from start [] = NoData
 bytes_from start (b ∷ bs) = Bytes (length (b ∷ bs)) start
 
--- the data of a line whose bytes are kept from start on
+-- the data of a line whose bytes are kept from `start` on
 abbrev pub data_from : ℕ → Shown → Data
 data_from start ShowsNone = NoData
 data_from start (ShowsBytes shown) = bytes_from start shown.now
 data_from start (ShowsCount n) = Count n
 
--- a line as it is kept, with its steps and bytes from these places on
+-- the kept form of a line whose steps and bytes are kept from these places on
 abbrev pub kept_line : ℕ → ℕ → LineView → Line
 kept_line steps bytes line = record {
   caller = line.caller;

@@ -1,4 +1,4 @@
--- Lines in sequence, and their callers.
+-- Lines in sequence, and the same lines grouped by caller.
 use Rattle.std.specs.Prelude.{ℕ, ◌≡◌, List, ◌++◌, length, map}
 use Rattle.std.specs.List.{AllByRecursion}
 use Rattle.key_names.specs.Transcripts.SeenLine.{SeenLine}
@@ -14,7 +14,7 @@ pub record Groups (done : List (List SeenLine)) (current lines : List SeenLine) 
   pub current_own : OfCaller (length done) current
   pub whole : all_lines done ++ current ≡ lines
 
--- these lines are those of the transcript with these callers
+-- the callers make a transcript, and these are its lines in sequence
 pub record Gives (callers : List (List SeenLine)) (lines : List SeenLine) : Type 0 where
   pub fits : TranscriptFits callers
   pub own : UnderOwnNumber 0 callers

@@ -5,35 +5,36 @@ use Rattle.hex.specs.Hex.{encode_lower}
 use Rattle.key_names.specs.Transcripts.SeenLine.{SeenLine, Shown, bytes_in}
 use Rattle.key_names.specs.Texts.TranscriptGrammar.{shown_text, transcript_text}
 use Rattle.transcript_text.specs.Lines.{text_of, whole_line}
-use Rattle.transcript_text.specs.declared.place.Place.{Place}
-use Rattle.transcript_text.specs.declared.place.Coming.{Coming}
-use Rattle.transcript_text.specs.declared.place.Coming.TheVariants.{Head, Lines, Nothing}
+use Rattle.transcript_text.specs.declared.printing.place.TextPosition.{TextPosition}
+use Rattle.transcript_text.specs.declared.printing.place.Coming.{Coming}
+use Rattle.transcript_text.specs.declared.printing.place.Coming.TheVariants.{Head, Lines, Nothing}
 
 -- the text of the callers' lines from a caller on, and the last line
 abbrev pub callers_text : List (List SeenLine) → List ℕ
 callers_text callers = flat_map text_of callers ++ codes "end\n"
 
--- the rest of a line's data after the first bytes that were put
+-- the rest of a line's data after their first `n` bytes were put
 abbrev pub data_left : ℕ → Shown → List ℕ
 data_left zero shown = shown_text shown
 data_left (suc n) shown = encode_lower (drop (suc n) (bytes_in shown))
 
--- the rest of a line after its first bytes were put, or the whole line if no byte was put
+-- the rest of a line after its first `n` data bytes were put; the whole line if no data byte was put
 abbrev pub line_left : ℕ → SeenLine → List ℕ
 line_left zero line = whole_line line
 line_left (suc n) line = data_left (suc n) line.shown ++ codes "\n"
 
--- the rest of lines, of which the first has put some of its bytes already
+-- the rest of these lines after the first `shown` data bytes of the first line were put
 abbrev pub lines_left : ℕ → List SeenLine → List ℕ
 lines_left shown [] = []
 lines_left shown (line ∷ lines) = line_left shown line ++ text_of lines
 
--- the first line has at least as many bytes as it has put
+-- no more data bytes were put than the first line has
 abbrev pub HasShown : ℕ → List SeenLine → Type 0
 HasShown shown [] = shown ≡ 0
 HasShown shown (line ∷ lines) = shown ≤ length (bytes_in line.shown)
 
--- the rest of callers, of which the first has put some of its lines already
+-- the rest of these callers' text, after `line` lines of the first caller and `shown` data bytes of that caller's next
+-- line were put
 abbrev pub callers_left : ℕ → ℕ → List (List SeenLine) → List ℕ
 callers_left line shown [] = codes "end\n"
 callers_left line shown (lines ∷ callers) = lines_left shown (drop line lines) ++ callers_text callers
@@ -42,25 +43,25 @@ abbrev pub HasShownOf : ℕ → ℕ → List (List SeenLine) → Type 0
 HasShownOf line shown [] = (line ≡ 0) × (shown ≡ 0)
 HasShownOf line shown (lines ∷ callers) = (line ≤ length lines) × HasShown shown (drop line lines)
 
-abbrev pub left_from : Coming → Place → List (List SeenLine) → List ℕ
+abbrev pub left_from : Coming → TextPosition → List (List SeenLine) → List ℕ
 left_from Head place callers = transcript_text callers
 left_from Lines place callers = callers_left place.line place.shown (drop place.caller callers)
 left_from Nothing place callers = []
 
 -- the rest of a transcript's text after a place in it
-abbrev pub text_left : Place → List (List SeenLine) → List ℕ
+abbrev pub text_left : TextPosition → List (List SeenLine) → List ℕ
 text_left place callers = left_from place.coming place callers
 
 -- the place is in the text of this transcript
-abbrev pub IsFrom : Coming → Place → List (List SeenLine) → Type 0
+abbrev pub IsFrom : Coming → TextPosition → List (List SeenLine) → Type 0
 IsFrom Head place callers = (place.caller ≡ 0) × (place.line ≡ 0) × (place.shown ≡ 0)
 IsFrom Lines place callers = (place.caller ≤ length callers)
     × HasShownOf place.line place.shown (drop place.caller callers)
 IsFrom Nothing place callers = ⊤
 
-abbrev pub IsIn : Place → List (List SeenLine) → Type 0
+abbrev pub IsIn : TextPosition → List (List SeenLine) → Type 0
 IsIn place callers = IsFrom place.coming place callers
 
 -- an upper bound for the number of pieces to come
-abbrev pub most_pieces : Place → List (List SeenLine) → ℕ
+abbrev pub most_pieces : TextPosition → List (List SeenLine) → ℕ
 most_pieces place callers = length (text_left place callers) + length (drop place.caller callers)

@@ -3,14 +3,14 @@ use Rattle.std.specs.Prelude.{ℕ, ◌≡◌, ◌<◌, ◌≤◌, ◌^◌, true,
 use Rattle.key_names.specs.Transcripts.SeenLine.{SeenLine, Shown}
 use Rattle.key_names.specs.Texts.Spelling.{spaced}
 use Rattle.key_names.specs.Texts.TranscriptGrammar.{line_text, shown_text, LineFits, ShownFits}
-use Rattle.transcript_text.specs.declared.line.Numbers.{Numbers}
-use Rattle.transcript_text.specs.declared.line.ReadLine.{ReadLine}
+use Rattle.transcript_text.specs.declared.parsing.line.LineNumbers.{LineNumbers}
+use Rattle.transcript_text.specs.declared.parsing.line.ReadLine.{ReadLine}
 use Rattle.transcript_text.specs.Reading.{lacks}
 
-abbrev pub numbers_text : Numbers → List ℕ
+abbrev pub numbers_text : LineNumbers → List ℕ
 numbers_text numbers = decimal numbers.caller ++ codes "." ++ decimal numbers.event
 
-pub record NumbersFit (numbers : Numbers) : Type 0 where
+pub record NumbersFit (numbers : LineNumbers) : Type 0 where
   pub caller : numbers.caller < 2 ^ 32
   pub event : numbers.event < 2 ^ 32
 
@@ -33,12 +33,12 @@ seen_read read shown = record {
   shown = shown;
 }
 
--- the line fits a transcript with any data that its last field spells
+-- whatever data the line's last field spells, the line with these data fits a transcript
 abbrev pub FitsShowing : ReadLine → Type 0
 FitsShowing read = (shown : Shown) → ShownFits read.word shown → read.shown.now ≡ shown_text shown
     → LineFits (seen_read read shown)
 
--- the text is the spelling of this line with the data in its last field, and of no other line
+-- the text spells the line `read` with the data in that line's last field, and spells no other line
 pub record IsRead (text : List ℕ) (read : ReadLine) : Type 0 where
   pub fits : FitsShowing read
   pub spelt : (shown : Shown) → read.shown.now ≡ shown_text shown → text ≡ line_text (seen_read read shown)
@@ -46,7 +46,7 @@ pub record IsRead (text : List ℕ) (read : ReadLine) : Type 0 where
       → (line ≡ seen_read read line.shown) × (read.shown.now ≡ shown_text line.shown)
   pub short : length read.shown.now ≤ length text
 
--- the line was added after the earlier ones, with data that its last field spells
+-- `new` is `old` and then the line that was read, with data that this line's last field spells
 pub record PushesRead (read : ReadLine) (old new : List SeenLine) : Type 0 where
   pub shown : Shown
   pub fits : ShownFits read.word shown

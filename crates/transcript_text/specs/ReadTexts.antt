@@ -1,20 +1,21 @@
--- The answer of reading a text.
+-- What reading a text may return.
 use Rattle.std.specs.Prelude.{ℕ, ◌≡◌, ◌<◌, ◌≤◌, ⊤, List, [], ◌∷◌, ◌++◌, length, Result, Ok, Err}
 use Rattle.key_names.specs.Transcripts.SeenLine.{SeenLine}
 use Rattle.key_names.specs.Texts.TranscriptGrammar.{all_lines, line_text, LineFits, IsTranscriptText, IsFirstFault}
-use Rattle.transcript_text.specs.declared.error.TextError.{TextError}
-use Rattle.transcript_text.specs.declared.error.TextError.TheVariants.{Fault, NoMemory, TooManyLines}
-use Rattle.transcript_text.specs.declared.line.ReadLine.{ReadLine}
+use Rattle.transcript_text.specs.declared.parsing.error.TextError.{TextError}
+use Rattle.transcript_text.specs.declared.parsing.error.TextError.TheVariants.{Fault, NoMemory, TooManyLines}
+use Rattle.transcript_text.specs.declared.parsing.line.ReadLine.{ReadLine}
 use Rattle.transcript_text.specs.Grouping.{Groups}
 use Rattle.transcript_text.specs.ReadLines.{IsRead}
 
--- the text is that of a transcript with more lines than most
+-- the text is that of a transcript with more than `most` lines
 pub record HasMoreLines (most : ℕ) (text : List ℕ) : Type 0 where
   pub callers : List (List SeenLine)
   pub is_text : IsTranscriptText text callers
   pub many : most < length (all_lines callers)
 
--- the transcript of the text, if it has at most `most` lines; or the first faulty line; or too many lines; or no memory
+-- the result for the text: its transcript, with at most `most` lines; the first faulty line; too many lines; or no
+-- memory
 abbrev pub Answers : ℕ → List ℕ → Result (List (List SeenLine)) TextError → Type 0
 Answers most text (Ok callers) = IsTranscriptText text callers × (length (all_lines callers) ≤ most)
 Answers most text (Err (Fault line)) = IsFirstFault text line
@@ -28,7 +29,7 @@ IsReadAs callers (Err (Fault line)) = ⊥
 IsReadAs callers (Err TooManyLines) = ⊥
 IsReadAs callers (Err NoMemory) = ⊤
 
--- the text is the spelling of one more line, of the current caller or of a later one
+-- the text spells one more line, of the current caller or of a later one; `new` and `next` have this line too
 pub record AddsLine (text : List ℕ) (old new : List (List SeenLine)) (current next : List SeenLine) : Type 0 where
   pub line : SeenLine
   pub fits : LineFits line
@@ -39,12 +40,12 @@ pub record AddsLine (text : List ℕ) (old new : List (List SeenLine)) (current 
   pub some : 0 < length next
   pub groups : (lines : List SeenLine) → Groups old current lines → Groups new next (lines ++ line ∷ [])
 
--- the text spells no line of a caller from `least` on
+-- the text spells no line of a caller from `least` to 63
 abbrev pub IsNoLine : List ℕ → ℕ → Type 0
 IsNoLine text least = (line : SeenLine) → LineFits line → least ≤ line.caller → line.caller < 64
     → text ≡ line_text line → ⊥
 
--- the text spells this line, of a caller from `least` on, with the data in its last field
+-- the text spells the line `read` with the data in that line's last field; the line's caller is from `least` to 63
 pub record IsReadFrom (text : List ℕ) (least : ℕ) (read : ReadLine) : Type 0 where
   pub is : IsRead text read
   pub later : least ≤ read.caller

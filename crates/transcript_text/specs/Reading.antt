@@ -1,10 +1,10 @@
--- The answer of reading a piece of text.
+-- What reading a piece of text may return.
 use Rattle.std.specs.Prelude.{ℕ, ◌≡◌, ◌≢◌, ◌≤◌, ◌==◌, ◌&&◌, Bool, true, not, List, [], ◌∷◌, Option, MatchOption, length}
 use Rattle.std.specs.List.{AllByRecursion}
 use Rattle.key_names.specs.declared.names.Step.{Step}
 use Rattle.key_names.specs.Texts.TranscriptGrammar.{StepFits}
 
--- whether no byte of the text equals this one
+-- whether no byte of the text equals `byte`
 abbrev pub lacks : ℕ → List ℕ → Bool
 lacks byte [] = true
 lacks byte (b ∷ text) = not (b == byte) && lacks byte text

@@ -13,12 +13,12 @@ pub record AppendsSpelt (text old new : List ℕ) : Type 0 where
   pub spelt : bytes_of text ≡ Some bytes
   pub whole : new ≡ old ++ bytes
 
--- the text spells bytes, they are appended, and the data refer to them
+-- the text spells bytes, these are appended, and the data refer to them
 pub record NamesSpelt (text old new : List ℕ) (named : Data) : Type 0 where
   pub appends : AppendsSpelt text old new
   pub named_is : named ≡ bytes_from (length old) appends.bytes
 
--- if there are data, they refer to the bytes that the text spells; otherwise the text spells none
+-- if there are data, they refer to the bytes that the text spells; if there are none, the text spells no bytes
 abbrev pub KeepsSpelt : List ℕ → List ℕ → List ℕ → Option Data → Type 0
 KeepsSpelt text old new (Some named) = NamesSpelt text old new named
 KeepsSpelt text old new None = bytes_of text ≡ None

@@ -1,4 +1,4 @@
--- Lines by reference, in contracts.
+-- Lines that borrow their steps and bytes, as values in contracts.
 use Rattle.std.specs.Prelude.{ℕ, List, []}
 use Rattle.key_names.specs.Transcripts.SeenLine.{Shown as SeenShown, no_data, count, bytes_or_none, SeenLine}
 use Rattle.transcript_text.specs.declared.view.Shown.{Shown}

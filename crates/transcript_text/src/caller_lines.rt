@@ -8,15 +8,15 @@ ghost use Rattle.transcript_text.specs.ReadLines.{FitsShowing, PushesRead};
 ghost use Rattle.transcript_text.specs.Shows.{SpellsNoData};
 ghost use Rattle.transcript_text.specs.Views.{bytes_of, seen, seen_shown};
 
-use crate::data::keep_data;
-use crate::line::ReadLine;
+use crate::parsing::data::keep_data;
+use crate::parsing::line::ReadLine;
 use crate::view::{LineView, Shown};
 use key_names::{Data, Line, Step};
 use std::alloc::{AllocError, Global};
 use std::marker::Model;
 
-/// The lines of one caller that were added, and room for more of them. The lines' steps and bytes are kept in the order
-/// in which they were added. In contracts each line has its steps and bytes itself.
+/// The lines that were added for one caller, and room for more. Their steps and bytes are kept in two more lists, in
+/// the order in which they were added. In contracts, each line contains its own steps and bytes.
 #[derive(Drop)]
 pub struct CallerLines {
     lines: Vec<Line>,
@@ -43,7 +43,7 @@ impl Model for CallerLines {
     ghost invariant = { λ c. IsKept c.bytes.items c.steps.items c.lines.items };
 }
 
-// Appends bytes, and returns the data of a line that has them. The caller must have made room for them.
+// Appends bytes, and returns the data of a line with these bytes. The caller must have made room for them.
 fn keep_bytes(kept: &mut Vec<u8>, shown: &[u8]) -> Data
     requires room { vec_len kept.old + length shown.now ≤ vec_capacity kept.old }
     requires short { length shown.now < 2 ^ 32 }
@@ -63,7 +63,7 @@ fn keep_bytes(kept: &mut Vec<u8>, shown: &[u8]) -> Data
     }
 }
 
-// Appends the bytes that a line has as data, and returns the data of the line.
+// Appends the bytes of a line's data, if any, and returns the data, which refer to the kept bytes.
 #[inline(always)]
 fn keep_shown(kept: &mut Vec<u8>, shown: Shown<'_>) -> Data
     requires room { vec_len kept.old + length (bytes_of shown) ≤ vec_capacity kept.old }
@@ -80,8 +80,8 @@ fn keep_shown(kept: &mut Vec<u8>, shown: Shown<'_>) -> Data
     }
 }
 
-// Appends steps, and returns the place of the first. The caller must have made room for them. They are few, so each is
-// pushed singly.
+// Appends steps, and returns the place of the first. The caller must have made room for them. A line has few steps, so
+// they are pushed one by one.
 #[inline(always)]
 fn keep_steps(kept: &mut Vec<Step>, steps: &[Step]) -> u64
     requires room { vec_len kept.old + length steps.now ≤ vec_capacity kept.old }
@@ -127,7 +127,7 @@ impl CallerLines {
     ///
     /// # Errors
     ///
-    /// `AllocError` if there is no memory for it.
+    /// `AllocError` if there is no memory for this room.
     pub fn reserve(&mut self, line: LineView<'_>) -> Result<(), AllocError>
         ensures lines { self.new.lines ≡ self.old.lines }
         ensures bytes { self.new.bytes ≡ self.old.bytes }
@@ -170,8 +170,8 @@ impl CallerLines {
         }
     }
 
-    /// Adds a line of at most 20 steps and fewer than 2^32 bytes. It allocates nothing: `with_room` or `reserve` must
-    /// have made room for the line, its steps and its bytes.
+    /// Adds a line of at most 20 steps and fewer than 2^32 bytes. The call allocates nothing: `with_room` or `reserve`
+    /// must have made room for the line, its steps and its bytes.
     #[inline(always)]
     pub fn push(&mut self, line: LineView<'_>)
         requires line_room { 0 < self.old.line_room }
@@ -190,8 +190,8 @@ impl CallerLines {
         self.lines.push_reserved(kept);
     }
 
-    /// Adds a line that was read, and decodes its bytes directly into the kept ones. Returns whether the last field
-    /// spells data. If it spells none, no line is added.
+    /// Adds a line that was read, and decodes its bytes directly to the end of the kept bytes. Returns false, and adds
+    /// no line, if the last field spells no data.
     pub(crate) fn push_read(
         &mut self,
         alloc: Global,
@@ -220,8 +220,8 @@ impl CallerLines {
         Ok(true)
     }
 
-    /// Replaces line `number`, counted from 0. It allocates nothing, and keeps the steps and bytes of the old line. So
-    /// those of the new line need room, as for `push`.
+    /// Replaces line `number`, counted from 0, without allocating. The old line's steps and bytes stay where they are,
+    /// so the new line's steps and bytes need room, as for `push`.
     pub fn replace(&mut self, number: usize, line: LineView<'_>)
         requires number { number < length self.old.lines }
         requires step_room { length line.steps.now ≤ self.old.step_room }
@@ -286,7 +286,7 @@ impl CallerLines {
         }
     }
 
-    /// The lines. They refer to places in `steps`, and lines with bytes to places in `bytes`.
+    /// The lines. A line refers to its steps by their place in `steps`, and to its bytes by their place in `bytes`.
     pub fn lines(&self) -> &[Line]
         ensures seen { seen_lines self.now.bytes self.now.steps result.now ≡ self.now.lines }
         ensures fit { AllByRecursion LineFits self.now.lines }
@@ -295,14 +295,14 @@ impl CallerLines {
         &self.lines
     }
 
-    /// The steps of the lines, in the order in which they were added. Those of replaced lines are still among them.
+    /// The steps of the lines, in the order in which they were added. The steps of replaced lines are among them.
     pub fn steps(&self) -> &[Step]
         ensures { result.now ≡ self.now.steps }
     {
         &self.steps
     }
 
-    /// The bytes of the lines, in the order in which they were added. Those of replaced lines are still among them.
+    /// The bytes of the lines, in the order in which they were added. The bytes of replaced lines are among them.
     pub fn bytes(&self) -> &[u8]
         ensures { result.now ≡ self.now.bytes }
     {

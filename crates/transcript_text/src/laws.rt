@@ -14,8 +14,8 @@ pub fn one_first_fault()
     ensures { (text : List ℕ) (m n : ℕ) → IsFirstFault text m → IsFirstFault text n → m ≡ n }
 {}
 
-/// If lines are under their own callers' numbers, the text written for them is the text of that transcript, so it is
-/// read as the same lines.
+/// If each line is listed under its own caller's number, the text written for the lines is the text of exactly this
+/// transcript. So reading the text gives the same lines.
 pub fn written_text()
     ensures { (callers : List (List SeenLine)) → TranscriptFits callers → UnderOwnNumber 0 callers
         → IsTranscriptText (transcript_text callers) callers }

@@ -1,42 +1,52 @@
-//! The text of a transcript, written and read.
+//! The text of a transcript (docs/TRANSCRIPT.md), written and read. Whether a transcript is lawful is not checked here.
 //!
-//! A reader returns a transcript if the text is the text of one, and otherwise the first faulty line. [`Reader`] reads
-//! the text piece by piece; [`read`] reads a whole text. A writer puts the text of the lines, or a prefix of it if the
-//! sink counted a fault. If lines are under their own callers' numbers, they are read again as they were written.
-//! [`CallerLines`] keeps the lines of a caller in memory that was allocated before.
+//! [`TranscriptReader`] reads the text piece by piece, and [`read`] a whole text. [`write_all`] writes a transcript, and a
+//! [`LineWriter`] line by line. [`CallerLines`] keeps the lines of a caller in memory that was allocated before. The
+//! contracts use the grammar of `key_names` (`specs/Texts`). The code uses the readers of words and numbers of
+//! `event_script`, and the sinks of `io_edges`.
 //!
-//! The contracts use the grammar of `key_names` (`specs/Texts`). The code uses the readers of words and numbers of
-//! `event_script`, and the sinks of `io_edges`. Whether a transcript is lawful is not checked here.
+//! # Example
+//!
+//! ```rust
+//! let Ok(transcript) = read(alloc, text) else {
+//!     return Err(AllocError);
+//! };
+//! let mut sink = sink(alloc, 100, 0)?;
+//! assert_eq!(rt; writing.write(&mut sink, &transcript), Ok(()));
+//! sink.held().to_vec(alloc)
+//! ```
+//!
+//! From `crates/test_texts/src/transcript_text_tests.rt`.
+//!
+//! # Proved
+//!
+//! - [`read`] and [`TranscriptReader::finish`]: if memory does not run out, the result is the transcript with this
+//!   text, or the first faulty line if there is no such transcript. A [`TranscriptReader`] also returns an error for
+//!   more lines than its limit.
+//! - [`write_all`] and [`LineWriter::write`]: the sink has got the text of the lines, or a prefix of this text if the
+//!   sink counted a fault.
+//! - [`CallerLines::push`] allocates nothing: it requires room for the line.
+//! - [`laws::written_text`]: if lines are under their own callers' numbers, they are read again as they were written.
+//! - [`laws::one_transcript`]: a text is the text of at most one transcript.
+//!
+//! # Tested only
+//!
+//! Each put has at most 4,096 bytes, of one line: `transcript_text_tests` of `test_texts`.
 #![tactic(auto)]
 
 mod caller_lines;
-mod comparison;
-mod data;
-mod error;
-mod grouping;
-mod head;
 pub mod laws;
-mod lexing;
-mod line;
-mod line_buffer;
-mod line_writer;
-mod names;
-mod place;
-mod reader;
-mod reading;
-mod so_far;
-mod steps;
-mod taking;
+mod parsing;
+mod printing;
 mod transcript;
 mod view;
-mod writing;
 
 pub use caller_lines::CallerLines;
-pub use comparison::Comparison;
-pub use error::TextError;
-pub use line_writer::LineWriter;
-pub use reader::Reader;
-pub use reading::read;
+pub use parsing::error::TextError;
+pub use parsing::reader::TranscriptReader;
+pub use parsing::reading::read;
+pub use printing::comparison::Comparison;
+pub use printing::line_writer::LineWriter;
+pub use printing::writing::write_all;
 pub use transcript::Transcript;
 pub use view::{LineView, Shown};
-pub use writing::write_all;

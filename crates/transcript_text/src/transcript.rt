@@ -5,8 +5,8 @@ ghost use Rattle.key_names.specs.Texts.TranscriptGrammar.{LastHasLines, Transcri
 use crate::caller_lines::CallerLines;
 use std::marker::Model;
 
-/// The lines of at most 64 callers, of which the last has at least one line. In contracts it is the list of each
-/// caller's lines.
+/// The lines of at most 64 callers; the last caller has at least one line. In contracts, a transcript is the list of
+/// its callers' lines.
 #[derive(Drop)]
 pub struct Transcript {
     callers: Vec<CallerLines>,

@@ -8,9 +8,9 @@ use key_names::{Answer, Step, Word};
 #[derive(Clone, Copy, Debug, PartialEq, Eq)]
 pub enum Shown<'a> {
     None,
-    /// Bytes. A line without bytes has [`Shown::None`], or no bytes here.
+    /// The bytes. A line without bytes has [`Shown::None`], or an empty slice here.
     Bytes(&'a [u8]),
-    /// The number of credited bits before the visit that read it.
+    /// The number of credited bits that the visit found.
     Count(u32),
 }
 

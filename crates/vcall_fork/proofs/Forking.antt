@@ -1,4 +1,5 @@
--- The effect of a fork on the parent's and the child's call.
+-- A fork leaves the parent's call as it was. If a child gives out bytes of its state, the child read a key after the
+-- fork.
 use Rattle.std.proofs.Common.{◌≡◌, ◌≢◌, ◌⊎◌, ℕ, ◌<◌, ◌≤◌, Bool, true, false, List, [], ◌∷◌, ◌++◌, refl, sym, ap, subst, ◌∙◌, inl, inr, arith}
 use Rattle.std.specs.Prelude.{◌==◌, ◌&&◌, ◌||◌, MatchBool, if◌then◌else◌}
 use Rattle.std.proofs.lemmas.Bool.{ne_eqb}
@@ -8,7 +9,7 @@ use Rattle.key_names.specs.declared.entries.VEntry.TheVariants.{Wipe}
 use Rattle.key_names.specs.declared.point.Point.{Point}
 use Rattle.key_names.specs.declared.point.Point.TheVariants.{Start, Written, Serve, End}
 use Rattle.key_names.specs.Kernel.BatchCopy.{state_after_copy, copy_bytes, block_after_copy, copy_entries}
-use Rattle.key_names.specs.Kernel.Vgetrandom.{SystemAnswer, read, failed, HostStep, publishes, system_call, at_point, Attempt, AttemptEnd, holds, outdated, not_keyed, attempt_behind, wipe_entry, rekey_entry, Outcome, outcome_behind, by_batch, by_system, AtPoint, FromEnd, FromServe, FromWritten, FromStart, IsAttempt, AfterAttempt, AfterKeyRead, AfterBoth, BySystem, SecondAttempt, state_after_call}
+use Rattle.key_names.specs.Kernel.Vgetrandom.{SystemAnswer, read, failed, HostStep, publishes, system_call, at_point, Attempt, AttemptEnd, holds, outdated, not_keyed, prefix_attempt, wipe_entry, rekey_entry, Outcome, prefix_outcome, by_batch, by_system, AtPoint, FromEnd, FromServe, FromWritten, FromStart, IsAttempt, AfterAttempt, AfterKeyRead, AfterBoth, BySystem, SecondAttempt, state_after_call}
 use Rattle.key_names.specs.Kernel.VgetrandomState.{VgetrandomState, wiped_state, state_left}
 use Rattle.key_names.specs.Kernel.Points.{is_same_point}
 use Rattle.key_names.proofs.Vgetrandom.CopiesKeep.{copy_keeps_generation}
@@ -17,17 +18,17 @@ use Rattle.vdso_state.specs.declared.place.Turn.TheVariants.{First, Second}
 use Rattle.vdso_state.specs.Host.{Doings, doings}
 use Rattle.vdso_state.specs.Places.{FromPoint, IfOutdated, Climbs}
 use Rattle.vdso_state.proofs.Leading.{at_leads}
-use Rattle.vcall_fork.specs.Forks.{ForksAreTold, takes_key, ChildTakesKey}
+use Rattle.vcall_fork.specs.Forks.{ForksAreRecorded, takes_key, ChildTakesKey}
 
 -- a host with no promises
 abbrev anybody : Doings (Unit {0})
 anybody = doings (λ h g next. Unit {0}) (λ h n flags answer next. Unit {0}) (λ h point wiped next. Unit {0})
 
-pub forks_are_told : ForksAreTold
-forks_are_told stage held s n flags place out t before entries leads = record {
+pub forks_are_recorded : ForksAreRecorded
+forks_are_recorded stage held s n flags place out t before entries leads = record {
   parent = λ rest outcome r. leads (at_point place.point false ∷ rest) outcome
       ((at_leads anybody (λ h. 0) n flags place out t t false tt tt refl tt (omega arith)).leads rest outcome r);
-  child = λ rest outcome r. leads (at_point place.point true ∷ rest) (outcome_behind (Wipe ∷ []) outcome)
+  child = λ rest outcome r. leads (at_point place.point true ∷ rest) (prefix_outcome (Wipe ∷ []) outcome)
       ((at_leads anybody (λ h. 0) n flags place out t wiped_state true tt tt refl tt (omega arith)).leads rest outcome
       r);
 }
@@ -44,8 +45,8 @@ takes_append taken (system_call n flags (failed errno) ∷ xs) ys = takes_append
 takes_append taken (at_point point wiped ∷ xs) ys =
     takes_append (if is_same_point point Start then false else taken) xs ys
 
--- the state's generation will not be published again; or the state's key was read, and the generation is at most the
--- last one
+-- the state's generation is below `low`, so that generation will not be published again; or a key was read, and the
+-- generation is at most `low`
 abbrev IsFresh : Bool → ℕ → VgetrandomState → Type 0
 IsFresh taken low s = (s.generation < low) ⊎ ((taken ≡ true) × (s.generation ≤ low))
 
@@ -63,8 +64,9 @@ fresh_left : (taken wiped : Bool) (low : ℕ) (s : VgetrandomState) → 1 ≤ lo
 fresh_left taken true low s some fresh = inl (omega arith)
 fresh_left taken false low s some fresh = fresh
 
--- the facts that the steps `tried` of an attempt give to those after them
-record Told (taken : Bool) (high : ℕ) (tried rest : List HostStep) (attempt : Attempt) : Type 0 where
+-- if the attempt with the steps `tried` held, a key was read; if it ended as outdated, all generations published in
+-- `rest` are above the state's generation
+record Recorded (taken : Bool) (high : ℕ) (tried rest : List HostStep) (attempt : Attempt) : Type 0 where
   held : attempt.end ≡ holds → takes_key taken tried ≡ true
   again : attempt.end ≡ outdated → (low : ℕ) × (attempt.state.generation < low) × Climbs low high rest
 
@@ -74,7 +76,7 @@ not_outdated same = cc
 ended_as : (taken : Bool) (high : ℕ) (tried rest : List HostStep) (attempt : Attempt) (s : VgetrandomState) (e low : ℕ) →
     low ≤ e → Climbs e high rest → takes_key taken tried ≡ taken →
     attempt.end ≡ (if s.generation == e then holds else outdated) → attempt.state.generation ≡ s.generation →
-    IsFresh taken low s → Told taken high tried rest attempt
+    IsFresh taken low s → Recorded taken high tried rest attempt
 ended_as taken high tried rest attempt s e low below climbs taken_is end_is same fresh =
     let low_enough = fresh_low taken low s fresh in
     elim (eqb_tells s.generation e) [
@@ -97,7 +99,7 @@ ended_as taken high tried rest attempt s e low below climbs taken_is end_is same
 
 from_end : (out : List ℕ) (c : ℕ) (s : VgetrandomState) (taken : Bool) (low high : ℕ) (tried rest : List HostStep)
     (attempt : Attempt) → FromEnd out c s tried attempt → IsFresh taken low s → Climbs low high (tried ++ rest) →
-    Told taken high tried rest attempt
+    Recorded taken high tried rest attempt
 from_end out c s taken low high tried rest attempt k fresh climbs =
     let climbs_on : (low ≤ k.published) × Climbs k.published high rest =
     subst (λ (xs : List HostStep). Climbs low high (xs ++ rest)) k.steps_are climbs in
@@ -105,41 +107,42 @@ from_end out c s taken low high tried rest attempt k fresh climbs =
     (ap (takes_key taken) k.steps_are) (ap (λ (a : Attempt). a.end) k.attempt_is)
     (ap (λ (a : Attempt). a.state.generation) k.attempt_is) fresh
 
--- entries before an attempt do not change these facts
-told_behind : (taken : Bool) (high : ℕ) (tried rest : List HostStep) (attempt after : Attempt) (entries : List VEntry) →
-    attempt ≡ attempt_behind entries after → Told taken high tried rest after → Told taken high tried rest attempt
-told_behind taken high tried rest attempt after entries is told = record {
-  held = λ h. told.held (sym (ap (λ (a : Attempt). a.end) is) ∙ h);
+-- `Recorded` does not depend on the entries before an attempt
+recorded_after : (taken : Bool) (high : ℕ) (tried rest : List HostStep) (attempt after : Attempt) (entries : List VEntry) →
+    attempt ≡ prefix_attempt entries after → Recorded taken high tried rest after → Recorded taken high tried rest attempt
+recorded_after taken high tried rest attempt after entries is recorded = record {
+  held = λ h. recorded.held (sym (ap (λ (a : Attempt). a.end) is) ∙ h);
   again = λ h.
-      let k = told.again (sym (ap (λ (a : Attempt). a.end) is) ∙ h) in
+      let k = recorded.again (sym (ap (λ (a : Attempt). a.end) is) ∙ h) in
       let same = ap (λ (a : Attempt). a.state.generation) is in
       let low = k.1 in
       (k.0, omega arith, k.2);
 }
 
--- at a point, with `Holds` as the fact that the rest needs about the state
-at_told : (point : Point) (GoesOn : VgetrandomState → List HostStep → Attempt → Type 0) (Holds : VgetrandomState → Type 0)
+-- `Recorded` holds from a point on, if it holds for the steps after the point; `Holds` is what these steps need of the
+-- state
+at_recorded : (point : Point) (GoesOn : VgetrandomState → List HostStep → Attempt → Type 0) (Holds : VgetrandomState → Type 0)
     (s : VgetrandomState) (taken now : Bool) (low high : ℕ) (tried rest : List HostStep) (attempt : Attempt) →
     (if is_same_point point Start then false else taken) ≡ now → AtPoint point GoesOn s tried attempt →
     ((wiped : Bool) → Holds (state_left wiped s)) →
     ((u : VgetrandomState) (after : List HostStep) (a : Attempt) → GoesOn u after a → Holds u →
-    Climbs low high (after ++ rest) → Told now high after rest a) →
-    Climbs low high (tried ++ rest) → Told taken high tried rest attempt
-at_told point GoesOn Holds s taken now low high tried rest attempt now_is k left goes climbs =
+    Climbs low high (after ++ rest) → Recorded now high after rest a) →
+    Climbs low high (tried ++ rest) → Recorded taken high tried rest attempt
+at_recorded point GoesOn Holds s taken now low high tried rest attempt now_is k left goes climbs =
     let inner = goes (state_left k.wiped s) k.rest k.attempt_after k.goes_on (left k.wiped)
     (subst (λ (xs : List HostStep). Climbs low high (xs ++ rest)) k.steps_are climbs) in
     let taken_is : takes_key taken tried ≡ takes_key now k.rest =
     ap (takes_key taken) k.steps_are ∙ ap (λ (b : Bool). takes_key b k.rest) now_is in
-    told_behind taken high tried rest attempt k.attempt_after (wipe_entry k.wiped) k.attempt_is
+    recorded_after taken high tried rest attempt k.attempt_after (wipe_entry k.wiped) k.attempt_is
     (record { held = λ h. taken_is ∙ inner.held h; again = inner.again })
 
 from_serve : (n c : ℕ) (s : VgetrandomState) (taken : Bool) (low high : ℕ) (tried rest : List HostStep)
     (attempt : Attempt) → FromServe n c s tried attempt → 1 ≤ low → IsFresh taken low s →
-    Climbs low high (tried ++ rest) → Told taken high tried rest attempt
+    Climbs low high (tried ++ rest) → Recorded taken high tried rest attempt
 from_serve n c s taken low high tried rest attempt k some fresh climbs =
     let copied = fresh_same taken low s (state_after_copy s c n) (copy_keeps_generation s c n) fresh in
-    told_behind taken high tried rest attempt k.attempt_after (copy_entries s c n) k.attempt_is
-    (at_told End (FromEnd (copy_bytes s c n) (block_after_copy s c n)) (IsFresh taken low) (state_after_copy s c n) taken
+    recorded_after taken high tried rest attempt k.attempt_after (copy_entries s c n) k.attempt_is
+    (at_recorded End (FromEnd (copy_bytes s c n) (block_after_copy s c n)) (IsFresh taken low) (state_after_copy s c n) taken
     taken low high tried rest k.attempt_after refl k.goes_on
     (λ wiped. fresh_left taken wiped low (state_after_copy s c n) some copied)
     (λ u after a g fresh_then climbs_then. from_end (copy_bytes s c n) (block_after_copy s c n) u taken low high after rest a
@@ -148,12 +151,12 @@ from_serve n c s taken low high tried rest attempt k some fresh climbs =
 written_as : (answer : SystemAnswer) (n c : ℕ) (s : VgetrandomState) (taken : Bool) (low high : ℕ)
     (tried rest : List HostStep) (attempt : Attempt) → AfterKeyRead n c answer s tried attempt → 1 ≤ low →
     s.generation ≤ low → Climbs low high (tried ++ rest) →
-    Told taken high (system_call 32 0 answer ∷ tried) rest attempt
+    Recorded taken high (system_call 32 0 answer ∷ tried) rest attempt
 written_as (read key visit) n c s taken low high tried rest attempt k some known climbs =
     let keyed : VgetrandomState = record s { key = key; pos = 96 } in
-    let inner : Told true high tried rest attempt =
-    told_behind true high tried rest attempt k.attempt_after (rekey_entry visit) k.attempt_is
-    (at_told Serve (FromServe n c) (IsFresh true low) keyed true true low high tried rest k.attempt_after refl
+    let inner : Recorded true high tried rest attempt =
+    recorded_after true high tried rest attempt k.attempt_after (rekey_entry visit) k.attempt_is
+    (at_recorded Serve (FromServe n c) (IsFresh true low) keyed true true low high tried rest k.attempt_after refl
     k.goes_on (λ wiped. fresh_left true wiped low keyed some (inr (refl, known)))
     (λ u after a g fresh_then climbs_then. from_serve n c u true low high after rest a g some fresh_then climbs_then)
     climbs) in
@@ -164,9 +167,9 @@ written_as (failed errno) n c s taken low high tried rest attempt k some known c
 
 from_written : (n c : ℕ) (s : VgetrandomState) (taken : Bool) (low high : ℕ) (tried rest : List HostStep)
     (attempt : Attempt) → FromWritten n c s tried attempt → 1 ≤ low → s.generation ≤ low →
-    Climbs low high (tried ++ rest) → Told taken high tried rest attempt
+    Climbs low high (tried ++ rest) → Recorded taken high tried rest attempt
 from_written n c s taken low high tried rest attempt k some known climbs =
-    subst (λ (xs : List HostStep). Told taken high xs rest attempt) (sym k.steps_are)
+    subst (λ (xs : List HostStep). Recorded taken high xs rest attempt) (sym k.steps_are)
     (written_as k.answer n c s taken low high k.rest rest attempt k.goes_on some known
     (subst (λ (xs : List HostStep). Climbs low high (xs ++ rest)) k.steps_are climbs))
 
@@ -182,13 +185,13 @@ left_below false low s h = h
 
 from_start : (n c published : ℕ) (s : VgetrandomState) (taken : Bool) (high : ℕ) (tried rest : List HostStep)
     (attempt : Attempt) → FromStart n c published s tried attempt → s.generation < published →
-    Climbs published high (tried ++ rest) → Told taken high tried rest attempt
+    Climbs published high (tried ++ rest) → Recorded taken high tried rest attempt
 from_start n c published s taken high tried rest attempt k below climbs =
     let other : s.generation ≢ published = omega arith in
     let known : published ≤ published = omega arith in
     let some : 1 ≤ published = omega arith in
     let new : VgetrandomState = record s { generation = published } in
-    at_told Written (FromWritten n c) (λ u. u.generation ≤ published) new taken taken published high tried rest attempt
+    at_recorded Written (FromWritten n c) (λ u. u.generation ≤ published) new taken taken published high tried rest attempt
     refl
     (subst (λ (b : Bool). MatchBool b (AtPoint Serve (FromServe n c) s tried attempt)
     (AtPoint Written (FromWritten n c) new tried attempt)) (ne_eqb s.generation published other) k)
@@ -198,14 +201,14 @@ from_start n c published s taken high tried rest attempt k below climbs =
 
 is_attempt : (n c : ℕ) (s : VgetrandomState) (taken : Bool) (low high : ℕ) (tried rest : List HostStep)
     (attempt : Attempt) → IsAttempt n c s tried attempt → s.generation < low → Climbs low high (tried ++ rest) →
-    Told taken high tried rest attempt
+    Recorded taken high tried rest attempt
 is_attempt n c s taken low high tried rest attempt k below climbs =
     let climbs_on : (low ≤ k.published) × Climbs k.published high (k.rest ++ rest) =
     subst (λ (xs : List HostStep). Climbs low high (xs ++ rest)) k.steps_are climbs in
     let above = climbs_on.0 in
     let lower : s.generation < k.published = omega arith in
-    let inner : Told taken high k.rest rest attempt =
-    at_told Start (FromStart n c k.published) (λ u. u.generation < k.published) s taken false k.published high k.rest
+    let inner : Recorded taken high k.rest rest attempt =
+    at_recorded Start (FromStart n c k.published) (λ u. u.generation < k.published) s taken false k.published high k.rest
     rest attempt refl k.goes_on (λ wiped. left_below wiped k.published s lower)
     (λ u after a g below_then climbs_then. from_start n c k.published u false high after rest a g below_then
     climbs_then) climbs_on.1 in
@@ -213,7 +216,7 @@ is_attempt n c s taken low high tried rest attempt k below climbs =
 
 from_point : (point : Point) (n c published : ℕ) (out : List ℕ) (high : ℕ) (tried rest : List HostStep)
     (attempt : Attempt) → FromPoint point n c published out wiped_state tried attempt → 1 ≤ published →
-    Climbs published high (tried ++ rest) → Told false high tried rest attempt
+    Climbs published high (tried ++ rest) → Recorded false high tried rest attempt
 from_point Start n c published out high tried rest attempt k some climbs =
     from_start n c published wiped_state false high tried rest attempt k some climbs
 from_point Written n c published out high tried rest attempt k some climbs =
@@ -232,29 +235,29 @@ by_batch_alone n flags s steps outcome bytes k ending =
 
 ends_held : (n flags : ℕ) (Outdated : ℕ → VgetrandomState → List HostStep → Outcome → Type 0) (end : AttemptEnd)
     (attempt : Attempt) (taken : Bool) (high : ℕ) (tried rest : List HostStep) (outcome : Outcome) (bytes : List ℕ) →
-    attempt.end ≡ end → AfterAttempt n flags Outdated end attempt rest outcome → Told taken high tried rest attempt →
+    attempt.end ≡ end → AfterAttempt n flags Outdated end attempt rest outcome → Recorded taken high tried rest attempt →
     outcome.ending ≡ by_batch bytes →
     ((low : ℕ) → attempt.state.generation < low → Climbs low high rest →
     Outdated attempt.next_block attempt.state rest outcome → takes_key (takes_key taken tried) rest ≡ true) →
     takes_key taken (tried ++ rest) ≡ true
-ends_held n flags Outdated holds attempt taken high tried rest outcome bytes is k told ending goes =
-    takes_append taken tried rest ∙ ap (takes_key (takes_key taken tried)) k.steps_are ∙ told.held is
-ends_held n flags Outdated outdated attempt taken high tried rest outcome bytes is k told ending goes =
-    let a = told.again is in
+ends_held n flags Outdated holds attempt taken high tried rest outcome bytes is k recorded ending goes =
+    takes_append taken tried rest ∙ ap (takes_key (takes_key taken tried)) k.steps_are ∙ recorded.held is
+ends_held n flags Outdated outdated attempt taken high tried rest outcome bytes is k recorded ending goes =
+    let a = recorded.again is in
     takes_append taken tried rest ∙ goes a.0 a.1 a.2 k
-ends_held n flags Outdated not_keyed attempt taken high tried rest outcome bytes is k told ending goes =
+ends_held n flags Outdated not_keyed attempt taken high tried rest outcome bytes is k recorded ending goes =
     absurd (by_batch_alone n flags (state_after_call attempt.state) rest outcome bytes k ending)
 
 second_takes : (n flags c : ℕ) (s : VgetrandomState) (taken : Bool) (low high : ℕ) (steps : List HostStep)
     (outcome : Outcome) (bytes : List ℕ) → SecondAttempt n flags c s steps outcome → s.generation < low →
     Climbs low high steps → outcome.ending ≡ by_batch bytes → takes_key taken steps ≡ true
 second_takes n flags c s taken low high steps outcome bytes r below climbs ending =
-    let told = is_attempt n c s taken low high r.tried r.rest r.attempt r.tries below
+    let recorded = is_attempt n c s taken low high r.tried r.rest r.attempt r.tries below
     (subst (Climbs low high) r.steps_are climbs) in
     let ending_after = sym (ap (λ (o : Outcome). o.ending) r.outcome_is) ∙ ending in
     ap (takes_key taken) r.steps_are
     ∙ ends_held n flags (AfterBoth n flags) r.attempt.end r.attempt taken high r.tried r.rest r.outcome_after bytes refl
-    r.goes_on told ending_after
+    r.goes_on recorded ending_after
     (λ low_then below_then climbs_then k. absurd (by_batch_alone n flags (state_after_call r.attempt.state) r.rest
     r.outcome_after bytes k ending_after))
 
@@ -268,11 +271,11 @@ outdated_takes Second n flags c s taken low high steps outcome bytes k below cli
 
 pub child_takes_key : ChildTakesKey
 child_takes_key n flags place out steps outcome high bytes r some climbs ending =
-    let told = from_point place.point n place.next_block place.published out high r.tried r.rest r.attempt r.tries some
+    let recorded = from_point place.point n place.next_block place.published out high r.tried r.rest r.attempt r.tries some
     (subst (Climbs place.published high) r.steps_are climbs) in
     let ending_after = sym (ap (λ (o : Outcome). o.ending) r.outcome_is) ∙ ending in
     ap (takes_key false) r.steps_are
     ∙ ends_held n flags (IfOutdated place.turn n flags) r.attempt.end r.attempt false high r.tried r.rest r.outcome_after
-    bytes refl r.goes_on told ending_after
+    bytes refl r.goes_on recorded ending_after
     (λ low below climbs_then k. outdated_takes place.turn n flags r.attempt.next_block r.attempt.state
     (takes_key false r.tried) low high r.rest r.outcome_after bytes k below climbs_then ending_after)

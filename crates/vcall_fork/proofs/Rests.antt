@@ -20,10 +20,10 @@ use Rattle.key_names.proofs.Values.BatchNamed as batch
 use Rattle.vdso_state.specs.declared.place.Place.{Place}
 use Rattle.vdso_state.specs.declared.place.Turn.{Turn}
 use Rattle.vdso_state.specs.declared.place.Turn.TheVariants.{First, Second}
-use Rattle.vdso_state.specs.Places.{FromPoint, IfOutdated, BehindPlace}
+use Rattle.vdso_state.specs.Places.{FromPoint, IfOutdated, AfterPlace}
 use Rattle.key_names.specs.Kernel.Vgetrandom.{state_after_call}
 
--- c and p are a place of a CPU: entries take its read at most as often as the steps have it
+-- the entries take the read at place p of CPU c as a key at most as often as the steps make this read
 module _ (c p : ℕ) where
   point_bounded : (point : Point) (n from published : ℕ) (out : List ℕ) (s : VgetrandomState) (steps : List HostStep)
       (attempt : Attempt) → FromPoint point n from published out s steps attempt → Bounded c p steps attempt
@@ -41,14 +41,14 @@ module _ (c p : ℕ) where
       system_bounded c p n flags (state_after_call s) steps outcome k
 
   pub rest_bounded : (n flags : ℕ) (place : Place) (out : List ℕ) (s : VgetrandomState) (steps : List HostStep)
-      (outcome : Outcome) → BehindPlace n flags place out s steps outcome → OutcomeBounded c p steps outcome
+      (outcome : Outcome) → AfterPlace n flags place out s steps outcome → OutcomeBounded c p steps outcome
   rest_bounded n flags place out s steps outcome r =
       tried_bounded c p n flags (IfOutdated place.turn n flags)
       (FromPoint place.point n place.next_block place.published out s) steps outcome
       (λ tried attempt. point_bounded place.point n place.next_block place.published out s tried attempt)
       (λ from v rest after. outdated_bounded place.turn n flags from v rest after) r
 
--- if a system call ends the call, it is the last step
+-- if a system call ends the vgetrandom call, that system call is the last step
 module _ (answer : SystemAnswer) where
   outdated_asked : (turn : Turn) (n flags from : ℕ) (s : VgetrandomState) (steps : List HostStep) (outcome : Outcome) →
       outcome.ending ≡ by_system answer → IfOutdated turn n flags from s steps outcome → EndsAsked answer steps
@@ -59,14 +59,15 @@ module _ (answer : SystemAnswer) where
       asked answer n flags (state_after_call s) steps outcome ends k
 
   pub rest_asked : (n flags : ℕ) (place : Place) (out : List ℕ) (s : VgetrandomState) (steps : List HostStep)
-      (outcome : Outcome) → outcome.ending ≡ by_system answer → BehindPlace n flags place out s steps outcome →
+      (outcome : Outcome) → outcome.ending ≡ by_system answer → AfterPlace n flags place out s steps outcome →
       EndsAsked answer steps
   rest_asked n flags place out s steps outcome =
       tried_asked answer n flags (IfOutdated place.turn n flags)
       (FromPoint place.point n place.next_block place.published out s) steps outcome
       (λ from v rest after. outdated_asked place.turn n flags from v rest after)
 
--- a child's rest, on a wiped state: if its batch ends it, its bytes are those that its last entry serves
+-- the rest of a child's call starts on a wiped state. If that rest ends with bytes of the state, its last entries serve
+-- these bytes (`OutcomeNamed`)
 module _ (lists : Lists) (caller k : ℕ) where
   not_held : (g : ℕ) → 1 ≤ g → (if 0 == g then holds else outdated) ≡ holds → ⊥
   not_held g some is = go (0 == g) refl is
@@ -116,7 +117,7 @@ module _ (lists : Lists) (caller k : ℕ) where
 
   pub rest_named : (n flags : ℕ) (place : Place) (out : List ℕ) → 1 ≤ n → (x : replay.Both lists caller k)
       (steps : List HostStep) (outcome : Outcome) → Good lists steps →
-      BehindPlace n flags place out wiped_state steps outcome → replay.Holds lists caller k x wiped_state →
+      AfterPlace n flags place out wiped_state steps outcome → replay.Holds lists caller k x wiped_state →
       batch.OutcomeNamed lists caller k x outcome
   rest_named n flags place out some x steps outcome good r h =
       batch.rest_named lists caller k n flags (IfOutdated place.turn n flags)
@@ -156,18 +157,18 @@ module _ (caller state other : ℕ) where
       let rest = same_list (state_step caller state s e) (state_step other state t e) es (same_step s t e k) may.1 in
       ((same_follow s t e k may.0, rest.0), rest.1)
 
-  -- the entries after a wipe are in order if the whole list is
-  behind_wipe : (s : NamedState) (before after : List VEntry) →
+  -- if the whole list is in order, the entries after the wipe are in order
+  after_wipe : (s : NamedState) (before after : List VEntry) →
       LawfulFrom MayFollow (state_step caller state) s (before ++ Wipe ∷ after) →
       LawfulFrom MayFollow (state_step other state) state_start after
       × SameTurn (fold (state_step caller state) s (before ++ Wipe ∷ after))
       (fold (state_step other state) state_start after)
-  behind_wipe s [] after may = same_list (state_step caller state s Wipe) state_start after
+  after_wipe s [] after may = same_list (state_step caller state s Wipe) state_start after
       (record { expected = refl; pos = refl }) may.1
-  behind_wipe s (e ∷ before) after may = behind_wipe (state_step caller state s e) before after may.1
+  after_wipe s (e ∷ before) after may = after_wipe (state_step caller state s e) before after may.1
 
   pub child_ordered : (before after : List VEntry) → OrderedStateList caller state (before ++ Wipe ∷ after) →
       OrderedStateList other state after
   child_ordered before after ordered =
-      let k = behind_wipe state_start before after ordered.comes in
+      let k = after_wipe state_start before after ordered.comes in
       record { comes = k.0; ends = sym k.1.expected ∙ ordered.ends }

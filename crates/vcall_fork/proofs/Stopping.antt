@@ -1,4 +1,4 @@
--- Calls that run to a point.
+-- A call that is run to a point stops at that point, or ends before that point.
 use Rattle.std.proofs.Common.{◌≡◌, ℕ, ◌≤◌, Bool, true, false, Option, Some, None, List, [], ◌∷◌, ◌++◌, refl, sym, ap, ◌∙◌, append_assoc}
 use Rattle.std.specs.Prelude.{Result, ◌==◌, if◌then◌else◌}
 use Rattle.key_names.specs.declared.errno.Errno.{Errno}
@@ -17,10 +17,10 @@ use Rattle.vdso_state.specs.declared.place.Place.{Place}
 use Rattle.vdso_state.specs.declared.place.Came.TheVariants.{At, Ended}
 use Rattle.vdso_state.specs.Host.{Doings}
 use Rattle.vdso_state.specs.Turns.{turn_number, turns_before}
-use Rattle.vdso_state.specs.Places.{BehindPlace, AtPlace, last_look, Leads, CameTo}
+use Rattle.vdso_state.specs.Places.{AfterPlace, AtPlace, last_look, Leads, CameTo}
 use Rattle.vdso_state.proofs.Leading.{points_append, last_look_append, says, then_leads, then_ends, at_leads}
 use Rattle.vcall_fork.specs.declared.stage.Stage.{Stage}
-use Rattle.vcall_fork.specs.declared.stage.Stage.TheVariants.{At as StandsAt, Over}
+use Rattle.vcall_fork.specs.declared.stage.Stage.TheVariants.{At as ConformsAt, Over}
 use Rattle.vcall_fork.specs.Stops.{turn_at, is_wanted, passes_by, Misses, Stopped, EndedBefore, CameAt, CameToEnd}
 
 -- at a point, the number of attempts that have begun is the number of the point's attempt
@@ -87,26 +87,27 @@ module _ (turn : Turn) (point : Point) where
 
   module _ {H : Type 0} (host : Doings H) (floor : H → ℕ) (From : List HostStep → Outcome → Type 0) (n flags : ℕ)
       (begun look : ℕ) where
-    -- a call came to a place without a wanted point before it, and has the published generation that it found last
+    -- a call came to a place without reaching the wanted point before. The place has the generation that the call last
+    -- found published
     pub record Walked (at : Place) (h next : H) (s : VgetrandomState) (buf : List ℕ) : Type 0 where
       pub leads : Leads host floor From (AtPlace n flags at buf s) h next
       pub passes : passes_by turn point begun (points_of leads.steps) ≡ Some (turns_before at.turn at.point)
       pub found : at.published ≡ last_look look leads.steps
 
-    module _ (at : Place) (h mid behind : H) (s t : VgetrandomState) (buf : List ℕ) (wiped : Bool)
+    module _ (at : Place) (h mid following : H) (s t : VgetrandomState) (buf : List ℕ) (wiped : Bool)
         (walked : Walked at h mid s buf) (left : t ≡ state_left wiped s)
-        (passed : host.passes_as mid at.point wiped behind) (more : floor mid ≤ floor behind)
+        (passed : host.passes_as mid at.point wiped following) (more : floor mid ≤ floor following)
         (other : is_wanted turn point (turn_number at.turn) at.point ≡ false) where
-      abbrev to_behind : Leads host floor From (BehindPlace n flags at buf t) h behind
-      to_behind = then_leads host floor From (AtPlace n flags at buf s) h mid walked.leads
-          (BehindPlace n flags at buf t) behind
-          (at_leads host floor n flags at buf s t wiped mid behind left passed more)
+      abbrev to_after : Leads host floor From (AfterPlace n flags at buf t) h following
+      to_after = then_leads host floor From (AtPlace n flags at buf s) h mid walked.leads
+          (AfterPlace n flags at buf t) following
+          (at_leads host floor n flags at buf s t wiped mid following left passed more)
 
       pub walk_on : (next : Place) (last : H) (u : VgetrandomState) (buf_then : List ℕ) →
-          CameTo host floor (BehindPlace n flags at buf t) n flags at.published (At next) behind last u buf_then →
+          CameTo host floor (AfterPlace n flags at buf t) n flags at.published (At next) following last u buf_then →
           turns_before next.turn next.point ≡ turn_number at.turn → Walked next h last u buf_then
       walk_on next last u buf_then came turns = record {
-        leads = then_leads host floor From (BehindPlace n flags at buf t) h behind to_behind
+        leads = then_leads host floor From (AfterPlace n flags at buf t) h following to_after
             (AtPlace n flags next buf_then u) last came.0;
         passes = ap (λ (xs : List HostStep). passes_by turn point begun (points_of xs))
             (append_assoc walked.leads.steps (at_point at.point wiped ∷ []) came.0.steps)
@@ -119,13 +120,13 @@ module _ (turn : Turn) (point : Point) where
       }
 
       pub walk_to_end : (result : Result VEnd Errno) (last : H) (u : VgetrandomState) (buf_then : List ℕ) →
-          CameTo host floor (BehindPlace n flags at buf t) n flags at.published (Ended result) behind last u buf_then →
+          CameTo host floor (AfterPlace n flags at buf t) n flags at.published (Ended result) following last u buf_then →
           CameToEnd host floor From turn point begun result h last u buf_then
       walk_to_end result last u buf_then came = record {
-        ends = then_ends host floor From (BehindPlace n flags at buf t) h behind to_behind last
+        ends = then_ends host floor From (AfterPlace n flags at buf t) h following to_after last
             (record { state = u; result = result; buf = buf_then }) came.0;
         misses = record {
-          behind = turn_number at.turn;
+          following = turn_number at.turn;
           passes = ap (λ (xs : List HostStep). passes_by turn point begun (points_of xs))
               (append_assoc walked.leads.steps (at_point at.point wiped ∷ []) came.0.runs.steps)
               ∙ point_on begun at.turn at.point wiped walked.leads.steps came.0.runs.steps walked.passes other came.1;
@@ -147,14 +148,14 @@ module _ (turn : Turn) (point : Point) where
         (turns : turns_before at.turn at.point ≡ begun) where
       first_quiet : (xs ys : List HostStep) → points_of xs ≡ [] →
           (misses : Misses turn point (turns_before at.turn at.point) ys) →
-          passes_by turn point begun (points_of (xs ++ ys)) ≡ Some misses.behind
+          passes_by turn point begun (points_of (xs ++ ys)) ≡ Some misses.following
       first_quiet xs ys none misses = ap (passes_by turn point begun) (points_append xs ys)
           ∙ passes_on begun begun (points_of xs) (points_of ys) (quiet begun xs none)
           ∙ ap (λ (k : ℕ). passes_by turn point k (points_of ys)) (sym turns) ∙ misses.passes
 
-      -- if a call came to its first place, and from there to the wanted point, it is stopped there
+      -- if a call came to its first place, and from that place to the wanted point, the call is stopped at that point
       pub stops : (place : Place) (last : H) (u : VgetrandomState) (buf_then : List ℕ) (stage : Stage) →
-          stage ≡ StandsAt place →
+          stage ≡ ConformsAt place →
           (looks calls : ℕ) →
           CameAt host floor (AtPlace n flags at buf s) n flags turn point (turns_before at.turn at.point) at.published
           place looks calls mid last u buf_then →
@@ -168,7 +169,7 @@ module _ (turn : Turn) (point : Point) where
         leads = then_leads host floor From (AtPlace n flags at buf s) h mid came.0 (AtPlace n flags place buf_then u)
             last k.leads;
         misses = record {
-          behind = k.misses.behind;
+          following = k.misses.following;
           passes = first_quiet came.0.steps k.leads.steps came.1 k.misses;
         };
         found = k.found ∙ ap (λ g. last_look g k.leads.steps) came.2
@@ -185,7 +186,7 @@ module _ (turn : Turn) (point : Point) where
         ends = then_ends host floor From (AtPlace n flags at buf s) h mid came.0 last
             (record { state = u; result = result; buf = buf_then }) k.ends;
         misses = record {
-          behind = k.misses.behind;
+          following = k.misses.following;
           passes = first_quiet came.0.steps k.ends.runs.steps came.1 k.misses;
         };
       }
@@ -197,5 +198,5 @@ module _ (turn : Turn) (point : Point) where
     ends_at_once result h last u buf stage is came = record {
       over = is;
       ends = came.0;
-      misses = record { behind = begun; passes = quiet begun came.0.runs.steps came.1 };
+      misses = record { following = begun; passes = quiet begun came.0.runs.steps came.1 };
     }

@@ -1,4 +1,4 @@
--- A call that was forked at a point: the rest of the parent's call and the child's.
+-- A call that was forked at a point: the rest of the parent's call, and the rest of the child's call.
 use Rattle.std.specs.Prelude.{ℕ, ◌≡◌, ◌≢◌, ◌≤◌, ◌==◌, ◌&&◌, ◌||◌, Bool, true, false, List, [], ◌∷◌, ◌++◌, if◌then◌else◌}
 use Rattle.key_names.specs.declared.entries.VEntry.{VEntry}
 use Rattle.key_names.specs.declared.entries.VEntry.TheVariants.{Wipe}
@@ -7,39 +7,40 @@ use Rattle.key_names.specs.declared.point.Point.TheVariants.{Start}
 use Rattle.key_names.specs.Lanes.Book.{Lists, LawfulBook}
 use Rattle.key_names.specs.Transcripts.PrintedBytes.{at_state, origin_uses}
 use Rattle.key_names.specs.Keys.Uses.{IsUsed}
-use Rattle.key_names.specs.Kernel.Vgetrandom.{read, failed, HostStep, publishes, system_call, at_point, Outcome, outcome_behind, by_batch}
+use Rattle.key_names.specs.Kernel.Vgetrandom.{read, failed, HostStep, publishes, system_call, at_point, Outcome, prefix_outcome, by_batch}
 use Rattle.key_names.specs.Kernel.VgetrandomState.{VgetrandomState, wiped_state}
 use Rattle.key_names.specs.Kernel.Points.{is_same_point}
 use Rattle.vdso_state.specs.declared.place.Place.{Place}
-use Rattle.vdso_state.specs.Places.{BehindPlace, AtPlace, Climbs}
+use Rattle.vdso_state.specs.Places.{AfterPlace, AtPlace, Climbs}
 use Rattle.vcall_fork.specs.declared.stage.Stage.{Stage}
 use Rattle.vcall_fork.specs.Stops.{RestOfCall}
 
--- a call at this stage, with this state and this buffer, came to a place: if the rest from the place has some steps and
--- entries, the rest of the call has those before the place, and then these
+-- a call at this stage, with this state and this buffer, came to a place by the steps `before`, which left these
+-- entries: if some steps and entries follow from the place on, the whole has `before` and then those steps, and
+-- `entries` and then those entries
 abbrev pub LeadsTo : Stage → List ℕ → VgetrandomState → ℕ → ℕ → Place → List ℕ → VgetrandomState → List HostStep →
     List VEntry → Type 0
 LeadsTo stage held s n flags place out t before entries = (rest : List HostStep) (outcome : Outcome) →
     AtPlace n flags place out t rest outcome →
-    RestOfCall stage n flags held s (before ++ rest) (outcome_behind entries outcome)
+    RestOfCall stage n flags held s (before ++ rest) (prefix_outcome entries outcome)
 
--- the parent's rest ends its call as if it had not been stopped. The child's rest, on a wiped state and a copy of
--- the buffer, ends a call with the parent's steps before the point, and a wipe at the point
-pub record ForkIsTold (stage : Stage) (held : List ℕ) (s : VgetrandomState) (n flags : ℕ) (place : Place)
+-- the rest of the parent's call ends that call as if it had not been stopped. The rest of the child's call, on a wiped
+-- state and a copy of the buffer, ends a call with the parent's steps before the point and a wipe at the point
+pub record ForkIsRecorded (stage : Stage) (held : List ℕ) (s : VgetrandomState) (n flags : ℕ) (place : Place)
     (out : List ℕ) (t : VgetrandomState) (before : List HostStep) (entries : List VEntry) : Type 0 where
-  pub parent : (rest : List HostStep) (outcome : Outcome) → BehindPlace n flags place out t rest outcome →
-      RestOfCall stage n flags held s (before ++ at_point place.point false ∷ rest) (outcome_behind entries outcome)
-  pub child : (rest : List HostStep) (outcome : Outcome) → BehindPlace n flags place out wiped_state rest outcome →
+  pub parent : (rest : List HostStep) (outcome : Outcome) → AfterPlace n flags place out t rest outcome →
+      RestOfCall stage n flags held s (before ++ at_point place.point false ∷ rest) (prefix_outcome entries outcome)
+  pub child : (rest : List HostStep) (outcome : Outcome) → AfterPlace n flags place out wiped_state rest outcome →
       RestOfCall stage n flags held s (before ++ at_point place.point true ∷ rest)
-      (outcome_behind entries (outcome_behind (Wipe ∷ []) outcome))
+      (prefix_outcome entries (prefix_outcome (Wipe ∷ []) outcome))
 
-abbrev pub ForksAreTold : Type 0
-ForksAreTold = (stage : Stage) (held : List ℕ) (s : VgetrandomState) (n flags : ℕ) (place : Place) (out : List ℕ)
+abbrev pub ForksAreRecorded : Type 0
+ForksAreRecorded = (stage : Stage) (held : List ℕ) (s : VgetrandomState) (n flags : ℕ) (place : Place) (out : List ℕ)
     (t : VgetrandomState) (before : List HostStep) (entries : List VEntry) →
     LeadsTo stage held s n flags place out t before entries →
-    ForkIsTold stage held s n flags place out t before entries
+    ForkIsRecorded stage held s n flags place out t before entries
 
--- whether a key was read in the last attempt of these steps; `taken` is whether one was read before them
+-- whether a key was read in the last attempt of these steps; `taken` is whether a key was read before these steps
 abbrev pub takes_key : Bool → List HostStep → Bool
 takes_key taken [] = taken
 takes_key taken (publishes g ∷ steps) = takes_key taken steps
@@ -47,11 +48,11 @@ takes_key taken (system_call n flags (read bytes visit) ∷ steps) = takes_key (
 takes_key taken (system_call n flags (failed errno) ∷ steps) = takes_key taken steps
 takes_key taken (at_point point wiped ∷ steps) = takes_key (if is_same_point point Start then false else taken) steps
 
--- if a child's bytes come out of its state, it read a key after the fork, through its own host, in the attempt that
--- gave them
+-- if a child's bytes come out of its state, the child read a key after the fork, through its own host, in the attempt
+-- that gave the bytes
 abbrev pub ChildTakesKey : Type 0
 ChildTakesKey = (n flags : ℕ) (place : Place) (out : List ℕ) (steps : List HostStep) (outcome : Outcome)
-    (high : ℕ) (bytes : List ℕ) → BehindPlace n flags place out wiped_state steps outcome → 1 ≤ place.published →
+    (high : ℕ) (bytes : List ℕ) → AfterPlace n flags place out wiped_state steps outcome → 1 ≤ place.published →
     Climbs place.published high steps → outcome.ending ≡ by_batch bytes → takes_key false steps ≡ true
 
 -- in a lawful book the states of two callers never use the same byte of a key, so no byte comes out of both the

@@ -1,4 +1,4 @@
--- The stage of a call of vgetrandom that can be stopped.
+-- The stage of a vgetrandom call that can be stopped at its points.
 use Rattle.std.specs.Prelude.{ℕ, ◌+◌, ◌*◌, ◌^◌, Bool, true, false}
 use Rattle.vdso_state.specs.Turns.{looks_for, calls_for, copies_by, turn_number}
 use Rattle.vcall_fork.specs.declared.stage.Stage.{Stage}
@@ -14,7 +14,7 @@ is_stopped New = false
 is_stopped (At place) = true
 is_stopped Over = false
 
--- the generation that was read last, or another number if none was
+-- the generation that was read last, or `other` if none was read
 abbrev pub published_or : ℕ → Stage → ℕ
 published_or other New = other
 published_or other (At place) = place.published

@@ -14,27 +14,27 @@ use Rattle.vdso_state.specs.declared.place.Came.{Came}
 use Rattle.vdso_state.specs.declared.place.Came.TheVariants.{At as CameAtPlace, Ended as CameEnded}
 use Rattle.vdso_state.specs.Host.{Doings}
 use Rattle.vdso_state.specs.Turns.{turn_number}
-use Rattle.vdso_state.specs.Places.{BehindPlace, AtPlace, last_look, Leads, Ends, MayGoOn}
+use Rattle.vdso_state.specs.Places.{AfterPlace, AtPlace, last_look, Leads, Ends, MayGoOn}
 use Rattle.vcall_fork.specs.declared.stage.Progress.{Progress}
 use Rattle.vcall_fork.specs.declared.stage.Progress.TheVariants.{At, Ended}
 use Rattle.vcall_fork.specs.declared.stage.Stage.{Stage}
-use Rattle.vcall_fork.specs.declared.stage.Stage.TheVariants.{New, At as StandsAt, Over}
+use Rattle.vcall_fork.specs.declared.stage.Stage.TheVariants.{New, At as ConformsAt, Over}
 
--- the rest of a call for n bytes on a state, with out in its buffer: all of it, or the part after the point of the
--- stop
+-- the rest of a call for n bytes on a state, with `out` in the buffer: the whole call, or the part after the point at
+-- which the call stopped
 abbrev pub RestOfCall : Stage → ℕ → ℕ → List ℕ → VgetrandomState → List HostStep → Outcome → Type 0
 RestOfCall New n flags out s steps outcome = IsCall n flags s steps outcome
-RestOfCall (StandsAt place) n flags out s steps outcome = BehindPlace n flags place out s steps outcome
+RestOfCall (ConformsAt place) n flags out s steps outcome = AfterPlace n flags place out s steps outcome
 RestOfCall Over n flags out s steps outcome = ⊥
 
--- the attempt of a point, after `begun` attempts: each point Start begins one
+-- the number of the attempt to which a point belongs, after `begun` attempts: each point Start begins an attempt
 abbrev pub turn_at : ℕ → Point → ℕ
 turn_at begun point = if is_same_point point Start then suc begun else begun
 
 abbrev pub is_wanted : Turn → Point → ℕ → Point → Bool
 is_wanted turn point now here = now == turn_number turn && is_same_point here point
 
--- how many attempts have begun after some points, or `None` if they include this point of this attempt
+-- how many attempts have begun after these points, or `None` if the points include this point of this attempt
 abbrev pub passes_by : Turn → Point → ℕ → List PointReached → Option ℕ
 passes_by turn point begun [] = Some begun
 passes_by turn point begun (reached ∷ points) =
@@ -43,17 +43,18 @@ passes_by turn point begun (reached ∷ points) =
 
 -- the steps never reach this point of this attempt
 pub record Misses (turn : Turn) (point : Point) (begun : ℕ) (steps : List HostStep) : Type 0 where
-  pub behind : ℕ
-  pub passes : passes_by turn point begun (points_of steps) ≡ Some behind
+  pub following : ℕ
+  pub passes : passes_by turn point begun (points_of steps) ≡ Some following
 
 module _ {H : Type 0} (host : Doings H) (floor : H → ℕ) where
   -- the call, which last found `look` published, is stopped at this point of this attempt, before the host's step
-  -- there. It keeps the generation that it found last, and the host has these looks and system calls left for it
+  -- there. The call keeps the generation that it found last. The host has these looks and system calls left for the
+  -- call
   pub record Stopped (From : List HostStep → Outcome → Type 0) (n flags : ℕ) (turn : Turn) (point : Point)
       (begun look : ℕ) (stage : Stage) (looks calls : ℕ) (h next : H) (s : VgetrandomState)
       (buf : List ℕ) : Type 0 where
     pub place : Place
-    pub stage_is : stage ≡ StandsAt place
+    pub stage_is : stage ≡ ConformsAt place
     pub turn_is : place.turn ≡ turn
     pub point_is : place.point ≡ point
     pub may : MayGoOn place looks calls (floor next)

@@ -13,13 +13,14 @@ ghost use Rattle.vcall_fork.specs.Stops.{RestOfCall, is_wanted, CameBy, RanTo};
 use crate::stage::{Progress, Stage};
 use key_names::Errno;
 use vdso_state::{
-    Came, Place, Point, Turn, VEnd, VHost, VState, begin, behind, finish, vgetrandom,
+    Came, Place, Point, Turn, VEnd, VHost, VState, begin, finish, resume, vgetrandom,
 };
 
-/// A call of vgetrandom, without its state and its buffer: these belong to the caller, and a fork has its own.
+/// A call of vgetrandom, without its state and its buffer. The state and the buffer belong to the caller, and a forked
+/// call has its own.
 #[derive(Clone, Copy, Debug)]
 pub struct VCall {
-    /// The number of bytes that it reads, at most 2^20.
+    /// The number of bytes that the call reads, at most 2^20.
     pub len: u32,
     pub flags: u32,
     pub stage: Stage,
@@ -54,7 +55,7 @@ fn until<H: VHost>(
     let mut at = place;
     'points: while !is_at(at, attempt, point) {
         host.at(at.point, st);
-        match behind(host, st, at, buf, flags) {
+        match resume(host, st, at, buf, flags) {
             Came::Ended(result) => return Came::Ended(result),
             Came::At(next) => at = next,
         }
@@ -92,7 +93,7 @@ impl VCall {
     {
         match self.stage {
             Stage::New => begin(host, st, buf, self.flags),
-            Stage::At(place) => behind(host, st, place, buf, self.flags),
+            Stage::At(place) => resume(host, st, place, buf, self.flags),
             Stage::Over => unreachable!(),
         }
     }
@@ -107,14 +108,14 @@ impl VCall {
         Progress::Ended(ended)
     }
 
-    /// Runs the call to a point of an attempt, and stops there before the host's `at`. If the call does not reach
-    /// that point, it runs to its end. If the call was stopped at a point before, the caller decides what happens
-    /// there: the host's `at` is not called for it.
+    /// Runs the call to a point of an attempt, and stops there before the host's `at`. If the call does not reach that
+    /// point, it runs to its end. If the call was stopped at an earlier point, the caller decides what happens at that
+    /// point: the host's `at` is not called for it.
     ///
-    /// The call must not be over, and the buffer must have the call's length. The host must publish no generation
-    /// below the one that the call read last. It needs enough looks and system calls for the rest of the call: 5 and
-    /// 3 for a new call, and no more for a stopped one. If the call stops at the point, the host has enough of both
-    /// left to end it.
+    /// The call must not be over, and the buffer must have the call's length. The host must publish no generation below
+    /// the one that the call read last. The host must have enough looks and system calls left for the rest of the call:
+    /// 5 looks and 3 system calls for a new call, and no more for a stopped call. If the call stops at the point, the
+    /// host has enough looks and system calls left to end the call.
     pub fn run_to<H: VHost>(
         &mut self,
         host: &mut H,
@@ -148,8 +149,8 @@ impl VCall {
         }
     }
 
-    /// Forks the call at its point. Returns the child's call and its state, which the fork wiped, and copies the
-    /// buffer for the child. The parent's call, state and buffer do not change.
+    /// Forks the call at its point. Returns the child's call and the child's state, which the fork wiped, and copies
+    /// `buf` into `child_buf`. The parent's call, state and buffer do not change.
     pub fn fork_call(&self, buf: &[u8], child_buf: &mut [u8]) -> (VCall, VState)
         requires stopped { is_stopped self.now.stage ≡ true }
         requires length { length buf.now ≡ self.now.len }
@@ -162,8 +163,8 @@ impl VCall {
         (*self, VState::wiped())
     }
 
-    /// Ends the call. If it was stopped at a point, the caller decides what happens there: the host's `at` is not
-    /// called for it.
+    /// Ends the call. If the call was stopped at a point, the caller decides what happens at that point: the host's
+    /// `at` is not called for it.
     ///
     /// It has the preconditions of [`run_to`](VCall::run_to).
     ///

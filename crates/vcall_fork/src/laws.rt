@@ -1,13 +1,13 @@
 //! The laws of forked calls, each as the contract of a function without code.
-ghost use Rattle.vcall_fork.specs.Forks.{ForksAreTold, ChildTakesKey, ForksShareNothing};
+ghost use Rattle.vcall_fork.specs.Forks.{ForksAreRecorded, ChildTakesKey, ForksShareNothing};
 
-/// A fork at a point does not change the parent's call. The child's call is one that was wiped at the point, with
-/// the parent's steps before it and the child's after it.
-pub fn forks_are_told()
-    ensures { ForksAreTold }
+/// A fork at a point does not change the parent's call. The child's call has the parent's steps before the point, a
+/// wipe at the point, and the child's own steps after the point.
+pub fn forks_are_recorded()
+    ensures { ForksAreRecorded }
 {}
 
-/// If a child gives bytes of its state, it read a key after the fork, in the attempt that gave them.
+/// If a child gives out bytes of its state, the child read a key after the fork, in the attempt that gave the bytes.
 pub fn child_takes_key()
     ensures { ChildTakesKey }
 {}

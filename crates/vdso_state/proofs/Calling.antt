@@ -1,4 +1,4 @@
--- The first steps of a call.
+-- The first steps of a call lead to its first point or to its end.
 use Rattle.std.proofs.Common.{◌≡◌, ◌≢◌, ℕ, ◌≤◌, true, false, List, [], ◌∷◌, refl, subst, Ok, arith}
 use Rattle.std.proofs.lemmas.Bool.{eq-eqb}
 use Rattle.key_names.specs.declared.point.Point.TheVariants.{Start}
@@ -17,7 +17,7 @@ use Rattle.vdso_state.proofs.Leading.{in_call, says, then_came}
 use Rattle.vdso_state.proofs.Stepping.{ne-eqb, asks_at_once}
 
 module _ {H : Type 0} (host : Doings H) (floor : H → ℕ) (n flags look : ℕ) where
-  -- the system call serves, if the relation From allows it
+  -- if `From` allows an ending by the system call, a call that ends in this way comes to its end under `From`
   said_asked : (From : List HostStep → Outcome → Type 0) (s : VgetrandomState) (h last : H) (finish : Finish) →
       ((steps : List HostStep) (outcome : Outcome) → BySystem n flags s steps outcome → From steps outcome) →
       Ends host floor (BySystem n flags s) h last finish →
@@ -33,7 +33,7 @@ module _ {H : Type 0} (host : Doings H) (floor : H → ℕ) (n flags look : ℕ)
   bad_flags s h last finish bad ends =
       said_asked (IsCall n flags s) s h last finish (λ steps outcome r. match_true _ _ _ bad r) ends
 
-  -- the first look and the call after it are a whole call
+  -- the first look, and then the call after that look, are a whole call
   pub looked_then : (published : ℕ) (s : VgetrandomState) (h next last : H) (came : Came) (t : VgetrandomState)
       (buf : List ℕ) → is_bad flags ≡ false → host.publishes_as h published next → floor h ≤ published →
       published ≤ floor next →
@@ -83,7 +83,7 @@ module _ {H : Type 0} (host : Doings H) (floor : H → ℕ) (n flags look : ℕ)
           refl,
         )
 
-  -- the call asks for no bytes
+  -- a call for no bytes ends without a further step
   pub nothing_done : (published : ℕ) (s : VgetrandomState) (h : H) (buf : List ℕ) → published ≢ 0 → n ≡ 0 →
       CameTo host floor (FromPublished n flags s published) n flags look (Ended (Ok Zero)) h h s buf
   nothing_done published s h buf ready none = (

@@ -18,7 +18,7 @@ pub state_at : (s refilled_state t : VgetrandomState) (block r m : ℕ) → refi
     t ≡ state_of_same_batch refilled_state m → t ≡ state_of_new_batch s block r
 state_at s u t block r m new same is = let sum : 0 + r ≡ r = omega arith in rw (is, new, same, sum) refl
 
--- whole blocks and the front of the new batch are one piece
+-- whole blocks and the front of the new batch after them are one piece of the keystream
 pub bytes_at : (key : List ℕ) (c n : ℕ) (blocks batch front : List ℕ) →
     blocks ≡ keystream key (64 * c) (n / 64 * 64) → batch ≡ keystream key (64 * (c + n / 64)) 96 →
     front ≡ take (n % 64) (drop 0 batch) → blocks ++ front ≡ keystream key (64 * c) n

@@ -1,7 +1,7 @@
--- Parts of a call, one after the other.
+-- Parts of a call, one after another, are one part of the call (`Leads`, `Ends`, `CameTo`).
 use Rattle.std.proofs.Common.{◌≡◌, ℕ, ◌≤◌, Bool, List, [], ◌∷◌, ◌++◌, refl, sym, ap, subst, ◌∙◌, append_assoc, arith}
 use Rattle.key_names.specs.declared.entries.VEntry.{VEntry}
-use Rattle.key_names.specs.Kernel.Vgetrandom.{HostStep, publishes, system_call, at_point, Attempt, AttemptEnd, holds, outdated, not_keyed, Outcome, outcome_behind, attempt_behind, wipe_entry, AtPoint, AfterAttempt}
+use Rattle.key_names.specs.Kernel.Vgetrandom.{HostStep, publishes, system_call, at_point, Attempt, AttemptEnd, holds, outdated, not_keyed, Outcome, prefix_outcome, prefix_attempt, wipe_entry, AtPoint, AfterAttempt}
 use Rattle.key_names.specs.Kernel.VgetrandomState.{VgetrandomState, state_left}
 use Rattle.key_names.specs.Callers.VreadSteps.{PointReached, points_of}
 use Rattle.vdso_state.specs.declared.place.Turn.{Turn}
@@ -10,7 +10,7 @@ use Rattle.vdso_state.specs.declared.place.Came.{Came}
 use Rattle.vdso_state.specs.declared.place.Came.TheVariants.{At, Ended}
 use Rattle.vdso_state.specs.Host.{Doings, DoesAll}
 use Rattle.vdso_state.specs.Call.{Finish}
-use Rattle.vdso_state.specs.Places.{FromPoint, IfOutdated, RestOf, BehindPlace, AtPlace, Climbs, last_look, Leads, Ends, CameTo, MayGoOn}
+use Rattle.vdso_state.specs.Places.{FromPoint, IfOutdated, RestOf, AfterPlace, AtPlace, Climbs, last_look, Leads, Ends, CameTo, MayGoOn}
 
 climbs_below : (a b c : ℕ) (xs : List HostStep) → a ≤ b → Climbs b c xs → Climbs a c xs
 climbs_below a b c [] low h = omega arith
@@ -42,7 +42,7 @@ last_look_append look (at_point point wiped ∷ xs) ys = last_look_append look x
 pub after_same : (n flags : ℕ) (Outdated : ℕ → VgetrandomState → List HostStep → Outcome → Type 0) (end : AttemptEnd)
     (attempt : Attempt) (entries : List VEntry) (steps : List HostStep) (outcome : Outcome) →
     AfterAttempt n flags Outdated end attempt steps outcome →
-    AfterAttempt n flags Outdated end (attempt_behind entries attempt) steps outcome
+    AfterAttempt n flags Outdated end (prefix_attempt entries attempt) steps outcome
 after_same n flags Outdated holds attempt entries steps outcome r = r
 after_same n flags Outdated outdated attempt entries steps outcome r = r
 after_same n flags Outdated not_keyed attempt entries steps outcome r = r
@@ -54,13 +54,13 @@ module _ {H : Type 0} (host : Doings H) (floor : H → ℕ) where
   does_append h mid last (x ∷ xs) ys before after =
       (before.0, before.1, does_append before.0 mid last xs ys before.2 after)
 
-  -- no step is made, and To implies From
+  -- if `To` implies `From`, then `From` leads to `To` without a step
   abbrev pub says : (From To : List HostStep → Outcome → Type 0) (h : H) →
       ((steps : List HostStep) (outcome : Outcome) → To steps outcome → From steps outcome) →
       Leads host floor From To h h
   says From To h said = record { steps = []; entries = []; does = refl; climbs = omega arith; leads = said }
 
-  -- no step is made, and the relation stays
+  -- `From` leads to itself without a step
   pub stays : (From : List HostStep → Outcome → Type 0) (h : H) → Leads host floor From From h h
   stays From h = says From From h (λ steps outcome r. r)
 
@@ -73,9 +73,9 @@ module _ {H : Type 0} (host : Doings H) (floor : H → ℕ) where
       does = does_append h mid last first.steps second.steps first.does second.does;
       climbs = climbs_append (floor h) (floor mid) (floor last) first.steps second.steps first.climbs second.climbs;
       leads = λ rest outcome r.
-          let k = first.leads (second.steps ++ rest) (outcome_behind second.entries outcome)
+          let k = first.leads (second.steps ++ rest) (prefix_outcome second.entries outcome)
           (second.leads rest outcome r) in
-          subst (λ (xs : List HostStep). From xs (outcome_behind (first.entries ++ second.entries) outcome))
+          subst (λ (xs : List HostStep). From xs (prefix_outcome (first.entries ++ second.entries) outcome))
           (sym (append_assoc first.steps second.steps rest))
           (subst (λ (es : List VEntry). From (first.steps ++ (second.steps ++ rest)) (record outcome { entries = es }))
           (sym (append_assoc first.entries second.entries outcome.entries)) k);
@@ -86,7 +86,7 @@ module _ {H : Type 0} (host : Doings H) (floor : H → ℕ) where
     then_ends last finish second = record {
       runs = record {
         steps = first.steps ++ second.runs.steps;
-        outcome = outcome_behind first.entries second.runs.outcome;
+        outcome = prefix_outcome first.entries second.runs.outcome;
         does = does_append h mid last first.steps second.runs.steps first.does second.runs.does;
         relates = first.leads second.runs.steps second.runs.outcome second.runs.relates;
         state = second.runs.state;
@@ -110,12 +110,12 @@ module _ {H : Type 0} (host : Doings H) (floor : H → ℕ) where
       points_append first.steps second.0.runs.steps ∙ (λ i. quiet i ++ second.1 i),
     )
 
-  -- steps that lead on in an attempt lead on in its call
+  -- if steps lead from `From` to `To` in an attempt, these steps lead from `From` to `To` in the whole call too
   abbrev pub in_call : (turn : Turn) (n flags : ℕ) (From To : List HostStep → Attempt → Type 0) (h next : H)
       (steps : List HostStep) (entries : List VEntry) → DoesAll host h steps next →
       Climbs (floor h) (floor next) steps →
       ((rest : List HostStep) (attempt : Attempt) → To rest attempt →
-      From (steps ++ rest) (attempt_behind entries attempt)) →
+      From (steps ++ rest) (prefix_attempt entries attempt)) →
       Leads host floor (RestOf turn n flags From) (RestOf turn n flags To) h next
   in_call turn n flags From To h next steps entries does climbs onward = record {
     steps = steps;
@@ -125,14 +125,14 @@ module _ {H : Type 0} (host : Doings H) (floor : H → ℕ) where
     leads = λ rest outcome r. record {
       tried = steps ++ r.tried;
       rest = r.rest;
-      attempt = attempt_behind entries r.attempt;
+      attempt = prefix_attempt entries r.attempt;
       outcome_after = r.outcome_after;
       steps_are = ap (λ (xs : List HostStep). steps ++ xs) r.steps_are
           ∙ sym (append_assoc steps r.tried r.rest);
       tries = onward r.tried r.attempt r.tries;
       goes_on = after_same n flags (IfOutdated turn n flags) r.attempt.end r.attempt entries r.rest r.outcome_after
           r.goes_on;
-      outcome_is = ap (outcome_behind entries) r.outcome_is
+      outcome_is = ap (prefix_outcome entries) r.outcome_is
           ∙ ap (λ (es : List VEntry). record r.outcome_after { entries = es })
           (sym (append_assoc entries r.attempt.entries r.outcome_after.entries));
     };
@@ -141,7 +141,7 @@ module _ {H : Type 0} (host : Doings H) (floor : H → ℕ) where
   -- the events at a point lead to the rest after the point
   abbrev pub at_leads : (n flags : ℕ) (place : Place) (out : List ℕ) (s t : VgetrandomState) (wiped : Bool) (h next : H) →
       t ≡ state_left wiped s → host.passes_as h place.point wiped next → floor h ≤ floor next →
-      Leads host floor (AtPlace n flags place out s) (BehindPlace n flags place out t) h next
+      Leads host floor (AtPlace n flags place out s) (AfterPlace n flags place out t) h next
   at_leads n flags place out s t wiped h next is passes more =
       in_call place.turn n flags
       (AtPoint place.point (FromPoint place.point n place.next_block place.published out) s)
@@ -157,7 +157,7 @@ module _ {H : Type 0} (host : Doings H) (floor : H → ℕ) where
         attempt_is = refl;
       })
 
--- after a point the host can serve the rest as before
+-- after a point the host can still serve the rest of the call
 pub still_may : (place : Place) (looks calls floor looks_then calls_then floor_then : ℕ) →
     MayGoOn place looks calls floor → looks_then ≡ looks → calls_then ≡ calls → floor ≤ floor_then →
     MayGoOn place looks_then calls_then floor_then

@@ -8,7 +8,7 @@ use Rattle.key_names.specs.declared.point.Point.{Point}
 use Rattle.key_names.specs.declared.point.Point.TheVariants.{Start, Written, Serve, End}
 use Rattle.key_names.specs.Kernel.VgetrandomState.{VgetrandomState}
 use Rattle.key_names.specs.Kernel.BatchCopy.{copy_bytes, state_after_copy, block_after_copy, copy_entries}
-use Rattle.key_names.specs.Kernel.Vgetrandom.{SystemAnswer, read, failed, HostStep, publishes, system_call, Attempt, holds, outdated, not_keyed, outcome_behind, by_batch, by_system, rekey_entry, AtPoint, FromEnd, FromServe, FromWritten, FromStart, AfterAttempt, BySystem, state_after_call}
+use Rattle.key_names.specs.Kernel.Vgetrandom.{SystemAnswer, read, failed, HostStep, publishes, system_call, Attempt, holds, outdated, not_keyed, prefix_outcome, by_batch, by_system, rekey_entry, AtPoint, FromEnd, FromServe, FromWritten, FromStart, AfterAttempt, BySystem, state_after_call}
 use Rattle.key_names.specs.Callers.VreadSteps.{points_of}
 use Rattle.key_names.proofs.Vgetrandom.Attempts.{match_true, match_false}
 use Rattle.vdso_state.specs.declared.outcome.VEnd.{VEnd}
@@ -19,7 +19,7 @@ use Rattle.vdso_state.specs.declared.place.Place.{Place}
 use Rattle.vdso_state.specs.declared.place.Came.TheVariants.{At, Ended}
 use Rattle.vdso_state.specs.Host.{Doings, DoesAll, IsAnswer, KeyIsRead}
 use Rattle.vdso_state.specs.Call.{Finish, EndsAsAnswered}
-use Rattle.vdso_state.specs.Places.{IfOutdated, RestOf, FromPoint, BehindPlace, Climbs, Ends, CameTo}
+use Rattle.vdso_state.specs.Places.{IfOutdated, RestOf, FromPoint, AfterPlace, Climbs, Ends, CameTo}
 use Rattle.vdso_state.proofs.Leading.{does_append, climbs_append, points_append, in_call}
 
 pub ne-eqb : (a b : ℕ) → a ≢ b → (a == b) ≡ false
@@ -44,7 +44,7 @@ key_not_read (failed why) errno buf s answers = (answers, (buf, refl))
 no_error : (errno : Errno) → (let done : Result (Unit {0}) Errno = Ok tt in done ≡ Err errno) → ⊥
 no_error errno same = cc
 
--- an attempt that found another generation at its end
+-- an attempt at whose end the published generation was not the state's
 abbrev outdated_attempt : List ℕ → ℕ → VgetrandomState → Attempt
 outdated_attempt out c s = record { out = out; state = s; next_block = c; entries = []; end = outdated }
 
@@ -63,7 +63,7 @@ ended_outdated out c e s other = record {
 }
 
 module _ {H : Type 0} (host : Doings H) (floor : H → ℕ) where
-  -- the system call with this result ends the call
+  -- the system call with this result ends the vgetrandom call
   asked : (n flags : ℕ) (s : VgetrandomState) (h last : H) (answer : SystemAnswer) (result : Result VEnd Errno)
       (buf : List ℕ) →
       EndsAsAnswered answer result buf → host.answers_as h n flags answer last → floor h ≤ floor last →
@@ -100,16 +100,16 @@ module _ {H : Type 0} (host : Doings H) (floor : H → ℕ) where
   module _ (turn : Turn) (n flags look : ℕ) (Tail : List HostStep → Attempt → Type 0) (h mid last : H)
       (tried : List HostStep) (attempt : Attempt) (does : DoesAll host h tried mid)
       (climbs : Climbs (floor h) (floor mid) tried) (tries : Tail tried attempt) (quiet : points_of tried ≡ []) where
-    -- an attempt ends, and the steps after it end the call
-    ends_behind : (s : VgetrandomState) (result : Result VEnd Errno) (buf : List ℕ) →
+    -- if an attempt ends, and the steps after the attempt end the call and reach no point, the call comes to its end
+    ends_after : (s : VgetrandomState) (result : Result VEnd Errno) (buf : List ℕ) →
         (ends : Ends host floor (AfterAttempt n flags (IfOutdated turn n flags) attempt.end attempt) mid last
         (record { state = s; result = result; buf = buf })) → points_of ends.runs.steps ≡ [] →
         CameTo host floor (RestOf turn n flags Tail) n flags look (Ended result) h last s buf
-    ends_behind s result buf ends too = (
+    ends_after s result buf ends too = (
       record {
         runs = record {
           steps = tried ++ ends.runs.steps;
-          outcome = outcome_behind attempt.entries ends.runs.outcome;
+          outcome = prefix_outcome attempt.entries ends.runs.outcome;
           does = does_append host floor h mid last tried ends.runs.steps does ends.runs.does;
           relates = record {
             tried = tried;
@@ -160,7 +160,7 @@ module _ {H : Type 0} (host : Doings H) (floor : H → ℕ) where
       (s.generation ≡ place.published → (t ≡ s) × (next ≡ record place { point = Serve })) →
       (s.generation ≢ place.published →
       (t ≡ record s { generation = place.published }) × (next ≡ record place { point = Written })) →
-      CameTo host floor (BehindPlace n flags place out s) n flags place.published (At next) h h t out
+      CameTo host floor (AfterPlace n flags place out s) n flags place.published (At next) h h t out
   start_came n flags place next out s t h point current other =
       let Goal : Point → Place → VgetrandomState → Type 0 = λ p to u.
       CameTo host floor (RestOf place.turn n flags (FromPoint p n place.next_block place.published out s)) n flags
@@ -218,7 +218,7 @@ module _ {H : Type 0} (host : Doings H) (floor : H → ℕ) where
   key_failed turn n flags look c s t h mid last (failed why) errno u result buf reads answers more ends =
       let attempt : Attempt =
       record { out = []; state = t; next_block = c; entries = []; end = not_keyed } in
-      ends_behind turn n flags look (FromWritten n c s) h mid last (system_call 32 0 (failed why) ∷ []) attempt
+      ends_after turn n flags look (FromWritten n c s) h mid last (system_call 32 0 (failed why) ∷ []) attempt
       (mid, answers, refl) more
       (record {
         answer = failed why;
@@ -238,7 +238,7 @@ module _ {H : Type 0} (host : Doings H) (floor : H → ℕ) where
   pub serve_came : (n flags : ℕ) (place next : Place) (before out : List ℕ) (s t : VgetrandomState) (h : H) →
       place.point ≡ Serve → out ≡ copy_bytes s place.next_block n → t ≡ state_after_copy s place.next_block n →
       next ≡ record place { point = End; next_block = block_after_copy s place.next_block n } →
-      CameTo host floor (BehindPlace n flags place before s) n flags place.published (At next) h h t out
+      CameTo host floor (AfterPlace n flags place before s) n flags place.published (At next) h h t out
   serve_came n flags place next before out s t h point bytes state at =
       let c = place.next_block in
       let Goal : Point → Place → VgetrandomState → List ℕ → Type 0 = λ p to u bs.
@@ -264,12 +264,12 @@ module _ {H : Type 0} (host : Doings H) (floor : H → ℕ) where
 
   -- After End
 
-  -- the bytes are given out
+  -- if the state still has the published generation, the call ends with the copied bytes
   pub end_holds : (turn : Turn) (n flags look c e : ℕ) (out : List ℕ) (s t : VgetrandomState) (h last : H) →
       e ≡ s.generation → t ≡ state_after_call s → host.publishes_as h e last → floor h ≤ e → e ≤ floor last →
       CameTo host floor (RestOf turn n flags (FromEnd out c s)) n flags look (Ended (Ok Batch)) h last t out
   end_holds turn n flags look c e out s t h last same state found low high =
-      ends_behind turn n flags look (FromEnd out c s) h last last (publishes e ∷ [])
+      ends_after turn n flags look (FromEnd out c s) h last last (publishes e ∷ [])
       (record { out = out; state = s; next_block = c; entries = []; end = holds }) (last, found, refl) (low, high)
       (record {
         published = e;
@@ -294,7 +294,7 @@ module _ {H : Type 0} (host : Doings H) (floor : H → ℕ) where
         climbs = omega arith;
       }) refl
 
-  -- the second attempt begins
+  -- if the state has another generation at the end of the first attempt, the second attempt begins
   pub end_again : (n flags look c e g : ℕ) (out : List ℕ) (s : VgetrandomState) (h mid last : H) →
       e ≢ s.generation → host.publishes_as h e mid → host.publishes_as mid g last → floor h ≤ e → e ≤ floor mid →
       floor mid ≤ g → g ≤ floor last →
@@ -330,7 +330,7 @@ module _ {H : Type 0} (host : Doings H) (floor : H → ℕ) where
     refl,
   )
 
-  -- the system call has to serve
+  -- if the state has another generation at the end of the second attempt, the system call ends the call
   pub end_outdated : (n flags look c e : ℕ) (out : List ℕ) (s t : VgetrandomState) (h mid last : H)
       (result : Result VEnd Errno) (buf : List ℕ) →
       e ≢ s.generation → host.publishes_as h e mid → floor h ≤ e → e ≤ floor mid →
@@ -338,6 +338,6 @@ module _ {H : Type 0} (host : Doings H) (floor : H → ℕ) where
       (record { state = t; result = result; buf = buf }) →
       CameTo host floor (RestOf Second n flags (FromEnd out c s)) n flags look (Ended result) h last t buf
   end_outdated n flags look c e out s t h mid last result buf other found low high ends =
-      ends_behind Second n flags look (FromEnd out c s) h mid last (publishes e ∷ []) (outdated_attempt out c s)
+      ends_after Second n flags look (FromEnd out c s) h mid last (publishes e ∷ []) (outdated_attempt out c s)
       (mid, found, refl) (low, high) (ended_outdated out c e s other) refl t result buf ends
       (asks_at_once n flags (state_after_call s) mid last (record { state = t; result = result; buf = buf }) ends)

@@ -1,13 +1,14 @@
--- The steps of a host in a call: a chain of hosts, from the one before the call to the one after it.
+-- The steps of a host in a call, as a chain of the host's values, from the value before the call to the value after the
+-- call.
 use Rattle.std.specs.Prelude.{ℕ, ◌≡◌, Bool, Ok, Err, Result, List, [], ◌∷◌}
 use Rattle.key_names.specs.declared.errno.Errno.{Errno}
 use Rattle.key_names.specs.declared.point.Point.{Point}
 use Rattle.key_names.specs.Kernel.Vgetrandom.{SystemAnswer, read, failed, HostStep, publishes, system_call, at_point}
 use Rattle.key_names.specs.Kernel.VgetrandomState.{VgetrandomState}
 
--- the steps that a host makes: the generation that it publishes; its answer to a system call of some bytes with
--- some flags; and whether it wipes the state at a point. Each relates the host before, the input and the
--- result, and the host after
+-- the steps that a host makes: the generation that it publishes; its answer to a system call of some bytes with some
+-- flags; and whether it wipes the state at a point. Each relates the host before the step, the input and the result,
+-- and the host after the step
 pub record Doings (H : Type 0) : Type 1 where
   pub publishes_as : H → ℕ → H → Type 0
   pub answers_as : H → ℕ → ℕ → SystemAnswer → H → Type 0
@@ -18,12 +19,13 @@ Does host h (publishes g) next = host.publishes_as h g next
 Does host h (system_call n flags answer) next = host.answers_as h n flags answer next
 Does host h (at_point point wiped) next = host.passes_as h point wiped next
 
--- the host makes these steps one after another, from h to last
+-- the host makes these steps one after another, from `h` to `last`
 abbrev pub DoesAll : {H : Type 0} → Doings H → H → List HostStep → H → Type 0
 DoesAll host h [] last = h ≡ last
 DoesAll {H} host h (step ∷ steps) last = (next : H) × Does host h step next × DoesAll host next steps last
 
--- the result of a system call, with the buffer after it, is this answer; after an error the buffer is unspecified
+-- the result of a system call, and the buffer after the call, are those of this answer; after an error the buffer is
+-- unspecified
 abbrev pub IsAnswer : SystemAnswer → Result (Unit {0}) Errno → List ℕ → Type 0
 IsAnswer (read bytes visit) result buf = (result ≡ Ok tt) × (buf ≡ bytes)
 IsAnswer (failed errno) result buf = result ≡ Err errno

@@ -5,12 +5,13 @@ use Rattle.key_names.specs.declared.point.Point.TheVariants.{Start, Written, Ser
 use Rattle.vdso_state.specs.declared.place.Turn.{Turn}
 use Rattle.vdso_state.specs.declared.place.Turn.TheVariants.{First, Second}
 
--- the number of looks at the generation
+-- the number of looks at the generation that the call may still need
 abbrev pub looks_for : Turn → ℕ
 looks_for First = 3
 looks_for Second = 1
 
--- the number of system calls: one for a key in each attempt, and one at the end for the bytes
+-- the number of system calls that the call may still need: one for a key in each attempt, and one at the end for the
+-- bytes
 abbrev pub calls_for : Turn → Point → ℕ
 calls_for First Start = 3
 calls_for First Written = 3

@@ -6,7 +6,7 @@ ghost use Rattle.key_names.specs.Kernel.BatchCopy.{copy_bytes, state_after_copy,
 ghost use Rattle.key_names.specs.Kernel.Vgetrandom.{SystemAnswer, BySystem, FromWritten, FromEnd, state_after_call};
 ghost use Rattle.vdso_state.specs.Host.{KeyIsRead, doings};
 ghost use Rattle.vdso_state.specs.Turns.{points_for, turn_number};
-ghost use Rattle.vdso_state.specs.Places.{RestOf, BehindPlace, Ends, CameTo, MayGoOn, MayFinish, points_ahead};
+ghost use Rattle.vdso_state.specs.Places.{RestOf, AfterPlace, Ends, CameTo, MayGoOn, MayFinish, points_ahead};
 
 use crate::host::VHost;
 use crate::outcome::VEnd;
@@ -59,7 +59,7 @@ fn give_up<H: VHost>(
 
 /// After `Start`: if the state's generation is not the published one, the state takes the
 /// published one, and needs a key.
-fn behind_start(st: &mut VState, place: Place) -> Place
+fn after_start(st: &mut VState, place: Place) -> Place
     ensures current { st.old.generation ≡ place.published →
         (st.new ≡ st.old) × (result ≡ record place { point = Serve }) }
     ensures other { st.old.generation ≢ place.published →
@@ -73,7 +73,7 @@ fn behind_start(st: &mut VState, place: Place) -> Place
     }
 }
 
-/// Reads a new key by the system call. If that fails, the state has no generation.
+/// Reads a new key by the system call. If the read fails, the state has no generation.
 fn read_key<H: VHost>(host: &mut H, st: &mut VState) -> Result<(), Errno>
     requires calls { 1 ≤ H.calls_left host.old }
     ensures reads { (answer : SystemAnswer) × KeyIsRead answer result st.old st.new
@@ -95,7 +95,7 @@ fn read_key<H: VHost>(host: &mut H, st: &mut VState) -> Result<(), Errno>
 }
 
 /// After `Written`: reads a new key for the generation that the state has.
-fn behind_written<H: VHost>(
+fn after_written<H: VHost>(
     host: &mut H,
     st: &mut VState,
     place: Place,
@@ -119,7 +119,7 @@ fn behind_written<H: VHost>(
 }
 
 /// After `Serve`: copies bytes over all of `buf`.
-fn behind_serve(st: &mut VState, place: Place, buf: &mut [u8]) -> Place
+fn after_serve(st: &mut VState, place: Place, buf: &mut [u8]) -> Place
     requires near { place.next_block ≤ 2 ^ 20 }
     requires short { length buf.old ≤ 2 ^ 20 }
     ensures bytes { buf.new ≡ copy_bytes st.old place.next_block (length buf.old) }
@@ -140,7 +140,7 @@ fn behind_serve(st: &mut VState, place: Place, buf: &mut [u8]) -> Place
 
 /// After `End`: the bytes may be given out if the state still has the generation that is published now. If the state
 /// was wiped or the core reseeded, the second attempt begins, or the system call has to serve.
-fn behind_end<H: VHost>(
+fn after_end<H: VHost>(
     host: &mut H,
     st: &mut VState,
     place: Place,
@@ -182,7 +182,7 @@ fn behind_end<H: VHost>(
 /// # Errors
 ///
 /// The error of the last system call, if it ended the call. The buffer is then unspecified.
-pub fn behind<H: VHost>(
+pub fn resume<H: VHost>(
     host: &mut H,
     st: &mut VState,
     place: Place,
@@ -192,16 +192,16 @@ pub fn behind<H: VHost>(
     requires may { MayGoOn place (H.looks_left host.old) (H.calls_left host.old) (H.floor host.old) }
     requires short { length buf.old ≤ 2 ^ 20 }
     ensures came { CameTo (doings H.publishes H.answers H.passes) H.floor
-        (BehindPlace (length buf.old) flags place buf.old st.old)
+        (AfterPlace (length buf.old) flags place buf.old st.old)
         (length buf.old) flags place.published result host.old host.new st.new buf.new }
     ensures may { MayFinish result (turn_number place.turn)
         (H.looks_left host.new) (H.calls_left host.new) (H.floor host.new) }
     ensures ahead { points_ahead result < points_for place.turn place.point }
 {
     match place.point {
-        Point::Start => Came::At(behind_start(st, place)),
-        Point::Written => behind_written(host, st, place, buf, flags),
-        Point::Serve => Came::At(behind_serve(st, place, buf)),
-        Point::End => behind_end(host, st, place, buf, flags),
+        Point::Start => Came::At(after_start(st, place)),
+        Point::Written => after_written(host, st, place, buf, flags),
+        Point::Serve => Came::At(after_serve(st, place, buf)),
+        Point::End => after_end(host, st, place, buf, flags),
     }
 }

@@ -3,18 +3,18 @@
 ghost use Rattle.std.specs.Prelude.{◌≡◌, ◌^◌, ◌≤◌, length};
 ghost use Rattle.key_names.specs.Kernel.Vgetrandom.{IsCall};
 ghost use Rattle.vdso_state.specs.Host.{doings};
-ghost use Rattle.vdso_state.specs.Places.{BehindPlace, Ends, CameTo, MayGoOn, MayFinish};
+ghost use Rattle.vdso_state.specs.Places.{AfterPlace, Ends, CameTo, MayGoOn, MayFinish};
 
-use crate::attempt::{ask_system, behind};
+use crate::attempt::{ask_system, resume};
 use crate::host::VHost;
 use crate::outcome::VEnd;
 use crate::place::{Came, Place, Turn};
 use crate::state::VState;
 use key_names::{Errno, Point, flags};
 
-/// Begins a call: it comes to its first point, or ends if it makes no attempt.
+/// Begins a call: the call comes to its first point, or ends if it makes no attempt.
 ///
-/// The host must have 5 looks and 3 system calls, and the buffer at most 2^20 bytes.
+/// The host must have 5 looks and 3 system calls, and the buffer must have at most 2^20 bytes.
 pub fn begin<H: VHost>(host: &mut H, st: &mut VState, buf: &mut [u8], flags: u32) -> Came
     requires looks { 5 ≤ H.looks_left host.old }
     requires calls { 3 ≤ H.calls_left host.old }
@@ -44,9 +44,9 @@ pub fn begin<H: VHost>(host: &mut H, st: &mut VState, buf: &mut [u8], flags: u32
     })
 }
 
-/// Continues a call after its point, and ends it.
+/// Continues a call after its point, up to the call's end.
 ///
-/// The conditions are those of [`behind`].
+/// The conditions are those of [`resume`].
 ///
 /// # Errors
 ///
@@ -61,12 +61,12 @@ pub fn finish<H: VHost>(
     requires may { MayGoOn place (H.looks_left host.old) (H.calls_left host.old) (H.floor host.old) }
     requires short { length buf.old ≤ 2 ^ 20 }
     ensures { Ends (doings H.publishes H.answers H.passes) H.floor
-        (BehindPlace (length buf.old) flags place buf.old st.old)
+        (AfterPlace (length buf.old) flags place buf.old st.old)
         host.old host.new (record { state = st.new; result = result; buf = buf.new }) }
 {
     let mut at = place;
     loop {
-        match behind(host, st, at, buf, flags) {
+        match resume(host, st, at, buf, flags) {
             Came::Ended(result) => return result,
             Came::At(next) => {
                 host.at(next.point, st);
@@ -84,7 +84,7 @@ pub fn finish<H: VHost>(
 /// around this one; a wipe clears that mark), no key can be read, or both attempts were outdated. If the flags are good
 /// and something is published, a call for no bytes is `Zero`.
 ///
-/// The host must have 5 looks and 3 system calls, and the buffer at most 2^20 bytes.
+/// The host must have 5 looks and 3 system calls, and the buffer must have at most 2^20 bytes.
 ///
 /// # Errors
 ///

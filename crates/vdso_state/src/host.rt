@@ -12,16 +12,16 @@ use key_names::{Errno, Point};
 /// The host of vgetrandom calls.
 ///
 /// Three relations describe what a host publishes, answers and wipes. Each relates the host before a step, the input
-/// and the result of the step, and the host after it. A call needs a number of looks and of system calls; `looks_left`
-/// and `calls_left` are the numbers that the host has left.
+/// and the result of the step, and the host after the step. A call needs a number of looks and of system calls;
+/// `looks_left` and `calls_left` are the numbers that the host has left.
 pub trait VHost {
-    /// It publishes a generation.
+    /// The host publishes a generation.
     ghost publishes: { Self → ℕ → Self → Type 0 };
 
-    /// It answers a system call of a number of bytes with some flags.
+    /// The host answers a system call for a number of bytes with some flags.
     ghost answers: { Self → ℕ → ℕ → SystemAnswer → Self → Type 0 };
 
-    /// At a point it wipes the state, or leaves it.
+    /// At a point the host wipes the state, or leaves it as it is.
     ghost passes: { Self → Point → Bool → Self → Type 0 };
 
     ghost looks_left: { Self → ℕ };

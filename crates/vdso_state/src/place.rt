@@ -12,8 +12,8 @@ pub enum Turn {
     Second,
 }
 
-/// A point that a call has reached, before the events at that point. Together with the state and the buffer it is all
-/// that the call needs to go on.
+/// A point that a call has reached, before the events at that point. To go on, the call needs this place, its state,
+/// its buffer and its flags.
 #[derive(Clone, Copy, Debug, PartialEq, Eq)]
 pub struct Place {
     pub turn: Turn,
@@ -25,7 +25,7 @@ pub struct Place {
 }
 
 impl Place {
-    /// Another point of the attempt.
+    /// The place of another point in the same attempt.
     pub(crate) fn at(self, point: Point) -> Place
         ensures { result ≡ record self { point = point } }
     {

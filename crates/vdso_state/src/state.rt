@@ -17,8 +17,7 @@ const KEY_BYTES: usize = 32;
 const BLOCK_BYTES: usize = 64;
 
 /// The bytes that [`VState::pass`] skipped: the first `taken` bytes of `front`, which were in the batch, and then the
-/// stream of `key` from the block at which the pass began. `next_block` is the key's next block, after those of the new
-/// batch.
+/// stream of `key` from the block that the call of `pass` was given. `next_block` is the next block after the call.
 #[derive(Drop)]
 pub struct Passed {
     pub front: [u8; 96],
@@ -27,8 +26,8 @@ pub struct Passed {
     pub next_block: u64,
 }
 
-/// A vgetrandom state. Only the bytes of the batch from `pos` on can still be served. Those before `pos` were served
-/// and are 0, or were dropped when a new key came (`pos` is then 96).
+/// A vgetrandom state. Only the bytes of the batch from `pos` on can still be served. The bytes before `pos` were
+/// served and are 0, or were dropped when a new key came (`pos` is then 96).
 #[derive(Drop)]
 pub struct VState {
     pub(crate) batch: [u8; 96],
@@ -121,8 +120,8 @@ impl VState {
         self.in_use = false;
     }
 
-    /// Records the generation that the next key is read for. It is written before the key is read: memory that is wiped
-    /// in between has generation 0 again.
+    /// Records the generation that the next key is read for. The generation is written before the key is read, so
+    /// memory that is wiped in between has generation 0 again.
     pub fn begin_generation(&mut self, generation: u64)
         ensures { self.new ≡ record self.old { generation = generation } }
     {
@@ -180,11 +179,11 @@ impl VState {
     {
         let whole = out.len() / BLOCK_BYTES;
         let (blocks, front) = out.split_at_mut(whole * BLOCK_BYTES);
-        let behind = next_block + whole as u64;
+        let following = next_block + whole as u64;
         fill(&self.key, BLOCK_BYTES as u64 * next_block, blocks);
-        self.refill(behind);
+        self.refill(following);
         self.copy_from_batch(front);
-        behind + 2
+        following + 2
     }
 
     /// Skips bytes of the key's stream from the block `next_block` on, and changes the state as `copy_from_key` does.
@@ -194,15 +193,15 @@ impl VState {
         ensures state { self.new ≡ state_of_new_batch self.old (next_block + len / 64) (len % 64) }
         ensures next { result ≡ next_block + len / 64 + 2 }
     {
-        let behind = next_block + (len / BLOCK_BYTES) as u64;
-        self.refill(behind);
+        let following = next_block + (len / BLOCK_BYTES) as u64;
+        self.refill(following);
         let mut served = [0; BLOCK_BYTES];
         self.copy_from_batch(&mut served[..len % BLOCK_BYTES]);
-        behind + 2
+        following + 2
     }
 
     /// Copies bytes over all of `out`, those left in the batch first. The key's next block is `next_block`; the result
-    /// is the next block after the copy. Block and length are at most 2^20.
+    /// is the next block after the copy. `next_block` and the length of `out` are at most 2^20.
     pub fn copy(&mut self, next_block: u64, out: &mut [u8]) -> u64
         requires near { next_block ≤ 2 ^ 20 }
         requires short { length out.old ≤ 2 ^ 20 }
@@ -223,7 +222,7 @@ impl VState {
     }
 
     /// Skips the next `len` bytes, and changes the state as [`copy`](VState::copy) does. It makes no new bytes: the
-    /// result has only those left in the batch. Block and length are at most 2^20.
+    /// result has only the bytes that were left in the batch. `next_block` and `len` are at most 2^20.
     pub fn pass(&mut self, next_block: u64, len: u32) -> Passed
         requires near { next_block ≤ 2 ^ 20 }
         requires short { len ≤ 2 ^ 20 }

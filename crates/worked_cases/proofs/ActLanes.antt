@@ -1,12 +1,11 @@
--- For acts inside vgetrandom calls, the entries of the lanes, and the cases that they prove. The cases are about an
--- act's setting and its place in the order.
+-- For each case of specs/VreadActs, the entries of the lanes. With them the prover computes that the case holds.
 use Rattle.std.proofs.Common.{[], ◌∷◌, refl, Some, None}
 use Rattle.key_names.specs.declared.entries.Taken.TheVariants.{User}
 use Rattle.key_names.specs.declared.entries.PoolEntry.TheVariants.{Mix, Extract}
 use Rattle.key_names.specs.declared.entries.BaseEntry.TheVariants.{Reseed, Refill, Fork, End}
 use Rattle.key_names.specs.declared.entries.CpuEntry.TheVariants.{Read}
 use Rattle.worked_cases.specs.Runs.{Holds}
-use Rattle.worked_cases.specs.VreadActs.{act_has_the_cpu_of_its_read, act_stands_at_its_point, act_before_a_fork}
+use Rattle.worked_cases.specs.VreadActs.{act_has_the_cpu_of_its_read, act_conforms_at_its_point, act_before_a_fork}
 use Rattle.worked_cases.proofs.Verdicts.{Lanes, no_hardware}
 use Rattle.worked_cases.proofs.CaseVerdicts.{verdicts, holds}
 
@@ -21,16 +20,16 @@ pub act_has_the_cpu_of_its_read_holds : Holds act_has_the_cpu_of_its_read
 unfolding verdicts
 act_has_the_cpu_of_its_read_holds = holds act_has_the_cpu_of_its_read act_has_the_cpu_of_its_read_lanes refl
 
-abbrev act_stands_at_its_point_lanes : Lanes
-act_stands_at_its_point_lanes = record {
+abbrev act_conforms_at_its_point_lanes : Lanes
+act_conforms_at_its_point_lanes = record {
   pool = Mix [] 256 ∷ Extract no_hardware 0 ∷ [];
   base = Reseed 1 0 ∷ Refill 0 0 ∷ End ∷ [];
   cpus = (Read 1 (Some 1) (User 32) ∷ Read 1 None (User 8) ∷ []) ∷ [];
 }
 
-pub act_stands_at_its_point_holds : Holds act_stands_at_its_point
+pub act_conforms_at_its_point_holds : Holds act_conforms_at_its_point
 unfolding verdicts
-act_stands_at_its_point_holds = holds act_stands_at_its_point act_stands_at_its_point_lanes refl
+act_conforms_at_its_point_holds = holds act_conforms_at_its_point act_conforms_at_its_point_lanes refl
 
 abbrev act_before_a_fork_lanes : Lanes
 act_before_a_fork_lanes = record {

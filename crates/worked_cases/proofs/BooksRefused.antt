@@ -1,4 +1,4 @@
--- Why some books are refused.
+-- The books of specs/RefusedBooks are refused.
 use Rattle.std.proofs.Common.{◌≡◌, ◌≤◌, ℕ, List, refl, ap, inl, inr, arith, take, replicate, slice_get}
 use Rattle.std.specs.Option.{option_map_or}
 use Rattle.key_names.specs.declared.names.LaneId.TheVariants.{Base as BaseLane}

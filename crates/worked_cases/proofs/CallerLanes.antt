@@ -1,4 +1,4 @@
--- For runs of two callers, the entries of the lanes, and the cases that they prove.
+-- For each case of specs/ManyCallers, the entries of the lanes. With them the prover computes that the case holds.
 use Rattle.std.proofs.Common.{[], ◌∷◌, refl, Some, None}
 use Rattle.key_names.specs.declared.entries.Taken.TheVariants.{User}
 use Rattle.key_names.specs.declared.entries.PoolEntry.TheVariants.{Mix, Extract}

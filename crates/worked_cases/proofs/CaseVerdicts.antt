@@ -1,4 +1,4 @@
--- The verdicts on a worked case and on its near misses.
+-- A case holds if the verdicts computed for it and for its near misses are the expected numbers.
 use Rattle.std.proofs.Common.{◌≡◌, ℕ, List, [], ◌∷◌, map}
 use Rattle.std.specs.List.{AllByRecursion}
 use Rattle.key_names.specs.Transcripts.IsTranscript.{clause_number}

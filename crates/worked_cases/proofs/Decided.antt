@@ -5,7 +5,7 @@ use Rattle.std.specs.Prelude.{MatchBool}
 use Rattle.std.specs.List.{AllByRecursion}
 use Rattle.std.proofs.lemmas.Bool.Decides.{nat_tests}
 
--- P holds, or it does not
+-- `P` holds, or `P` does not hold
 pub data Decided (P : Type 0) : Type 0 where
   yes : P → Decided P
   no : (P → ⊥) → Decided P

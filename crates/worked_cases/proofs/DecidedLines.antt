@@ -11,7 +11,7 @@ use Rattle.key_names.specs.Transcripts.SeenLine.{SeenLine, Shown, no_data, bytes
 use Rattle.key_names.specs.Callers.Calls.{Call, alone, vread_call, unbound, ending, BoundAct}
 use Rattle.key_names.specs.Callers.Meaning.{LineMeaning, CallMeaning}
 use Rattle.key_names.specs.Transcripts.IsTranscript.{LineIs, LinesFit, EachCaller, HasLines, script_calls, EachAct, EachOfCall}
-use Rattle.key_names.specs.Transcripts.IsTranscript.{EachLine, AnswersStand, DataStand}
+use Rattle.key_names.specs.Transcripts.IsTranscript.{EachLine, AnswersConform, DataConform}
 use Rattle.transcript_text.proofs.NameTexts.{same_word, same_answer}
 use Rattle.worked_cases.proofs.Decided.{Decided, yes, no, both, likewise, same_number, same_bytes}
 
@@ -94,12 +94,12 @@ same_shown (bytes s) (count n) = no (bytes_not_count s n)
 same_shown (count m) no_data = no (λ e. not_count m (sym e))
 same_shown (count m) (bytes t) = no (λ e. bytes_not_count t m (sym e))
 
-abbrev pub answers_stand : (script : Script) (t : List (List SeenLine)) (ms : List (List CallMeaning)) →
-    Decided (AnswersStand script t ms)
-answers_stand script t ms =
+abbrev pub answers_conform : (script : Script) (t : List (List SeenLine)) (ms : List (List CallMeaning)) →
+    Decided (AnswersConform script t ms)
+answers_conform script t ms =
     each_caller (λ c. each_line (λ line m. same_answer_text line.answer m.answer)) 0 (script_calls script t) ms
 
-abbrev pub data_stand : (script : Script) (t : List (List SeenLine)) (ms : List (List CallMeaning)) →
-    Decided (DataStand script t ms)
-data_stand script t ms =
+abbrev pub data_conform : (script : Script) (t : List (List SeenLine)) (ms : List (List CallMeaning)) →
+    Decided (DataConform script t ms)
+data_conform script t ms =
     each_caller (λ c. each_line (λ line m. same_shown line.shown m.shown)) 0 (script_calls script t) ms

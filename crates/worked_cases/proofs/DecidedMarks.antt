@@ -10,17 +10,17 @@ use Rattle.key_names.specs.declared.names.LaneId.TheVariants.{Pool as PoolLane, 
 use Rattle.key_names.specs.declared.names.Mark.{Mark}
 use Rattle.key_names.specs.Lanes.BaseList.{base_after}
 use Rattle.key_names.specs.Lanes.Book.{Lists}
-use Rattle.key_names.specs.Callers.Deeds.{Deed, looked, at_pool, at_base, at_cpu, nothing_there, deeds_of}
-use Rattle.key_names.specs.Callers.History.{caller_orders, stamps_of, LookStands, LooksStand, seen}
+use Rattle.key_names.specs.Callers.Effects.{Effect, looked, at_pool, at_base, at_cpu, nothing_there, effects_of}
+use Rattle.key_names.specs.Callers.History.{caller_orders, stamps_of, LookConforms, LooksConform, seen}
 use Rattle.key_names.specs.Texts.ScriptGrammar.{Script}
 use Rattle.key_names.specs.Transcripts.SeenLine.{SeenLine}
-use Rattle.key_names.specs.Transcripts.IsTranscript.{MarkBy, PlacesStand, MarksStand, SeenStands, Rises, all_marks, lane_marks}
+use Rattle.key_names.specs.Transcripts.IsTranscript.{MarkBy, PlacesConform, MarksConform, SeenConforms, Rises, all_marks, lane_marks}
 use Rattle.key_names.specs.Transcripts.IsTranscript.{is_same_lane, script_calls}
 use Rattle.worked_cases.proofs.Decided.{Decided, yes, no, both, implied, likewise, each, found_by, same_number, at_most}
 use Rattle.worked_cases.proofs.Decided.{below}
 
-abbrev places_stand : (marks : List Mark) → Decided (PlacesStand marks)
-places_stand marks = likewise (λ h. record { once = h.0; rise = h.1 }) (λ p. (p.once, p.rise)) (both
+abbrev places_conform : (marks : List Mark) → Decided (PlacesConform marks)
+places_conform marks = likewise (λ h. record { once = h.0; rise = h.1 }) (λ p. (p.once, p.rise)) (both
     (each (λ place. same_number (count_by (λ mark. mark.place == place) marks) 1) (range_with_len 0 (length marks)))
     (each (λ a. each (λ b. implied (below a.place b.place) (below a.stamp b.stamp)) marks) marks))
 
@@ -75,26 +75,26 @@ cpu_bound (by ∷ marks) = max (of_lane by.mark.lane) (cpu_bound marks)
     of_lane BaseLane = 0
 
 pub by_lane : (marks : List MarkBy) (n : ℕ) → AllByRecursion (λ by. CpuBelow n by.mark.lane) marks →
-    PlacesStand (lane_marks PoolLane marks) → PlacesStand (lane_marks BaseLane marks) →
-    ((c : ℕ) → c < n → PlacesStand (lane_marks (CpuLane c) marks)) →
-    (lane : LaneId) → PlacesStand (lane_marks lane marks)
+    PlacesConform (lane_marks PoolLane marks) → PlacesConform (lane_marks BaseLane marks) →
+    ((c : ℕ) → c < n → PlacesConform (lane_marks (CpuLane c) marks)) →
+    (lane : LaneId) → PlacesConform (lane_marks lane marks)
 by_lane marks n all pool base cpus PoolLane = pool
 by_lane marks n all pool base cpus BaseLane = base
 by_lane marks n all pool base cpus (CpuLane c) = by (leb n c) refl
   where
-    by : (b : Bool) → leb n c ≡ b → PlacesStand (lane_marks (CpuLane c) marks)
+    by : (b : Bool) → leb n c ≡ b → PlacesConform (lane_marks (CpuLane c) marks)
     by true e = rw (no_marks n c marks all (let le : n ≤ c = grind (arith, nat_tests) in le))
         (record { once = tt; rise = tt })
     by false e = cpus c (let lt : c < n = grind (arith, nat_tests) in lt)
 
--- the answer for all lanes, if n is above the number of each CPU that has a mark; otherwise there is no answer
+-- the answer for all lanes, if `n` is above the number of each CPU that has a mark; otherwise there is no answer
 abbrev lanes_from : (marks : List MarkBy) (n : ℕ) → Decided (AllByRecursion (λ by. CpuBelow n by.mark.lane) marks) →
-    Option (Decided ((lane : LaneId) → PlacesStand (lane_marks lane marks)))
+    Option (Decided ((lane : LaneId) → PlacesConform (lane_marks lane marks)))
 lanes_from marks n (no p) = None
 lanes_from marks n (yes all) = Some (likewise (λ h. by_lane marks n all h.0 h.1.0 h.1.1)
     (λ f. (f PoolLane, (f BaseLane, λ c lt. f (CpuLane c))))
-    (both (places_stand (lane_marks PoolLane marks)) (both (places_stand (lane_marks BaseLane marks))
-    (each_below (λ c. PlacesStand (lane_marks (CpuLane c) marks)) (λ c. places_stand (lane_marks (CpuLane c) marks))
+    (both (places_conform (lane_marks PoolLane marks)) (both (places_conform (lane_marks BaseLane marks))
+    (each_below (λ c. PlacesConform (lane_marks (CpuLane c) marks)) (λ c. places_conform (lane_marks (CpuLane c) marks))
     n))))
 
 abbrev rises : (stamps : List ℕ) → Decided (Rises stamps)
@@ -102,8 +102,8 @@ rises [] = yes tt
 rises (a ∷ []) = yes tt
 rises (a ∷ b ∷ rest) = both (below a b) (rises (b ∷ rest))
 
-abbrev pub marks_stand : (script : Script) (t : List (List SeenLine)) → Option (Decided (MarksStand script t))
-marks_stand script t = found_by (λ lanes. likewise (λ h. record { lanes = h.0; callers = h.1 })
+abbrev pub marks_conform : (script : Script) (t : List (List SeenLine)) → Option (Decided (MarksConform script t))
+marks_conform script t = found_by (λ lanes. likewise (λ h. record { lanes = h.0; callers = h.1 })
     (λ m. (m.lanes, m.callers))
     (both lanes (each (λ order. rises (stamps_of order)) (caller_orders (script_calls script t)))))
     (lanes_from (all_marks t) (cpu_bound (all_marks t))
@@ -111,19 +111,19 @@ marks_stand script t = found_by (λ lanes. likewise (λ h. record { lanes = h.0;
 
 -- ---- looks
 
-abbrev look_stands : (reseeds before : ℕ) (deed : Deed) → Decided (LookStands reseeds before deed)
-look_stands reseeds before (looked g) = both (at_most before g) (at_most g reseeds)
-look_stands reseeds before (at_pool v) = yes tt
-look_stands reseeds before (at_base v) = yes tt
-look_stands reseeds before (at_cpu v) = yes tt
-look_stands reseeds before nothing_there = yes tt
+abbrev look_conforms : (reseeds before : ℕ) (effect : Effect) → Decided (LookConforms reseeds before effect)
+look_conforms reseeds before (looked g) = both (at_most before g) (at_most g reseeds)
+look_conforms reseeds before (at_pool v) = yes tt
+look_conforms reseeds before (at_base v) = yes tt
+look_conforms reseeds before (at_cpu v) = yes tt
+look_conforms reseeds before nothing_there = yes tt
 
-abbrev looks_stand : (reseeds : ℕ) (before deeds : List Deed) → Decided (LooksStand reseeds before deeds)
-looks_stand reseeds before [] = yes tt
-looks_stand reseeds before (deed ∷ deeds) =
-    both (look_stands reseeds (seen before) deed) (looks_stand reseeds (before ++ deed ∷ []) deeds)
+abbrev looks_conform : (reseeds : ℕ) (before effects : List Effect) → Decided (LooksConform reseeds before effects)
+looks_conform reseeds before [] = yes tt
+looks_conform reseeds before (effect ∷ effects) =
+    both (look_conforms reseeds (seen before) effect) (looks_conform reseeds (before ++ effect ∷ []) effects)
 
-abbrev pub seen_stands : (script : Script) (t : List (List SeenLine)) (lists : Lists) →
-    Decided (SeenStands script t lists)
-seen_stands script t lists = each (λ order. looks_stand (base_after lists.base).generation [] (deeds_of lists order))
+abbrev pub seen_conforms : (script : Script) (t : List (List SeenLine)) (lists : Lists) →
+    Decided (SeenConforms script t lists)
+seen_conforms script t lists = each (λ order. looks_conform (base_after lists.base).generation [] (effects_of lists order))
     (caller_orders (script_calls script t))

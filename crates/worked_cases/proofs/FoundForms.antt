@@ -1,4 +1,5 @@
--- The form of a line is found from the deeds of its steps.
+-- Computes a proof that the effects of a line's steps are a form of the line's event. The result is none if no form is
+-- found.
 use Rattle.std.proofs.Common.{◌≡◌, ℕ, Bool, true, false, Option, Some, None, List, [], ◌∷◌, refl, ◌==◌}
 use Rattle.std.specs.Prelude.{not, ◌&&◌}
 use Rattle.key_names.specs.declared.entries.Taken.{Taken}
@@ -20,7 +21,7 @@ use Rattle.key_names.specs.declared.events.Event.TheVariants.{Vmfork}
 use Rattle.key_names.specs.Lanes.PoolList.{Crossing, crossing, ready, early, none}
 use Rattle.key_names.specs.Kernel.Flags.{is_bad, is_nonblock, is_insecure}
 use Rattle.key_names.specs.Callers.Calls.{Setting}
-use Rattle.key_names.specs.Callers.Deeds.{Deed, looked, at_pool, at_base, at_cpu}
+use Rattle.key_names.specs.Callers.Effects.{Effect, looked, at_pool, at_base, at_cpu}
 use Rattle.key_names.specs.Callers.Forms.{Form, EndForm, Rooted, BaseOnly, Cross, DrawForm, PlainRead, RefilledRead}
 use Rattle.key_names.specs.Callers.Forms.{CpuReadForm, Looked, ReadForm, WaitedInVain, Waited, LookedForm, SysForm, CreditForm}
 use Rattle.key_names.specs.Callers.Forms.{PoolOnly, Stalled, DumpForm, IrqForm, CpuOnly, BatchForm, RefilledBatch, IntForm}
@@ -29,73 +30,73 @@ use Rattle.worked_cases.proofs.Decided.{found, found_by, found_both, found_three
 use Rattle.worked_cases.proofs.Decided.{same_number, at_most}
 use Rattle.worked_cases.proofs.SameEntries.{same_pool, same_base, same_cpu}
 
-abbrev pub no_steps : (deeds : List Deed) → Option (deeds ≡ [])
+abbrev pub no_steps : (effects : List Effect) → Option (effects ≡ [])
 no_steps [] = Some refl
-no_steps (deed ∷ deeds) = None
+no_steps (effect ∷ effects) = None
 
-abbrev rooted : (set : Setting) (entry : ℕ → BaseEntry) (deeds : List Deed) → Option (Rooted set entry deeds)
+abbrev rooted : (set : Setting) (entry : ℕ → BaseEntry) (effects : List Effect) → Option (Rooted set entry effects)
 rooted set entry (at_pool p ∷ at_base b ∷ []) =
-    found_both (λ e n. record { pool = p; base = b; deeds_are = refl; extracts = e; names = n })
+    found_both (λ e n. record { pool = p; base = b; effects_are = refl; extracts = e; names = n })
     (same_pool p.entry (Extract set.hw b.place)) (same_base b.entry (entry p.place))
 rooted set entry _ = None
 
-abbrev base_only : (entry : BaseEntry) (deeds : List Deed) → Option (BaseOnly entry deeds)
-base_only entry (at_base b ∷ []) = found_by (λ e. record { base = b; deeds_are = refl; is = e })
+abbrev base_only : (entry : BaseEntry) (effects : List Effect) → Option (BaseOnly entry effects)
+base_only entry (at_base b ∷ []) = found_by (λ e. record { base = b; effects_are = refl; is = e })
     (same_base b.entry entry)
 base_only entry _ = None
 
-abbrev pool_only : (entry : PoolEntry) (deeds : List Deed) → Option (PoolOnly entry deeds)
-pool_only entry (at_pool p ∷ []) = found_by (λ e. record { pool = p; deeds_are = refl; is = e })
+abbrev pool_only : (entry : PoolEntry) (effects : List Effect) → Option (PoolOnly entry effects)
+pool_only entry (at_pool p ∷ []) = found_by (λ e. record { pool = p; effects_are = refl; is = e })
     (same_pool p.entry entry)
 pool_only entry _ = None
 
-abbrev cross_found : (set : Setting) (c : Crossing) (deeds : List Deed) → Option (Cross set c deeds)
-cross_found set none deeds = no_steps deeds
-cross_found set ready deeds = rooted set (λ r. Reseeded r set.now) deeds
-cross_found set early deeds = first_found (rooted set (λ r. Early (Some r)) deeds) (base_only (Early None) deeds)
+abbrev cross_found : (set : Setting) (c : Crossing) (effects : List Effect) → Option (Cross set c effects)
+cross_found set none effects = no_steps effects
+cross_found set ready effects = rooted set (λ r. Reseeded r set.now) effects
+cross_found set early effects = first_found (rooted set (λ r. Early (Some r)) effects) (base_only (Early None) effects)
 
-abbrev draw_found : (set : Setting) (taken : Taken) (deeds : List Deed) → Option (DrawForm set taken deeds)
-draw_found set taken deeds = first_found (rooted set (λ r. Draw (Some r) taken) deeds)
-    (base_only (Draw None taken) deeds)
+abbrev draw_found : (set : Setting) (taken : Taken) (effects : List Effect) → Option (DrawForm set taken effects)
+draw_found set taken effects = first_found (rooted set (λ r. Draw (Some r) taken) effects)
+    (base_only (Draw None taken) effects)
 
-abbrev plain_read : (set : Setting) (taken : Taken) (deeds : List Deed) → Option (PlainRead set taken deeds)
+abbrev plain_read : (set : Setting) (taken : Taken) (effects : List Effect) → Option (PlainRead set taken effects)
 plain_read set taken (looked g ∷ at_cpu v ∷ []) =
-    found_both (λ on e. record { look = g; cpu = v; deeds_are = refl; on = on; reads = e })
+    found_both (λ on e. record { look = g; cpu = v; effects_are = refl; on = on; reads = e })
     (found (same_number v.cpu set.cpu)) (same_cpu v.entry (CpuRead g None taken))
 plain_read set taken _ = None
 
-abbrev refilled_read : (set : Setting) (taken : Taken) (deeds : List Deed) → Option (RefilledRead set taken deeds)
+abbrev refilled_read : (set : Setting) (taken : Taken) (effects : List Effect) → Option (RefilledRead set taken effects)
 refilled_read set taken (looked g ∷ at_base b ∷ at_cpu v ∷ []) =
-    found_three (λ on r e. record { look = g; base = b; cpu = v; deeds_are = refl; on = on; refills = r; reads = e })
+    found_three (λ on r e. record { look = g; base = b; cpu = v; effects_are = refl; on = on; refills = r; reads = e })
     (found (same_number v.cpu set.cpu)) (same_base b.entry (Refill set.cpu v.place))
     (same_cpu v.entry (CpuRead g (Some b.place) taken))
 refilled_read set taken _ = None
 
-abbrev pub cpu_read : (set : Setting) (taken : Taken) (deeds : List Deed) → Option (CpuReadForm set taken deeds)
-cpu_read set taken deeds = first_found (plain_read set taken deeds) (refilled_read set taken deeds)
+abbrev pub cpu_read : (set : Setting) (taken : Taken) (effects : List Effect) → Option (CpuReadForm set taken effects)
+cpu_read set taken effects = first_found (plain_read set taken effects) (refilled_read set taken effects)
 
-abbrev behind_look : {P : ℕ → List Deed → Type 0} → ((g : ℕ) (rest : List Deed) → Option (P g rest)) →
-    (deeds : List Deed) → Option (Looked P deeds)
-behind_look d (looked g ∷ rest) = found_by (λ p. (g, rest, refl, p)) (d g rest)
-behind_look d _ = None
+abbrev after_look : {P : ℕ → List Effect → Type 0} → ((g : ℕ) (rest : List Effect) → Option (P g rest)) →
+    (effects : List Effect) → Option (Looked P effects)
+after_look d (looked g ∷ rest) = found_by (λ p. (g, rest, refl, p)) (d g rest)
+after_look d _ = None
 
-abbrev read_found : (set : Setting) (taken : Taken) (g : ℕ) (rest : List Deed) → Option (ReadForm set taken g rest)
+abbrev read_found : (set : Setting) (taken : Taken) (g : ℕ) (rest : List Effect) → Option (ReadForm set taken g rest)
 read_found set taken g rest =
     first_found (found_pair (found (same_number g 0)) (draw_found set taken rest)) (cpu_read set taken rest)
 
-abbrev in_vain : (deeds : List Deed) → Option (WaitedInVain deeds)
+abbrev in_vain : (effects : List Effect) → Option (WaitedInVain effects)
 in_vain (at_base w ∷ at_base i ∷ []) =
-    found_both (λ p q. record { wait = w; interrupt = i; deeds_are = refl; waits = p; interrupts = q })
+    found_both (λ p q. record { wait = w; interrupt = i; effects_are = refl; waits = p; interrupts = q })
     (same_base w.entry Wait) (same_base i.entry Interrupt)
 in_vain _ = None
 
-abbrev waited : (set : Setting) (n : ℕ) (deeds : List Deed) → Option (Waited set n deeds)
+abbrev waited : (set : Setting) (n : ℕ) (effects : List Effect) → Option (Waited set n effects)
 waited set n (at_base w ∷ at_base r ∷ rest) =
     found_three (λ p q c. record {
       wait = w;
       resume = r;
       rest = rest;
-      deeds_are = refl;
+      effects_are = refl;
       waits = p;
       resumes = q;
       reads = c;
@@ -104,27 +105,27 @@ waited set n (at_base w ∷ at_base r ∷ rest) =
     (found_test (n == 0) (no_steps rest) (cpu_read set (User n) rest))
 waited set n _ = None
 
-abbrev pub system_call_found : (set : Setting) (n flags : ℕ) (deeds : List Deed) → Option (SysForm set n flags deeds)
-system_call_found set n flags deeds = found_test (is_bad flags) (no_steps deeds) (behind_look looked_found deeds)
+abbrev pub system_call_found : (set : Setting) (n flags : ℕ) (effects : List Effect) → Option (SysForm set n flags effects)
+system_call_found set n flags effects = found_test (is_bad flags) (no_steps effects) (after_look looked_found effects)
   where
-    looked_found : (g : ℕ) (rest : List Deed) → Option (LookedForm set n flags g rest)
+    looked_found : (g : ℕ) (rest : List Effect) → Option (LookedForm set n flags g rest)
     looked_found g rest = found_test (g == 0 && not (is_insecure flags))
         (found_test (is_nonblock flags) (no_steps rest) (first_found (in_vain rest) (waited set n rest)))
         (found_test (n == 0) (no_steps rest) (read_found set (User n) g rest))
 
-abbrev credit_found : (set : Setting) (entry : PoolEntry) (deeds : List Deed) → Option (CreditForm set entry deeds)
+abbrev credit_found : (set : Setting) (entry : PoolEntry) (effects : List Effect) → Option (CreditForm set entry effects)
 credit_found set entry (at_pool p ∷ rest) =
-    found_both (λ e c. record { pool = p; rest = rest; deeds_are = refl; credits = e; crosses = c })
+    found_both (λ e c. record { pool = p; rest = rest; effects_are = refl; credits = e; crosses = c })
     (same_pool p.entry entry) (cross_found set (crossing p.before.bits p.after.bits) rest)
 credit_found set entry _ = None
 
-abbrev stalled : (child : ℕ) (deeds : List Deed) → Option (Stalled child deeds)
+abbrev stalled : (child : ℕ) (effects : List Effect) → Option (Stalled child effects)
 stalled child (at_base f ∷ at_base s ∷ at_base u ∷ []) =
     found_three (λ p q r. record {
       fork = f;
       stall = s;
       unstall = u;
-      deeds_are = refl;
+      effects_are = refl;
       forks = p;
       stalls = q;
       unstalls = r;
@@ -137,19 +138,19 @@ abbrev mix_of : PoolEntry → List ℕ × ℕ
 mix_of (Mix text bits) = (text, bits)
 mix_of _ = ([], 0)
 
-abbrev mix_behind : List Deed → List ℕ × ℕ
-mix_behind (at_pool p ∷ rest) = mix_of p.entry
-mix_behind _ = ([], 0)
+abbrev mix_after : List Effect → List ℕ × ℕ
+mix_after (at_pool p ∷ rest) = mix_of p.entry
+mix_after _ = ([], 0)
 
-abbrev dump_found : (set : Setting) (deeds : List Deed) → Option (DumpForm set deeds)
+abbrev dump_found : (set : Setting) (effects : List Effect) → Option (DumpForm set effects)
 dump_found set (at_cpu d ∷ rest) =
-    let mix = mix_behind rest in
+    let mix = mix_after rest in
     found_three (λ on e m. record {
       dump = d;
       text = mix.0;
       bits = mix.1;
       rest = rest;
-      deeds_are = refl;
+      effects_are = refl;
       on = on;
       dumps = e;
       mixes = m;
@@ -158,16 +159,16 @@ dump_found set (at_cpu d ∷ rest) =
     (credit_found set (Mix mix.0 mix.1) rest)
 dump_found set _ = None
 
-abbrev irq_found : (set : Setting) (v1 v2 : ℕ) (deeds : List Deed) → Option (IrqForm set v1 v2 deeds)
+abbrev irq_found : (set : Setting) (v1 v2 : ℕ) (effects : List Effect) → Option (IrqForm set v1 v2 effects)
 irq_found set v1 v2 (at_cpu s ∷ rest) =
-    found_three (λ on e d. record { sample = s; rest = rest; deeds_are = refl; on = on; samples = e; dumps = d })
+    found_three (λ on e d. record { sample = s; rest = rest; effects_are = refl; on = on; samples = e; dumps = d })
     (found (same_number s.cpu set.cpu)) (same_cpu s.entry (IrqSample v1 v2 set.now))
     (first_found (no_steps rest) (dump_found set rest))
 irq_found set v1 v2 _ = None
 
-abbrev cpu_only : (cpu : ℕ) (entry : CpuEntry) (deeds : List Deed) → Option (CpuOnly cpu entry deeds)
+abbrev cpu_only : (cpu : ℕ) (entry : CpuEntry) (effects : List Effect) → Option (CpuOnly cpu entry effects)
 cpu_only cpu entry (at_cpu v ∷ []) =
-    found_both (λ on e. record { visit = v; deeds_are = refl; on = on; is = e })
+    found_both (λ on e. record { visit = v; effects_are = refl; on = on; is = e })
     (found (same_number v.cpu cpu)) (same_cpu v.entry entry)
 cpu_only cpu entry _ = None
 
@@ -175,66 +176,66 @@ abbrev fills_of : CpuEntry → Bool
 fills_of (Int look refill width filled) = filled
 fills_of _ = false
 
-abbrev batch_found : (set : Setting) (width : ℕ) (deeds : List Deed) → Option (BatchForm set width deeds)
+abbrev batch_found : (set : Setting) (width : ℕ) (effects : List Effect) → Option (BatchForm set width effects)
 batch_found set width (looked g ∷ at_cpu v ∷ []) =
-    found_both (λ on e. record { look = g; cpu = v; filled = fills_of v.entry; deeds_are = refl; on = on; serves = e })
+    found_both (λ on e. record { look = g; cpu = v; filled = fills_of v.entry; effects_are = refl; on = on; serves = e })
     (found (same_number v.cpu set.cpu)) (same_cpu v.entry (Int g None width (fills_of v.entry)))
 batch_found set width _ = None
 
-abbrev refilled_batch : (set : Setting) (width : ℕ) (deeds : List Deed) → Option (RefilledBatch set width deeds)
+abbrev refilled_batch : (set : Setting) (width : ℕ) (effects : List Effect) → Option (RefilledBatch set width effects)
 refilled_batch set width (looked g ∷ at_base b ∷ at_cpu v ∷ []) =
-    found_three (λ on r e. record { look = g; base = b; cpu = v; deeds_are = refl; on = on; refills = r; serves = e })
+    found_three (λ on r e. record { look = g; base = b; cpu = v; effects_are = refl; on = on; refills = r; serves = e })
     (found (same_number v.cpu set.cpu)) (same_base b.entry (Refill set.cpu v.place))
     (same_cpu v.entry (Int g (Some b.place) width true))
 refilled_batch set width _ = None
 
-abbrev int_found : (set : Setting) (width g : ℕ) (rest : List Deed) → Option (IntForm set width g rest)
+abbrev int_found : (set : Setting) (width g : ℕ) (rest : List Effect) → Option (IntForm set width g rest)
 int_found set width g rest = first_found
     (found_pair (found (same_number g 0)) (first_found (draw_found set (Kernel width) rest)
     (cpu_read set (Kernel width) rest)))
     (found_pair (found (at_most 1 g)) (first_found (batch_found set width rest) (refilled_batch set width rest)))
 
-abbrev reseed_found : (set : Setting) (g : ℕ) (rest : List Deed) → Option (ReseedForm set g rest)
+abbrev reseed_found : (set : Setting) (g : ℕ) (rest : List Effect) → Option (ReseedForm set g rest)
 reseed_found set g rest = first_found
     (found_pair (found (same_number g 0)) (no_steps rest))
     (found_pair (found (at_most 1 g)) (rooted set (λ r. Reseeded r set.now) rest))
 
-abbrev vmfork_found : (set : Setting) (word : ℕ) (text : List ℕ) (deeds : List Deed) →
-    Option (VmforkForm set word text deeds)
+abbrev vmfork_found : (set : Setting) (word : ℕ) (text : List ℕ) (effects : List Effect) →
+    Option (VmforkForm set word text effects)
 vmfork_found set word text (at_pool p ∷ rest) =
-    found_both (λ e r. record { pool = p; rest = rest; deeds_are = refl; mixes = e; reseeds = r })
-    (same_pool p.entry (device_entry word text)) (behind_look (reseed_found set) rest)
+    found_both (λ e r. record { pool = p; rest = rest; effects_are = refl; mixes = e; reseeds = r })
+    (same_pool p.entry (device_entry word text)) (after_look (reseed_found set) rest)
 vmfork_found set word text _ = None
 
--- the form of a single event
-abbrev pub form_found : (set : Setting) (event : Event) (deeds : List Deed) → Option (Form set event deeds)
-form_found set (Write text) deeds = pool_only (Mix text 0) deeds
-form_found set (Device word text) deeds = pool_only (device_entry word text) deeds
-form_found set Bits deeds = pool_only ReadBits deeds
-form_found set (Add text bits) deeds = credit_found set (Mix text bits) deeds
-form_found set (Credit bits) deeds = credit_found set (Mix [] bits) deeds
-form_found set (Input word kind code value) deeds = credit_found set (InputSample word kind code value set.now) deeds
-form_found set (Kread len) deeds = found_test (len == 0) (no_steps deeds)
-    (behind_look (read_found set (Kernel len)) deeds)
-form_found set (Uread len) deeds = found_test (len == 0) (no_steps deeds)
-    (behind_look (read_found set (User len)) deeds)
-form_found set (Read len flags) deeds = system_call_found set len flags deeds
-form_found set (Dread len flag) deeds = system_call_found set len flag deeds
-form_found set Int8 deeds = behind_look (int_found set 1) deeds
-form_found set Int16 deeds = behind_look (int_found set 2) deeds
-form_found set Int32 deeds = behind_look (int_found set 4) deeds
-form_found set Int64 deeds = behind_look (int_found set 8) deeds
-form_found set Reseed deeds = behind_look (reseed_found set) deeds
-form_found set Tick deeds = first_found (base_only (Ticked set.now None) deeds)
-    (rooted set (λ r. Ticked set.now (Some r)) deeds)
-form_found set (Fork child) deeds = first_found (base_only (Forked child) deeds) (stalled child deeds)
-form_found set (Prepare cpu) deeds = cpu_only cpu Prepared deeds
-form_found set (Online cpu) deeds = cpu_only cpu Onlined deeds
-form_found set (Vmfork word text) deeds = vmfork_found set word text deeds
-form_found set (Irq v1 v2) deeds = irq_found set v1 v2 deeds
-form_found set (Vread len flags) deeds = None
-form_found set (Inside point act) deeds = None
-form_found set _ deeds = no_steps deeds
+-- a proof that the effects are a form of this event, or none
+abbrev pub form_found : (set : Setting) (event : Event) (effects : List Effect) → Option (Form set event effects)
+form_found set (Write text) effects = pool_only (Mix text 0) effects
+form_found set (Device word text) effects = pool_only (device_entry word text) effects
+form_found set Bits effects = pool_only ReadBits effects
+form_found set (Add text bits) effects = credit_found set (Mix text bits) effects
+form_found set (Credit bits) effects = credit_found set (Mix [] bits) effects
+form_found set (Input word kind code value) effects = credit_found set (InputSample word kind code value set.now) effects
+form_found set (Kread len) effects = found_test (len == 0) (no_steps effects)
+    (after_look (read_found set (Kernel len)) effects)
+form_found set (Uread len) effects = found_test (len == 0) (no_steps effects)
+    (after_look (read_found set (User len)) effects)
+form_found set (Read len flags) effects = system_call_found set len flags effects
+form_found set (Dread len flag) effects = system_call_found set len flag effects
+form_found set Int8 effects = after_look (int_found set 1) effects
+form_found set Int16 effects = after_look (int_found set 2) effects
+form_found set Int32 effects = after_look (int_found set 4) effects
+form_found set Int64 effects = after_look (int_found set 8) effects
+form_found set Reseed effects = after_look (reseed_found set) effects
+form_found set Tick effects = first_found (base_only (Ticked set.now None) effects)
+    (rooted set (λ r. Ticked set.now (Some r)) effects)
+form_found set (Fork child) effects = first_found (base_only (Forked child) effects) (stalled child effects)
+form_found set (Prepare cpu) effects = cpu_only cpu Prepared effects
+form_found set (Online cpu) effects = cpu_only cpu Onlined effects
+form_found set (Vmfork word text) effects = vmfork_found set word text effects
+form_found set (Irq v1 v2) effects = irq_found set v1 v2 effects
+form_found set (Vread len flags) effects = None
+form_found set (Inside point act) effects = None
+form_found set _ effects = no_steps effects
 
-abbrev pub end_form : (deeds : List Deed) → Option (EndForm deeds)
-end_form deeds = base_only End deeds
+abbrev pub end_form : (effects : List Effect) → Option (EndForm effects)
+end_form effects = base_only End effects

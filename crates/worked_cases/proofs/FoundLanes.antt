@@ -1,4 +1,4 @@
--- By computing, the lanes' lists are found to be lawful.
+-- Computes a proof that the lanes' lists are lawful. The result is none if no proof is found.
 use Rattle.std.proofs.Common.{◌≡◌, ◌≢◌, ◌↔◌, ℕ, zero, suc, false, Option, Some, None, List, [], ◌∷◌, refl, ap, subst}
 use Rattle.std.proofs.Common.{slice_get}
 use Rattle.std.specs.Prelude.{option_and_then}
@@ -10,10 +10,10 @@ use Rattle.key_names.specs.declared.entries.CpuEntry.{CpuEntry}
 use Rattle.key_names.specs.declared.entries.CpuEntry.TheVariants.{Read, Int, Irq, Dump, Prepare, Online}
 use Rattle.key_names.specs.Lanes.LawfulList.{LawfulFrom}
 use Rattle.key_names.specs.Lanes.PoolList.{extraction_at, base_place_of}
-use Rattle.key_names.specs.Lanes.BaseList.{Phase, empty, early, ready, BaseState, BaseFits, LawfulBase, RootStands, IsDue}
+use Rattle.key_names.specs.Lanes.BaseList.{Phase, empty, early, ready, BaseState, BaseFits, LawfulBase, RootConforms, IsDue}
 use Rattle.key_names.specs.Lanes.BaseList.{base_step, base_start, root_of, root_at, refill_of, refill_at, generation_at}
 use Rattle.key_names.specs.Kernel.Batches.{must_fill}
-use Rattle.key_names.specs.Lanes.CpuList.{CpuState, CpuFits, LawfulCpu, LookFitsCpu, RefillNames, RefillStands, cpu_step}
+use Rattle.key_names.specs.Lanes.CpuList.{CpuState, CpuFits, LawfulCpu, LookFitsCpu, RefillNames, RefillConforms, cpu_step}
 use Rattle.key_names.specs.Lanes.CpuList.{cpu_start, base_refill_at}
 use Rattle.key_names.specs.Lanes.Book.{Lists, LawfulLanes, ExtractionAnswered, RefillAnswered, cpu_list, list_at}
 use Rattle.worked_cases.proofs.Decided.{Decided, yes, no, both, either, negated, likewise, found, found_by, found_both}
@@ -65,7 +65,7 @@ base_fits s Interrupt = found (both (same_number s.generation 0) (same_number s.
 base_fits s Stall = Some tt
 base_fits s Unstall = Some tt
 
-abbrev root_found : (pool : List PoolEntry) (s : BaseState) (root : Option ℕ) → Option (RootStands pool s root)
+abbrev root_found : (pool : List PoolEntry) (s : BaseState) (root : Option ℕ) → Option (RootConforms pool s root)
 root_found pool s None = Some tt
 root_found pool s (Some r) =
     found (both (at_most s.roots r) (same_option same_number (extraction_at pool r) (Some s.place)))
@@ -116,17 +116,17 @@ refill_names base c place look None = Some tt
 refill_names base c place look (Some b) =
     found (both (same_option same_place (refill_at base b) (Some (c, place))) (at_most look (generation_at base b)))
 
-abbrev refill_stands : (base : List BaseEntry) (c place : ℕ) (e : CpuEntry) → Option (RefillStands base c place e)
-refill_stands base c place (Read look refill taken) = refill_names base c place look refill
-refill_stands base c place (Int look refill width filled) = refill_names base c place look refill
-refill_stands base c place (Irq v1 v2 now) = Some tt
-refill_stands base c place (Dump now) = Some tt
-refill_stands base c place Prepare = Some tt
-refill_stands base c place Online = Some tt
+abbrev refill_conforms : (base : List BaseEntry) (c place : ℕ) (e : CpuEntry) → Option (RefillConforms base c place e)
+refill_conforms base c place (Read look refill taken) = refill_names base c place look refill
+refill_conforms base c place (Int look refill width filled) = refill_names base c place look refill
+refill_conforms base c place (Irq v1 v2 now) = Some tt
+refill_conforms base c place (Dump now) = Some tt
+refill_conforms base c place Prepare = Some tt
+refill_conforms base c place Online = Some tt
 
 abbrev cpu_found : (base : List BaseEntry) (c : ℕ) (es : List CpuEntry) → Option (LawfulCpu base c es)
 cpu_found base c es = list_found (cpu_step base c)
-    (λ s e. found_both (λ f r. record { fits = f; refill = r }) (cpu_fits s e) (refill_stands base c s.place e))
+    (λ s e. found_both (λ f r. record { fits = f; refill = r }) (cpu_fits s e) (refill_conforms base c s.place e))
     cpu_start es
 
 -- ---- all lanes
@@ -136,7 +136,7 @@ pub at_number : {E : Type 0} (P : ℕ → List E → Type 0) (es : List E) (list
 at_number P es lists here later zero = here
 at_number P es lists here later (suc c) = later c
 
--- P holds for each list and its number, and for the empty lists after the last one
+-- `P` holds of each list with the list's number, and of the empty list with each later number
 abbrev pub each_list : {E : Type 0} (P : ℕ → List E → Type 0) → ((c : ℕ) → P c []) →
     ((c : ℕ) (es : List E) → Option (P c es)) →
     (lists : List (List E)) → Option ((c : ℕ) → P c (list_at lists c))
@@ -163,7 +163,7 @@ abbrev named : {N : Type 0} (Q : N → Type 0) → ((n : N) → Option (Q n)) �
 named Q d None = Some (λ n e. absurd (none_is_not_some n e))
 named Q d (Some m) = found_by (λ q n e. at_name Q m n q e) (d m)
 
--- Q holds for each name that an entry contains, and the entry's place
+-- `Q` holds of each entry's place and the name that the entry contains, if it contains one
 abbrev pub each_name : {E N : Type 0} (name : E → Option N) (Q : ℕ → N → Type 0) → ((p : ℕ) (n : N) → Option (Q p n)) →
     (es : List E) → Option ((p : ℕ) (n : N) → option_and_then name (slice_get es p) ≡ Some n → Q p n)
 each_name name Q d [] = Some (λ p n e. absurd (no_entry name p n e))

@@ -1,4 +1,4 @@
--- By computing, the samples of a book are found to be lawful.
+-- Computes a proof that the samples of a book are lawful. The result is none if no proof is found.
 use Rattle.std.proofs.Common.{◌≡◌, ◌<◌, ℕ, zero, suc, true, Option, Some, None, List, [], ◌∷◌, refl, sym, ◌∙◌, ap}
 use Rattle.std.proofs.Common.{slice_get}
 use Rattle.std.specs.Prelude.{option_and_then}
@@ -36,7 +36,7 @@ same_event a b = both (same_number a.caller b.caller) (same_number a.event b.eve
 
 -- ---- places of a list
 
--- R holds for each place and its entry
+-- `R` holds of each place and the entry at that place
 abbrev EachAt : {E : Type 0} → (ℕ → E → Type 0) → List E → Type 0
 EachAt {E} R es = (k : ℕ) (e : E) → option_and_then Some (slice_get es k) ≡ Some e → R k e
 
@@ -44,7 +44,7 @@ abbrev each_at : {E : Type 0} (R : ℕ → E → Type 0) → ((k : ℕ) (e : E) 
     Option (EachAt R es)
 each_at R d es = each_name Some R d es
 
--- a place and an entry for which R holds
+-- a place of the list, and the entry there; `R` holds of the two
 pub record Place {E : Type 0} (R : ℕ → E → Type 0) (es : List E) : Type 0 where
   pub at : ℕ
   pub entry : E
@@ -72,13 +72,13 @@ found_if (no p) o = Some (λ h. absurd (p h))
 abbrev Visits : Type 0
 Visits = List (Visit CpuEntry)
 
--- the same event made a dump due at an earlier place, or dumped at a later one
+-- at a place before `k`, the same event made a dump due; for `DumpAfter`, at a later place the same event dumped
 abbrev DueBefore : Visits → ℕ → Who → Type 0
 DueBefore visits k who =
     Place (λ i v. (i < k) × (SameEvent v.who who × MakesDue (fast_before visits i) v.entry)) visits
 
-abbrev DumpBehind : Visits → ℕ → Who → Type 0
-DumpBehind visits i who = Place (λ k v. (i < k) × (SameEvent v.who who × IsDump v.entry)) visits
+abbrev DumpAfter : Visits → ℕ → Who → Type 0
+DumpAfter visits i who = Place (λ k v. (i < k) × (SameEvent v.who who × IsDump v.entry)) visits
 
 abbrev OneDump : Visits → ℕ → Who → Type 0
 OneDump visits k who = EachAt (λ j v. SameEvent v.who who × IsDump v.entry → j ≡ k) visits
@@ -89,15 +89,15 @@ Mixed pool f who = Place (λ p v. SameEvent v.who who × (v.entry ≡ Mix (dump_
 abbrev SaysDump : FastPool → PoolEntry → Type 0
 SaysDump f e = (text : List ℕ) (bits : ℕ) → e ≡ Mix text bits → (text ≡ dump_bytes f) × (bits ≡ dump_bits f)
 
-pub record DumpStands (pool : List (Visit PoolEntry)) (visits : Visits) (k : ℕ) (who : Who) : Type 0 where
+pub record DumpConforms (pool : List (Visit PoolEntry)) (visits : Visits) (k : ℕ) (who : Who) : Type 0 where
   pub due : DueBefore visits k who
   pub one : OneDump visits k who
   pub mixed : Mixed pool (fast_before visits k) who
   pub no_other : EachAt (λ p v. SameEvent v.who who → SaysDump (fast_before visits k) v.entry) pool
 
-pub record CpuStands (pool : List (Visit PoolEntry)) (visits : Visits) : Type 0 where
-  pub dumps : EachAt (λ k v. IsDump v.entry → DumpStands pool visits k v.who) visits
-  pub dues : EachAt (λ i v. MakesDue (fast_before visits i) v.entry → DumpBehind visits i v.who) visits
+pub record CpuConforms (pool : List (Visit PoolEntry)) (visits : Visits) : Type 0 where
+  pub dumps : EachAt (λ k v. IsDump v.entry → DumpConforms pool visits k v.who) visits
+  pub dues : EachAt (λ i v. MakesDue (fast_before visits i) v.entry → DumpAfter visits i v.who) visits
 
 pub says_mix : (f : FastPool) (s : List ℕ) (n : ℕ) → s ≡ dump_bytes f → n ≡ dump_bits f → SaysDump f (Mix s n)
 says_mix f s n p q text bits e = (let same : s ≡ text = cc in sym same ∙ p, let same : n ≡ bits = cc in sym same ∙ q)
@@ -118,9 +118,9 @@ says_dump f (Input a b c d n) = Some (says_no_input f a b c d n)
 says_dump f Bits = Some (says_no_bits f)
 says_dump f (Extract hw place) = Some (says_no_extract f hw place)
 
-abbrev dump_stands : (pool : List (Visit PoolEntry)) (visits : Visits) (k : ℕ) (who : Who) →
-    Option (DumpStands pool visits k who)
-dump_stands pool visits k who = found_both (λ d m. record { due = d.0; one = d.1; mixed = m.0; no_other = m.1 })
+abbrev dump_conforms : (pool : List (Visit PoolEntry)) (visits : Visits) (k : ℕ) (who : Who) →
+    Option (DumpConforms pool visits k who)
+dump_conforms pool visits k who = found_both (λ d m. record { due = d.0; one = d.1; mixed = m.0; no_other = m.1 })
     (found_pair
     (some_at (λ i v. (i < k) × (SameEvent v.who who × MakesDue (fast_before visits i) v.entry))
     (λ i v. found (both (below i k) (both (same_event v.who who) (due (fast_before visits i) v.entry)))) visits)
@@ -134,17 +134,17 @@ dump_stands pool visits k who = found_both (λ d m. record { due = d.0; one = d.
     (each_at (λ p v. SameEvent v.who who → SaysDump (fast_before visits k) v.entry)
     (λ p v. found_if (same_event v.who who) (says_dump (fast_before visits k) v.entry)) pool))
 
-abbrev cpu_stands : (pool : List (Visit PoolEntry)) (visits : Visits) → Option (CpuStands pool visits)
-cpu_stands pool visits = found_both (λ d m. record { dumps = d; dues = m })
-    (each_at (λ k v. IsDump v.entry → DumpStands pool visits k v.who)
-    (λ k v. found_if (dumps v.entry) (dump_stands pool visits k v.who)) visits)
-    (each_at (λ i v. MakesDue (fast_before visits i) v.entry → DumpBehind visits i v.who)
+abbrev cpu_conforms : (pool : List (Visit PoolEntry)) (visits : Visits) → Option (CpuConforms pool visits)
+cpu_conforms pool visits = found_both (λ d m. record { dumps = d; dues = m })
+    (each_at (λ k v. IsDump v.entry → DumpConforms pool visits k v.who)
+    (λ k v. found_if (dumps v.entry) (dump_conforms pool visits k v.who)) visits)
+    (each_at (λ i v. MakesDue (fast_before visits i) v.entry → DumpAfter visits i v.who)
     (λ i v. found_if (due (fast_before visits i) v.entry)
     (some_at (λ k w. (i < k) × (SameEvent w.who v.who × IsDump w.entry))
     (λ k w. found (both (below i k) (both (same_event w.who v.who) (dumps w.entry)))) visits)) visits)
 
-pub samples_stand : (book : Book) → ((c : ℕ) → CpuStands book.pool (visits_of book c)) → LawfulSamples book
-samples_stand book stands = record {
+pub samples_conform : (book : Book) → ((c : ℕ) → CpuConforms book.pool (visits_of book c)) → LawfulSamples book
+samples_conform book conforms = record {
   dump_is_due = λ c k who dump. (let d = (of c k who dump).due in (
     d.at,
     d.holds.0,
@@ -155,7 +155,7 @@ samples_stand book stands = record {
       due = d.holds.1.1;
     },
   ));
-  due_is_dumped = λ c i who due. (let d = (stands c).dues i due.visit (ap (option_and_then Some) due.is) due.due in (
+  due_is_dumped = λ c i who due. (let d = (conforms c).dues i due.visit (ap (option_and_then Some) due.is) due.due in (
     d.at,
     d.holds.0,
     record {
@@ -182,11 +182,11 @@ samples_stand book stands = record {
       (mix.event.0 ∙ sym dump.event.0, mix.event.1 ∙ sym dump.event.1) text bits mix.mixes;
 }
   where
-    of : (c k : ℕ) (who : Who) (dump : DumpAt (visits_of book c) k who) → DumpStands book.pool (visits_of book c) k
+    of : (c k : ℕ) (who : Who) (dump : DumpAt (visits_of book c) k who) → DumpConforms book.pool (visits_of book c) k
         dump.visit.who
-    of c k who dump = (stands c).dumps k dump.visit (ap (option_and_then Some) dump.is) dump.dumps
+    of c k who dump = (conforms c).dumps k dump.visit (ap (option_and_then Some) dump.is) dump.dumps
 
-pub no_visits : (pool : List (Visit PoolEntry)) → CpuStands pool []
+pub no_visits : (pool : List (Visit PoolEntry)) → CpuConforms pool []
 no_visits pool = record { dumps = λ k v is. absurd (none k v is); dues = λ i v is. absurd (none i v is) }
   where
     none : (k : ℕ) (v : Visit CpuEntry) → option_and_then Some (slice_get [] k) ≡ Some v → ⊥
@@ -194,5 +194,5 @@ no_visits pool = record { dumps = λ k v is. absurd (none k v is); dues = λ i v
     none (suc k) v is = cc
 
 abbrev pub samples_found : (book : Book) → Option (LawfulSamples book)
-samples_found book = found_by (samples_stand book)
-    (each_list (λ c. CpuStands book.pool) (λ c. no_visits book.pool) (λ c. cpu_stands book.pool) book.cpus)
+samples_found book = found_by (samples_conform book)
+    (each_list (λ c. CpuConforms book.pool) (λ c. no_visits book.pool) (λ c. cpu_conforms book.pool) book.cpus)

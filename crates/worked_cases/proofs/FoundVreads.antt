@@ -1,4 +1,5 @@
--- A vgetrandom call is found from the deeds of its line.
+-- Computes, from the effects of a vgetrandom call's line, steps of the host that lead to an outcome. The result is none
+-- if no such steps are found.
 use Rattle.std.proofs.Common.{◌≡◌, ℕ, Bool, true, false, Option, Some, None, List, [], ◌∷◌, ◌++◌, refl, sym, append-nil}
 use Rattle.std.proofs.Common.{◌==◌}
 use Rattle.std.specs.Prelude.{MatchBool}
@@ -6,63 +7,63 @@ use Rattle.key_names.specs.declared.point.Point.{Point}
 use Rattle.key_names.specs.declared.point.Point.TheVariants.{Start, Written, Serve, End}
 use Rattle.key_names.specs.Kernel.Flags.{is_bad}
 use Rattle.key_names.specs.Callers.Calls.{Setting}
-use Rattle.key_names.specs.Callers.Deeds.{Deed, looked, at_base, at_cpu}
+use Rattle.key_names.specs.Callers.Effects.{Effect, looked, at_base, at_cpu}
 use Rattle.key_names.specs.Kernel.VgetrandomState.{VgetrandomState, state_left}
 use Rattle.key_names.specs.Kernel.Vgetrandom.{CpuPlace, SystemAnswer, read, failed, HostStep, system_call, publishes, Attempt}
-use Rattle.key_names.specs.Kernel.Vgetrandom.{AttemptEnd, holds, outdated, not_keyed, IsAttempt, Outcome, outcome_behind}
+use Rattle.key_names.specs.Kernel.Vgetrandom.{AttemptEnd, holds, outdated, not_keyed, IsAttempt, Outcome, prefix_outcome}
 use Rattle.key_names.specs.Kernel.Vgetrandom.{by_system, by_batch, no_bytes, state_after_call, BySystem, ByNothing}
 use Rattle.key_names.specs.Kernel.Vgetrandom.{AfterAttempt, AttemptAndRest, SecondAttempt, FirstAttempt, AfterBoth, FromLook}
 use Rattle.key_names.specs.Kernel.Vgetrandom.{FromPublished, IsCall}
-use Rattle.key_names.specs.Callers.VreadSteps.{Shows, published_by, answer_behind}
+use Rattle.key_names.specs.Callers.VreadSteps.{Shows, published_by, answer_after}
 use Rattle.key_names.proofs.Vgetrandom.Attempts.{current_attempt, current_steps, keyed_attempt, keyed_steps}
 use Rattle.worked_cases.proofs.Decided.{found_by, found_both}
 use Rattle.worked_cases.proofs.FoundForms.{no_steps, system_call_found}
 
--- the deeds show steps of a host that lead to an outcome
-pub record HostFound (set : Setting) (Leads : List HostStep → Outcome → Type 0) (deeds : List Deed) : Type 0 where
+-- the effects show steps of a host that lead to an outcome
+pub record HostFound (set : Setting) (Leads : List HostStep → Outcome → Type 0) (effects : List Effect) : Type 0 where
   pub steps : List HostStep
   pub outcome : Outcome
   pub leads : Leads steps outcome
-  pub shows : Shows set steps deeds
+  pub shows : Shows set steps effects
 
--- the deeds begin with an attempt
-pub record AttemptFound (set : Setting) (n c : ℕ) (s : VgetrandomState) (deeds : List Deed) : Type 0 where
+-- the effects begin with an attempt
+pub record AttemptFound (set : Setting) (n c : ℕ) (s : VgetrandomState) (effects : List Effect) : Type 0 where
   pub steps : List HostStep
   pub attempt : Attempt
-  pub rest : List Deed
+  pub rest : List Effect
   pub tries : IsAttempt n c s steps attempt
-  pub shows : (more : List HostStep) → Shows set more rest → Shows set (steps ++ more) deeds
+  pub shows : (more : List HostStep) → Shows set more rest → Shows set (steps ++ more) effects
 
-abbrev host_by_test : {set : Setting} {P Q : List HostStep → Outcome → Type 0} {deeds : List Deed} (b : Bool) →
-    Option (HostFound set P deeds) → Option (HostFound set Q deeds) →
-    Option (HostFound set (λ steps outcome. MatchBool b (P steps outcome) (Q steps outcome)) deeds)
+abbrev host_by_test : {set : Setting} {P Q : List HostStep → Outcome → Type 0} {effects : List Effect} (b : Bool) →
+    Option (HostFound set P effects) → Option (HostFound set Q effects) →
+    Option (HostFound set (λ steps outcome. MatchBool b (P steps outcome) (Q steps outcome)) effects)
 host_by_test true p q = p
 host_by_test false p q = q
 
-abbrev pub system_found : (set : Setting) (n flags : ℕ) (s : VgetrandomState) (deeds : List Deed) →
-    Option (HostFound set (BySystem n flags s) deeds)
-system_found set n flags s deeds = found_by (λ form. record {
-  steps = system_call n flags (answer_behind flags deeds) ∷ [];
-  outcome = record { ending = by_system (answer_behind flags deeds); state = s; entries = [] };
-  leads = record { answer = answer_behind flags deeds; steps_are = refl; outcome_is = refl };
+abbrev pub system_found : (set : Setting) (n flags : ℕ) (s : VgetrandomState) (effects : List Effect) →
+    Option (HostFound set (BySystem n flags s) effects)
+system_found set n flags s effects = found_by (λ form. record {
+  steps = system_call n flags (answer_after flags effects) ∷ [];
+  outcome = record { ending = by_system (answer_after flags effects); state = s; entries = [] };
+  leads = record { answer = answer_after flags effects; steps_are = refl; outcome_is = refl };
   shows = record {
-    call = deeds;
+    call = effects;
     rest = [];
-    deeds_are = sym (append-nil deeds);
+    effects_are = sym (append-nil effects);
     form = form;
     answers = refl;
     goes_on = refl;
   };
-}) (system_call_found set n flags deeds)
+}) (system_call_found set n flags effects)
 
-abbrev nothing_found : (set : Setting) (s : VgetrandomState) (deeds : List Deed) →
-    Option (HostFound set (ByNothing s) deeds)
-nothing_found set s deeds = found_by (λ none. record {
+abbrev nothing_found : (set : Setting) (s : VgetrandomState) (effects : List Effect) →
+    Option (HostFound set (ByNothing s) effects)
+nothing_found set s effects = found_by (λ none. record {
   steps = [];
   outcome = record { ending = no_bytes; state = s; entries = [] };
   leads = record { steps_are = refl; outcome_is = refl };
   shows = none;
-}) (no_steps deeds)
+}) (no_steps effects)
 
 -- ---- attempts
 
@@ -76,8 +77,8 @@ read_found (read key visit) = Some (record { key = key; visit = visit; is = refl
 read_found (failed errno) = None
 
 abbrev current_found : (set : Setting) (n c g : ℕ) (wiped : Point → Bool) (s : VgetrandomState) →
-    ((state_left (wiped Start) s).generation == published_by g) ≡ true → (deeds : List Deed) →
-    Option (AttemptFound set n c s (looked g ∷ deeds))
+    ((state_left (wiped Start) s).generation == published_by g) ≡ true → (effects : List Effect) →
+    Option (AttemptFound set n c s (looked g ∷ effects))
 current_found set n c g wiped s current (looked h ∷ rest) = Some (record {
   steps = current_steps (published_by g) (wiped Start) (wiped Serve) (wiped End) (published_by h);
   attempt = _;
@@ -88,7 +89,7 @@ current_found set n c g wiped s current (looked h ∷ rest) = Some (record {
 current_found set n c g wiped s current _ = None
 
 abbrev keyed_with : (set : Setting) (n c g h : ℕ) (wiped : Point → Bool) (s : VgetrandomState) →
-    ((state_left (wiped Start) s).generation == published_by g) ≡ false → (call rest : List Deed) →
+    ((state_left (wiped Start) s).generation == published_by g) ≡ false → (call rest : List Effect) →
     Option (AttemptFound set n c s (looked g ∷ call ++ looked h ∷ rest))
 keyed_with set n c g h wiped s other call rest = found_both (λ form r. record {
   steps = keyed_steps (published_by g) r.key r.visit (wiped Start) (wiped Written) (wiped Serve) (wiped End)
@@ -106,56 +107,56 @@ keyed_with set n c g h wiped s other call rest = found_both (λ form r. record {
       record {
         call = call;
         rest = looked h ∷ rest;
-        deeds_are = refl;
+        effects_are = refl;
         form = form;
         answers = r.is;
         goes_on = (h, rest, refl, (refl, shows));
       },
     ),
   );
-}) (system_call_found set 32 0 call) (read_found (answer_behind 0 call))
+}) (system_call_found set 32 0 call) (read_found (answer_after 0 call))
 
 -- an attempt that reads a key: its system call has two looks, at most one visit of the base, and one visit of a CPU
 abbrev keyed_found : (set : Setting) (n c g : ℕ) (wiped : Point → Bool) (s : VgetrandomState) →
-    ((state_left (wiped Start) s).generation == published_by g) ≡ false → (deeds : List Deed) →
-    Option (AttemptFound set n c s (looked g ∷ deeds))
+    ((state_left (wiped Start) s).generation == published_by g) ≡ false → (effects : List Effect) →
+    Option (AttemptFound set n c s (looked g ∷ effects))
 keyed_found set n c g wiped s other (looked a ∷ looked b ∷ at_cpu v ∷ looked h ∷ rest) =
     keyed_with set n c g h wiped s other (looked a ∷ looked b ∷ at_cpu v ∷ []) rest
 keyed_found set n c g wiped s other (looked a ∷ looked b ∷ at_base r ∷ at_cpu v ∷ looked h ∷ rest) =
     keyed_with set n c g h wiped s other (looked a ∷ looked b ∷ at_base r ∷ at_cpu v ∷ []) rest
 keyed_found set n c g wiped s other _ = None
 
-abbrev attempt_found : (set : Setting) (n c : ℕ) (wiped : Point → Bool) (s : VgetrandomState) (deeds : List Deed) →
-    Option (AttemptFound set n c s deeds)
-attempt_found set n c wiped s (looked g ∷ deeds) = by ((state_left (wiped Start) s).generation == published_by g) refl
+abbrev attempt_found : (set : Setting) (n c : ℕ) (wiped : Point → Bool) (s : VgetrandomState) (effects : List Effect) →
+    Option (AttemptFound set n c s effects)
+attempt_found set n c wiped s (looked g ∷ effects) = by ((state_left (wiped Start) s).generation == published_by g) refl
   where
     by : (b : Bool) → ((state_left (wiped Start) s).generation == published_by g) ≡ b →
-        Option (AttemptFound set n c s (looked g ∷ deeds))
-    by true e = current_found set n c g wiped s e deeds
-    by false e = keyed_found set n c g wiped s e deeds
+        Option (AttemptFound set n c s (looked g ∷ effects))
+    by true e = current_found set n c g wiped s e effects
+    by false e = keyed_found set n c g wiped s e effects
 attempt_found set n c wiped s _ = None
 
--- the steps after an attempt, which ends the call or does not
+-- the steps after an attempt: no steps if the attempt holds, and those of `again` if the attempt is outdated
 abbrev after_found : (set : Setting) (n flags : ℕ) (Outdated : ℕ → VgetrandomState → List HostStep → Outcome → Type 0)
-    (end : AttemptEnd) (attempt : Attempt) (deeds : List Deed) →
-    Option (HostFound set (Outdated attempt.next_block attempt.state) deeds) →
-    Option (HostFound set (AfterAttempt n flags Outdated end attempt) deeds)
-after_found set n flags Outdated holds attempt deeds again = found_by (λ none. record {
+    (end : AttemptEnd) (attempt : Attempt) (effects : List Effect) →
+    Option (HostFound set (Outdated attempt.next_block attempt.state) effects) →
+    Option (HostFound set (AfterAttempt n flags Outdated end attempt) effects)
+after_found set n flags Outdated holds attempt effects again = found_by (λ none. record {
   steps = [];
   outcome = record { ending = by_batch attempt.out; state = state_after_call attempt.state; entries = [] };
   leads = record { steps_are = refl; outcome_is = refl };
   shows = none;
-}) (no_steps deeds)
-after_found set n flags Outdated outdated attempt deeds again = again
-after_found set n flags Outdated not_keyed attempt deeds again = None
+}) (no_steps effects)
+after_found set n flags Outdated outdated attempt effects again = again
+after_found set n flags Outdated not_keyed attempt effects again = None
 
-abbrev attempt_and_rest : (set : Setting) (n flags c : ℕ) (s : VgetrandomState) (deeds : List Deed)
-    (Outdated : ℕ → VgetrandomState → List HostStep → Outcome → Type 0) (a : AttemptFound set n c s deeds) →
+abbrev attempt_and_rest : (set : Setting) (n flags c : ℕ) (s : VgetrandomState) (effects : List Effect)
+    (Outdated : ℕ → VgetrandomState → List HostStep → Outcome → Type 0) (a : AttemptFound set n c s effects) →
     Option (HostFound set (Outdated a.attempt.next_block a.attempt.state) a.rest) →
-    Option (HostFound set (AttemptAndRest n flags Outdated (IsAttempt n c s)) deeds)
-attempt_and_rest set n flags c s deeds Outdated a again = found_by (λ r. record {
+    Option (HostFound set (AttemptAndRest n flags Outdated (IsAttempt n c s)) effects)
+attempt_and_rest set n flags c s effects Outdated a again = found_by (λ r. record {
   steps = a.steps ++ r.steps;
-  outcome = outcome_behind a.attempt.entries r.outcome;
+  outcome = prefix_outcome a.attempt.entries r.outcome;
   leads = record {
     tried = a.steps;
     rest = r.steps;
@@ -173,42 +174,42 @@ abbrev tried : {P : Type 0} {Q : Type 0} → Option P → (P → Option Q) → O
 tried (Some p) f = f p
 tried None f = None
 
--- the acts happen only in the first attempt, so the second is never wiped
-abbrev second_found : (set : Setting) (n flags c : ℕ) (s : VgetrandomState) (deeds : List Deed) →
-    Option (HostFound set (SecondAttempt n flags c s) deeds)
-second_found set n flags c s deeds = tried (attempt_found set n c (λ p. false) s deeds)
-    (λ a. attempt_and_rest set n flags c s deeds (AfterBoth n flags) a
+-- the acts happen only in the first attempt, so no point of the second attempt has a wipe
+abbrev second_found : (set : Setting) (n flags c : ℕ) (s : VgetrandomState) (effects : List Effect) →
+    Option (HostFound set (SecondAttempt n flags c s) effects)
+second_found set n flags c s effects = tried (attempt_found set n c (λ p. false) s effects)
+    (λ a. attempt_and_rest set n flags c s effects (AfterBoth n flags) a
     (system_found set n flags (state_after_call a.attempt.state) a.rest))
 
-abbrev first_found : (set : Setting) (n flags : ℕ) (wiped : Point → Bool) (s : VgetrandomState) (deeds : List Deed) →
-    Option (HostFound set (FirstAttempt n flags s) deeds)
-first_found set n flags wiped s deeds = tried (attempt_found set n 0 wiped s deeds)
-    (λ a. attempt_and_rest set n flags 0 s deeds (SecondAttempt n flags) a
+abbrev first_found : (set : Setting) (n flags : ℕ) (wiped : Point → Bool) (s : VgetrandomState) (effects : List Effect) →
+    Option (HostFound set (FirstAttempt n flags s) effects)
+first_found set n flags wiped s effects = tried (attempt_found set n 0 wiped s effects)
+    (λ a. attempt_and_rest set n flags 0 s effects (SecondAttempt n flags) a
     (second_found set n flags a.attempt.next_block a.attempt.state a.rest))
 
 -- ---- the whole call
 
 abbrev published_found : (set : Setting) (n flags g : ℕ) (wiped : Point → Bool) (s : VgetrandomState)
-    (deeds : List Deed) →
-    Option (HostFound set (FromPublished n flags s (published_by g)) deeds)
-published_found set n flags g wiped s deeds =
-    host_by_test (published_by g == 0) (system_found set n flags s deeds)
-    (host_by_test (n == 0) (nothing_found set s deeds)
-    (host_by_test s.in_use (system_found set n flags s deeds)
-    (first_found set n flags wiped (record s { in_use = true }) deeds)))
+    (effects : List Effect) →
+    Option (HostFound set (FromPublished n flags s (published_by g)) effects)
+published_found set n flags g wiped s effects =
+    host_by_test (published_by g == 0) (system_found set n flags s effects)
+    (host_by_test (n == 0) (nothing_found set s effects)
+    (host_by_test s.in_use (system_found set n flags s effects)
+    (first_found set n flags wiped (record s { in_use = true }) effects)))
 
-abbrev look_found : (set : Setting) (n flags : ℕ) (wiped : Point → Bool) (s : VgetrandomState) (deeds : List Deed) →
-    Option (HostFound set (FromLook n flags s) deeds)
-look_found set n flags wiped s (looked g ∷ deeds) = found_by (λ h. record {
+abbrev look_found : (set : Setting) (n flags : ℕ) (wiped : Point → Bool) (s : VgetrandomState) (effects : List Effect) →
+    Option (HostFound set (FromLook n flags s) effects)
+look_found set n flags wiped s (looked g ∷ effects) = found_by (λ h. record {
   steps = publishes (published_by g) ∷ h.steps;
   outcome = h.outcome;
   leads = record { published = published_by g; rest = h.steps; steps_are = refl; goes_on = h.leads };
-  shows = (g, deeds, refl, (refl, h.shows));
-}) (published_found set n flags g wiped s deeds)
+  shows = (g, effects, refl, (refl, h.shows));
+}) (published_found set n flags g wiped s effects)
 look_found set n flags wiped s _ = None
 
 abbrev pub vgetrandom_found : (set : Setting) (n flags : ℕ) (wiped : Point → Bool) (s : VgetrandomState)
-    (deeds : List Deed) →
-    Option (HostFound set (IsCall n flags s) deeds)
-vgetrandom_found set n flags wiped s deeds =
-    host_by_test (is_bad flags) (system_found set n flags s deeds) (look_found set n flags wiped s deeds)
+    (effects : List Effect) →
+    Option (HostFound set (IsCall n flags s) effects)
+vgetrandom_found set n flags wiped s effects =
+    host_by_test (is_bad flags) (system_found set n flags s effects) (look_found set n flags wiped s effects)

@@ -1,5 +1,4 @@
--- For the base and the CPUs of a ready core, the entries of the lanes, and the cases that they prove: refills, reseeds
--- and their timer, and batched integers.
+-- For each case of specs/Generators, the entries of the lanes. With them the prover computes that the case holds.
 use Rattle.std.proofs.Common.{[], ◌∷◌, ◌++◌, refl, Some, None, replicate, true, false}
 use Rattle.key_names.specs.declared.entries.Taken.TheVariants.{User, Kernel}
 use Rattle.key_names.specs.declared.entries.PoolEntry.TheVariants.{Mix, Extract}

@@ -1,5 +1,5 @@
--- The lines that a transcript's text may spell. They are not proved to be right here. The proofs that use them compute
--- the text of the lines.
+-- Reads lines off the text of a transcript, without a proof that they are right. Proofs that use the lines compute the
+-- text of the lines, and compare it with the transcript's text.
 use Rattle.std.proofs.Common.{ℕ, List, [], ◌∷◌, map, filter, find, ◌==◌, if◌then◌else◌, unwrap_or, codes, bytes_eq}
 use Rattle.std.specs.List.{range_with_len}
 use Rattle.std.specs.Str.Parse.{digits_value}
@@ -82,7 +82,7 @@ inner (first ∷ lines) = but_two lines
     but_two (a ∷ b ∷ []) = []
     but_two (a ∷ b ∷ c ∷ rest) = a ∷ but_two (b ∷ c ∷ rest)
 
--- the lines of this many callers
+-- the lines of the text, by caller, for this many callers
 abbrev pub lines_of : ℕ → List ℕ → List (List SeenLine)
 lines_of callers text =
     let lines = map line_of (inner (parts 10 text)) in

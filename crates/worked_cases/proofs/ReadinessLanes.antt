@@ -1,5 +1,4 @@
--- For reads before the core is ready, and for its becoming ready, the entries of the lanes, and the cases that they
--- prove.
+-- For each case of specs/Readiness, the entries of the lanes. With them the prover computes that the case holds.
 use Rattle.std.proofs.Common.{[], ◌∷◌, refl, Some, None}
 use Rattle.std.specs.List.{range_with_len}
 use Rattle.key_names.specs.declared.entries.Taken.TheVariants.{User, Kernel}

@@ -1,4 +1,5 @@
--- If a clause is the first that fails for two texts, they are not those of a lawful transcript and its script.
+-- If a clause is the first that fails for a script's text and a transcript's text, then the transcript is not lawful
+-- for the script.
 use Rattle.std.proofs.Common.{◌≡◌, List, Result, Ok, subst}
 use Rattle.key_names.specs.Transcripts.SeenLine.{SeenLine}
 use Rattle.key_names.specs.Texts.ScriptGrammar.{Script}

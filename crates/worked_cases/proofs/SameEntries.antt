@@ -1,4 +1,4 @@
--- By computing, entries are found to be equal.
+-- Computes a proof that two entries are equal. The result is none if no proof is found.
 use Rattle.std.proofs.Common.{◌≡◌, ℕ, Bool, Option, Some, None, List, refl, ap}
 use Rattle.key_names.specs.declared.entries.Taken.{Taken}
 use Rattle.key_names.specs.declared.entries.Taken.TheVariants.{User, Kernel}

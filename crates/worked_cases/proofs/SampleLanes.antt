@@ -1,4 +1,4 @@
--- For interrupts and input events, the entries of the lanes, and the cases that they prove.
+-- For each case of specs/SampleEvents, the entries of the lanes. With them the prover computes that the case holds.
 use Rattle.std.proofs.Common.{[], ◌∷◌, refl, Some}
 use Rattle.key_names.specs.declared.entries.Taken.TheVariants.{User}
 use Rattle.key_names.specs.declared.entries.PoolEntry.TheVariants.{Mix, Input, Bits, Extract}

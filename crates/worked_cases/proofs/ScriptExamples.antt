@@ -1,4 +1,4 @@
--- Small scripts and their faults, computed.
+-- Small scripts and their faults, which the prover computes.
 use Rattle.std.proofs.Common.{◌≡◌, [], ◌∷◌, Ok, refl}
 use Rattle.std.specs.Prelude.{codes}
 use Rattle.std.specs.Fmt.{digits}

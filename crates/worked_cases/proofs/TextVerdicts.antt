@@ -1,4 +1,4 @@
--- The verdict on a script's text and a transcript's text.
+-- Computes the verdict on two texts, a script's and a transcript's.
 use Rattle.std.proofs.Common.{◌≡◌, ◌<◌, ◌≤◌, ℕ, zero, suc, ◌^◌, true, is_some, Option, Some, None, Result, Ok, Err}
 use Rattle.std.proofs.Common.{List, [], ◌∷◌, refl, sym, ap, ◌∙◌, subst, slice_index, length, ◌==◌, if◌then◌else◌, arith}
 use Rattle.std.specs.List.{AllByRecursion}
@@ -20,7 +20,7 @@ use Rattle.key_names.specs.Texts.ScriptFaults.{script_of, script_from}
 use Rattle.key_names.specs.Texts.TranscriptGrammar.{IsTranscriptText, LineFits, LastHasLines, StepFits, LaneFits, ShownFits}
 use Rattle.key_names.specs.Texts.TranscriptGrammar.{UnderOwnNumber, transcript_text, line_text, steps_text, step_text}
 use Rattle.key_names.specs.Texts.TranscriptGrammar.{lane_text, shown_text, answer_text}
-use Rattle.key_names.specs.Transcripts.IsTranscript.{HasLines, MarksStand, MadeBook, FirstFails, Clause, lines_clause, marks_clause}
+use Rattle.key_names.specs.Transcripts.IsTranscript.{HasLines, MarksConform, MadeBook, FirstFails, Clause, lines_clause, marks_clause}
 use Rattle.key_names.specs.Transcripts.IsTranscript.{forms_clause, answers_clause, data_clause, looks_clause, clause_number}
 use Rattle.key_names.proofs.Script.ScriptTexts.{script_takes}
 use Rattle.rand_core.specs.Steps.{u32_at}
@@ -28,7 +28,7 @@ use Rattle.rand_chacha.specs.Block.{block_word, double_rounds, column_round, dia
 use Rattle.worked_cases.proofs.Decided.{Decided, yes, no, both, found, found_both, found_three, found_pair, each}
 use Rattle.worked_cases.proofs.Decided.{each_found, negated, at_most, below, same_number, same_bytes}
 use Rattle.worked_cases.proofs.DecidedLines.{same_word_text, has_lines}
-use Rattle.worked_cases.proofs.DecidedMarks.{marks_stand}
+use Rattle.worked_cases.proofs.DecidedMarks.{marks_conform}
 use Rattle.worked_cases.proofs.ReadTexts.{lines_of}
 use Rattle.worked_cases.proofs.Verdicts.{Lanes, Verdict, lawful, first_fails, unknown, verdict, verdict_number}
 use Rattle.worked_cases.specs.Runs.{IsLawfulRun, FailsFirst}
@@ -87,7 +87,7 @@ abbrev script_or_none : Result Script ScriptFault → Script
 script_or_none (Ok script) = script
 script_or_none (Err fault) = record { version = 0; cpus = 0; callers = [] }
 
--- the script that a text spells, if it spells one, and the lines of another text
+-- the script that `input` spells, if it spells one; `lines_in` has the lines of `output`
 abbrev pub script_in : List ℕ → Script
 script_in input = script_or_none (script_of input)
 
@@ -98,7 +98,7 @@ abbrev gives_script : (r : Result Script ScriptFault) → Option (r ≡ Ok (scri
 gives_script (Ok script) = Some refl
 gives_script (Err fault) = None
 
--- one text is a script's, and the other a transcript's
+-- `input` is the text of a script, and `output` the text of a transcript
 pub record TextsFound (input output : List ℕ) : Type 0 where
   pub script_is : IsScript (script_in input) input
   pub lines_are : IsTranscriptText output (lines_in input output)
@@ -197,7 +197,7 @@ fails_first clause input output lanes e =
 pub record FrontFound (input output : List ℕ) : Type 0 where
   pub texts : TextsFound input output
   pub lines : HasLines (script_in input) (lines_in input output)
-  pub marks : MarksStand (script_in input) (lines_in input output)
+  pub marks : MarksConform (script_in input) (lines_in input output)
 
 abbrev holds_of : {P : Type 0} → Option (Decided P) → Option P
 holds_of (Some (yes p)) = Some p
@@ -207,7 +207,7 @@ holds_of None = None
 abbrev pub front_found : (input output : List ℕ) → Option (FrontFound input output)
 front_found input output = found_three (λ t l m. record { texts = t; lines = l; marks = m }) (texts_found input output)
     (found (has_lines (script_in input) (lines_in input output)))
-    (holds_of (marks_stand (script_in input) (lines_in input output)))
+    (holds_of (marks_conform (script_in input) (lines_in input output)))
 
 pub no_form : (input output : List ℕ) (o : Option (FrontFound input output)) → is_some o ≡ true →
     (MadeBook (script_in input) (lines_in input output) → ⊥) → FailsFirst forms_clause input output

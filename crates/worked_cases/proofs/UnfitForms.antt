@@ -1,4 +1,4 @@
--- Some steps match no form of their event's word.
+-- The steps of specs/UnfitSteps are no form of their event, whatever entries the lanes have.
 use Rattle.std.proofs.Common.{◌≡◌, ◌≤◌, ℕ, suc, Some, List, [], ◌∷◌, refl, sym, ◌∙◌, ap, is_some, true, length}
 use Rattle.std.proofs.Common.{arith, inl, inr, subst, false, ◌++◌}
 use Rattle.std.specs.List.{AllByRecursion}
@@ -9,7 +9,7 @@ use Rattle.key_names.specs.Lanes.Book.{Lists, Visit, lists_of, list_at}
 use Rattle.key_names.specs.Callers.Calls.{Setting, Call, vread_call}
 use Rattle.std.specs.Prelude.{MatchBool}
 use Rattle.key_names.specs.Kernel.BatchCopy.{serves_locally}
-use Rattle.key_names.specs.Callers.Deeds.{Deed, looked, deeds_of}
+use Rattle.key_names.specs.Callers.Effects.{Effect, looked, effects_of}
 use Rattle.key_names.specs.Callers.Forms.{Looked}
 use Rattle.key_names.specs.Callers.Meaning.{CallerState, CallMeaning, Means, VreadMeans, caller_start, current_state}
 use Rattle.key_names.specs.Callers.Meaning.{ByLocalCopy, ByVgetrandom, LocalOrCall}
@@ -24,21 +24,21 @@ use Rattle.worked_cases.specs.Runs.{Case, FailsFirst, transcript_with}
 use Rattle.worked_cases.specs.UnfitSteps.{read_without_a_look, fork_without_a_visit, visit_of_no_cpu, looks_that_fall}
 use Rattle.worked_cases.specs.UnfitSteps.{batch_of_the_parent}
 use Rattle.worked_cases.proofs.Decided.{no_first, none_is_not_some}
-use Rattle.worked_cases.proofs.FoundMeanings.{Behind}
+use Rattle.worked_cases.proofs.FoundMeanings.{After}
 use Rattle.worked_cases.proofs.TextVerdicts.{text_verdict, script_in, lines_in, no_form, front_found}
 
--- the call has a meaning in these lists, with the deeds of its lines
+-- the call has a meaning in these lists, with the effects of the call's lines
 pub record CallHas (lists : Lists) (call : Call) : Type 0 where
   pub m : CallMeaning
   pub means : Means call m
-  pub deeds : EachOfCall (Behind lists) call m
+  pub effects : EachOfCall (After lists) call m
 
 calls_have : (lists : Lists) (s : CallerState) (calls : List Call) (ms : List CallMeaning) → CallsMean s calls ms →
-    EachLine (Behind lists) calls ms → AllByRecursion (CallHas lists) calls
-calls_have lists s [] ms follows deeds = tt
-calls_have lists s (call ∷ calls) [] follows deeds = absurd follows
-calls_have lists s (call ∷ calls) (m ∷ ms) follows deeds =
-    (record { m = m; means = follows.1; deeds = deeds.0 }, calls_have lists m.after calls ms follows.2 deeds.1)
+    EachLine (After lists) calls ms → AllByRecursion (CallHas lists) calls
+calls_have lists s [] ms follows effects = tt
+calls_have lists s (call ∷ calls) [] follows effects = absurd follows
+calls_have lists s (call ∷ calls) (m ∷ ms) follows effects =
+    (record { m = m; means = follows.1; effects = effects.0 }, calls_have lists m.after calls ms follows.2 effects.1)
 
 callers_have : (lists : Lists) (settings : ℕ → Setting) (first : ℕ) (callers : List (List Call))
     (ms : List (List CallMeaning)) →
@@ -47,7 +47,7 @@ callers_have : (lists : Lists) (settings : ℕ → Setting) (first : ℕ) (calle
 callers_have lists settings first [] ms h = tt
 callers_have lists settings first (calls ∷ callers) [] h = absurd h
 callers_have lists settings first (calls ∷ callers) (m ∷ ms) h = (
-  calls_have lists (caller_start (settings first)) calls m h.0.follows h.0.deeds,
+  calls_have lists (caller_start (settings first)) calls m h.0.follows h.0.effects,
   callers_have lists settings (suc first) callers ms h.1,
 )
 
@@ -74,24 +74,24 @@ by_calls case front none = no_form case.script (transcript_with case.lines)
 pub read_without_a_look_fails : FailsByForms read_without_a_look
 unfolding text_verdict
 read_without_a_look_fails = by_calls read_without_a_look refl
-    (λ lists calls. no_first _ _ (calls.0.0.deeds ∙ calls.0.0.means.form.2))
+    (λ lists calls. no_first _ _ (calls.0.0.effects ∙ calls.0.0.means.form.2))
 
 pub fork_without_a_visit_fails : FailsByForms fork_without_a_visit
 unfolding text_verdict
 fork_without_a_visit_fails = by_calls fork_without_a_visit refl (λ lists calls. elim calls.0.0.means.form [
-  | inl forked ↦ no_first _ _ (calls.0.0.deeds ∙ forked.deeds_are)
-  | inr stalled ↦ no_first _ _ (calls.0.0.deeds ∙ stalled.deeds_are)
+  | inl forked ↦ no_first _ _ (calls.0.0.effects ∙ forked.effects_are)
+  | inr stalled ↦ no_first _ _ (calls.0.0.effects ∙ stalled.effects_are)
 ])
 
-no_fall : (lists : Lists) (m : CallMeaning) → deeds_of lists (Look 2 ∷ Look 1 ∷ Look 1 ∷ []) ≡ m.own.deeds →
+no_fall : (lists : Lists) (m : CallMeaning) → effects_of lists (Look 2 ∷ Look 1 ∷ Look 1 ∷ []) ≡ m.own.effects →
     VreadMeans 8 0 [] m → ⊥
-no_fall lists m deeds means =
-    let falls : 2 ≤ 1 = looks_do_not_fall 8 0 2 1 [] m (looked 1 ∷ []) (sym deeds) means in omega arith
+no_fall lists m effects means =
+    let falls : 2 ≤ 1 = looks_do_not_fall 8 0 2 1 [] m (looked 1 ∷ []) (sym effects) means in omega arith
 
 pub looks_that_fall_fails : FailsByForms looks_that_fall
 unfolding text_verdict
 looks_that_fall_fails = by_calls looks_that_fall refl
-    (λ lists calls. no_fall lists calls.0.1.0.m calls.0.1.0.deeds.0 calls.0.1.0.means)
+    (λ lists calls. no_fall lists calls.0.1.0.m calls.0.1.0.effects.0 calls.0.1.0.means)
 
 no_stamp : {E : Type 0} (lists : List (List (Visit E))) (w : ℕ × Who) → length lists ≡ 1 →
     stamped (list_at lists 1) 0 ≡ Some w → ⊥
@@ -103,14 +103,14 @@ pub visit_of_no_cpu_fails : FailsByForms visit_of_no_cpu
 unfolding text_verdict
 visit_of_no_cpu_fails = no_form visit_of_no_cpu.script (transcript_with visit_of_no_cpu.lines)
     (front_found visit_of_no_cpu.script (transcript_with visit_of_no_cpu.lines)) refl
-    (λ made. no_stamp made.book.cpus _ made.forms.cpus made.forms.visits.stand.1.1.1.1.0)
+    (λ made. no_stamp made.book.cpus _ made.forms.cpus made.forms.visits.conform.1.1.1.1.0)
 
--- the first call of child 1 has a meaning that begins with wiped states
+-- the first call of child 1 has a meaning that begins with the states of a new caller, which are wiped
 pub record ChildBegins (lists : Lists) (set : Setting) (call : Call) : Type 0 where
   pub m : CallMeaning
   pub begins : m.before ≡ caller_start set
   pub means : Means call m
-  pub deeds : EachOfCall (Behind lists) call m
+  pub effects : EachOfCall (After lists) call m
 
 child_begins : (lists : Lists) (settings : ℕ → Setting) (parents : List Call) (call : Call) (calls : List Call)
     (ms : List (List CallMeaning)) →
@@ -120,9 +120,9 @@ child_begins lists settings parents call calls [] h = absurd h
 child_begins lists settings parents call calls (p ∷ []) h = absurd h.1
 child_begins lists settings parents call calls (p ∷ [] ∷ ms) h = absurd h.1.0.follows
 child_begins lists settings parents call calls (p ∷ (m ∷ rest) ∷ ms) h =
-    record { m = m; begins = h.1.0.follows.0; means = h.1.0.follows.1; deeds = h.1.0.deeds.0 }
+    record { m = m; begins = h.1.0.follows.0; means = h.1.0.follows.1; effects = h.1.0.effects.0 }
 
--- an attempt has at least one step, so its deeds are not empty
+-- an attempt has at least one step, so its effects are not empty
 no_attempt : (set : Setting) (rest : List HostStep) (n flags : ℕ) (s : VgetrandomState) (outcome : Outcome) →
     FirstAttempt n flags s rest outcome → Shows set rest [] → ⊥
 no_attempt set rest n flags s outcome attempt shows =
@@ -132,11 +132,11 @@ no_attempt set rest n flags s outcome attempt shows =
     no_first _ _ looks.2
 
 -- one look is not enough to serve from a wiped state
-wiped_needs_a_key : (m : CallMeaning) → current_state m.before ≡ wiped_state → looked 1 ∷ [] ≡ m.own.deeds →
+wiped_needs_a_key : (m : CallMeaning) → current_state m.before ≡ wiped_state → looked 1 ∷ [] ≡ m.own.effects →
     VreadMeans 40 0 [] m → ⊥
-wiped_needs_a_key m wiped deeds means =
-    let ways : Looked (LocalOrCall 40 0 [] m) m.own.deeds = means.ways in
-    let begins : looked ways.0 ∷ ways.1 ≡ looked 1 ∷ [] = sym ways.2 ∙ sym deeds in
+wiped_needs_a_key m wiped effects means =
+    let ways : Looked (LocalOrCall 40 0 [] m) m.own.effects = means.ways in
+    let begins : looked ways.0 ∷ ways.1 ≡ looked 1 ∷ [] = sym ways.2 ∙ sym effects in
     let look : ways.0 ≡ 1 = cc in
     let serves : serves_locally (published_by ways.0) (current_state m.before) 40 ≡ false =
     ap (λ g. serves_locally (published_by g) (current_state m.before) 40) look
@@ -146,19 +146,19 @@ wiped_needs_a_key m wiped deeds means =
     let from : FromLook 40 0 wiped_state call.steps call.outcome =
     subst (λ (s : VgetrandomState). IsCall 40 0 s call.steps call.outcome) wiped call.is_call in
     let shown = subst (λ (h : List HostStep). Shows m.before.setting h (looked 1 ∷ [])) from.steps_are
-    (subst (λ (d : List Deed). Shows m.before.setting call.steps d) (sym deeds) call.shows) in
+    (subst (λ (d : List Effect). Shows m.before.setting call.steps d) (sym effects) call.shows) in
     let front : looked 1 ∷ [] ≡ looked shown.0 ∷ shown.1 = shown.2 in
     let one : shown.0 ≡ 1 = cc in
     let none : shown.1 ≡ [] = cc in
     let two : from.published ≡ 2 = shown.3.0 ∙ ap published_by one in
     no_attempt m.before.setting from.rest 40 0 (record wiped_state { in_use = true }) call.outcome
     (subst (λ g. FromPublished 40 0 wiped_state g from.rest call.outcome) two from.goes_on)
-    (subst (λ (d : List Deed). Shows m.before.setting from.rest d) none shown.3.1)
+    (subst (λ (d : List Effect). Shows m.before.setting from.rest d) none shown.3.1)
 
-child_is_served : (lists : Lists) (set : Setting) (line : SeenLine) → deeds_of lists line.steps ≡ looked 1 ∷ [] →
+child_is_served : (lists : Lists) (set : Setting) (line : SeenLine) → effects_of lists line.steps ≡ looked 1 ∷ [] →
     ChildBegins lists set (vread_call 40 0 line []) → ⊥
 child_is_served lists set line looks child =
-    wiped_needs_a_key child.m (ap current_state child.begins) (sym looks ∙ child.deeds.0) child.means
+    wiped_needs_a_key child.m (ap current_state child.begins) (sym looks ∙ child.effects.0) child.means
 
 pub batch_of_the_parent_fails : FailsByForms batch_of_the_parent
 unfolding text_verdict

@@ -1,5 +1,5 @@
--- Whether a transcript is lawful for a script, given the entries of its lanes. The clauses are decided one after
--- another.
+-- Computes whether a transcript is lawful for a script, given the entries of its lanes. The clauses are decided one
+-- after another.
 use Rattle.std.proofs.Common.{◌≡◌, ℕ, suc, Option, Some, None, List, [], ◌∷◌, refl, map, replicate, length, ◌==◌, ◌&&◌}
 use Rattle.std.proofs.Common.{if◌then◌else◌}
 use Rattle.key_names.specs.declared.names.LaneId.{LaneId}
@@ -14,8 +14,8 @@ use Rattle.key_names.specs.Callers.Calls.{Setting, Call}
 use Rattle.key_names.specs.Transcripts.SeenLine.{SeenLine}
 use Rattle.key_names.specs.Texts.ScriptGrammar.{Script}
 use Rattle.key_names.specs.Callers.Meaning.{CallMeaning, caller_start}
-use Rattle.key_names.specs.Transcripts.IsTranscript.{IsTranscript, HasLines, MarksStand, FormsStand, AnswersStand, DataStand}
-use Rattle.key_names.specs.Transcripts.IsTranscript.{SeenStands, FirstFails, Clause, lines_clause, marks_clause, answers_clause}
+use Rattle.key_names.specs.Transcripts.IsTranscript.{IsTranscript, HasLines, MarksConform, FormsConform, AnswersConform, DataConform}
+use Rattle.key_names.specs.Transcripts.IsTranscript.{SeenConforms, FirstFails, Clause, lines_clause, marks_clause, answers_clause}
 use Rattle.key_names.specs.Transcripts.IsTranscript.{data_clause, looks_clause, clause_number, CallerMeans, EachCaller, VisitsAre}
 use Rattle.key_names.specs.Transcripts.IsTranscript.{MarkBy, all_marks, is_same_lane, stamped_at, visit_count, script_calls}
 use Rattle.key_names.specs.Transcripts.IsTranscript.{start_setting, state_lists}
@@ -24,8 +24,8 @@ use Rattle.worked_cases.proofs.Decided.{likewise, same_number, same_option}
 use Rattle.worked_cases.proofs.FoundLanes.{lanes_found}
 use Rattle.worked_cases.proofs.FoundMeanings.{calls_found}
 use Rattle.worked_cases.proofs.FoundSamples.{samples_found}
-use Rattle.worked_cases.proofs.DecidedLines.{has_lines, answers_stand, data_stand}
-use Rattle.worked_cases.proofs.DecidedMarks.{marks_stand, seen_stands}
+use Rattle.worked_cases.proofs.DecidedLines.{has_lines, answers_conform, data_conform}
+use Rattle.worked_cases.proofs.DecidedMarks.{marks_conform, seen_conforms}
 
 -- the entries of the lanes
 pub record Lanes : Type 0 where
@@ -77,7 +77,7 @@ same_who a b = likewise
     (both (same_number a.1.event b.1.event) (same_number a.1.step b.1.step))))
 
 abbrev visits_are : (book : Book) (marks : List MarkBy) → Option (VisitsAre book marks)
-visits_are book marks = found_both (λ s n. record { stand = s; no_others = n })
+visits_are book marks = found_both (λ s n. record { conform = s; no_others = n })
     (found (each (λ by. same_option same_who (stamped_at book by.mark.lane by.mark.place)
     (Some (by.mark.stamp, by.who))) marks))
     (found (same_number (length marks) (visit_count book)))
@@ -90,7 +90,7 @@ abbrev callers_found : (lists : Lists) (settings : ℕ → Setting) (first : ℕ
     Option (CallersFound lists settings first callers)
 callers_found lists settings first [] = Some (record { ms = []; means = tt })
 callers_found lists settings first (calls ∷ callers) = found_both
-    (λ f r. record { ms = f.ms ∷ r.ms; means = (record { follows = f.follows; deeds = f.deeds }, r.means) })
+    (λ f r. record { ms = f.ms ∷ r.ms; means = (record { follows = f.follows; effects = f.effects }, r.means) })
     (calls_found lists (caller_start (settings first)) calls) (callers_found lists settings (suc first) callers)
 
 -- the meaning of a call does not depend on the lists of the vgetrandom states
@@ -102,7 +102,7 @@ means_again lists states settings first [] [] h = tt
 means_again lists states settings first [] (m ∷ ms) h = h
 means_again lists states settings first (calls ∷ callers) [] h = h
 means_again lists states settings first (calls ∷ callers) (m ∷ ms) h = (
-  record { follows = h.0.follows; deeds = h.0.deeds },
+  record { follows = h.0.follows; effects = h.0.effects },
   means_again lists states settings (suc first) callers ms h.1,
 )
 
@@ -110,7 +110,7 @@ means_again lists states settings first (calls ∷ callers) (m ∷ ms) h = (
 pub record FormsFound (script : Script) (t : List (List SeenLine)) : Type 0 where
   pub book : Book
   pub ms : List (List CallMeaning)
-  pub forms : FormsStand script t book ms
+  pub forms : FormsConform script t book ms
 
 abbrev forms_with : (script : Script) (t : List (List SeenLine)) (lanes : Lanes) →
     CallersFound (lists_of (book_with t lanes [])) (start_setting (script_calls script t)) 0 (script_calls script t) →
@@ -144,15 +144,15 @@ forms_found script t lanes = tried
 
 -- ---- the verdict
 
--- the transcript is lawful, or this clause is the first that fails, or neither is known
+-- the transcript is lawful, or this clause is the first that fails, or the computation finds neither
 pub data Verdict (script : Script) (t : List (List SeenLine)) : Type 0 where
   lawful : IsTranscript script t → Verdict script t
   first_fails : (clause : Clause) → FirstFails script t clause → Verdict script t
   unknown : Verdict script t
 
-abbrev last_clauses : (script : Script) (t : List (List SeenLine)) → HasLines script t → MarksStand script t →
-    (f : FormsFound script t) → Decided (AnswersStand script t f.ms) → Decided (DataStand script t f.ms) →
-    Decided (SeenStands script t (lists_of f.book)) → Verdict script t
+abbrev last_clauses : (script : Script) (t : List (List SeenLine)) → HasLines script t → MarksConform script t →
+    (f : FormsFound script t) → Decided (AnswersConform script t f.ms) → Decided (DataConform script t f.ms) →
+    Decided (SeenConforms script t (lists_of f.book)) → Verdict script t
 last_clauses script t lines marks f (yes answers) (yes shown) (yes looks) = lawful (
   f.book,
   f.ms,
@@ -172,20 +172,20 @@ last_clauses script t lines marks f (yes answers) (no shown) looks = first_fails
 last_clauses script t lines marks f (yes answers) (yes shown) (no looks) = first_fails looks_clause
     (record { book = f.book; meanings = f.ms; lines = lines; marks = marks; forms = f.forms }, answers, shown, looks)
 
-abbrev behind_marks : (script : Script) (t : List (List SeenLine)) → HasLines script t → MarksStand script t →
+abbrev after_marks : (script : Script) (t : List (List SeenLine)) → HasLines script t → MarksConform script t →
     Option (FormsFound script t) → Verdict script t
-behind_marks script t lines marks None = unknown
-behind_marks script t lines marks (Some f) = last_clauses script t lines marks f (answers_stand script t f.ms)
-    (data_stand script t f.ms) (seen_stands script t (lists_of f.book))
+after_marks script t lines marks None = unknown
+after_marks script t lines marks (Some f) = last_clauses script t lines marks f (answers_conform script t f.ms)
+    (data_conform script t f.ms) (seen_conforms script t (lists_of f.book))
 
-abbrev behind_lines : (script : Script) (t : List (List SeenLine)) → Lanes → HasLines script t →
-    Option (Decided (MarksStand script t)) → Verdict script t
-behind_lines script t lanes lines (Some (yes marks)) = behind_marks script t lines marks (forms_found script t lanes)
-behind_lines script t lanes lines (Some (no marks)) = first_fails marks_clause (lines, marks)
-behind_lines script t lanes lines None = unknown
+abbrev after_lines : (script : Script) (t : List (List SeenLine)) → Lanes → HasLines script t →
+    Option (Decided (MarksConform script t)) → Verdict script t
+after_lines script t lanes lines (Some (yes marks)) = after_marks script t lines marks (forms_found script t lanes)
+after_lines script t lanes lines (Some (no marks)) = first_fails marks_clause (lines, marks)
+after_lines script t lanes lines None = unknown
 
 abbrev by_lines : (script : Script) (t : List (List SeenLine)) → Lanes → Decided (HasLines script t) → Verdict script t
-by_lines script t lanes (yes lines) = behind_lines script t lanes lines (marks_stand script t)
+by_lines script t lanes (yes lines) = after_lines script t lanes lines (marks_conform script t)
 by_lines script t lanes (no lines) = first_fails lines_clause lines
 
 abbrev pub verdict : (script : Script) (t : List (List SeenLine)) (lanes : Lanes) → Verdict script t

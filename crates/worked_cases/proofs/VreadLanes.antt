@@ -1,4 +1,4 @@
--- For vgetrandom calls, the entries of the lanes, and the cases that they prove.
+-- For each case of specs/Vreads, the entries of the lanes. With them the prover computes that the case holds.
 use Rattle.std.proofs.Common.{[], ◌∷◌, refl, Some, None, true}
 use Rattle.std.specs.List.{range_with_len}
 use Rattle.key_names.specs.declared.entries.Taken.TheVariants.{User, Kernel}

@@ -1,4 +1,4 @@
--- The worked rules, computed.
+-- The facts of src/rules.rt, which the prover computes.
 use Rattle.std.proofs.Common.{◌≡◌, ℕ, true, false, [], ◌∷◌, ◌++◌, refl, Some, replicate}
 use Rattle.std.specs.Prelude.{map}
 use Rattle.key_names.specs.declared.entries.PoolEntry.TheVariants.{Input}

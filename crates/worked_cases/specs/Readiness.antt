@@ -1,4 +1,4 @@
--- Reads before the core is ready, and how it becomes ready.
+-- Reads before the core is ready, and how the core becomes ready.
 use Rattle.std.specs.Prelude.{[], ◌∷◌, ◌++◌, codes}
 use Rattle.key_names.specs.Transcripts.IsTranscript.{answers_clause, data_clause, looks_clause, marks_clause}
 use Rattle.worked_cases.specs.Runs.{Case, left_out, instead, instead_both, one_cpu}

@@ -17,7 +17,8 @@ shared_refill = record {
   callers = [];
 }
 
--- an extraction names a place of the base that exists and does not name it back
+-- an extraction names a place of the base; the base has an entry at that place, but the entry does not name the
+-- extraction
 abbrev pub unanswered : Lists
 unanswered = record {
   pool = Mix [] 256 ∷ Extract (replicate 32 0) 0 ∷ [];
@@ -44,7 +45,8 @@ lone_dump = record {
   callers = [];
 }
 
--- one state takes a key and no new batch with it, and another serves blocks without a refill after them
+-- the list of a state that takes a key and makes no batch; `only_blocks` is that of a state that then serves blocks and
+-- makes no batch
 abbrev pub only_rekeyed : List VEntry
 only_rekeyed = Rekey 0 0 ∷ []
 

@@ -6,12 +6,13 @@ use Rattle.key_names.specs.Kernel.FastPool.{FastWords, sip_round}
 use Rattle.key_names.specs.Lanes.PoolList.{pool_after}
 use Rattle.key_names.specs.Lanes.BaseList.{base_after}
 
--- the pool's bits after the first n of four input events; the last event repeats the value before it
+-- the pool's bits after the first `n` of four input events; the last event repeats the value of the event before
 abbrev pub bits_after : ℕ → ℕ
 bits_after n = (pool_after (take n
     (Input 0 1 30 1 1000 ∷ Input 0 1 30 2 3000 ∷ Input 0 1 30 3 8000 ∷ Input 0 1 30 3 8000 ∷ []))).bits
 
--- the timer after the first n of six entries; a forced reseed does not change it, and one that fires sets it
+-- the timer after the first `n` of six entries; a forced reseed does not change the timer, and a tick that fires sets
+-- the timer
 abbrev pub timer_at : ℕ → Option ℕ
 timer_at n = (base_after (take n
     (Reseed 0 0 ∷ Tick 999 None ∷ Tick 1000 (Some 1) ∷ Reseed 2 1500 ∷ Tick 1999 None ∷ Tick 2000
@@ -31,6 +32,6 @@ siphash_start = record {
   s3 = bit_xor 0x7465646279746573 0x0f0e0d0c0b0a0908;
 }
 
--- the hash, after the four rounds at the end
+-- the hash that these words give after four more rounds
 abbrev pub finished : FastWords → ℕ
 finished s = let t = rounds 4 (record s { s2 = bit_xor s.s2 0xff }) in bit_xor (bit_xor t.s0 t.s1) (bit_xor t.s2 t.s3)

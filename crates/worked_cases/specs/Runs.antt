@@ -25,8 +25,8 @@ pub record FailsFirst (clause : Clause) (input output : List ℕ) : Type 0 where
   pub lines_are : IsTranscriptText output lines
   pub fails : FirstFails script lines clause
 
--- a near miss is a changed transcript, and the first clause that fails for it. Of its lines, numbered from 0, one is
--- left out, or one or two are replaced
+-- A near miss is a changed transcript, and the first clause that fails for it. One of the transcript's lines, numbered
+-- from 0, is left out, or one or two of these lines are replaced.
 pub data NearMiss : Type 0 where
   left_out : ℕ → NearMiss
   instead : ℕ → List ℕ → Clause → NearMiss
@@ -51,7 +51,7 @@ pub record Case : Type 0 where
 abbrev pub transcript_with : List (List ℕ) → List ℕ
 transcript_with lines = lined (codes "rngtranscript 1" ∷ lines ++ codes "end" ∷ [])
 
--- the transcript is lawful, and each near miss fails its clause first
+-- the transcript is lawful, and for each near miss its clause is the first that fails
 pub record Holds (case : Case) : Type 0 where
   pub lawful : IsLawfulRun case.script (transcript_with case.lines)
   pub near_misses : AllByRecursion

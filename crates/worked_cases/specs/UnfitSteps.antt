@@ -1,4 +1,4 @@
--- Transcripts with steps that match no form of their event's word, whatever entries the lanes have.
+-- Transcripts with steps that are no form of their event, whatever entries the lanes have.
 use Rattle.std.specs.Prelude.{[], ◌∷◌, codes, slice_set}
 use Rattle.worked_cases.specs.ManyCallers.{fork_wipes_the_childs_state}
 use Rattle.worked_cases.specs.Runs.{Case, one_cpu}
@@ -30,7 +30,7 @@ visit_of_no_cpu = record {
   near_misses = [];
 }
 
--- a vread in which a look finds less than the one before it
+-- a vread in which a look finds a lower generation than the look before
 abbrev pub looks_that_fall : Case
 looks_that_fall = record {
   script = one_cpu (codes "credit 256" ∷ codes "vread 8 0" ∷ []);

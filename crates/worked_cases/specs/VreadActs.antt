@@ -23,8 +23,8 @@ act_has_the_cpu_of_its_read = record {
       ∷ instead 3 (codes "0.3 vread ok ~1,~1,~1,~1,c1:1@6,~1 223f1a93c3ab801d") data_clause ∷ [];
 }
 
-abbrev pub act_stands_at_its_point : Case
-act_stands_at_its_point = record {
+abbrev pub act_conforms_at_its_point : Case
+act_conforms_at_its_point = record {
   script = one_cpu (
       codes "credit 256"
       ∷ codes "inside 3 vread 8"

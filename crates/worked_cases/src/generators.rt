@@ -16,13 +16,13 @@ pub fn cpu_255()
     ensures { Holds cpu_255 }
 {}
 
-/// The reseed timer fires when it is due, and a forced reseed does not change it.
+/// The reseed timer fires when it is due, and a forced reseed does not change the timer.
 #[tactic(auto, using(crate::proofs::GeneratorLanes::reseed_timer_holds))]
 pub fn reseed_timer()
     ensures { Holds reseed_timer }
 {}
 
-/// The reseed interval at 120 seconds and later, even if the moments go back.
+/// From 120 seconds on, the timer fires 60 seconds after it was set, even if an event in between has an earlier moment.
 #[tactic(auto, using(crate::proofs::GeneratorLanes::late_interval_holds))]
 pub fn late_interval()
     ensures { Holds late_interval }
@@ -34,7 +34,7 @@ pub fn int16_across_readiness_and_reseed()
     ensures { Holds int16_across_readiness_and_reseed }
 {}
 
-/// A CPU that was prepared is refilled.
+/// A read refills a CPU that was prepared.
 #[tactic(auto, using(crate::proofs::GeneratorLanes::prepare_refills_holds))]
 pub fn prepare_refills()
     ensures { Holds prepare_refills }
@@ -46,7 +46,7 @@ pub fn vmfork_before_and_after_readiness()
     ensures { Holds vmfork_before_and_after_readiness }
 {}
 
-/// A batch of 96 bytes used up, and the next one.
+/// A batch of 96 bytes is used up, and the next batch begins.
 #[tactic(auto, using(crate::proofs::GeneratorLanes::int8_batch_of_96_holds))]
 pub fn int8_batch_of_96()
     ensures { Holds int8_batch_of_96 }

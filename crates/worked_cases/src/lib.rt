@@ -1,11 +1,37 @@
-//! Worked cases of scripts and transcripts, each as the contract of a function without code.
+//! Worked cases of scripts and transcripts, each as the contract of a function without code. The prover computes the
+//! definitions, and the crate uses lemmas of `transcript_text`. The crate runs no code of the program.
 //!
-//! Every transcript was made by an implementation that shares nothing with this repository, and the bytes of all but
-//! three are those of the kernel's own C code (`drivers/char/random.c`, `lib/vdso/getrandom.c`). Each contract states
-//! that the transcript is lawful for its script, down to every byte. It also states, for each near miss, which clause
-//! is the first that fails.
+//! Every transcript was made by an implementation that shares nothing with this repository. The bytes of all but three
+//! are those of the kernel's own C code (drivers/char/random.c, lib/vdso/getrandom.c).
 //!
-//! The prover computes the definitions, and the crate uses lemmas of `transcript_text`. It runs no code of the program.
+//! # Example
+//!
+//! ```rust
+//! pub fn dumps()
+//!     ensures by_time { map (makes_due fast_start) (1000 ∷ 1001 ∷ []) ≡ false ∷ true ∷ [] }
+//!     ensures by_count { makes_due (fast_after (replicate 1023 (Irq 1 2 0))) 0 ≡ true }
+//!     ensures bits { dump_bits (fast_after (replicate 1024 (Irq 1 2 0))) ≡ 16 }
+//!     ensures after_online { dump_bits (fast_after (replicate 1024 (Irq 1 2 0) ++ Online ∷ [])) ≡ 1 }
+//! {}
+//! ```
+//!
+//! From `crates/worked_cases/src/rules.rt`.
+//!
+//! # Proved
+//!
+//! - [`readiness`], [`generators`], [`sample_events`], [`many_callers`], [`vreads`] and [`vread_acts`]: each contract
+//!   states that a transcript is lawful for its script, down to every byte. It also states, for each near miss, which
+//!   clause is the first that fails.
+//! - [`unfit_steps`]: the clause on forms is the first that fails.
+//! - [`refusal::near_misses_are_refused`]: if a clause is the first that fails for a text, the text is not that of a
+//!   lawful transcript for the same script.
+//! - [`refused_books`]: books and lists that the definitions refuse.
+//! - [`rules`]: the kernel's small rules on example numbers.
+//! - [`script_faults`]: the first faults of some scripts.
+//!
+//! # Tested only
+//!
+//! `.ci/check_checks` gives each case and each near miss to the program, and compares its verdict with the theorem.
 #![tactic(auto)]
 
 pub mod generators;

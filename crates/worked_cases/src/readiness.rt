@@ -1,17 +1,17 @@
-//! Reads before the core is ready, and how it becomes ready.
+//! Reads before the core is ready, and how the core becomes ready.
 ghost use Rattle.worked_cases.specs.Runs.{Holds};
 ghost use Rattle.worked_cases.specs.Readiness.{first_run, before_readiness, first_use_after_credit};
 ghost use Rattle.worked_cases.specs.Readiness.{empty_base_extracts_each_time, read_of_33_before_readiness};
 ghost use Rattle.worked_cases.specs.Readiness.{early_then_ready, early_step_skipped, early_base_no_second_extraction};
 ghost use Rattle.worked_cases.specs.Readiness.{random_file_not_ready, kernel_and_file_reads};
 
-/// A write, and a read served from a root that is extracted for it alone.
+/// A write, and a read that is served from a root extracted for this read alone.
 #[tactic(auto, using(crate::proofs::ReadinessLanes::first_run_holds))]
 pub fn first_run()
     ensures { Holds first_run }
 {}
 
-/// A core that is not ready: reads (`EAGAIN`, `EINVAL`, `EINTR`), a reseed (`ENODATA`), and its bits.
+/// A core that is not ready: reads (`EAGAIN`, `EINVAL`, `EINTR`), a reseed (`ENODATA`), and the core's bits.
 #[tactic(auto, using(crate::proofs::ReadinessLanes::before_readiness_holds))]
 pub fn before_readiness()
     ensures { Holds before_readiness }

@@ -8,14 +8,14 @@ ghost use Rattle.key_names.specs.Keys.Uses.{IsDisjoint};
 ghost use Rattle.worked_cases.specs.RefusedBooks.{shared_refill, unanswered, two_integers, lone_dump, only_rekeyed};
 ghost use Rattle.worked_cases.specs.RefusedBooks.{only_blocks};
 
-/// If two CPUs take the same refill, they use its key twice.
+/// If two CPUs take the same refill, the refill's key is used twice.
 #[tactic(auto, using(crate::proofs::BooksRefused::shared_refill_is_refused))]
 pub fn one_refill_for_two_cpus()
     ensures { ¬ IsDisjoint shared_refill }
 {}
 
-/// An extraction names the place of the base that it is for, and the entry there names the extraction. Only a place
-/// without an entry need not name it.
+/// An extraction names a place of the base. If there is an entry at that place, that entry must name the extraction
+/// back.
 #[tactic(auto, using(crate::proofs::BooksRefused::unanswered_is_refused))]
 pub fn unanswered_extraction()
     ensures { ¬ HalfFinishedLanes unanswered }
@@ -27,13 +27,13 @@ pub fn served_bytes_that_stay()
     ensures { ¬ IsErased two_integers (λ batch. replicate 96 1) }
 {}
 
-/// A dump is refused if no interrupt of its own event made it due.
+/// A dump is refused if no interrupt of the same event made the dump due.
 #[tactic(auto, using(crate::proofs::BooksRefused::lone_dump_is_refused))]
 pub fn dump_without_an_interrupt()
     ensures { ¬ LawfulSamples lone_dump }
 {}
 
-/// The list of a vgetrandom state does not end with a new key or with whole blocks, since a new batch follows both.
+/// The list of a vgetrandom state ends neither with a new key nor with whole blocks, since a new batch follows either.
 #[tactic(auto, using(crate::proofs::BooksRefused::only_rekeyed_is_refused, crate::proofs::BooksRefused::only_blocks_is_refused))]
 pub fn state_lists_cut_short()
     ensures rekeyed { ¬ LawfulStateList (cpu_list two_integers) 0 0 only_rekeyed }

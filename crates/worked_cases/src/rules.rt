@@ -8,7 +8,8 @@ ghost use Rattle.key_names.specs.Lanes.PoolList.{credit, crossing, ready, early,
 ghost use Rattle.key_names.specs.Lanes.BaseList.{base_after, interval};
 ghost use Rattle.worked_cases.specs.Rules.{bits_after, timer_at, finished, rounds, siphash_start};
 
-/// One more bit crosses 128, or 256. A credit that passes both crosses only 256 (`_credit_init_bits`).
+/// From 127 bits, one more bit crosses 128; from 255, one more crosses 256. A credit that passes both crosses only 256
+/// (`_credit_init_bits`).
 #[tactic(auto, using(crate::proofs::WorkedRules::crossings, crate::proofs::WorkedRules::early_is_skipped))]
 pub fn credits()
     ensures crossings { map (λ (n : ℕ). crossing n (credit n 1)) (126 ∷ 127 ∷ 254 ∷ 255 ∷ 256 ∷ [])
@@ -26,7 +27,8 @@ pub fn input_events()
 {}
 
 /// A dump is due after more than 1,000 milliseconds, and at the 1,024th interrupt. The latter dump is credited with 16
-/// bits, or with one bit if the CPU came online before it (`add_interrupt_randomness`, `mix_interrupt_randomness`).
+/// bits, or with one bit if the CPU came online before the dump (`add_interrupt_randomness`,
+/// `mix_interrupt_randomness`).
 #[tactic(auto, using(crate::proofs::WorkedRules::due_by_time, crate::proofs::WorkedRules::due_by_count, crate::proofs::WorkedRules::bits_of_count, crate::proofs::WorkedRules::bits_after_online))]
 pub fn dumps()
     ensures by_time { map (makes_due fast_start) (1000 ∷ 1001 ∷ []) ≡ false ∷ true ∷ [] }
@@ -36,7 +38,7 @@ pub fn dumps()
 {}
 
 /// The age of the system determines the milliseconds to the next reseed. A forced reseed does not change the timer, and
-/// a fired one sets it (`crng_reseed_interval`).
+/// a tick that fires sets it (`crng_reseed_interval`).
 #[tactic(auto, using(crate::proofs::WorkedRules::intervals, crate::proofs::WorkedRules::late_interval, crate::proofs::WorkedRules::timers))]
 pub fn reseed_intervals()
     ensures by_age { map (interval true) (0 ∷ 1999 ∷ 5000 ∷ 119999 ∷ 120000 ∷ [])

@@ -1,4 +1,4 @@
-//! Steps that match no form of their event's word, whatever entries the lanes have.
+//! Steps that are no form of their event, whatever entries the lanes have.
 ghost use Rattle.key_names.specs.Transcripts.IsTranscript.{forms_clause};
 ghost use Rattle.worked_cases.specs.Runs.{FailsFirst, transcript_with};
 ghost use Rattle.worked_cases.specs.UnfitSteps.{read_without_a_look, fork_without_a_visit, looks_that_fall};
@@ -28,7 +28,8 @@ pub fn visit_of_no_cpu()
     ensures { FailsFirst forms_clause visit_of_no_cpu.script (transcript_with visit_of_no_cpu.lines) }
 {}
 
-/// A child may not go on with its parent's batch. Its state was wiped, so a single look, as a copy has, is not enough.
+/// A child may not go on with its parent's batch. The child's state was wiped, so a copy, which has a single look,
+/// cannot serve the child.
 #[tactic(auto, using(crate::proofs::UnfitForms::batch_of_the_parent_fails))]
 pub fn batch_of_the_parent()
     ensures { FailsFirst forms_clause batch_of_the_parent.script (transcript_with batch_of_the_parent.lines) }

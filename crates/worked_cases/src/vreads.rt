@@ -15,19 +15,19 @@ pub fn vread_of_nothing()
     ensures { Holds vread_of_nothing }
 {}
 
-/// A wipe in the middle of a read that has a read inside it. The second attempt has a new key.
+/// A read with another read inside it, and a wipe in the middle. The second attempt reads a new key.
 #[tactic(auto, using(crate::proofs::VreadLanes::wipe_inside_with_nested_read_holds))]
 pub fn wipe_inside_with_nested_read()
     ensures { Holds wipe_inside_with_nested_read }
 {}
 
-/// A reseed in the middle of a read outdates its first attempt.
+/// A reseed in the middle of a read outdates the read's first attempt.
 #[tactic(auto, using(crate::proofs::VreadLanes::reseed_inside_vread_holds))]
 pub fn reseed_inside_vread()
     ensures { Holds reseed_inside_vread }
 {}
 
-/// An act at a point that its read does not reach is not done.
+/// If a read does not reach the point of an act, the act is not done.
 #[tactic(auto, using(crate::proofs::VreadLanes::point_not_reached_holds))]
 pub fn point_not_reached()
     ensures { Holds point_not_reached }

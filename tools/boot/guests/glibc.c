@@ -1,5 +1,5 @@
-/* The first program of a machine that is recorded: it asks a C library that knows of vgetrandom for random bytes, and
- * switches off. Do not run it on a machine that is in use. tools/boot/initrd compiles it, and takes Debian 13's C library. */
+/* The first program of a machine that is recorded: it calls a C library that uses vgetrandom, and switches off. Do not
+ * run it on a machine that is in use. tools/boot/initrd compiles it, with the C library of Debian 13. */
 #define _GNU_SOURCE
 #include <fcntl.h>
 #include <gnu/libc-version.h>
@@ -118,7 +118,7 @@ int main(void)
     device = open("/dev/urandom", O_RDWR);
     printf("glibc %s\n", gnu_get_libc_version());
     single();
-    for (int round = 0; round < 3; round++) /* states of threads that ended come back to the library, and serve others */
+    for (int round = 0; round < 3; round++) /* the library gives the states of ended threads to other threads */
         threads(8, round * 100);
     forks();
     signals();

@@ -1,9 +1,9 @@
-/* The first program of a machine whose memory is kept: what stays of vgetrandom's states in user memory?
+/* The first program of a machine whose memory is kept. It asks what is left of vgetrandom's states in user memory.
  *
- * It shows the unserved bytes and the key of each state on the console, byte by byte, so that no other copy of them is in
- * memory. At each `moment` it calls sync(2) and sleeps. One child dumps core, and the core is searched for its state.
- * As another process than the first one it shows one state and waits, for a debugger. tools/boot/initrd compiles it, and
- * docs/MEMORY.md says what it shows. */
+ * It shows the unserved bytes and the key of each state on the console, byte by byte, so that no other copy of them is
+ * in memory. At each `moment` it calls sync(2) and sleeps. One child dumps core, and the core is searched for the
+ * child's state. If it is not the first process, it shows one state and waits for a debugger. tools/boot/initrd
+ * compiles it, and docs/MEMORY.md describes what it shows. */
 #include "vgetrandom.h"
 #include <fcntl.h>
 #include <signal.h>
@@ -19,7 +19,7 @@ enum { BATCH = 96, KEY = 96, KEY_BYTES = 32, POSITION = 136, MUCH = 128 << 20 };
 
 typedef unsigned char byte;
 
-/* What a child leaves for its parent, each byte one more, so that it is no copy. */
+/* The bytes that a child leaves for its parent, each increased by one, so that they are no copy. */
 struct raised {
     byte key[KEY_BYTES], copy[KEY_BYTES];
 };
@@ -39,7 +39,7 @@ static void show(const char *name, const char *part, const byte *at, int count)
     printf("\n");
 }
 
-/* The bytes that a call leaves in its buffer are zeroed: they were served. */
+/* The bytes that a call leaves in its buffer are zeroed, since they were served. */
 static void take(byte *state, size_t count)
 {
     byte served[BATCH];
@@ -77,7 +77,7 @@ static int count_raised(const byte *bytes, size_t size, const byte *wanted)
     return found;
 }
 
-/* A child with a state, and with 32 bytes in an ordinary page as the control, dumps core. */
+/* A child with a state, and with 32 bytes in an ordinary page as a control, dumps core. */
 static void crash(struct raised *left)
 {
     struct rlimit all = {RLIM_INFINITY, RLIM_INFINITY};

@@ -1,7 +1,9 @@
-/* The first program of a machine that is recorded: it calls vgetrandom in many ways, by states of its own, and switches off.
+/* The first program of a machine that is recorded: it calls vgetrandom in many ways, on states of its own, and switches
+ * off.
  *
- * Do not run it on a machine that is in use. It needs no library that knows of vgetrandom: it finds the function in the vDSO,
- * and maps states as that one's parameters say. tools/boot/initrd compiles it, and docs/RECORDING.md says what it shows. */
+ * Do not run it on a machine that is in use. It needs no library that uses vgetrandom: it finds the function in the
+ * vDSO, and maps states as the function's parameters say. tools/boot/initrd compiles it; docs/RECORDING.md describes
+ * the result. */
 #include "vgetrandom.h"
 #include <fcntl.h>
 #include <pthread.h>
@@ -33,7 +35,7 @@ static void reseed(void)
         die("no reseed");
 }
 
-/* Numbers that are the same in each boot. */
+/* Pseudorandom numbers, the same in each boot. */
 static uint32_t next(uint32_t *seed)
 {
     *seed = *seed * 1664525u + 1013904223u;
@@ -57,7 +59,7 @@ static int child(const char *name)
     return it == 0;
 }
 
-/* Before the core is ready: one asks and does not wait, one takes what there is, one waits, and one makes it ready. */
+/* Before the core is ready: one process does not wait, one takes what there is, one waits, and one makes it ready. */
 static void not_ready(void *state)
 {
     struct {
@@ -100,7 +102,7 @@ static void sizes(void *state)
         call(state, counts[i], 0);
 }
 
-/* All but GRND_RANDOM with GRND_INSECURE, which the program answers otherwise than the kernel. */
+/* All flags but GRND_RANDOM with GRND_INSECURE, for which the program's answer differs from the kernel's. */
 static void flags(void *state)
 {
     static const unsigned all[] = {1, 2, 3, 4, 5, 8, 9, 0x10000};
@@ -116,7 +118,7 @@ static void batches(void *state, uint32_t *seed)
         call(state, size_of(seed), 0);
 }
 
-/* Reseeds before calls, and three states in turn. */
+/* Reseeds before calls, and three states used in turn. */
 static void outdated(void *states, uint32_t *seed)
 {
     for (int i = 0; i < 40; i++) {
@@ -147,7 +149,7 @@ static void *worker(void *number)
     return 0;
 }
 
-/* Their states lie in one page, as those of a C library do. */
+/* Their states lie in one page, as the states of a C library do. */
 static void threads(int count)
 {
     pthread_t all[28];
@@ -164,7 +166,7 @@ static void use_both(void *states, int count, uint32_t *seed)
         call(slot(states, i % 2), size_of(seed), 0);
 }
 
-/* A child's states are wiped, and it runs beside its parent; so does a grandchild. */
+/* A child's states are wiped, and the child runs beside its parent; so does a grandchild. */
 static void forks(void *states, uint32_t *seed)
 {
     for (int i = 0; i < 6; i++) {
@@ -184,7 +186,7 @@ static void forks(void *states, uint32_t *seed)
     }
 }
 
-/* The kernel may take a page of states away; so does this call. */
+/* The kernel may take away a page of states; so does this call. */
 static void lost_pages(void *states, uint32_t *seed)
 {
     for (int i = 0; i < 20; i++) {
@@ -220,7 +222,7 @@ static void handler(int signal)
     }
 }
 
-/* Long calls, with signals inside whose handler does as the acts say. */
+/* Long calls, with signals inside whose handler makes the acts. */
 static void signals(int what, int count, size_t size)
 {
     struct itimerval timer = {{0, TICK}, {0, TICK}}, off = {{0, 0}, {0, 0}};

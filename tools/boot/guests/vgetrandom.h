@@ -1,4 +1,4 @@
-/* vgetrandom of this machine's vDSO, and pages for its states. The programs of this folder that a machine begins with include it. */
+/* vgetrandom of this machine's vDSO, and pages for its states. The first programs of machines include it. */
 #define _GNU_SOURCE
 #include <elf.h>
 #include <errno.h>
@@ -24,7 +24,7 @@ static void die(const char *why)
     reboot(RB_POWER_OFF);
 }
 
-/* The function's address, by the vDSO's table of symbols, which stands before their names. */
+/* The function's address, from the vDSO's symbol table, which lies before the symbols' names. */
 static vgetrandom_t find(void)
 {
     char *base = (char *)getauxval(AT_SYSINFO_EHDR), *names = 0;

@@ -1,5 +1,5 @@
-// Draws random bytes in one of the ways that a program can, for the checks. What it prints is the same at each run
-// where the bytes are.
+// Draws random bytes in one of the ways that a program can, for the checks. If the bytes are the same at each run, so
+// is the output.
 #define _GNU_SOURCE
 #include <errno.h>
 #include <fcntl.h>
@@ -56,7 +56,7 @@ static void errnos(void) {
     close(file);
 }
 
-// The ways to a descriptor, and reads of more than one piece.
+// The ways to get a descriptor, and reads of more than one piece.
 static void files(void) {
     unsigned char bytes[64];
     int file = open("/dev/urandom", O_RDONLY | O_CLOEXEC), other = dup(file);
@@ -110,7 +110,7 @@ static void *draw_each(void *of) {
 
 static int compare(const void *one, const void *other) { return memcmp(one, other, 8); }
 
-// Which thread gets which bytes is the scheduler's; that these bytes are drawn, each once, is not.
+// The scheduler decides which thread gets which bytes. That these bytes are drawn, each once, does not depend on it.
 static void threads(void) {
     pthread_t them[THREADS];
     for (int at = 0; at < THREADS; at++)
@@ -138,7 +138,7 @@ static void forks(void) {
     }
 }
 
-// Asks as a careful program does, and tells what it met on the way.
+// Asks as a careful program does, and prints what happened on the way.
 static void retry(void) {
     unsigned char bytes[16];
     long got;
@@ -163,7 +163,7 @@ static void many(long count, size_t size) {
     (void)fprintf(stderr, "%ld requests, %.4f ms each\n", count, spent / (double)count);
 }
 
-// Lengths of all kinds, in no order that could be foreseen.
+// Many different lengths, in no order that could be foreseen.
 static void mixed(void) {
     static unsigned char bytes[20000];
     static const unsigned most[] = {1, 9, 33, 66, 300, 2000, 20, 400};
@@ -178,7 +178,7 @@ static void mixed(void) {
     }
 }
 
-// Writes to the devices in all ways that are served, between two reads.
+// Writes to the devices in all ways that are served, each between two reads.
 static void writes(void) {
     unsigned char bytes[16] = "";
     struct iovec pieces[] = {{"ab", 2}, {"", 0}, {"cde", 3}};
@@ -225,7 +225,7 @@ static void controls(void) {
     show_control("another file's", ioctl(open("/dev/null", O_RDONLY), RNDGETENTCNT, &bits));
 }
 
-// Memory that may be dropped is what vgetrandom wants.
+// vgetrandom needs memory that may be dropped.
 static void droppable(void) {
     void *at = mmap(NULL, 4096, PROT_READ | PROT_WRITE, MAP_ANONYMOUS | 0x08, -1, 0);
     puts(at == MAP_FAILED ? "not droppable" : "droppable");

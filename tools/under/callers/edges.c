@@ -1,5 +1,5 @@
-// Draws where it is hard to be served: while signals come, while others are killed, without rights, root folder or
-// descriptors, and with the memory damaged that is shared with the server. For the checks.
+// Draws in situations in which serving is hard: signals come, other processes are killed, rights, root folder or
+// descriptors are missing, or the memory that is shared with the server is damaged. For the checks.
 #define _GNU_SOURCE
 #include "../mailbox.h"
 
@@ -43,8 +43,8 @@ static long read_in_one_way(int way, int file, int device) {
     return way == 1 ? read(device, bytes, sizeof bytes) : getrandom(bytes, sizeof bytes, 0);
 }
 
-// How often a call that nothing can interrupt was interrupted, by a signal whose handler restarts nothing; and the
-// microseconds of each.
+// How often a signal, whose handler restarts nothing, interrupted a call that nothing can interrupt; and the
+// microseconds of each call.
 static void interrupted(const char *own, long count) {
     static const char *const ways[] = {"file", "device", "getrandom"};
     int file = open(own, O_RDONLY), device = open("/dev/urandom", O_RDONLY);
@@ -76,7 +76,7 @@ static void write_one(int over) {
         _exit(1);
 }
 
-// A child's end is a signal that this program ignores, so it does not see it while it waits.
+// A child's end is a signal that this program ignores, so the program does not see it while it waits.
 static void wait_on(void) {
     struct epoll_event event = {.events = EPOLLIN};
     int ends[2], group = epoll_create1(0);
@@ -103,7 +103,7 @@ static void draw_many(const char *when) {
     printf("%s %u\n", when, sum);
 }
 
-// As a daemon does.
+// Draws in the steps by which a program becomes a daemon.
 static void daemonize(void) {
     draw_many("begun");
     close_range(3, ~0U, 0);
@@ -125,7 +125,7 @@ static pid_t start_asking(size_t size) {
     return child;
 }
 
-// Kills so many children while they ask, at moments that differ, and asks itself meanwhile.
+// Kills so many children while they ask, each at another moment, and itself asks meanwhile.
 static void kill_children(long children, long requests) {
     static const size_t sizes[] = {16, 300, 2000};
     unsigned char bytes[16];
@@ -145,7 +145,7 @@ static void kill_children(long children, long requests) {
     puts("all were killed");
 }
 
-// Another number of requests, or a request that no program makes.
+// Puts another number of requests into the shared memory, or a request that no program makes.
 static void damage(const char *what) {
     const char *path = getenv("RNG_UNDER");
     int file = path ? open(path, O_RDWR) : -1;

@@ -1,4 +1,4 @@
-// A faulty caller: it asks without waiting, and takes the buffer whatever the answer was.
+// A faulty caller: it asks without waiting, and uses the buffer whatever the answer was.
 #include <stdio.h>
 #include <sys/random.h>
 

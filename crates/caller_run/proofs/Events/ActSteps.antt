@@ -1,4 +1,4 @@
--- The steps of the acts at a point, as steps of their caller.
+-- The steps that the acts at a point made are steps of their caller (`Part`).
 use Rattle.std.proofs.Common.{◌≡◌, Bool, true, false, not, List, [], ◌∷◌, ◌++◌, refl, sym, ap, ◌∙◌, subst}
 use Rattle.std.specs.Prelude.{MatchBool, ◌&&◌, ⊤, if◌then◌else◌}
 use Rattle.std.specs.List.{AllByRecursion}
@@ -60,12 +60,12 @@ module _ (set : Setting) where
       go true h rest = ap (λ (l : List Step). items_from a.event 0 l ++ act_items asks xs p) h.empty ∙ rest
       go false h rest = rest
 
-  -- one act made these steps, and its line shows them
+  -- one act made the steps that its line shows
   act_part : (a : Ask) (v w : View) (y : ActOutcome) → ActRan set a v w y →
       Part set.caller v w (line_items (act_line set a y))
   act_part a v w y k =
-      subst (λ (l : List Step). Part set.caller v w (items_from a.event 0 l)) (sym k.did.told.trace)
-      (part_went set.caller a.event 0 v w k.did.made_steps k.did.told.went)
+      subst (λ (l : List Step). Part set.caller v w (items_from a.event 0 l)) (sym k.did.recorded.trace)
+      (part_went set.caller a.event 0 v w k.did.made_steps k.did.recorded.went)
 
   module _ (point : Point) where
     -- the acts at the point made their steps, if none of them was done before

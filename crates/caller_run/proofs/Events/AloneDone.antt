@@ -1,4 +1,4 @@
--- Three kinds of calls, out of the contracts of the core: an event alone, an act without a vread after it, and the end.
+-- `CallDone` holds for three kinds of calls: an event alone, an act that no vread follows, and the caller's end.
 use Rattle.std.proofs.Common.{◌≡◌, ℕ, List, [], map, refl, sym, ap, ◌∙◌, subst, inl}
 use Rattle.key_names.specs.declared.events.Answer.TheVariants.{Ok as Done, Unused}
 use Rattle.key_names.specs.declared.events.Event.{Event}
@@ -6,7 +6,7 @@ use Rattle.key_names.specs.declared.names.Step.{Step}
 use Rattle.key_names.specs.Callers.Answers.{answer_of, shown_of}
 use Rattle.key_names.specs.Lanes.Book.{Lists}
 use Rattle.key_names.specs.Callers.Calls.{alone, unbound, ending, BoundAct}
-use Rattle.key_names.specs.Callers.Deeds.{deeds_of}
+use Rattle.key_names.specs.Callers.Effects.{effects_of}
 use Rattle.key_names.specs.Callers.Forms.{Form, EndForm}
 use Rattle.caller_run.specs.Items.{items_from}
 use Rattle.key_names.specs.Callers.Meaning.{CallerState, caller_after, event_entries, unused_line}
@@ -17,12 +17,12 @@ use Rattle.lane_table.specs.BookLists.{StateLists, book_lists}
 use Rattle.lane_table.specs.BookLaws.{Continues}
 use Rattle.lane_table.specs.Advances.{MadeStep, step_of, Advances}
 use Rattle.caller_run.specs.NumberedSteps.{numbered_steps_from, items_of}
-use Rattle.key_names.specs.Callers.LineSamples.{SamplesStand}
-use Rattle.rng_core.specs.SampleDeeds.{fast_in}
+use Rattle.key_names.specs.Callers.LineSamples.{SamplesConform}
+use Rattle.rng_core.specs.SampleEffects.{fast_in}
 use Rattle.caller_run.specs.Done.{CallDone}
 use Rattle.caller_run.proofs.Orders.Chains.{items_from_doings, ran_nothing, ran_went}
 
--- the call of a line went from v to w by these steps, and they are the line's
+-- the call of a line made exactly the line's steps, from v to w
 module _ (caller : ℕ) (v w : View) (s : CallerState) (line : SeenLine) (made_steps : List MadeStep)
     (went : Advances caller line.event 0 v w made_steps) (steps : line.steps ≡ map step_of made_steps) where
   order : items_of (numbered_steps_from line.event 0 made_steps) ≡ items_from line.event 0 line.steps
@@ -33,21 +33,21 @@ module _ (caller : ℕ) (v w : View) (s : CallerState) (line : SeenLine) (made_s
       P visits (book_lists lanes visits callers)
 
   abbrev Sampled : Type 0
-  Sampled = InTheEnd (λ visits lists. SamplesStand (fast_in visits) (deeds_of lists line.steps))
+  Sampled = InTheEnd (λ visits lists. SamplesConform (fast_in visits) (effects_of lists line.steps))
 
   pub alone_done : (event : Event) →
-      InTheEnd (λ visits lists. Form s.setting event (deeds_of lists line.steps)
-      × (line.answer ≡ answer_of event (deeds_of lists line.steps))
-      × (line.shown ≡ shown_of event (deeds_of lists line.steps))) →
+      InTheEnd (λ visits lists. Form s.setting event (effects_of lists line.steps)
+      × (line.answer ≡ answer_of event (effects_of lists line.steps))
+      × (line.shown ≡ shown_of event (effects_of lists line.steps))) →
       Sampled → CallDone caller v w s (caller_after s event) (alone event line)
-  alone_done event told sampled = record {
+  alone_done event recorded sampled = record {
     numbered_steps = numbered_steps_from line.event 0 made_steps;
     ran = ran_went caller line.event 0 v w made_steps went;
     order = order;
-    meant = λ lanes visits callers c. let t = told lanes visits callers c in record {
+    meant = λ lanes visits callers c. let t = recorded lanes visits callers c in record {
       meaning = record {
         own = record {
-          deeds = deeds_of (book_lists lanes visits callers) line.steps;
+          effects = effects_of (book_lists lanes visits callers) line.steps;
           answer = line.answer;
           shown = line.shown;
         };
@@ -59,23 +59,23 @@ module _ (caller : ℕ) (v w : View) (s : CallerState) (line : SeenLine) (made_s
       before = refl;
       means = record { form = t.0; answer = t.1; shown = t.2; no_acts = refl; entries = refl; after = refl };
       after = refl;
-      deeds = refl;
+      effects = refl;
       answers = refl;
       shown = refl;
     };
     samples = λ lanes visits callers c. (sampled lanes visits callers c, tt);
   }
 
-  pub ending_done : InTheEnd (λ visits lists. EndForm (deeds_of lists line.steps)) → line.answer ≡ Done →
+  pub ending_done : InTheEnd (λ visits lists. EndForm (effects_of lists line.steps)) → line.answer ≡ Done →
       line.shown ≡ no_data → Sampled → CallDone caller v w s s (ending line)
-  ending_done told answer shown sampled = record {
+  ending_done recorded answer shown sampled = record {
     numbered_steps = numbered_steps_from line.event 0 made_steps;
     ran = ran_went caller line.event 0 v w made_steps went;
     order = order;
     meant = λ lanes visits callers c. record {
       meaning = record {
         own = record {
-          deeds = deeds_of (book_lists lanes visits callers) line.steps;
+          effects = effects_of (book_lists lanes visits callers) line.steps;
           answer = line.answer;
           shown = line.shown;
         };
@@ -86,7 +86,7 @@ module _ (caller : ℕ) (v w : View) (s : CallerState) (line : SeenLine) (made_s
       };
       before = refl;
       means = record {
-        form = told lanes visits callers c;
+        form = recorded lanes visits callers c;
         answer = answer;
         shown = shown;
         no_acts = refl;
@@ -94,7 +94,7 @@ module _ (caller : ℕ) (v w : View) (s : CallerState) (line : SeenLine) (made_s
         after = refl;
       };
       after = refl;
-      deeds = refl;
+      effects = refl;
       answers = refl;
       shown = refl;
     };
@@ -113,13 +113,13 @@ unbound_done caller v s bound none answer shown = record {
     before = refl;
     means = record { own = refl; no_acts = refl; entries = refl; after = refl };
     after = refl;
-    deeds = ap (deeds_of (book_lists lanes visits callers)) none;
+    effects = ap (effects_of (book_lists lanes visits callers)) none;
     answers = answer;
     shown = shown;
   };
   samples = λ lanes visits callers c. (
-    subst (λ (l : List Step). SamplesStand (fast_in visits)
-        (deeds_of (book_lists lanes visits callers) l)) (sym none) (inl tt),
+    subst (λ (l : List Step). SamplesConform (fast_in visits)
+        (effects_of (book_lists lanes visits callers) l)) (sym none) (inl tt),
     tt,
   );
 }

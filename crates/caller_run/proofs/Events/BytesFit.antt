@@ -1,4 +1,4 @@
--- The numbers that a line shows as bytes are bytes, and as many as its word allows.
+-- The numbers that a line shows as bytes are bytes, and there are as many of them as the line's word allows.
 use Rattle.std.proofs.Common.{◌≡◌, ℕ, List, [], ◌∷◌, Fits, w8, arith}
 use Rattle.std.specs.Prelude.{slice_index, ◌<◌, ◌^◌, ⊤}
 use Rattle.key_names.specs.declared.events.Word.{Word}
@@ -6,8 +6,8 @@ use Rattle.key_names.specs.declared.events.Word.TheVariants.{Bits}
 use Rattle.key_names.specs.Transcripts.SeenLine.{bytes_or_none}
 use Rattle.key_names.specs.Texts.TranscriptGrammar.{ShownFits}
 use Rattle.caller_run.specs.Says.{shown_by, ShowsFit}
-use Rattle.caller_run.specs.declared.reply.Shows.{Shows}
-use Rattle.caller_run.specs.declared.reply.Shows.TheVariants.{Nothing, Served, Count}
+use Rattle.caller_run.specs.declared.output.reply.LineData.{LineData}
+use Rattle.caller_run.specs.declared.output.reply.LineData.TheVariants.{Nothing, Served, Count}
 
 pub bytes_fit : (word : Word) (bytes : List ℕ) → (word ≡ Bits → ⊥) → ((i : ℕ) → Fits w8 (slice_index bytes i)) →
     ShownFits word (bytes_or_none bytes)
@@ -15,12 +15,12 @@ bytes_fit word [] other is = tt
 bytes_fit word (b ∷ bytes) other is = (other, omega arith, λ i. let byte = is i in omega arith)
 
 -- a count that is shown is below 2^32
-abbrev pub IsSmall : Shows → Type 0
+abbrev pub IsSmall : LineData → Type 0
 IsSmall (Count n) = n < 2 ^ 32
 IsSmall _ = ⊤
 
 -- the data of a call fit the line of its word
-pub shown_fits : (word : Word) (served : List ℕ) (shows : Shows) → ShowsFit word shows →
+pub shown_fits : (word : Word) (served : List ℕ) (shows : LineData) → ShowsFit word shows →
     ((i : ℕ) → Fits w8 (slice_index served i)) → IsSmall shows → ShownFits word (shown_by served shows)
 shown_fits word served Nothing fit bytes small = tt
 shown_fits word served Served fit bytes small = bytes_fit word served fit bytes

@@ -1,4 +1,5 @@
--- The steps of a host in a call of vgetrandom: with no point of a first attempt, or with its points in order.
+-- The host's steps in a vgetrandom call have one of two shapes: without any point of a first attempt, or with the
+-- points of a first attempt in order.
 use Rattle.std.proofs.Common.{◌≡◌, ℕ, ◌≤◌, ◌⊎◌, inl, inr, Bool, true, false, Option, List, [], ◌∷◌, ◌++◌, refl, sym, ap, ◌∙◌, subst, arith}
 use Rattle.std.specs.Prelude.{MatchBool, ◌==◌, if◌then◌else◌}
 use Rattle.std.proofs.lemmas.Bool.{eqb-false}
@@ -19,17 +20,17 @@ pub record NextAttempt (steps : List HostStep) : Type 0 where
   pub looks : LooksFirst rest
 
 -- the steps after a first attempt that copied
-abbrev pub Behind : List HostStep → Type 0
-Behind steps = (steps ≡ []) ⊎ NextAttempt steps
+abbrev pub AfterPoint : List HostStep → Type 0
+AfterPoint steps = (steps ≡ []) ⊎ NextAttempt steps
 
--- from Serve on
+-- the steps from the point Serve on
 pub record Copies (steps : List HostStep) : Type 0 where
   pub at_serve : Bool
   pub at_end : Bool
   pub published : ℕ
   pub rest : List HostStep
   pub steps_are : steps ≡ at_point Serve at_serve ∷ at_point End at_end ∷ publishes published ∷ rest
-  pub behind : Behind rest
+  pub following : AfterPoint rest
 
 -- after Written, a new key was read
 pub record Rekeys (steps : List HostStep) : Type 0 where
@@ -47,14 +48,14 @@ pub record Fails (steps : List HostStep) : Type 0 where
   pub answer : SystemAnswer
   pub steps_are : steps ≡ system_call 32 0 (failed errno) ∷ system_call n flags answer ∷ []
 
--- from Written on
+-- the steps from the point Written on
 pub record Writes (steps : List HostStep) : Type 0 where
   pub at_written : Bool
   pub rest : List HostStep
   pub steps_are : steps ≡ at_point Written at_written ∷ rest
   pub keys : Rekeys rest ⊎ Fails rest
 
--- a call with a first attempt
+-- the steps of a call with a first attempt
 pub record Tries (steps : List HostStep) : Type 0 where
   pub found : ℕ
   pub ready : 1 ≤ found
@@ -64,7 +65,7 @@ pub record Tries (steps : List HostStep) : Type 0 where
   pub steps_are : steps ≡ publishes found ∷ publishes published ∷ at_point Start at_start ∷ rest
   pub goes_on : Copies rest ⊎ Writes rest
 
--- from Serve on, with the end of the attempt
+-- the steps of an attempt from the point Serve on, and how the attempt ended
 record ServeSteps (steps : List HostStep) (attempt : Attempt) : Type 0 where
   pub at_serve : Bool
   pub at_end : Bool
@@ -91,7 +92,7 @@ module _ (n : ℕ) where
             ∙ ap end_of last.attempt_is;
       }
 
-  -- the caller's own steps in the second attempt begin with two looks
+  -- after the point Start, the first step of the caller itself is a look
   start_looks : (c published : ℕ) (s : VgetrandomState) (steps more : List HostStep) (attempt : Attempt) →
       FromStart n c published s steps attempt → LooksFirst (steps ++ more)
   start_looks c published s steps more attempt k = go (s.generation == published) k
@@ -122,7 +123,7 @@ module _ (n : ℕ) where
     after_copy : (attempt : Attempt) (end : AttemptEnd) (held : Bool) (steps : List HostStep) (outcome : Outcome) →
         end ≡ (if held then holds else outdated) → AfterAttempt n flags (SecondAttempt n flags) end attempt steps
         outcome →
-        Behind steps
+        AfterPoint steps
     after_copy attempt end true steps outcome is k =
         let h = subst (λ (e : AttemptEnd). AfterAttempt n flags (SecondAttempt n flags) e attempt steps outcome) is k in
         inl h.steps_are
@@ -142,7 +143,7 @@ module _ (n : ℕ) where
         published = serve.published;
         rest = rest;
         steps_are = ap (λ (l : List HostStep). l ++ rest) serve.steps_are;
-        behind = after_copy whole whole.end serve.held rest outcome (same ∙ serve.end_is) after;
+        following = after_copy whole whole.end serve.held rest outcome (same ∙ serve.end_is) after;
       }
 
       keys : (answer : SystemAnswer) (s : VgetrandomState) (steps : List HostStep) (attempt whole : Attempt) →
@@ -220,7 +221,7 @@ module _ (n : ℕ) where
             let ne = eqb-false found 0 some in
             inr (first_attempt found (record s { in_use = true }) steps outcome (omega (arith, ne)) h)
 
-    -- each call has one of the two shapes
+    -- each vgetrandom call has one of the two shapes
     pub call_shape : (s : VgetrandomState) (steps : List HostStep) (outcome : Outcome) →
         IsCall n flags s steps outcome →
         Quiet Before steps ⊎ Tries steps

@@ -1,4 +1,4 @@
--- The contracts of a caller's events, from those of the core's calls.
+-- If the core's call for an event meets its contract, the caller made the call of the event (`Asked`, `Called`).
 use Rattle.std.proofs.Common.{◌≡◌, ℕ, List, [], map, refl, sym, ap, subst, arith, rules}
 use Rattle.key_names.specs.declared.events.Answer.{Answer}
 use Rattle.key_names.specs.declared.events.Answer.TheVariants.{Ok as Done}
@@ -8,7 +8,7 @@ use Rattle.key_names.specs.declared.events.Word.{Word}
 use Rattle.key_names.specs.declared.events.Word.TheVariants.{Bits}
 use Rattle.key_names.specs.declared.names.Step.{Step}
 use Rattle.key_names.specs.Callers.Calls as calls
-use Rattle.key_names.specs.Callers.Deeds.{deeds_of}
+use Rattle.key_names.specs.Callers.Effects.{effects_of}
 use Rattle.key_names.specs.Texts.ScriptGrammar.{event_word}
 use Rattle.key_names.specs.Transcripts.SeenLine.{Shown, no_data}
 use Rattle.lane_table.specs.declared.lanes.Pass.{Pass}
@@ -17,7 +17,7 @@ use Rattle.lane_table.specs.Advances.{step_of}
 use Rattle.rng_core.specs.declared.setting.Setting.{Setting}
 use Rattle.rng_core.specs.Traces.{Moment, moment}
 use Rattle.rng_core.specs.Makes.{Makes, IsOutcomeOf, setting_of}
-use Rattle.rng_core.specs.SampleDeeds.{Sampled, fast_in}
+use Rattle.rng_core.specs.SampleEffects.{Sampled, fast_in}
 use Rattle.rng_core.specs.Sites.{Completes, DoesIn, at}
 use Rattle.rng_core.specs.declared.site.Site.{Site}
 use Rattle.rng_core.proofs.Makings.{did_nothing}
@@ -25,11 +25,11 @@ use Rattle.caller_run.specs.Calling.{Does, CanAsk, Asked, Called}
 use Rattle.caller_run.proofs.Events.OwnSites.{own_hands}
 use Rattle.caller_run.specs.Kinds.{IsQuiet}
 use Rattle.caller_run.specs.Says.{shown_by, ShowsFit, IsNoCount}
-use Rattle.caller_run.specs.declared.states.States.{States}
+use Rattle.caller_run.specs.declared.making.states.States.{States}
 use Rattle.std.specs.Global.{Box}
-use Rattle.caller_run.specs.declared.reply.Shows.{Shows}
-use Rattle.caller_run.specs.declared.reply.Shows.TheVariants.{Nothing, Served, Count}
-use Rattle.caller_run.specs.declared.reply.Reply.{Reply}
+use Rattle.caller_run.specs.declared.output.reply.LineData.{LineData}
+use Rattle.caller_run.specs.declared.output.reply.LineData.TheVariants.{Nothing, Served, Count}
+use Rattle.caller_run.specs.declared.output.reply.Reply.{Reply}
 use Rattle.key_names.proofs.Transcripts.QuietForms.{IsNoInterrupt, form_samples}
 
 -- the samples of an event that is no interrupt are right
@@ -37,11 +37,11 @@ pub quietly : (set : Setting) (event : Event) (answer : Answer) (shown : Shown) 
     Makes (IsOutcomeOf (setting_of set) event answer shown) set m n → Does set event answer shown m n
 quietly set event answer shown m n other did = record {
   made_steps = did.made_steps;
-  told = did.told;
-  stands = λ lanes visits callers c. let h = did.stands lanes visits callers c in record {
+  recorded = did.recorded;
+  conforms = λ lanes visits callers c. let h = did.conforms lanes visits callers c in record {
     holds = h;
     samples = form_samples (fast_in visits) (setting_of set) event
-        (deeds_of (book_lists lanes visits callers) (map step_of did.made_steps)) other h.form;
+        (effects_of (book_lists lanes visits callers) (map step_of did.made_steps)) other h.form;
   };
 }
 
@@ -77,7 +77,7 @@ module _ {event e : Event} {m n : Site} {said : Reply} {served : List ℕ} {step
       by_shown no_data (ap (λ (s : Reply). s.answer) says) (ap (λ (s : Reply). shown_by served s.shows) says)
       (subst (λ (s : Reply). ShowsFit (event_word e) s.shows) (sym says) tt) other done
 
--- credit alone is credit for no bytes
+-- an Add event without bytes does what a Credit event must do
 pub as_credit : {steps bits : ℕ} {m n : Site} → Completes steps (Add [] bits) Done no_data m n →
     Completes steps (Credit bits) Done no_data m n
 as_credit done = record {
@@ -86,8 +86,8 @@ as_credit done = record {
   room = done.room;
   did = record {
     made_steps = done.did.made_steps;
-    told = done.did.told;
-    stands = λ lanes visits callers c. let h = done.did.stands lanes visits callers c in
+    recorded = done.did.recorded;
+    conforms = λ lanes visits callers c. let h = done.did.conforms lanes visits callers c in
         record { form = h.form; answers = h.answers; shows = h.shows };
   };
 }
@@ -112,7 +112,7 @@ asks_nothing {event = event} {m = m} can is says = by_answer {steps = 0} refl sa
       (quiet_fulfil (setting_of m.set) event is);
 })
 
--- at a site that a caller made, the call of an event is the caller's own call
+-- a call at a site that the caller made from its pass and setting is the caller's own call
 pub called : {event : Event} {m n : Site} {said : Reply} {served : List ℕ} {states : Box States} {p : Pass}
     {steps : List Step} → p ≡ n.pass.now → steps ≡ n.trace.now → m.trace.now ≡ [] → Asked event said served m n →
     Called m.lanes.now event (record { pass = m.pass.now; set = m.set; states = states })
@@ -127,7 +127,7 @@ called {event = event} {m = m} {n = n} {said = said} {served = served} pass trac
 }))
 
 -- data without a count fit the line of each word other than `bits`
-pub no_count : (word : Word) (shows : Shows) → (word ≡ Bits → ⊥) → IsNoCount shows → ShowsFit word shows
+pub no_count : (word : Word) (shows : LineData) → (word ≡ Bits → ⊥) → IsNoCount shows → ShowsFit word shows
 no_count word Nothing other is = tt
 no_count word Served other is = other
 no_count word (Count n) other is = absurd is

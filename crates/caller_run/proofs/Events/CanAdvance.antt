@@ -1,4 +1,4 @@
--- The preconditions of a caller's next event.
+-- After each event a caller meets the preconditions of its next event.
 use Rattle.std.proofs.Common.{◌≡◌, ℕ, ◌+◌, ◌<◌, ◌≤◌, ◌^◌, List, [], ◌∷◌, sym, ap, ◌∙◌, subst, arith}
 use Rattle.std.proofs.lemmas.List.Sums.{sum_by-cons}
 use Rattle.key_names.specs.declared.events.Event.{Event}
@@ -18,9 +18,9 @@ use Rattle.rng_core.specs.declared.vdso.acts.Bound.{Bound}
 use Rattle.transcript_text.specs.Gathered.{Gathered}
 use Rattle.rng_core.specs.Traces.{moment}
 use Rattle.rng_core.specs.Makes.{setting_of}
-use Rattle.caller_run.specs.declared.caller.Caller.{Caller}
-use Rattle.caller_run.specs.declared.logs.Log.{Log}
-use Rattle.caller_run.specs.Calling.{stand, Seen, StatesStand}
+use Rattle.caller_run.specs.declared.making.caller.Caller.{Caller}
+use Rattle.caller_run.specs.declared.output.logs.Log.{Log}
+use Rattle.caller_run.specs.Calling.{conform, Seen, StatesConform}
 use Rattle.caller_run.specs.Says.{most_shown}
 use Rattle.caller_run.specs.Standing.{read_inside, CanAdvanceWith, CanAdvance}
 use Rattle.caller_run.proofs.Law.Seeing.{seen_after}
@@ -38,10 +38,10 @@ fits_after version cpus set (On cpu) range f = record { cpu = range; moment = f.
 fits_after version cpus set (Hw bytes) range f = record { cpu = f.cpu; moment = f.moment }
 fits_after version cpus set event range f = f
 
--- the caller after an event: d made its call, and e goes on, as `go_on` ensures
+-- the caller after an event: d is the caller after the event's call, and e when it goes on, as `go_on` ensures
 abbrev pub GoesOn : Event → Caller → Caller → Type 0
 GoesOn event d e = record {
-  stand : stand e ≡ caller_after (stand d) event;
+  conform : conform e ≡ caller_after (conform d) event;
   caller : e.set.caller ≡ d.set.caller;
   event : e.set.event ≡ d.set.event + 1;
   pass : e.pass ≡ d.pass;
@@ -67,22 +67,22 @@ first_can {event = event} {rest = rest} can = let g = can.goes in record {
     wanted = (let a = g.wanted in omega (arith, sum_by-cons read_inside event rest, sum_by-cons read_inside event []));
     few = (g.few.0, (g.few.1.0, tt));
     fresh = g.fresh;
-    told = g.told;
+    recorded = g.recorded;
   };
   act_room = can.act_room;
 }
 
--- the caller made an event, and its lines grew: c is the caller before the event, d after its call, and e when it goes
--- on
+-- the caller made an event, and its lines grew: it was c before the event and d after the event's call, and is e when
+-- it goes on
 module _ {t : Lanes} {event : Event} {c e : Caller} {before after : Gathered} {acts left : List Bound}
     {served inside : ℕ}
     {rest : List Event} (d : Caller) where
-  pub can_next : d.set ≡ c.set → HoldsLanes t d.set.caller [] d.pass → StatesStand d → GoesOn event d e →
+  pub can_next : d.set ≡ c.set → HoldsLanes t d.set.caller [] d.pass → StatesConform d → GoesOn event d e →
       Fills event before after acts left →
       CanAdvanceWith t c before acts served inside (event ∷ rest) → CanAdvanceWith t e after left served inside rest
   can_next set has states on fills g =
       let fits : Fits t.cpus (setting_of e.set) =
-      subst (Fits t.cpus) (sym (ap (λ (s : CallerState). s.setting) on.stand ∙ setting_moves (stand d) event
+      subst (Fits t.cpus) (sym (ap (λ (s : CallerState). s.setting) on.conform ∙ setting_moves (conform d) event
       ∙ ap (λ (s : Setting). setting_after (setting_of s) event) set))
       (fits_after g.range.0 t.cpus (setting_of c.set) event g.range.1.0
       (record { cpu = g.ready.cpu; moment = g.ready.moment })) in
@@ -94,9 +94,9 @@ module _ {t : Lanes} {event : Event} {c e : Caller} {before after : Gathered} {a
           cpu = fits.cpu;
           moment = fits.moment;
         };
-        states = subst (λ (p : Pass). Seen (floor (view p)) (stand e)) (sym on.pass)
-            (subst (Seen (floor (view d.pass))) (sym on.stand)
-            (seen_after g.range.0 t.cpus (floor (view d.pass)) (stand d) event g.range.1.0 states));
+        states = subst (λ (p : Pass). Seen (floor (view p)) (conform e)) (sym on.pass)
+            (subst (Seen (floor (view d.pass))) (sym on.conform)
+            (seen_after g.range.0 t.cpus (floor (view d.pass)) (conform d) event g.range.1.0 states));
         range = (g.range.0, g.range.1.1);
         numbers = (let a = g.numbers in let b = on.event in omega arith);
         at = (let a = g.at in let b = on.event in let l = fills.lines in omega arith);
@@ -108,5 +108,5 @@ module _ {t : Lanes} {event : Event} {c e : Caller} {before after : Gathered} {a
         wanted = (let a = g.wanted in let b = fills.wanted in omega (arith, sum_by-cons read_inside event rest));
         few = subst (λ (n : ℕ). (n ≤ 8) × FewActs n rest) (sym fills.many) g.few.1;
         fresh = fills.fresh;
-        told = fills.told;
+        recorded = fills.recorded;
       }

@@ -1,4 +1,4 @@
--- A call of the core as one of a caller's calls.
+-- A call of the core is one of the caller's calls: `CallDone` holds for it.
 use Rattle.std.proofs.Common.{◌≡◌, ℕ, List, [], map, refl, sym, subst}
 use Rattle.key_names.specs.declared.events.Answer.{Answer}
 use Rattle.key_names.specs.declared.events.Answer.TheVariants.{Ok as Done}
@@ -7,7 +7,7 @@ use Rattle.key_names.specs.declared.events.Word.{Word}
 use Rattle.key_names.specs.declared.names.Step.{Step}
 use Rattle.key_names.specs.declared.entries.BaseEntry.TheVariants.{End}
 use Rattle.key_names.specs.Callers.Calls.{Setting as CallSetting, alone, ending}
-use Rattle.key_names.specs.Callers.Deeds.{deeds_of}
+use Rattle.key_names.specs.Callers.Effects.{effects_of}
 use Rattle.key_names.specs.Callers.Forms.{Form, BaseOnly, EndForm}
 use Rattle.key_names.specs.Callers.Meaning.{CallerState, caller_after}
 use Rattle.key_names.specs.Transcripts.SeenLine.{Shown, no_data}
@@ -19,14 +19,14 @@ use Rattle.lane_table.specs.Advances.{step_of}
 use Rattle.rng_core.specs.declared.setting.Setting.{Setting}
 use Rattle.rng_core.specs.Traces.{knowing}
 use Rattle.rng_core.specs.Makes.{Makes, IsOutcomeOf, setting_of}
-use Rattle.key_names.specs.Callers.LineSamples.{SamplesStand}
-use Rattle.rng_core.specs.SampleDeeds.{Sampled, fast_in}
+use Rattle.key_names.specs.Callers.LineSamples.{SamplesConform}
+use Rattle.rng_core.specs.SampleEffects.{Sampled, fast_in}
 use Rattle.caller_run.specs.Calling.{Does}
 use Rattle.caller_run.specs.Done.{CallDone}
 use Rattle.caller_run.proofs.Events.AloneDone.{alone_done, ending_done}
 use Rattle.key_names.proofs.Transcripts.QuietForms.{end_samples}
 
--- the event's call went from v to w by these steps
+-- the event's call took the pass's view from v to w by these steps
 module _ (set : Setting) (v w : View) (s : CallerState) where
   pub core_done : (event : Event) (word : Word) (answer : Answer) (shown : Shown) (steps : List Step) →
       s.setting ≡ setting_of set → Does set event answer shown (knowing v []) (knowing w steps) →
@@ -47,21 +47,21 @@ module _ (set : Setting) (v w : View) (s : CallerState) where
         steps = steps;
         shown = shown;
       })
-      d.made_steps d.told.went d.told.trace event
-      (λ lanes visits callers c. let h = (line_stands lanes visits callers c).holds in (
-        subst (λ (x : CallSetting). Form x event (deeds_of (book_lists lanes visits callers) steps)) (sym same) h.form,
+      d.made_steps d.recorded.went d.recorded.trace event
+      (λ lanes visits callers c. let h = (line_conforms lanes visits callers c).holds in (
+        subst (λ (x : CallSetting). Form x event (effects_of (book_lists lanes visits callers) steps)) (sym same) h.form,
         h.answers,
         h.shows,
       ))
-      (λ lanes visits callers c. (line_stands lanes visits callers c).samples)
+      (λ lanes visits callers c. (line_conforms lanes visits callers c).samples)
     where
-      line_stands : (lanes : ℕ) (visits : ℕ → List Visit) (callers : StateLists) → Continues lanes w visits →
+      line_conforms : (lanes : ℕ) (visits : ℕ → List Visit) (callers : StateLists) → Continues lanes w visits →
           Sampled (IsOutcomeOf (setting_of set) event answer shown) visits
-          (deeds_of (book_lists lanes visits callers) steps)
-      line_stands lanes visits callers c =
+          (effects_of (book_lists lanes visits callers) steps)
+      line_conforms lanes visits callers c =
           subst (λ (l : List Step). Sampled (IsOutcomeOf (setting_of set) event answer shown) visits
-          (deeds_of (book_lists lanes visits callers) l))
-          (sym d.told.trace) (d.stands lanes visits callers c)
+          (effects_of (book_lists lanes visits callers) l))
+          (sym d.recorded.trace) (d.conforms lanes visits callers c)
 
   -- the end is one of the caller's calls
   pub end_done : (word : Word) (steps : List Step) → Makes (BaseOnly End) set (knowing v []) (knowing w steps) →
@@ -82,13 +82,13 @@ module _ (set : Setting) (v w : View) (s : CallerState) where
         steps = steps;
         shown = no_data;
       })
-      d.made_steps d.told.went d.told.trace
+      d.made_steps d.recorded.went d.recorded.trace
       (λ lanes visits callers c.
-      subst (λ (l : List Step). EndForm (deeds_of (book_lists lanes visits callers) l)) (sym d.told.trace)
-      (d.stands lanes visits callers c))
+      subst (λ (l : List Step). EndForm (effects_of (book_lists lanes visits callers) l)) (sym d.recorded.trace)
+      (d.conforms lanes visits callers c))
       refl refl
       (λ lanes visits callers c.
-      subst (λ (l : List Step). SamplesStand (fast_in visits) (deeds_of (book_lists lanes visits callers) l))
-      (sym d.told.trace)
-      (end_samples (fast_in visits) (deeds_of (book_lists lanes visits callers) (map step_of d.made_steps))
-      (d.stands lanes visits callers c)))
+      subst (λ (l : List Step). SamplesConform (fast_in visits) (effects_of (book_lists lanes visits callers) l))
+      (sym d.recorded.trace)
+      (end_samples (fast_in visits) (effects_of (book_lists lanes visits callers) (map step_of d.made_steps))
+      (d.conforms lanes visits callers c)))

@@ -1,4 +1,5 @@
--- The place where the steps of a vread are cut: after the steps of the system call for a new key, if it made one.
+-- `cut_rekey` cuts the steps of a vread after the system call for a new key, or at the front if the vread took no new
+-- key.
 use Rattle.std.proofs.Common.{◌≡◌, ℕ, suc, ◌≤◌, ◌⊎◌, inl, inr, Bool, true, false, not, Option, Some, None, List, [], ◌∷◌, ◌++◌, drop, map, refl, sym, ap, ◌∙◌, subst, arith}
 use Rattle.std.specs.Prelude.{MatchBool, ◌==◌, ◌&&◌, slice_get, if◌then◌else◌}
 use Rattle.std.specs.List.{AllByRecursion}
@@ -10,7 +11,7 @@ use Rattle.key_names.specs.declared.names.Step.{Step}
 use Rattle.key_names.specs.declared.names.Step.TheVariants.{Look, Visit as Marked}
 use Rattle.key_names.specs.Lanes.Book.{Lists, cpu_list}
 use Rattle.key_names.specs.Callers.Calls.{Setting as CallSetting}
-use Rattle.key_names.specs.Callers.Deeds.{Deed, looked as look_deed, at_pool, at_base, at_cpu, nothing_there, pool_visit, base_visit, cpu_visit, deed_or, deed_at, deeds_of}
+use Rattle.key_names.specs.Callers.Effects.{Effect, looked as look_effect, at_pool, at_base, at_cpu, nothing_there, pool_visit, base_visit, cpu_visit, effect_or, effect_at, effects_of}
 use Rattle.key_names.specs.Kernel.Flags.{is_insecure}
 use Rattle.key_names.specs.Callers.Forms.{CpuReadForm, WaitedInVain, Waited, ReadForm}
 use Rattle.key_names.specs.Callers.History.{is_mark}
@@ -29,14 +30,14 @@ use Rattle.caller_run.proofs.Orders.OwnSteps.{BeginsUnmarked}
 
 -- The cut
 
--- two steps, and then visits
+-- two steps, and then at least one visit and nothing but visits
 abbrev pub IsKeySteps : List Step → Type 0
 IsKeySteps [] = ⊥
 IsKeySteps (a ∷ []) = ⊥
 IsKeySteps (a ∷ b ∷ []) = ⊥
 IsKeySteps (a ∷ b ∷ c ∷ more) = (is_mark c ≡ true) × AllByRecursion (λ step. is_mark step ≡ true) more
 
--- the two parts of a cut
+-- the cut has these two parts
 abbrev pub AreParts : List Item × List Item → List Item → List Item → Type 0
 AreParts cut front rest = let parts : List Item × List Item = (front, rest) in cut ≡ parts
 
@@ -95,27 +96,27 @@ plain_cut (a ∷ b ∷ c ∷ items) begins = go (is_mark c.step) begins
 
 -- The steps of a system call for a new key
 
-abbrev is_visit : Deed → Bool
-is_visit (look_deed g) = false
+abbrev is_visit : Effect → Bool
+is_visit (look_effect g) = false
 is_visit (at_pool v) = true
 is_visit (at_base v) = true
 is_visit (at_cpu v) = true
 is_visit nothing_there = true
 
-visit_or : {E : Type 0} (deed : E → Deed) (o : Option E) → ((e : E) → is_visit (deed e) ≡ true) →
-    is_visit (deed_or deed o) ≡ true
-visit_or deed None visits = refl
-visit_or deed (Some e) visits = visits e
+visit_or : {E : Type 0} (effect : E → Effect) (o : Option E) → ((e : E) → is_visit (effect e) ≡ true) →
+    is_visit (effect_or effect o) ≡ true
+visit_or effect None visits = refl
+visit_or effect (Some e) visits = visits e
 
 module _ (lists : Lists) where
-  visit_at : (lane : LaneId) (place : ℕ) → is_visit (deed_at lists lane place) ≡ true
+  visit_at : (lane : LaneId) (place : ℕ) → is_visit (effect_at lists lane place) ≡ true
   visit_at PoolLane place = visit_or (λ e. at_pool (pool_visit lists place e)) (slice_get lists.pool place) (λ e. refl)
   visit_at BaseLane place = visit_or (λ e. at_base (base_visit lists place e)) (slice_get lists.base place) (λ e. refl)
   visit_at (CpuLane c) place = visit_or (λ e. at_cpu (cpu_visit lists c place e)) (slice_get (cpu_list lists c) place)
       (λ e. refl)
 
   -- the steps with a mark are exactly those with a visit
-  marks_are : (steps : List Step) → map is_mark steps ≡ map is_visit (deeds_of lists steps)
+  marks_are : (steps : List Step) → map is_mark steps ≡ map is_visit (effects_of lists steps)
   marks_are [] = refl
   marks_are (Look g ∷ steps) = ap (λ (l : List Bool). false ∷ l) (marks_are steps)
   marks_are (Marked mark ∷ steps) = λ i. sym (visit_at mark.lane mark.place) i ∷ marks_are steps i
@@ -134,49 +135,49 @@ module _ (lists : Lists) where
       let rest : map is_mark steps ≡ more = cc e in
       (cc e, all_marks steps (subst (AllByRecursion (λ b. b ≡ true)) (sym rest) all))
 
-  -- a read from a CPU after a look has the steps of a key
-  read_steps : (set : CallSetting) (steps : List Step) (g : ℕ) (rest : List Deed) →
-      deeds_of lists steps ≡ look_deed g ∷ rest → CpuReadForm set (User 32) rest → IsKeySteps steps
+  -- a look and then a read from a CPU have the form of the steps for a new key
+  read_steps : (set : CallSetting) (steps : List Step) (g : ℕ) (rest : List Effect) →
+      effects_of lists steps ≡ look_effect g ∷ rest → CpuReadForm set (User 32) rest → IsKeySteps steps
   read_steps set steps g rest e (inl f) =
       key_marks steps [] (marks_are steps ∙ ap (map is_visit) e
-      ∙ ap (λ (l : List Deed). false ∷ map is_visit l) f.deeds_are) tt
+      ∙ ap (λ (l : List Effect). false ∷ map is_visit l) f.effects_are) tt
   read_steps set steps g rest e (inr f) =
       key_marks steps (true ∷ []) (marks_are steps ∙ ap (map is_visit) e
-      ∙ ap (λ (l : List Deed). false ∷ map is_visit l) f.deeds_are)
+      ∙ ap (λ (l : List Effect). false ∷ map is_visit l) f.effects_are)
       (refl, tt)
 
   -- a call's first look is at least the largest generation that was seen before it
-  look_seen : (w : View) (low high g : ℕ) (rest : List Deed) (made_steps : List MadeStep) → Sees w low made_steps high →
-      deeds_of lists (map step_of made_steps) ≡ look_deed g ∷ rest → low ≤ g
+  look_seen : (w : View) (low high g : ℕ) (rest : List Effect) (made_steps : List MadeStep) → Sees w low made_steps high →
+      effects_of lists (map step_of made_steps) ≡ look_effect g ∷ rest → low ≤ g
   look_seen w low high g rest [] sees e = absurd (cc e)
   look_seen w low high g rest (looked h ∷ made_steps) sees e =
-      let same : look_deed h ≡ look_deed g = cc e in let found : h ≡ g = cc same in let a = sees.0 in omega arith
+      let same : look_effect h ≡ look_effect g = cc e in let found : h ≡ g = cc same in let a = sees.0 in omega arith
   look_seen w low high g rest (visited mark entry ∷ made_steps) sees e =
       let no : true ≡ false = sym (visit_at mark.lane mark.place)
-      ∙ ap (λ (l : List Deed). elim l as (λ _. Bool) [ [] ↦ true | d ∷ ds ↦ is_visit d ]) e in absurd (cc no)
+      ∙ ap (λ (l : List Effect). elim l as (λ _. Bool) [ [] ↦ true | d ∷ ds ↦ is_visit d ]) e in absurd (cc no)
 
--- after a look that found a generation, a system call for a new key reads from the CPU
+-- once a generation was found, a system call for a new key reads from the CPU, so it has the steps for a new key
 pub key_call : (set : Setting) (answer : SystemAnswer) (l m : Moment)
     (k : Makes (SystemCall (setting_of set) 32 0 answer) set l m)
     (lanes : ℕ) (visits : ℕ → List Visit) → Continues lanes m.view visits → 1 ≤ floor l.view →
     IsKeySteps (map step_of k.made_steps)
 key_call set answer l m k lanes visits c seen =
     let lists : Lists = book_lists lanes visits [] in
-    let f = (k.stands lanes visits [] c).form in
-    let above = look_seen lists m.view (floor l.view) (floor m.view) f.0 f.1 k.made_steps k.told.went.sees f.2 in
+    let f = (k.conforms lanes visits [] c).form in
+    let above = look_seen lists m.view (floor l.view) (floor m.view) f.0 f.1 k.made_steps k.recorded.went.sees f.2 in
     go lists f.0 f.1 (omega arith) f.2 (f.0 == 0 && not (is_insecure 0)) refl f.3
   where
     no_zero : (g : ℕ) → 1 ≤ g → (g == 0 && not (is_insecure 0)) ≡ true → ⊥
     no_zero g low e = let zero_is = eqb-true g 0 (and_parts (g == 0) (not (is_insecure 0)) e).0 in absurd (omega arith)
 
-    reads : (lists : Lists) (g : ℕ) (rest : List Deed) → 1 ≤ g →
-        deeds_of lists (map step_of k.made_steps) ≡ look_deed g ∷ rest →
+    reads : (lists : Lists) (g : ℕ) (rest : List Effect) → 1 ≤ g →
+        effects_of lists (map step_of k.made_steps) ≡ look_effect g ∷ rest →
         ReadForm (setting_of set) (User 32) g rest → IsKeySteps (map step_of k.made_steps)
     reads lists g rest low e (inl f) = let zero_is = f.0 in absurd (omega arith)
     reads lists g rest low e (inr f) = read_steps lists (setting_of set) (map step_of k.made_steps) g rest e f
 
-    go : (lists : Lists) (g : ℕ) (rest : List Deed) → 1 ≤ g →
-        deeds_of lists (map step_of k.made_steps) ≡ look_deed g ∷ rest →
+    go : (lists : Lists) (g : ℕ) (rest : List Effect) → 1 ≤ g →
+        effects_of lists (map step_of k.made_steps) ≡ look_effect g ∷ rest →
         (b : Bool) → (g == 0 && not (is_insecure 0)) ≡ b →
         MatchBool b (WaitedInVain rest ⊎ Waited (setting_of set) 32 rest) (ReadForm (setting_of set) (User 32) g rest) →
         IsKeySteps (map step_of k.made_steps)

@@ -1,4 +1,4 @@
--- A caller that makes its calls at a site over its own pass: after a call the caller has the site's pass.
+-- A caller makes its calls at a site that borrows its pass. What holds for the site after a call holds for the caller.
 use Rattle.std.proofs.Common.{◌≡◌, ◌≤◌, ℕ, List, [], refl, sym, subst}
 use Rattle.key_names.specs.declared.entries.BaseEntry.TheVariants.{End, Stall, Unstall}
 use Rattle.key_names.specs.declared.names.Step.{Step}
@@ -14,10 +14,10 @@ use Rattle.rng_core.specs.Forks.{Forked}
 use Rattle.rng_core.specs.Makes.{Makes}
 use Rattle.rng_core.specs.Sites.{Does, HasInHands, Same, at, base_lane, lane_of, seen_by}
 use Rattle.rng_core.specs.Traces.{moment, knowing}
-use Rattle.caller_run.specs.declared.states.States.{States}
+use Rattle.caller_run.specs.declared.making.states.States.{States}
 use Rattle.std.specs.Global.{Box}
 use Rattle.caller_run.specs.Calling.{HasLeft}
-use Rattle.caller_run.specs.Ways.{AtFork, RanHere}
+use Rattle.caller_run.specs.RunningCallers.{AtFork, RanHere}
 
 -- the lanes that are held at a site are those that its pass holds
 pub own_hands : {m n : Site} → Same m n → HasInHands [] n → HoldsLanes m.lanes.now m.set.caller [] n.pass.now

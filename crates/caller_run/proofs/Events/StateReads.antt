@@ -1,4 +1,4 @@
--- Reads out of a caller's current vgetrandom state, in the terms of its loop over the events.
+-- The contracts of the core's vreads give `StateRead`: a read out of the caller's current vgetrandom state.
 use Rattle.std.proofs.Common.{Option, ◌≤◌, ◌≡◌, ℕ, ◌<◌, List, [], ◌++◌, length, map, get_or, sym, ap, ◌∙◌, subst, refl}
 use Rattle.std.specs.Prelude.{Result, slice_get, unwrap_or}
 use Rattle.std.specs.List.{AllByRecursion}
@@ -25,29 +25,29 @@ use Rattle.caller_run.specs.Calling.{StateRead}
 use Rattle.caller_run.specs.Says.{IsNoCount}
 use Rattle.rng_core.specs.declared.vdso.acts.Bound.{Bound}
 use Rattle.rng_core.specs.declared.vdso.attempt.Attempt.TheVariants.{Before}
-use Rattle.rng_core.specs.Acting.{act_stand, InsideRan}
+use Rattle.rng_core.specs.Acting.{act_conform, InsideRan}
 use Rattle.rng_core.specs.Acts.{Ask, asks_of, outcomes_of}
 use Rattle.rng_core.specs.Makes.{result_answer, given}
 use Rattle.rng_core.specs.Hosted as core
 use Rattle.rng_core.specs.InsideMakes.{IsWaitingAct, bound_acts, InsideMakes}
 use Rattle.rng_core.specs.Traces.{moment}
 use Rattle.rng_core.specs.VreadMakes.{VreadMakes}
-use Rattle.caller_run.specs.Calling.{stand}
+use Rattle.caller_run.specs.Calling.{conform}
 use Rattle.caller_run.specs.Done.{CallDone}
 use Rattle.caller_run.specs.Says.{shown_by, line_of}
-use Rattle.caller_run.specs.declared.caller.Caller.{Caller}
-use Rattle.caller_run.specs.declared.reply.Reply.{Reply}
-use Rattle.caller_run.specs.declared.states.States.{States}
+use Rattle.caller_run.specs.declared.making.caller.Caller.{Caller}
+use Rattle.caller_run.specs.declared.output.reply.Reply.{Reply}
+use Rattle.caller_run.specs.declared.making.states.States.{States}
 use Rattle.std.specs.Global.{Box}
 use Rattle.rng_core.specs.declared.setting.Setting.{Setting}
 use Rattle.caller_run.proofs.Events.InsideDone.{inside_done}
 use Rattle.caller_run.proofs.Events.VreadDone.{vread_done}
 
--- a read stays one if the values that were lent, and those that came back, are replaced by equal ones
+-- `StateRead` still holds if the values that were lent and came back are replaced by equal ones
 pub lent_read : {t : Lanes} {n flags : ℕ} {c : Caller} {set : Setting} {states : Box States} {said : Reply} {served : List ℕ}
-    {asks : List Ask} {p q : Pass} {steps told : List Step} {zs left : List ActOutcome} → p ≡ q → steps ≡ told →
+    {asks : List Ask} {p q : Pass} {steps recorded : List Step} {zs left : List ActOutcome} → p ≡ q → steps ≡ recorded →
     zs ≡ left →
-    StateRead t n flags c (record { pass = q; set = set; states = states }) said served told asks left →
+    StateRead t n flags c (record { pass = q; set = set; states = states }) said served recorded asks left →
     StateRead t n flags c (record { pass = p; set = set; states = states }) said served steps asks zs
 lent_read pass trace outcomes read = rw pass (rw trace (rw outcomes read))
 
@@ -57,28 +57,28 @@ pub current_is : (states : List VgetrandomState) (i : ℕ) (other : VgetrandomSt
 current_is states i other low = sym (ap (λ (o : Option VgetrandomState). unwrap_or o wiped_state)
     (slice_get-get_or states i other low))
 
--- d is c after a read out of state `st`, which became `left`
-pub record IsBehind (t : Lanes) (c d : Caller) (said : Reply) (served : List ℕ) (before : List Step)
+-- after a read out of the state `st`, which became `left`, the caller c is d
+pub record IsAfter (t : Lanes) (c d : Caller) (said : Reply) (served : List ℕ) (before : List Step)
     (st left : VgetrandomState)
     (ended : Result (Unit {0}) Errno) : Type 0 where
   pub has : HoldsLanes t d.set.caller [] d.pass
   pub set : d.set ≡ c.set
-  pub stands : stand d ≡ with_state (stand c) left
+  pub conforms : conform d ≡ with_state (conform c) left
   pub published : left.generation ≤ published_by (floor (view d.pass))
   pub new : before ≡ []
-  pub current : st ≡ current_state (stand c)
+  pub current : st ≡ current_state (conform c)
   pub answers : said.answer ≡ result_answer ended
   pub shows : shown_by served said.shows ≡ bytes_or_none (given ended served)
   pub bytes : IsNoCount said.shows
 
 module _ {t : Lanes} {c d : Caller} {said : Reply} {served : List ℕ} {before : List Step} {st left : VgetrandomState}
-    {ended : Result (Unit {0}) Errno} (b : IsBehind t c d said served before st left ended) where
+    {ended : Result (Unit {0}) Errno} (b : IsAfter t c d said served before st left ended) where
   -- a fact that holds for the read's state and result also holds for the caller's state and the reply
-  told_by : (P : VgetrandomState → Answer → Shown → List Step → Type 0) →
+  emitted_by : (P : VgetrandomState → Answer → Shown → List Step → Type 0) →
       P st (result_answer ended) (bytes_or_none (given ended served)) before →
-      P (current_state (stand c)) said.answer (shown_by served said.shows) []
-  told_by P here =
-      subst (P (current_state (stand c)) said.answer (shown_by served said.shows)) b.new
+      P (current_state (conform c)) said.answer (shown_by served said.shows) []
+  emitted_by P here =
+      subst (P (current_state (conform c)) said.answer (shown_by served said.shows)) b.new
       (subst (λ (s : VgetrandomState). P s said.answer (shown_by served said.shows) before) b.current
       (subst (λ (a : Answer). P st a (shown_by served said.shows) before) (sym b.answers)
       (subst (λ (x : Shown). P st (result_answer ended) x before) (sym b.shows) here)))
@@ -89,9 +89,9 @@ module _ {t : Lanes} {c d : Caller} {said : Reply} {served : List ℕ} {before :
       (sym (trace ∙ ap (λ (l : List Step). l ++ map step_of made_steps) b.new)) fits
 
   module _ {n flags : ℕ} {steps : List Step} where
-    -- the read of the caller, from the call that was made
+    -- if `CallDone` holds for the vread, `StateRead` holds for the read
     read_by : (asks : List Ask) (zs : List ActOutcome) →
-        CallDone c.set.caller (view c.pass) (view d.pass) (stand c) (with_state (stand c) left)
+        CallDone c.set.caller (view c.pass) (view d.pass) (conform c) (with_state (conform c) left)
         (vread_call n flags (line_of c.set VreadWord served said steps) (bound_acts c.set asks zs)) →
         length zs ≡ length asks → AllByRecursion StepFits steps →
         AllByRecursion (λ z. AllByRecursion StepFits z.steps) zs →
@@ -100,10 +100,10 @@ module _ {t : Lanes} {c d : Caller} {said : Reply} {served : List ℕ} {before :
       has = b.has;
       set = b.set;
       left = left;
-      stands = b.stands;
+      conforms = b.conforms;
       published = b.published;
-      done = subst (λ (s : CallerState). CallDone c.set.caller (view c.pass) (view d.pass) (stand c) s
-          (vread_call n flags (line_of c.set VreadWord served said steps) (bound_acts c.set asks zs))) (sym b.stands)
+      done = subst (λ (s : CallerState). CallDone c.set.caller (view c.pass) (view d.pass) (conform c) s
+          (vread_call n flags (line_of c.set VreadWord served said steps) (bound_acts c.set asks zs))) (sym b.conforms)
           done;
       long = long;
       steps_fit = steps_fit;
@@ -111,7 +111,7 @@ module _ {t : Lanes} {c d : Caller} {said : Reply} {served : List ℕ} {before :
       shows = b.bytes;
     }
 
-    -- a read without acts inside
+    -- `StateRead` holds after a read without acts inside
     pub read_alone : (acts : List Bound) → acts ≡ [] →
         VreadMakes n flags st left (result_answer ended) (bytes_or_none (given ended served)) c.set
         (moment c.pass before) (moment d.pass steps) →
@@ -119,12 +119,12 @@ module _ {t : Lanes} {c d : Caller} {said : Reply} {served : List ℕ} {before :
     read_alone acts none did =
         subst (λ (bs : List Bound). StateRead t n flags c d said served steps (asks_of bs) []) (sym none)
         (read_by [] []
-        (vread_done c.set (view c.pass) (view d.pass) (stand c) n flags left said.answer (shown_by served said.shows)
+        (vread_done c.set (view c.pass) (view d.pass) (conform c) n flags left said.answer (shown_by served said.shows)
         VreadWord steps refl
-        (told_by (λ s a x l. VreadMakes n flags s left a x c.set (moment c.pass l) (moment d.pass steps)) did))
-        refl (steps_fit did.did.made_steps did.did.told.trace did.did.told.fits) tt)
+        (emitted_by (λ s a x l. VreadMakes n flags s left a x c.set (moment c.pass l) (moment d.pass steps)) did))
+        refl (steps_fit did.did.made_steps did.did.recorded.trace did.did.recorded.fits) tt)
 
-    -- a read with the acts `acts` inside; `after` are the acts at its end
+    -- `StateRead` holds after a read with the acts `acts` inside; `after` are these acts at the end of the read
     pub read_inside : (acts after : List Bound) (out out_after : List ℕ) → AllByRecursion IsWaitingAct acts →
         1 < length (view c.pass).lanes →
         asks_of after ≡ asks_of acts →
@@ -132,23 +132,23 @@ module _ {t : Lanes} {c d : Caller} {said : Reply} {served : List ℕ} {before :
         (moment c.pass before)
         (moment d.pass steps)
         (asks_of acts) (outcomes_of after out_after) →
-        InsideRan n flags st left (act_stand (core.stand c.set c.pass before) Before (asks_of acts)
+        InsideRan n flags st left (act_conform (core.conform c.set c.pass before) Before (asks_of acts)
         (outcomes_of acts out))
-        (λ last. act_stand (core.stand c.set d.pass steps) last (asks_of after) (outcomes_of after out_after)) →
+        (λ last. act_conform (core.conform c.set d.pass steps) last (asks_of after) (outcomes_of after out_after)) →
         StateRead t n flags c d said served steps (asks_of acts) (outcomes_of after out_after)
     read_inside acts after out out_after fresh two asks did ran =
         let zs = outcomes_of after out_after in
         read_by (asks_of acts) zs
-        (inside_done c.set (view c.pass) (view d.pass) (stand c) n flags left said.answer (shown_by served said.shows)
+        (inside_done c.set (view c.pass) (view d.pass) (conform c) n flags left said.answer (shown_by served said.shows)
         VreadWord steps
         (asks_of acts)
         (outcomes_of acts out) zs refl (fresh_undone acts out fresh) (outcomes_long acts out) two
-        (told_by (λ s a x l. InsideMakes n flags s left a x c.set (moment c.pass l) (moment d.pass steps) (asks_of acts)
+        (emitted_by (λ s a x l. InsideMakes n flags s left a x c.set (moment c.pass l) (moment d.pass steps) (asks_of acts)
         zs) did)
-        (told_by (λ s a x l. InsideRan n flags s left (act_stand (core.stand c.set c.pass l) Before (asks_of acts)
+        (emitted_by (λ s a x l. InsideRan n flags s left (act_conform (core.conform c.set c.pass l) Before (asks_of acts)
         (outcomes_of acts out))
-        (λ last. act_stand (core.stand c.set d.pass steps) last (asks_of acts) zs))
+        (λ last. act_conform (core.conform c.set d.pass steps) last (asks_of acts) zs))
         (subst (λ (l : List Ask). InsideRan n flags st left
-        (act_stand (core.stand c.set c.pass before) Before (asks_of acts) (outcomes_of acts out))
-        (λ last. act_stand (core.stand c.set d.pass steps) last l zs)) asks ran)))
+        (act_conform (core.conform c.set c.pass before) Before (asks_of acts) (outcomes_of acts out))
+        (λ last. act_conform (core.conform c.set d.pass steps) last l zs)) asks ran)))
         (outcomes_long after out_after ∙ ap length asks) (steps_fit did.made_steps did.trace did.fits) did.acts_fit

@@ -12,7 +12,7 @@ use Rattle.key_names.specs.Texts.TranscriptGrammar.{LastHasLines}
 use Rattle.lane_table.specs.declared.lanes.Lanes.{Lanes}
 use Rattle.lane_table.specs.declared.lanes.Pass.{Pass}
 use Rattle.lane_table.specs.declared.view.LaneView.{LaneView}
-use Rattle.lane_table.specs.declared.view.Plan.{Plan as TablePlan}
+use Rattle.lane_table.specs.declared.view.TableSize.{TableSize as TablePlan}
 use Rattle.lane_table.specs.declared.view.View.{View}
 use Rattle.lane_table.specs.Steps.{Seated, first_view}
 use Rattle.lane_table.specs.WorldRule.{blank}
@@ -22,12 +22,12 @@ use Rattle.rng_core.specs.declared.setting.Setting.{Setting}
 use Rattle.transcript_text.specs.Gathered.{Gathered}
 use Rattle.caller_run.specs.Families.{SameShare, RunsIn}
 use Rattle.caller_run.specs.Forest.{Forest, no_more, more, numbers, AreForked, forks}
-use Rattle.caller_run.specs.Grove.{Grove, cleared, planted, Plot, tree, told_in, told_by}
+use Rattle.caller_run.specs.ForkTree.{ForkTree, cleared, planted, Layout, tree, emitted_in, emitted_by}
 use Rattle.caller_run.specs.Laws.{Run, LawfulRuns, lines_of_all}
 use Rattle.caller_run.specs.Plans.{IsNewRoom, IsPlanned, HaveSlots, put_in}
 use Rattle.caller_run.specs.Standing.{Start}
 use Rattle.rng_core.specs.Settings.{first_setting}
-use Rattle.caller_run.specs.Ways.{ArePrepared, CanRun, Returned, WholeRan, IsFirst, numbered, start_of}
+use Rattle.caller_run.specs.RunningCallers.{ArePrepared, CanRun, Returned, WholeRan, IsFirst, numbered, start_of}
 use Rattle.caller_run.proofs.Law.Whole.{lawful_runs}
 use Rattle.caller_run.proofs.Orders.InOrder.{number, numbers_of, AllOnce, in_order, in_order_of}
 use Rattle.caller_run.proofs.Planning.OnceEach.{times_in, below, once_each}
@@ -36,7 +36,7 @@ use Rattle.caller_run.proofs.Planning.Parents.{each_of}
 use Rattle.caller_run.proofs.Forks.Runs.{once, whole}
 use Rattle.caller_run.proofs.Planning.Slots.{put_all, have_slots, fit_long, last_has}
 
-prepared_forked : (callers : List (List Event)) (g : Grove) (cs : List ℕ) → ArePrepared callers g cs →
+prepared_forked : (callers : List (List Event)) (g : ForkTree) (cs : List ℕ) → ArePrepared callers g cs →
     AreForked callers (tree g) cs
 prepared_forked callers cleared [] h = tt
 prepared_forked callers cleared (x ∷ xs) h = absurd h
@@ -47,10 +47,10 @@ prepared_forked callers (planted c s ks rest) (x ∷ xs) h =
 abbrev pub number_in : ℕ × List SeenLine → ℕ
 number_in x = x.0
 
-numbers_told : (g : Grove) → map number_in (told_in g) ≡ numbers (tree g)
-numbers_told cleared = refl
-numbers_told (planted c s ks rest) = ap (λ (l : List ℕ). c ∷ l)
-    (map-append number_in (told_in ks) (told_in rest) ∙ (λ i. numbers_told ks i ++ numbers_told rest i))
+numbers_emitted : (g : ForkTree) → map number_in (emitted_in g) ≡ numbers (tree g)
+numbers_emitted cleared = refl
+numbers_emitted (planted c s ks rest) = ap (λ (l : List ℕ). c ∷ l)
+    (map-append number_in (emitted_in ks) (emitted_in rest) ∙ (λ i. numbers_emitted ks i ++ numbers_emitted rest i))
 
 numbers_numbered : (runs : List Run) → map number_in (map numbered runs) ≡ numbers_of runs
 numbers_numbered [] = refl
@@ -61,7 +61,7 @@ whole_share v w same whole =
     eq_of_mul-eq-mul_right (2 ^ v.halvings) (pow_pos v.halvings) w.share (2 ^ w.halvings) (same ∙ ap (λ (n : ℕ). n * 2 ^ w.halvings) whole
     ∙ mul_comm (2 ^ v.halvings) (2 ^ w.halvings))
 
-pub can_caller : (t : Lanes) (script : Script) (set : Setting) (caller : ℕ) (p : Pass) (a : Plot) →
+pub can_caller : (t : Lanes) (script : Script) (set : Setting) (caller : ℕ) (p : Pass) (a : Layout) →
     HoldsLanes t caller [] p → (set.cpu < t.cpus) × (set.now < 2 ^ 40) → WellFormed script → t.cpus ≡ script.cpus →
     IsNewRoom script.callers caller a → CanRun t script (record set { caller = caller; event = 0 }) p a
 can_caller t script set caller p a has fits well cpus room = record {
@@ -77,7 +77,7 @@ can_caller t script set caller p a has fits well cpus room = record {
   ready = room.ready;
 }
 
-pub can_all : {t : Lanes} {script : Script} {p : Pass} {a : Plot} {slots : List Gathered} → HoldsLanes t 0 [] p →
+pub can_all : {t : Lanes} {script : Script} {p : Pass} {a : Layout} {slots : List Gathered} → HoldsLanes t 0 [] p →
     WellFormed script → t.cpus ≡ script.cpus → IsPlanned script a slots → CanRun t script (first_setting 0) p a
 can_all {t = t} {script = script} {p = p} {a = a} has well cpus planned =
     can_caller t script (first_setting 0) 0 p a has (let some = well.cpus.0 in (omega arith, omega arith)) well cpus
@@ -87,7 +87,7 @@ low_of : (n : ℕ) (rs : List Run) → AllByRecursion (λ x. x < n) (numbers_of 
 low_of n [] low = tt
 low_of n (r ∷ rs) low = (low.0, low_of n rs low.1)
 
-module _ {t : Lanes} {script : Script} {p : Pass} {a : Plot} {q : Pass} {b : Plot}
+module _ {t : Lanes} {script : Script} {p : Pass} {a : Layout} {q : Pass} {b : Layout}
     (can : CanRun t script (first_setting 0) p a) (back : Returned t script (start_of (first_setting 0) p) a q b) where
   abbrev f : Forest
   f = more a.caller (tree a.kids) no_more
@@ -99,8 +99,8 @@ module _ {t : Lanes} {script : Script} {p : Pass} {a : Plot} {q : Pass} {b : Plo
   are = (can.is, prepared_forked script.callers a.kids (forks (list_at script.callers a.caller)) can.ready, tt)
 
   same : numbers_of runs ≡ numbers f
-  same = sym (numbers_numbered runs) ∙ ap (map number_in) (sym back.told)
-      ∙ (λ i. back.caller i ∷ (numbers_told b.kids ∙ ap numbers back.shape) i)
+  same = sym (numbers_numbered runs) ∙ ap (map number_in) (sym back.recorded)
+      ∙ (λ i. back.caller i ∷ (numbers_emitted b.kids ∙ ap numbers back.shape) i)
       ∙ ap (λ (l : List ℕ). a.caller ∷ l) (sym (append-nil (numbers (tree a.kids))))
 
   each_once : AllOnce 0 (length script.callers) runs
@@ -110,16 +110,16 @@ module _ {t : Lanes} {script : Script} {p : Pass} {a : Plot} {q : Pass} {b : Plo
   all_low = low_of (length script.callers) runs
       (subst (AllByRecursion (λ x. x < length script.callers)) (sym same) (below script can.well f are))
 
-  -- each line has a slot
-  pub slots_there : (n : ℕ) → n ≡ length script.callers → HaveSlots n (told_by b)
-  slots_there n is = subst (HaveSlots n) (sym back.told)
+  -- there is a slot for each caller's lines
+  pub slots_there : (n : ℕ) → n ≡ length script.callers → HaveSlots n (emitted_by b)
+  slots_there n is = subst (HaveSlots n) (sym back.recorded)
       (have_slots n runs (subst (λ (m : ℕ). AllByRecursion (λ r. number r < m) runs) (sym is) all_low))
 
   module _ (slots t' : List (List SeenLine)) (long : length slots ≡ length script.callers)
-      (put : t' ≡ put_in slots (told_by b)) where
+      (put : t' ≡ put_in slots (emitted_by b)) where
     lines_are : (o : AllOnce 0 (length script.callers) runs) →
         t' ≡ lines_of_all (in_order (length script.callers) 0 runs o)
-    lines_are o = put ∙ ap (put_in slots) back.told ∙ put_all (length script.callers) runs o slots long
+    lines_are o = put ∙ ap (put_in slots) back.recorded ∙ put_all (length script.callers) runs o slots long
 
     -- the last caller has a line
     pub last_there : LastHasLines t'
@@ -143,7 +143,7 @@ module _ {t : Lanes} {script : Script} {p : Pass} {a : Plot} {q : Pass} {b : Plo
         subst (WholeRan script t') (sym (ap (λ s. s.0) kept)) (record {
           runs = _;
           ran = all;
-          told = is;
+          recorded = is;
           lawful = subst (λ (l : List (List SeenLine)). LawfulRuns script l (view q)) (sym is)
               (lawful_runs script _ (view q) can.well all);
         })

@@ -1,4 +1,4 @@
--- The only caller of a script; its lines are not kept.
+-- The run of a script's only caller goes on after each event, and ends with a lawful transcript. No line is kept.
 use Rattle.std.proofs.Common.{◌≡◌, ℕ, ◌+◌, ◌≤◌, ◌^◌, Some, List, [], ◌∷◌, ◌++◌, length, refl, sym, ap, ◌∙◌, subst, append_assoc, arith}
 use Rattle.std.specs.Prelude.{slice_get, sum_by, take, vec_len}
 use Rattle.std.specs.List.{AllByRecursion}
@@ -22,7 +22,7 @@ use Rattle.lane_table.specs.Advances.{floor}
 use Rattle.lane_table.proofs.Calls.HandLemmas.{idle_of}
 use Rattle.rng_core.specs.Makes.{setting_of}
 use Rattle.rng_core.specs.Settings.{first_setting}
-use Rattle.caller_run.specs.Alone.{IsToldOnce, CalledOnce, GoesAlone, HasMade, HasRoom, IsGoing, IsLawful, as_kept, first_start, last_line}
+use Rattle.caller_run.specs.Alone.{IsEmittedOnce, CalledOnce, GoesAlone, HasMade, HasRoom, IsGoing, IsLawful, as_kept, first_start, last_line}
 use Rattle.caller_run.specs.Calling.{Called, HasLeft, Seen, StateRead, caller_at}
 use Rattle.caller_run.specs.Families.{SameHalves, RanSo, RunsIn}
 use Rattle.caller_run.specs.Forest.{Forest, no_more, more, forks, AreForked}
@@ -30,17 +30,17 @@ use Rattle.caller_run.specs.Kinds.{IsCall}
 use Rattle.caller_run.specs.Laws.{Run, LawfulRuns}
 use Rattle.caller_run.specs.Says.{line_of, most_shown, shown_by, ShowsFit}
 use Rattle.caller_run.specs.Standing.{RunEnded, Start, read_inside}
-use Rattle.caller_run.specs.Ways.{IsFirst}
+use Rattle.caller_run.specs.RunningCallers.{IsFirst}
 use Rattle.caller_run.specs.declared.alone.LoneRun.{LoneRun}
-use Rattle.caller_run.specs.declared.caller.Caller.{Caller}
-use Rattle.caller_run.specs.declared.reply.Reply.{Reply}
-use Rattle.caller_run.specs.declared.reply.Shows.TheVariants.{Nothing}
+use Rattle.caller_run.specs.declared.making.caller.Caller.{Caller}
+use Rattle.caller_run.specs.declared.output.reply.Reply.{Reply}
+use Rattle.caller_run.specs.declared.output.reply.LineData.TheVariants.{Nothing}
 use Rattle.caller_run.proofs.Events.CanAdvance.{GoesOn, can_next}
 use Rattle.caller_run.proofs.Events.VreadGoes.{HasRead, can_read, gone_read}
 use Rattle.caller_run.proofs.Forks.HasAdvanced.{gone_all, gone_call, gone_nothing}
 use Rattle.caller_run.proofs.Forks.Runs.{once, ran_end, ran_so, whole}
 use Rattle.caller_run.proofs.Forks.WentOn.{all_wiped, at_number, few_events, newly}
-use Rattle.caller_run.specs.declared.states.States.{States}
+use Rattle.caller_run.specs.declared.making.states.States.{States}
 use Rattle.std.specs.Global.{Box}
 use Rattle.caller_run.proofs.Law.Seeing.{called_kept, read_kept, seen_start}
 use Rattle.caller_run.proofs.Law.Whole.{lawful_runs}
@@ -52,7 +52,7 @@ use Rattle.caller_run.proofs.Planning.Slots.{put_all}
 
 module _ {t : Lanes} {m : ℕ} {begun : Start} {events rest : List Event} {c d e : Caller} {lines : List SeenLine}
     {said : Reply} {served : List ℕ} {steps : List Step} where
-  -- a call of the core
+  -- the only caller goes on after a call of the core
   call_goes : {event : Event} → IsCall event → Called t event c d said served steps → GoesOn event d e →
       GoesAlone t m begun events (event ∷ rest) c lines →
       GoesAlone t m begun events rest e (lines ++ line_of d.set (event_word event) served said steps ∷ [])
@@ -66,7 +66,7 @@ module _ {t : Lanes} {m : ℕ} {begun : Start} {events rest : List Event} {c d e
         gone = gone_call is k on g.gone;
       }
 
-  -- a read out of the current state
+  -- the only caller goes on after a read out of the current state
   read_goes : {len flags : ℕ} → StateRead t len flags c d said served steps [] [] → GoesOn (Vread len flags) d e →
       GoesAlone t m begun events (Vread len flags ∷ rest) c lines →
       GoesAlone t m begun events rest e (lines ++ line_of d.set VreadWord served said steps ∷ [])
@@ -104,7 +104,7 @@ event_goes (Inside point act) d said served steps k on g = absurd g.once.0
 event_goes (Fork child) d said served steps k on g = absurd g.once.0
 event_goes event d said served steps k on g = call_goes tt k on g
 
--- the preconditions of its line
+-- the steps and the data of the call fit a line
 pub record HasCalled (event : Event) (c d : Caller) (said : Reply) (steps : List Step) : Type 0 where
   pub set : d.set ≡ c.set
   pub steps_fit : AllByRecursion StepFits steps
@@ -114,7 +114,7 @@ call_called : {t : Lanes} {event : Event} {c d : Caller} {said : Reply} {served 
     Called t event c d said served steps → HasCalled event c d said steps
 call_called k = record {
   set = k.set;
-  steps_fit = subst (AllByRecursion StepFits) (sym k.does.told.trace) k.does.told.fits;
+  steps_fit = subst (AllByRecursion StepFits) (sym k.does.recorded.trace) k.does.recorded.fits;
   shows = k.shows;
 }
 
@@ -124,10 +124,10 @@ once_called t served (Vread len flags) k = record { set = k.set; steps_fit = k.s
 once_called t served event k = call_called k
 
 -- the line of a call of the core is final when it is made
-pub told_once : (event : Event) → IsCall event → IsToldOnce event
-told_once (Inside point act) is = is
-told_once (Fork child) is = is
-told_once event is = tt
+pub emitted_once : (event : Event) → IsCall event → IsEmittedOnce event
+emitted_once (Inside point act) is = is
+emitted_once (Fork child) is = is
+emitted_once event is = tt
 
 pub called_once : {t : Lanes} {c d : Caller} {said : Reply} {served : List ℕ} {steps : List Step} (event : Event) →
     IsCall event → CalledOnce t event c d said served steps → Called t event c d said served steps
@@ -137,17 +137,17 @@ called_once event is k = k
 -- ---- the start
 
 -- no caller is forked
-pub forks_nobody : (events : List Event) → AllByRecursion IsToldOnce events → forks events ≡ []
+pub forks_nobody : (events : List Event) → AllByRecursion IsEmittedOnce events → forks events ≡ []
 forks_nobody [] all = refl
 forks_nobody (event ∷ events) all = first event all.0 (forks_nobody events all.1)
   where
-    first : (e : Event) → IsToldOnce e → forks events ≡ [] → forks (e ∷ events) ≡ []
+    first : (e : Event) → IsEmittedOnce e → forks events ≡ [] → forks (e ∷ events) ≡ []
     first (Fork child) is rest = absurd is
     first e is rest = rest
 
 module _ (t : Lanes) (script : Script) (p : Pass) (events : List Event) (m : ℕ) (has : HoldsLanes t 0 [] p)
     (well : WellFormed script) (cpus : t.cpus ≡ script.cpus) (there : slice_get script.callers 0 ≡ Some events)
-    (longest : AllByRecursion (λ event. most_shown event ≤ m) events) (all : AllByRecursion IsToldOnce events)
+    (longest : AllByRecursion (λ event. most_shown event ≤ m) events) (all : AllByRecursion IsEmittedOnce events)
     (states : Box States) (wiped : states.value ≡ all_wiped) where
   pub starts_alone : GoesAlone t m (first_start p) events events (newly p (first_setting 0) states) []
   starts_alone = record {
@@ -174,7 +174,7 @@ module _ (t : Lanes) (script : Script) (p : Pass) (events : List Event) (m : ℕ
       wanted = omega arith;
       few = (omega arith, at_number (FewActs 0) script.callers 0 events there well.acts);
       fresh = tt;
-      told = tt;
+      recorded = tt;
     };
     once = all;
     gone = gone_nothing (first_start p) events (newly p (first_setting 0) states) refl refl
@@ -190,9 +190,9 @@ pub alone_ends : {t : Lanes} {m : ℕ} {begun : Start} {events : List Event} {c 
 alone_ends {d = d} {said = said} {steps = steps} is left g =
     rw is (gone_all d [] (record { answer = Done; shows = Nothing }) steps left.set refl refl left.did g.gone)
 
--- the lines of a script's only caller are its transcript
+-- the lines of a script's only caller are a lawful transcript of the script
 module _ (script : Script) (well : WellFormed script) (one : length script.callers ≡ 1) (events : List Event)
-    (there : slice_get script.callers 0 ≡ Some events) (all : AllByRecursion IsToldOnce events) (p q : Pass)
+    (there : slice_get script.callers 0 ≡ Some events) (all : AllByRecursion IsEmittedOnce events) (p q : Pass)
     (lines : List SeenLine) (first : IsFirst (view p)) (ended : RunEnded (first_start p) events (view q) lines [])
     (seen : floor (view q) ≤ (model q 1).base.generation) (wide : length (view q).lanes ≡ script.cpus + 2)
     (ends : Ended (script.cpus + 2) (view q)) where
@@ -236,15 +236,15 @@ module _ (script : Script) (well : WellFormed script) (one : length script.calle
 
 -- ---- the run of the only caller
 
--- the line that was made last is that of this event; d is the caller after its call
+-- the line that was made last is the line of this event; d is the caller after the event's call
 pub record MadeLine (y : LoneRun) (event : Event) (d : Caller) (said : Reply) (served : List ℕ) (steps : List Step)
     : Type 0 where
   pub on : GoesOn event d y.caller
-  pub number : y.told.event ≡ d.set.event
-  pub word_is : y.told.word ≡ event_word event
-  pub reply : y.told.said ≡ said
+  pub number : y.recorded.event ≡ d.set.event
+  pub word_is : y.recorded.word ≡ event_word event
+  pub reply : y.recorded.said ≡ said
   pub trace : y.trace ≡ steps
-  pub shown : take y.told.shown y.served.items ≡ served
+  pub shown : take y.recorded.shown y.served.items ≡ served
 
 line_is : {y : LoneRun} {event : Event} {d : Caller} {said : Reply} {served : List ℕ} {steps : List Step} →
     MadeLine y event d said served steps → last_line y ≡ line_of d.set (event_word event) served said steps
@@ -257,7 +257,7 @@ line_is m = (λ i. record {
   shown = shown_by (m.shown i) (m.reply i).shows;
 })
 
--- the run was x before the event, and is y now
+-- the run goes on after an event: it was x before the event, and is y now
 pub goes_on : {script : Script} {lines : List SeenLine} (x y : LoneRun) (event : Event) (rest : List Event) (d : Caller)
     (said : Reply) (served : List ℕ) (steps : List Step) → IsGoing script (event ∷ rest) x lines →
     CalledOnce x.lanes event x.caller d said served steps → MadeLine y event d said served steps → y.lanes ≡ x.lanes →
@@ -281,7 +281,7 @@ goes_on {lines = lines} x y event rest d said served steps g k m same long = rec
       (event_goes event d said served steps k m.on g.goes)));
 }
 
--- so it goes on for each script of one caller that begins with the events so far
+-- after one event more, the run goes on for each script of one caller that begins with the events so far
 pub made_one : {cpus : ℕ} {x y : LoneRun} {lines after : List SeenLine} (done : List Event) (event : Event) →
     ((script : Script) (rest : List Event) → IsGoing script (event ∷ rest) x lines → IsGoing script rest y after) →
     HasMade cpus done x lines → HasMade cpus (done ++ event ∷ []) y after
@@ -305,12 +305,12 @@ few_shown version cpus event range = omega arith
 pub made_nothing : {cpus : ℕ} (run : LoneRun) → HasRoom cpus (2 ^ 20) run → HasMade cpus [] run []
 made_nothing run room script rest well one same whole =
     room script rest well same one.one (ap (λ (callers : List (List Event)). slice_get callers 0) whole)
-    (subst (AllByRecursion (AllByRecursion IsToldOnce)) whole one.once).0
+    (subst (AllByRecursion (AllByRecursion IsEmittedOnce)) whole one.once).0
     (each_weaker (InRange script.version script.cpus) (λ event. most_shown event ≤ 2 ^ 20) rest
     (few_shown script.version script.cpus)
     (subst (AllByRecursion (AllByRecursion (InRange script.version script.cpus))) whole well.ranges).0)
 
--- the caller made its last line
+-- with the caller's last line, the lines are a lawful transcript of the script
 pub ends_lawfully : {script : Script} {lines : List SeenLine} (x : LoneRun) (d : Caller) (said : Reply)
     (steps : List Step) → IsGoing script [] x lines → said ≡ record { answer = Done; shows = Nothing } →
     HasLeft x.lanes x.caller d steps →

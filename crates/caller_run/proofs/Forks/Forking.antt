@@ -9,7 +9,7 @@ use Rattle.key_names.specs.declared.entries.BaseEntry.TheVariants.{Fork as Forks
 use Rattle.key_names.specs.declared.names.Step.{Step}
 use Rattle.key_names.specs.Lanes.Book.{Lists}
 use Rattle.key_names.specs.Callers.Calls.{alone, setting_after_call}
-use Rattle.key_names.specs.Callers.Deeds.{deed_of, deeds_of}
+use Rattle.key_names.specs.Callers.Effects.{effect_of, effects_of}
 use Rattle.key_names.specs.Callers.Forms.{BaseOnly}
 use Rattle.key_names.specs.Callers.History.{through_visit}
 use Rattle.key_names.specs.Callers.Meaning.{CallerState, caller_start, caller_after}
@@ -24,9 +24,9 @@ use Rattle.lane_table.specs.Advances.{MadeStep, step_of, floor}
 use Rattle.lane_table.proofs.Book.BookEnds.{continues_before}
 use Rattle.rng_core.specs.declared.setting.Setting.{Setting}
 use Rattle.rng_core.specs.Traces.{Moment, knowing}
-use Rattle.rng_core.specs.Traces as told
+use Rattle.rng_core.specs.Traces as recorded
 use Rattle.rng_core.specs.Makes.{Makes, setting_of}
-use Rattle.rng_core.specs.SampleDeeds.{fast_in}
+use Rattle.rng_core.specs.SampleEffects.{fast_in}
 use Rattle.caller_run.specs.NumberedSteps.{numbered_steps_from, item_of}
 use Rattle.caller_run.specs.Done.{CallDoneBy}
 use Rattle.caller_run.specs.Items.{Item, items_from}
@@ -43,9 +43,9 @@ use Rattle.key_names.proofs.Lists.Each.{each_append}
 use Rattle.lane_table.specs.Calls.{view}
 use Rattle.lane_table.specs.Steps.{child as split_off}
 use Rattle.rng_core.specs.Acts.{Ask}
-use Rattle.caller_run.specs.declared.caller.Caller.{Caller}
-use Rattle.caller_run.specs.declared.reply.Shows.TheVariants.{Nothing}
-use Rattle.caller_run.specs.Calling.{caller_at, stand}
+use Rattle.caller_run.specs.declared.making.caller.Caller.{Caller}
+use Rattle.caller_run.specs.declared.output.reply.LineData.TheVariants.{Nothing}
+use Rattle.caller_run.specs.Calling.{caller_at, conform}
 use Rattle.caller_run.specs.Done.{CallsDone}
 use Rattle.caller_run.specs.Items.{steps_of, calls_items}
 use Rattle.caller_run.specs.Says.{line_of}
@@ -56,11 +56,11 @@ use Rattle.caller_run.proofs.Forks.HasForked.{forked_more}
 use Rattle.caller_run.proofs.Forks.HasAdvanced.{gone_on, fit_more}
 use Rattle.caller_run.proofs.Orders.ItemSteps.{same_steps}
 use Rattle.caller_run.proofs.Orders.LoopCalls.{so_far_alone}
-use Rattle.caller_run.proofs.Orders.ToldAnew.{idle_more}
+use Rattle.caller_run.proofs.Orders.EmittedAnew.{idle_more}
 
-pub tells_told : (set : Setting) (m n : Moment) (made_steps : List MadeStep) → told.TraceRecords set m n made_steps →
+pub tells_emitted : (set : Setting) (m n : Moment) (made_steps : List MadeStep) → recorded.TraceRecords set m n made_steps →
     Tells set 0 m n (map step_of made_steps)
-tells_told set m n made_steps t = record {
+tells_emitted set m n made_steps t = record {
   trace = t.trace;
   numbered_steps = numbered_steps_from set.event (length m.steps) made_steps;
   ran = ran_went set.caller set.event (length m.steps) m.view n.view made_steps t.went;
@@ -100,33 +100,33 @@ tells_then set a b l m n xs ys p q =
           ∙ sym (items_append set.event (length l.steps) xs ys);
     }
 
--- the visit of the fork
+-- the visit of the fork took the pass from the view v to u
 module _ (set : Setting) (child : ℕ) (v u : View) (mark : Mark)
     (did : Makes (BaseOnly (Forks child)) set (knowing v []) (knowing u (Marked mark ∷ []))) where
   first_tells : Tells set 0 (knowing v []) (knowing u (Marked mark ∷ [])) (Marked mark ∷ [])
   first_tells =
-      subst (λ (l : List Step). Tells set 0 (knowing v []) (knowing u (Marked mark ∷ [])) l) (sym did.told.trace)
-      (tells_told set (knowing v []) (knowing u (Marked mark ∷ [])) did.made_steps did.told)
+      subst (λ (l : List Step). Tells set 0 (knowing v []) (knowing u (Marked mark ∷ [])) l) (sym did.recorded.trace)
+      (tells_emitted set (knowing v []) (knowing u (Marked mark ∷ [])) did.made_steps did.recorded)
 
   first_form : (lanes : ℕ) (visits : ℕ → List Visit) (callers : StateLists) → Continues lanes u visits →
-      BaseOnly (Forks child) (deeds_of (book_lists lanes visits callers) (Marked mark ∷ []))
+      BaseOnly (Forks child) (effects_of (book_lists lanes visits callers) (Marked mark ∷ []))
   first_form lanes visits callers c =
-      subst (λ (l : List Step). BaseOnly (Forks child) (deeds_of (book_lists lanes visits callers) l))
-      (sym did.told.trace) (did.stands lanes visits callers c)
+      subst (λ (l : List Step). BaseOnly (Forks child) (effects_of (book_lists lanes visits callers) l))
+      (sym did.recorded.trace) (did.conforms lanes visits callers c)
 
-  -- the child has its own thread
+  -- `Took` holds if the child has its own thread: the fork's visit is the line's only step
   pub took_thread : Took set child v u (halved u) (Marked mark ∷ [])
   took_thread = record {
     mark = mark;
     rest = [];
     steps_are = refl;
     first = first_tells;
-    behind = tells_split set (knowing u (Marked mark ∷ []));
+    following = tells_split set (knowing u (Marked mark ∷ []));
     form = λ lanes visits callers c any.
         inl (first_form lanes visits callers (record { long = c.long; begins = c.begins; closed = c.closed }));
   }
 
-  -- the child ran here, between two more visits
+  -- the child ran here, between two more visits of its parent
   module _ (x w : View) (before steps : List Step)
       (stall : Makes (BaseOnly Stall) set (knowing (halved u) (Marked mark ∷ [])) (knowing x before))
       (unstall : Makes (BaseOnly Unstall) set (knowing x before) (knowing w steps)) where
@@ -137,29 +137,29 @@ module _ (set : Setting) (child : ℕ) (v u : View) (mark : Mark)
     ys = map step_of unstall.made_steps
 
     waits : Tells set 0 (knowing (halved u) (Marked mark ∷ [])) (knowing x before) xs
-    waits = tells_told set (knowing (halved u) (Marked mark ∷ [])) (knowing x before) stall.made_steps stall.told
+    waits = tells_emitted set (knowing (halved u) (Marked mark ∷ [])) (knowing x before) stall.made_steps stall.recorded
 
     goes_on : Tells set 0 (knowing x before) (knowing w steps) ys
-    goes_on = tells_told set (knowing x before) (knowing w steps) unstall.made_steps unstall.told
+    goes_on = tells_emitted set (knowing x before) (knowing w steps) unstall.made_steps unstall.recorded
 
-    behind_all : Tells set 1 (knowing u (Marked mark ∷ [])) (knowing w steps) (xs ++ ys)
-    behind_all =
+    after_all : Tells set 1 (knowing u (Marked mark ∷ [])) (knowing w steps) (xs ++ ys)
+    after_all =
         tells_then set 1 0 (knowing u (Marked mark ∷ [])) (knowing x before) (knowing w steps) xs ys
         (tells_then set 1 0 (knowing u (Marked mark ∷ [])) (knowing (halved u) (Marked mark ∷ [])) (knowing x before) [] xs
         (tells_split set (knowing u (Marked mark ∷ []))) waits) goes_on
 
     whole : steps ≡ Marked mark ∷ (xs ++ ys)
-    whole = unstall.told.trace ∙ ap (λ (l : List Step). l ++ ys) stall.told.trace
+    whole = unstall.recorded.trace ∙ ap (λ (l : List Step). l ++ ys) stall.recorded.trace
 
-    three : (lists : Lists) → BaseOnly (Forks child) (deeds_of lists (Marked mark ∷ [])) →
-        BaseOnly Stall (deeds_of lists xs) → BaseOnly Unstall (deeds_of lists ys) → Stalled child (deeds_of lists steps)
+    three : (lists : Lists) → BaseOnly (Forks child) (effects_of lists (Marked mark ∷ [])) →
+        BaseOnly Stall (effects_of lists xs) → BaseOnly Unstall (effects_of lists ys) → Stalled child (effects_of lists steps)
     three lists a b c = record {
       fork = a.base;
       stall = b.base;
       unstall = c.base;
-      deeds_are =
-          ap (deeds_of lists) whole ∙ map-append (deed_of lists) (Marked mark ∷ xs) ys
-          ∙ (λ i. (a.deeds_are i ++ b.deeds_are i) ++ c.deeds_are i);
+      effects_are =
+          ap (effects_of lists) whole ∙ map-append (effect_of lists) (Marked mark ∷ xs) ys
+          ∙ (λ i. (a.effects_are i ++ b.effects_are i) ++ c.effects_are i);
       forks = a.is;
       stalls = b.is;
       unstalls = c.is;
@@ -171,7 +171,7 @@ module _ (set : Setting) (child : ℕ) (v u : View) (mark : Mark)
       rest = xs ++ ys;
       steps_are = whole;
       first = first_tells;
-      behind = behind_all;
+      following = after_all;
       form = λ lanes visits callers c any.
           let at_x : Continues lanes x visits =
           continues_before lanes x w visits goes_on.ran.same.sized goes_on.ran.grows c in
@@ -180,10 +180,10 @@ module _ (set : Setting) (child : ℕ) (v u : View) (mark : Mark)
           inr (three (book_lists lanes visits callers)
           (first_form lanes visits callers
           (record { long = at_u.long; begins = at_u.begins; closed = at_u.closed }))
-          (stall.stands lanes visits callers at_x) (unstall.stands lanes visits callers c));
+          (stall.conforms lanes visits callers at_x) (unstall.conforms lanes visits callers c));
     }
 
--- the call of a fork
+-- the call of a fork is one of the caller's calls: `CallDoneBy` holds for it, with one split
 module _ (set : Setting) (v u w : View) (s : CallerState) (child : ℕ) (line : SeenLine)
     (event : line.event ≡ set.event) (answer : line.answer ≡ Done) (shown : line.shown ≡ no_data)
     (t : Took set child v u w line.steps) where
@@ -191,7 +191,7 @@ module _ (set : Setting) (v u w : View) (s : CallerState) (child : ℕ) (line : 
   all_steps =
       subst (λ (l : List Step). Tells set 1 (knowing v []) (knowing w line.steps) l) (sym t.steps_are)
       (tells_then set 0 1 (knowing v []) (knowing u (Marked t.mark ∷ [])) (knowing w line.steps) (Marked t.mark ∷ []) t.rest
-      t.first t.behind)
+      t.first t.following)
 
   pub fork_done : CallDoneBy set.caller 1 v w s (caller_after s (Fork child)) (alone (Fork child) line)
   fork_done = record {
@@ -201,7 +201,7 @@ module _ (set : Setting) (v u w : View) (s : CallerState) (child : ℕ) (line : 
     meant = λ lanes visits callers c. record {
       meaning = record {
         own = record {
-          deeds = deeds_of (book_lists lanes visits callers) line.steps;
+          effects = effects_of (book_lists lanes visits callers) line.steps;
           answer = line.answer;
           shown = line.shown;
         };
@@ -220,19 +220,19 @@ module _ (set : Setting) (v u w : View) (s : CallerState) (child : ℕ) (line : 
         after = refl;
       };
       after = refl;
-      deeds = refl;
+      effects = refl;
       answers = refl;
       shown = refl;
     };
     samples = λ lanes visits callers c. (
-      form_samples (fast_in visits) s.setting (Fork child) (deeds_of (book_lists lanes visits callers) line.steps) tt
+      form_samples (fast_in visits) s.setting (Fork child) (effects_of (book_lists lanes visits callers) line.steps) tt
           (t.form lanes visits callers c s.setting),
       tt,
     );
   }
 
--- a caller goes on after a fork: d made the fork's visits, and e goes on. The child starts with the caller's setting,
--- and its pass was split off after the first visit
+-- a caller goes on after a fork: d is the caller after the fork's visits, and e when it goes on. The child starts with
+-- the caller's setting, and its pass was split off after the first visit
 module _ {begun : Start} {events rest : List Event} {child : ℕ} {c : Caller} {lines : List SeenLine}
     {asks : List Ask} {kids : List Start} (d e : Caller) (u : View) (steps : List Step)
     (g : HasAdvanced begun events (Fork child ∷ rest) c lines asks kids) (set : d.set ≡ c.set)
@@ -242,19 +242,19 @@ module _ {begun : Start} {events rest : List Event} {child : ℕ} {c : Caller} {
   line = line_of c.set ForkWord [] (record { answer = Done; shows = Nothing }) steps
 
   abbrev pub kid : Start
-  kid = record { caller = child; set = (stand c).setting; view = split_off u }
+  kid = record { caller = child; set = (conform c).setting; view = split_off u }
 
-  one : CallDoneBy begun.caller 1 (view c.pass) (view d.pass) (stand c) (caller_after (stand c) (Fork child))
+  one : CallDoneBy begun.caller 1 (view c.pass) (view d.pass) (conform c) (caller_after (conform c) (Fork child))
       (alone (Fork child) line)
-  one = subst (λ (n : ℕ). CallDoneBy n 1 (view c.pass) (view d.pass) (stand c) (caller_after (stand c) (Fork child))
+  one = subst (λ (n : ℕ). CallDoneBy n 1 (view c.pass) (view d.pass) (conform c) (caller_after (conform c) (Fork child))
       (alone (Fork child) line)) g.own
-      (fork_done c.set (view c.pass) u (view d.pass) (stand c) child line refl refl refl t)
+      (fork_done c.set (view c.pass) u (view d.pass) (conform c) child line refl refl refl t)
 
   first : RanBy begun.caller 0 (view c.pass) u t.first.numbered_steps
   first = subst (λ (n : ℕ). RanBy n 0 (view c.pass) u t.first.numbered_steps) g.own t.first.ran
 
-  stands : stand d ≡ stand c
-  stands = (λ i. caller_at (setting_of (set i)) (states i).value)
+  conforms : conform d ≡ conform c
+  conforms = (λ i. caller_at (setting_of (set i)) (states i).value)
 
   forked : Forked begun (view d.pass) (g.calls ++ alone (Fork child) line ∷ []) kid
   forked = record {
@@ -272,8 +272,8 @@ module _ {begun : Start} {events rest : List Event} {child : ℕ} {c : Caller} {
         ∙ (λ i. g.done.order i ++ t.first.order i))
         ∙ map-append (λ (item : Item). item.step) (calls_items g.calls) (items_from c.set.event 0 (Marked t.mark ∷ []))
         ∙ (λ i. same_steps g.calls i ++ ap through_visit (sym t.steps_are) i);
-    sized = t.behind.ran.same.sized;
-    grows = t.behind.ran.grows;
+    sized = t.following.ran.same.sized;
+    grows = t.following.ran.grows;
     view_is = refl;
     set_is = g.settings;
   }
@@ -284,12 +284,12 @@ module _ {begun : Start} {events rest : List Event} {child : ℕ} {c : Caller} {
       gone_on d g set on (g.calls ++ alone (Fork child) line ∷ []) (lines ++ line ∷ []) asks g.waiting
       (kids ++ kid ∷ [])
       (subst (λ (s : CallerState). CallsDone begun.caller (length (kids ++ kid ∷ [])) begun.view (view d.pass)
-      (caller_start begun.set) (caller_after s (Fork child)) (g.calls ++ alone (Fork child) line ∷ [])) (sym stands)
+      (caller_start begun.set) (caller_after s (Fork child)) (g.calls ++ alone (Fork child) line ∷ [])) (sym conforms)
       (subst (λ (n : ℕ). CallsDone begun.caller n begun.view (view d.pass) (caller_start begun.set)
-      (caller_after (stand c) (Fork child)) (g.calls ++ alone (Fork child) line ∷ [])) many
+      (caller_after (conform c) (Fork child)) (g.calls ++ alone (Fork child) line ∷ [])) many
       (calls_done_then begun.caller (length kids) 1 begun.view (view c.pass) (view d.pass) (caller_start begun.set)
-      (stand c) (caller_after (stand c) (Fork child)) g.calls (alone (Fork child) line) g.done one)))
-      (ap (λ (s : CallerState). s.setting) stands ∙ g.settings
+      (conform c) (caller_after (conform c) (Fork child)) g.calls (alone (Fork child) line) g.done one)))
+      (ap (λ (s : CallerState). s.setting) conforms ∙ g.settings
       ∙ sym (fold-append setting_after_call begun.set g.calls (alone (Fork child) line ∷ [])))
       (each_append (Forked begun (view d.pass) (g.calls ++ alone (Fork child) line ∷ [])) kids (kid ∷ [])
       (forked_more begun (view c.pass) (view d.pass) g.calls (alone (Fork child) line ∷ []) kids one.ran.same.sized

@@ -1,4 +1,4 @@
--- The calls and lines of a caller, after one event more.
+-- `HasAdvanced` holds again after one event more, with the event's line and its call or waiting act.
 use Rattle.std.proofs.Common.{◌≡◌, ℕ, suc, true, List, [], ◌∷◌, ◌++◌, refl, sym, ap, ◌∙◌, subst, arith, append_assoc, length}
 use Rattle.std.specs.List.{AllByRecursion}
 use Rattle.key_names.specs.declared.events.Answer.TheVariants.{Ok as Done}
@@ -24,9 +24,9 @@ use Rattle.rng_core.specs.declared.setting.Setting.{Setting}
 use Rattle.rng_core.specs.Acts.{Ask}
 use Rattle.rng_core.specs.Traces.{moment}
 use Rattle.rng_core.specs.Makes.{Makes}
-use Rattle.caller_run.specs.declared.caller.Caller.{Caller}
-use Rattle.caller_run.specs.declared.reply.Reply.{Reply}
-use Rattle.caller_run.specs.Calling.{stand, Called}
+use Rattle.caller_run.specs.declared.making.caller.Caller.{Caller}
+use Rattle.caller_run.specs.declared.output.reply.Reply.{Reply}
+use Rattle.caller_run.specs.Calling.{conform, Called}
 use Rattle.caller_run.specs.Done.{CallDone, CallsDone}
 use Rattle.caller_run.specs.Kinds.{IsCall}
 use Rattle.caller_run.specs.Says.{shown_by, line_of}
@@ -36,9 +36,9 @@ use Rattle.caller_run.proofs.Orders.CallChains.{calls_done_nothing, calls_done_p
 use Rattle.caller_run.proofs.Forks.HasForked.{forked_more}
 use Rattle.caller_run.proofs.Events.CoreDone.{core_done, end_done}
 use Rattle.caller_run.proofs.Orders.LoopCalls.{alone_follows, so_far_nothing, so_far_alone, so_far_end}
-use Rattle.caller_run.proofs.Law.Seeing.{same_stand}
+use Rattle.caller_run.proofs.Law.Seeing.{same_conform}
 use Rattle.caller_run.proofs.Events.CanAdvance.{GoesOn}
-use Rattle.caller_run.proofs.Orders.ToldAnew.{idle_more}
+use Rattle.caller_run.proofs.Orders.EmittedAnew.{idle_more}
 
 call_alone : (event : Event) → IsCall event → IsAlone event
 call_alone (Vread len flags) is = absurd is
@@ -68,16 +68,16 @@ module _ {begun : Start} {events rest : List Event} {event : Event} {c : Caller}
         word_is = refl;
       }
 
--- an event that the caller made; c is the caller before the event, d after its call, and e when it goes on
+-- the caller made an event: it was c before the event and d after the event's call, and is e when it goes on
 module _ {begun : Start} {events rest : List Event} {event : Event} {c e : Caller} {lines : List SeenLine}
     {asks : List Ask} {kids : List Start}
     (d : Caller) (g : HasAdvanced begun events (event ∷ rest) c lines asks kids) (set : d.set ≡ c.set)
     (on : GoesOn event d e) where
-  -- after the event, these are the calls and the forked callers
+  -- after the event, `HasAdvanced` holds: `calls` are the calls so far, and `more` the starts of the forked callers
   pub gone_on : (calls : List Call) (after : List SeenLine) (left waiting : List Ask) (more : List Start) →
       CallsDone begun.caller (length more) begun.view (view d.pass) (caller_start begun.set)
-      (caller_after (stand d) event) calls →
-      (caller_after (stand d) event).setting ≡ fold setting_after_call begun.set calls →
+      (caller_after (conform d) event) calls →
+      (caller_after (conform d) event).setting ≡ fold setting_after_call begun.set calls →
       AllByRecursion (Forked begun (view d.pass) calls) more →
       (has_vread rest ≡ true → waiting ≡ left) → CallsSoFar events rest after waiting calls →
       ((more : List SeenLine) → LinesFit begun.caller (suc c.set.event) rest more →
@@ -88,11 +88,11 @@ module _ {begun : Start} {events rest : List Event} {event : Event} {c e : Calle
     calls = calls;
     done = subst (λ (s : CallerState). CallsDone begun.caller (length more) begun.view (view e.pass)
         (caller_start begun.set) s calls)
-        (sym on.stand)
+        (sym on.conform)
         (subst (λ (p : Pass). CallsDone begun.caller (length more) begun.view (view p) (caller_start begun.set)
-        (caller_after (stand d) event) calls)
+        (caller_after (conform d) event) calls)
         (sym on.pass) done);
-    settings = ap (λ (s : CallerState). s.setting) on.stand ∙ settings;
+    settings = ap (λ (s : CallerState). s.setting) on.conform ∙ settings;
     forked = subst (λ (p : Pass). AllByRecursion (Forked begun (view p) calls) more) (sym on.pass) forked;
     waiting = waiting;
     waits = waits;
@@ -104,10 +104,10 @@ module _ {begun : Start} {events rest : List Event} {event : Event} {c e : Calle
     idle = idle;
   }
 
-  -- after an event that forks no caller, the calls are one more
+  -- if the call of an event forks no caller, the caller has made one call more
   pub gone_by : (call : Call) (after : List SeenLine) (left waiting : List Ask) →
-      CallDone c.set.caller (view c.pass) (view d.pass) (stand c) (caller_after (stand d) event) call →
-      (caller_after (stand d) event).setting ≡ setting_after_call (stand c).setting call →
+      CallDone c.set.caller (view c.pass) (view d.pass) (conform c) (caller_after (conform d) event) call →
+      (caller_after (conform d) event).setting ≡ setting_after_call (conform c).setting call →
       (has_vread rest ≡ true → waiting ≡ left) → CallsSoFar events rest after waiting (g.calls ++ call ∷ []) →
       ((more : List SeenLine) → LinesFit begun.caller (suc c.set.event) rest more →
       LinesFit begun.caller 0 events (after ++ more)) →
@@ -115,16 +115,16 @@ module _ {begun : Start} {events rest : List Event} {event : Event} {c e : Calle
   gone_by call after left waiting done sets =
       gone_on (g.calls ++ call ∷ []) after left waiting kids
       (calls_done_plainly begun.caller (length kids) begun.view (view c.pass) (view d.pass) (caller_start begun.set)
-      (stand c) (caller_after (stand d) event)
+      (conform c) (caller_after (conform d) event)
       g.calls call g.done
-      (subst (λ (n : ℕ). CallDone n (view c.pass) (view d.pass) (stand c) (caller_after (stand d) event) call) g.own
+      (subst (λ (n : ℕ). CallDone n (view c.pass) (view d.pass) (conform c) (caller_after (conform d) event) call) g.own
       done))
       (sets ∙ ap (λ s. setting_after_call s call) g.settings
       ∙ sym (fold-append setting_after_call begun.set g.calls (call ∷ [])))
       (forked_more begun (view c.pass) (view d.pass) g.calls (call ∷ []) kids done.ran.same.sized done.ran.grows
       g.forked)
 
--- an event with one call of the core
+-- after an event that is one call of the core, `HasAdvanced` holds again
 module _ {begun : Start} {events rest : List Event} {event : Event} {t : Lanes} {c d e : Caller}
     {lines : List SeenLine}
     {asks : List Ask} {kids : List Start} {said : Reply} {served : List ℕ} {steps : List Step} (is : IsCall event)
@@ -135,14 +135,14 @@ module _ {begun : Start} {events rest : List Event} {event : Event} {t : Lanes} 
   gone_call g =
       let line : SeenLine = line_of d.set (event_word event) served said steps in
       gone_by d g k.set on (alone event line) (lines ++ line ∷ []) asks g.waiting
-      (subst (λ (s : Setting). CallDone c.set.caller (view c.pass) (view d.pass) (stand c)
-      (caller_after (stand d) event)
+      (subst (λ (s : Setting). CallDone c.set.caller (view c.pass) (view d.pass) (conform c)
+      (caller_after (conform d) event)
       (alone event (line_of s (event_word event) served said steps))) (sym k.set)
-      (subst (λ (s : CallerState). CallDone c.set.caller (view c.pass) (view d.pass) (stand c) (caller_after s event)
-      (alone event (line_of c.set (event_word event) served said steps))) (sym (same_stand k))
-      (core_done c.set (view c.pass) (view d.pass) (stand c) event (event_word event) said.answer
+      (subst (λ (s : CallerState). CallDone c.set.caller (view c.pass) (view d.pass) (conform c) (caller_after s event)
+      (alone event (line_of c.set (event_word event) served said steps))) (sym (same_conform k))
+      (core_done c.set (view c.pass) (view d.pass) (conform c) event (event_word event) said.answer
       (shown_by served said.shows) steps refl k.does)))
-      (setting_moves (stand d) event ∙ ap (λ (s : CallerState). setting_after s.setting event) (same_stand k))
+      (setting_moves (conform d) event ∙ ap (λ (s : CallerState). setting_after s.setting event) (same_conform k))
       (λ has. g.waits (alone_follows event (call_alone event is) rest ∙ has))
       (so_far_alone events rest lines g.waiting g.calls event line (call_alone event is) g.so_far)
       (fit_more begun.caller c.set.event events event rest lines line (own_line d g k.set said served steps) g.fit)
@@ -175,22 +175,22 @@ gone_all {begun = begun} {events = events} {c = c} {lines = lines} {kids = kids}
       steps = steps;
       shown = shown i;
     }) in
-    let ends : CallDone begun.caller (view c.pass) (view d.pass) (stand c) (stand c) (ending line) =
-    subst (λ (n : ℕ). CallDone n (view c.pass) (view d.pass) (stand c) (stand c) (ending line)) g.own
-    (subst (λ (l : SeenLine). CallDone c.set.caller (view c.pass) (view d.pass) (stand c) (stand c) (ending l))
+    let ends : CallDone begun.caller (view c.pass) (view d.pass) (conform c) (conform c) (ending line) =
+    subst (λ (n : ℕ). CallDone n (view c.pass) (view d.pass) (conform c) (conform c) (ending line)) g.own
+    (subst (λ (l : SeenLine). CallDone c.set.caller (view c.pass) (view d.pass) (conform c) (conform c) (ending l))
     (sym same)
-    (end_done c.set (view c.pass) (view d.pass) (stand c) EndWord steps did)) in
+    (end_done c.set (view c.pass) (view d.pass) (conform c) EndWord steps did)) in
     record {
       fit = g.fit (line ∷ []) (record {
         caller = ap (λ (s : Setting). s.caller) set ∙ g.own;
         event = ap (λ (s : Setting). s.event) set;
         word_is = refl;
       });
-      reached = stand c;
-      done = subst (CallsDone begun.caller (length kids) begun.view (view d.pass) (caller_start begun.set) (stand c))
+      reached = conform c;
+      done = subst (CallsDone begun.caller (length kids) begun.view (view d.pass) (caller_start begun.set) (conform c))
           (sym (so_far_end events lines g.waiting g.calls line g.so_far))
           (calls_done_plainly begun.caller (length kids) begun.view (view c.pass) (view d.pass)
-          (caller_start begun.set) (stand c) (stand c) g.calls (ending line) g.done ends);
+          (caller_start begun.set) (conform c) (conform c) g.calls (ending line) g.done ends);
       forked = subst (λ (calls : List Call). AllByRecursion (Forked begun (view d.pass) calls) kids)
           (sym (so_far_end events lines g.waiting g.calls line g.so_far))
           (forked_more begun (view c.pass) (view d.pass) g.calls (ending line ∷ []) kids ends.ran.same.sized
@@ -199,16 +199,16 @@ gone_all {begun = begun} {events = events} {c = c} {lines = lines} {kids = kids}
 
 -- at its start a caller has made no call
 pub gone_nothing : (begun : Start) (events : List Event) (c : Caller) → c.set.caller ≡ begun.caller →
-    c.set.event ≡ 0 → stand c ≡ caller_start begun.set → view c.pass ≡ begun.view →
+    c.set.event ≡ 0 → conform c ≡ caller_start begun.set → view c.pass ≡ begun.view →
     HasAdvanced begun events events c [] [] []
-gone_nothing begun events c own none_yet stands knows = record {
+gone_nothing begun events c own none_yet conforms knows = record {
   own = own;
   calls = [];
   done = subst (λ (s : CallerState). CallsDone begun.caller 0 begun.view (view c.pass) (caller_start begun.set) s [])
-      (sym stands)
+      (sym conforms)
       (subst (λ (w : View). CallsDone begun.caller 0 begun.view w (caller_start begun.set) (caller_start begun.set) [])
       (sym knows) (calls_done_nothing begun.caller begun.view (caller_start begun.set)));
-  settings = ap (λ (s : CallerState). s.setting) stands;
+  settings = ap (λ (s : CallerState). s.setting) conforms;
   forked = tt;
   waiting = [];
   waits = λ has. refl;

@@ -1,4 +1,4 @@
--- Joins of passes: the result has seen what both had seen, and has the visits of both.
+-- A join of two passes: the joined pass has seen what either pass had seen, and has the visits of both passes.
 use Rattle.std.proofs.Common.{◌≡◌, inl, inr, ℕ, ◌+◌, ◌*◌, ◌-◌, ◌^◌, ◌<◌, max, List, [], ◌∷◌, ◌++◌, length, refl, sym, ap, ◌∙◌, subst, arith}
 use Rattle.std.specs.List.{sum_by}
 use Rattle.std.proofs.lemmas.List.Sums.{sum_by-append, sum_by-cons}
@@ -61,7 +61,7 @@ module _ (v d : View) (long : length v.lanes ≡ length d.lanes) where
   pub both_made : (lane : ℕ) → (at lane (both_of v d)).made ≡ (at lane v).made + (at lane d).made
   both_made lane = ap (λ (a : LaneView). a.made) (both_at lane)
 
--- no pass was taken in
+-- `Joined` holds without runs, if the pass took in no other
 pub joined_nothing : (v : View) → Joined v v []
 joined_nothing v = record {
   sized = refl;
@@ -71,14 +71,14 @@ joined_nothing v = record {
   made = λ lane low. omega arith;
 }
 
--- a caller that started from a pass which was just split off: the visits of its pass at the end are its own
+-- the visits in the pass of a caller at its end are exactly those of its lines
 pub record OwnPlaces (r : Run) : Type 0 where
   pub placed : (f : ℕ → ℕ) (lane : LaneId) → index_of lane < length r.end.lanes →
       sum_by f (at (index_of lane) r.end).places ≡ marked_by f lane r
   pub made : (lane : LaneId) → index_of lane < length r.end.lanes →
       (at (index_of lane) r.end).made ≡ marked_by (λ p. 1) lane r
 
--- one pass more is taken in: that of caller r, with the callers that it took in
+-- one pass more is taken in: that of caller r, which had taken in the passes of the callers ys
 module _ (v w d : View) (r : Run) (xs ys : List Run) (mine : Joined v w xs) (theirs : Joined r.end d ys)
     (own : OwnPlaces r) (alike : length r.end.lanes ≡ length v.lanes) where
   long : length w.lanes ≡ length d.lanes
@@ -116,9 +116,9 @@ one_more x [] ys here = absurd here
 one_more x (y ∷ xs) ys (inl same) = inl same
 one_more x (y ∷ xs) ys (inr rest) = inr (one_more x xs ys rest)
 
-one_behind : {X : Type 0} (x : X) (xs ys : List X) → IsOneOf x ys → IsOneOf x (xs ++ ys)
-one_behind x [] ys here = here
-one_behind x (y ∷ xs) ys here = inr (one_behind x xs ys here)
+one_after : {X : Type 0} (x : X) (xs ys : List X) → IsOneOf x ys → IsOneOf x (xs ++ ys)
+one_after x [] ys here = here
+one_after x (y ∷ xs) ys here = inr (one_after x xs ys here)
 
 -- two families together are a family
 pub family_both : (script : Script) (ss ts : List Start) (xs ys : List Run) → Family script ss xs →
@@ -131,12 +131,12 @@ family_both script ss ts xs ys a b = record {
         | inr p ↦ inr (p.0, one_more p.0 xs ys p.1, p.2)
       ]) a.began)
       (each_weaker _ _ ys (λ r how. elim how [
-        | inl start ↦ inl (one_behind r.begun ss ts start)
-        | inr p ↦ inr (p.0, one_behind p.0 xs ys p.1, p.2)
+        | inl start ↦ inl (one_after r.begun ss ts start)
+        | inr p ↦ inr (p.0, one_after p.0 xs ys p.1, p.2)
       ]) b.began);
 }
 
--- a caller is a family with the families of the callers that it forked
+-- a caller, with the family of the callers that it forked, is a family
 pub family_own : (script : Script) (r : Run) (runs : List Run) → RunsIn script r → Family script r.kids runs →
     Family script (r.begun ∷ []) (r ∷ runs)
 family_own script r runs has f = record {

@@ -1,4 +1,5 @@
--- A caller's run with all that it forks, part after part, up to the law of all callers.
+-- The run of a caller with all that it forks: its parts make up `RanSo`, and caller 0's run meets the premises of the
+-- law of all callers.
 use Rattle.std.proofs.Common.{◌≡◌, ℕ, ◌+◌, ◌*◌, ◌^◌, ◌<◌, List, [], ◌∷◌, ◌++◌, length, refl, sym, ap, ◌∙◌, subst, arith}
 use Rattle.std.specs.List.{AllByRecursion}
 use Rattle.std.proofs.lemmas.List.Sums.{sum_by-cons}
@@ -20,7 +21,7 @@ use Rattle.caller_run.proofs.Forks.Joins.{OwnPlaces, joined_nothing, joined_then
 use Rattle.caller_run.proofs.Planning.OnceEach.{times_in, below, once_each}
 use Rattle.caller_run.proofs.Orders.OwnPlaces.{MadeNothing, made_nothing, own_places}
 
--- a part without a split does not change the share
+-- a part of a run without a split does not change the share
 share_from : (x u w : View) → SameHalves x u → SameShare u w → SameShare x w
 share_from x u w same s =
     ap (λ (h : ℕ). w.share * 2 ^ h) (sym same.halvings) ∙ s ∙ ap (λ (n : ℕ). n * 2 ^ w.halvings) same.share
@@ -33,8 +34,8 @@ ran_end script x e same = record {
   share = share_from x e e same refl;
 }
 
--- a fork: u is the pass's view after its visit, and z when the caller goes on. Then come the rest, and the child with
--- all that it forked
+-- a fork: u is the view of the parent's pass after the fork's visit, and z when the parent goes on. Then come the rest
+-- of the parent's run, and the run of the child with all that it forked
 pub ran_fork : (script : Script) (x u z e w d : View) (kid : Start) (starts : List Start) (xs : List Run) (own : Run)
     (ys : List Run) → SameHalves x u → SameHalves (halved u) z → RanOn script z e w starts xs →
     kid.view ≡ split_off u → RanSo script kid d own ys → length own.end.lanes ≡ length e.lanes →
@@ -50,7 +51,7 @@ ran_fork script x u z e w d kid starts xs own ys before after rest view_is child
           (subst (λ (v : View). SameShare v d) view_is child.share));
     }
 
--- a caller that went on from its start ran from its start to its end
+-- `RanOn` from a caller's start gives `RanSo`
 pub ran_so : (script : Script) (begun : Start) (w : View) (own : Run) (runs : List Run) → own.begun ≡ begun →
     RunsIn script own → RanOn script begun.view own.end w own.kids runs → RanSo script begun w own runs
 ran_so script begun w own runs is has on = record {

@@ -1,4 +1,4 @@
--- Callers on their way, with all that they fork.
+-- A running caller makes its events, forks and joins, and comes to its end (`WentOn`, `Returned`).
 use Rattle.std.proofs.Common.{◌≡◌, ℕ, zero, suc, Some, ◌+◌, ◌<◌, ◌≤◌, ◌^◌, List, [], ◌∷◌, ◌++◌, length, map, refl, sym, ap, ◌∙◌, subst, arith, append_assoc, append-nil, length-append, replicate}
 use Rattle.std.specs.Prelude.{slice_get, vec_len, vec_capacity, sum_by}
 use Rattle.std.specs.List.{AllByRecursion}
@@ -34,32 +34,32 @@ use Rattle.rng_core.specs.InsideMakes.{IsWaitingAct}
 use Rattle.rng_core.specs.Traces.{Moment, knowing, moment}
 use Rattle.rng_core.proofs.Makings.{did_floor}
 use Rattle.transcript_text.specs.Gathered.{Gathered}
-use Rattle.caller_run.specs.declared.caller.Caller.{Caller}
-use Rattle.caller_run.specs.declared.rooms.Room.{Room}
-use Rattle.caller_run.specs.declared.rooms.Sheet.{Sheet}
-use Rattle.caller_run.specs.declared.logs.Log.{Log}
-use Rattle.caller_run.specs.declared.ways.Way.{Way}
-use Rattle.caller_run.specs.Calling.{Seen, caller_at, stand, StatesStand}
-use Rattle.caller_run.specs.declared.states.States.{States}
+use Rattle.caller_run.specs.declared.making.caller.Caller.{Caller}
+use Rattle.caller_run.specs.declared.forking.rooms.Room.{Room}
+use Rattle.caller_run.specs.declared.forking.rooms.Buffers.{Buffers}
+use Rattle.caller_run.specs.declared.output.logs.Log.{Log}
+use Rattle.caller_run.specs.declared.forking.running_callers.RunningCaller.{RunningCaller}
+use Rattle.caller_run.specs.Calling.{Seen, caller_at, conform, StatesConform}
+use Rattle.caller_run.specs.declared.making.states.States.{States}
 use Rattle.std.specs.Global.{Box}
 use Rattle.caller_run.specs.Families.{SameHalves, RanOn, RanSo}
 use Rattle.caller_run.specs.Forest.{more, forks}
-use Rattle.caller_run.specs.Grove.{Grove, Plot, plant, grove_of, tree, told_in}
+use Rattle.caller_run.specs.ForkTree.{ForkTree, Layout, plant, fork_tree_of, tree, emitted_in}
 use Rattle.caller_run.specs.Kinds.{ForksNobody}
 use Rattle.caller_run.specs.Laws.{Run}
-use Rattle.caller_run.specs.Plots.{plot, plot_by}
+use Rattle.caller_run.specs.Layouts.{layout, layout_by}
 use Rattle.caller_run.specs.Says.{most_shown}
 use Rattle.caller_run.specs.Standing.{Start, CanAdvanceWith, CanAdvance, HasAdvanced, RunEnded, waiting_in}
 use Rattle.caller_run.specs.Took.{Took}
-use Rattle.caller_run.specs.Ways.{IsNewSheet, ArePrepared, kids_of, child_set, start_of, CanAdvanceIn, GoneIn, AreAbove, CanRun, CanAdvanceOn, CanTell, RanPlain, AtFork, RanHere, TookFrom, kid_of, numbered, Returned, WentOn, SameKids, Past, WentBeside}
+use Rattle.caller_run.specs.RunningCallers.{IsNewBuffers, ArePrepared, kids_of, child_set, start_of, CanAdvanceIn, GoneIn, AreAbove, CanRun, CanAdvanceOn, CanTell, RanPlain, AtFork, RanHere, TookFrom, kid_of, numbered, Returned, WentOn, SameKids, Past, WentBeside}
 use Rattle.caller_run.proofs.Events.CanAdvance.{GoesOn, can_next}
 use Rattle.caller_run.proofs.Forks.Forking.{took_thread, took_here}
 use Rattle.caller_run.proofs.Forks.HasAdvanced.{gone_nothing}
-use Rattle.caller_run.proofs.Planning.Groves.{prepared_none, grove_pushed}
+use Rattle.caller_run.proofs.Planning.ForkTrees.{prepared_none, fork_tree_pushed}
 use Rattle.caller_run.proofs.Planning.LogFills.{Fills}
 use Rattle.caller_run.proofs.Forks.Runs.{low, ran_end, ran_fork, ran_so}
 use Rattle.caller_run.proofs.Law.Seeing.{seen_start, seen_up}
-use Rattle.caller_run.proofs.Orders.ToldAnew.{AreTold, told_more}
+use Rattle.caller_run.proofs.Orders.EmittedAnew.{AreEmitted, emitted_more}
 
 -- ---- events up to a fork
 
@@ -71,7 +71,7 @@ plain_event e other = tt
 pub as_slices : (P : ℕ → ℕ → Type 0) (a b c d : ℕ) → c ≡ a → d ≡ b → P a b → P c d
 as_slices P a b c d first second here = subst (λ (n : ℕ). P n d) (sym first) (subst (P a) (sym second) here)
 
--- no caller was forked between two moments
+-- the pass was not split between c and d, if no caller was forked between them
 gone_halves : {begun : Start} {events es rest : List Event} {c d : Caller} {ls ls' : List SeenLine} {xs ys : List Ask}
     {kids : List Start} → HasAdvanced begun events es c ls xs kids → HasAdvanced begun events rest d ls' ys kids →
     SameHalves (view c.pass) (view d.pass)
@@ -88,20 +88,20 @@ ended_halves g h = record {
   halvings = h.done.ran.same.halvings ∙ sym g.done.ran.same.halvings;
 }
 
-same_kids : (x y : Way) → y.kids ≡ x.kids → SameKids x.kids y.kids
+same_kids : (x y : RunningCaller) → y.kids ≡ x.kids → SameKids x.kids y.kids
 same_kids x y is = record {
-  shape = ap (λ ks. tree (grove_of (map plot ks.items))) is;
+  shape = ap (λ ks. tree (fork_tree_of (map layout ks.items))) is;
   many = ap vec_len is;
   space = ap vec_capacity is;
 }
 
--- a caller that forks no more callers
-module _ (t : Lanes) (script : Script) {events : List Event} {x m : Way} (y : Way) where
+-- a caller that forks no more callers made its last events and ended
+module _ (t : Lanes) (script : Script) {events : List Event} {x m : RunningCaller} (y : RunningCaller) where
   pub went_end : CanAdvanceOn t script events x → RanPlain t events x [] m → y.kids ≡ m.kids →
       y.caller.set ≡ m.caller.set → HoldsLanes t y.caller.set.caller [] y.caller.pass →
       floor (view y.caller.pass) ≤ (model y.caller.pass 1).base.generation →
       ((begun : Start) (all : List Event) (kids : List Start) → GoneIn begun all [] m.caller m kids →
-      RunEnded begun all (view y.caller.pass) y.sheet.log.lines.lines kids) → WentOn t script events x y
+      RunEnded begun all (view y.caller.pass) y.buffers.log.lines.lines kids) → WentOn t script events x y
   went_end can plain kept set has reached ended = record {
     has = has;
     same = same_kids x y (kept ∙ plain.kids);
@@ -112,9 +112,9 @@ module _ (t : Lanes) (script : Script) {events : List Event} {x m : Way} (y : Wa
           starts = [];
           runs = [];
           ran = ran_end script (view x.caller.pass) (view y.caller.pass) (ended_halves gone e);
-          ended = subst (RunEnded begun all (view y.caller.pass) y.sheet.log.lines.lines) (sym (append-nil kids)) e;
+          ended = subst (RunEnded begun all (view y.caller.pass) y.buffers.log.lines.lines) (sym (append-nil kids)) e;
           seen = reached;
-          told = ap (λ ks. told_in (grove_of (map plot ks.items))) (kept ∙ plain.kids)
+          recorded = ap (λ ks. emitted_in (fork_tree_of (map layout ks.items))) (kept ∙ plain.kids)
               ∙ prepared_none script.callers (kids_of x)
               (subst (ArePrepared script.callers (kids_of x)) plain.forks' can.ready);
         };
@@ -166,7 +166,7 @@ can_still t c d log {served = served} {inside = inside} {rest = rest} set states
           cpu = can.goes.ready.cpu;
           moment = can.goes.ready.moment;
         };
-        states = seen_up (floor (view c.pass)) (floor (view d.pass)) (stand c) up can.goes.states;
+        states = seen_up (floor (view c.pass)) (floor (view d.pass)) (conform c) up can.goes.states;
         range = can.goes.range;
         numbers = can.goes.numbers;
         at = can.goes.at;
@@ -177,7 +177,7 @@ can_still t c d log {served = served} {inside = inside} {rest = rest} set states
         wanted = can.goes.wanted;
         few = can.goes.few;
         fresh = can.goes.fresh;
-        told = can.goes.told;
+        recorded = can.goes.recorded;
       };
       act_room = can.act_room;
     })
@@ -191,7 +191,7 @@ at_floor m w steps child theirs at =
 pub at_fits : (m w : Caller) (steps : List Step) (child : ℕ) (theirs : Pass) → AtFork m w steps child theirs →
     AllByRecursion StepFits steps
 at_fits m w steps child theirs at =
-    subst (AllByRecursion StepFits) (sym at.forked.did.told.trace) at.forked.did.told.fits
+    subst (AllByRecursion StepFits) (sym at.forked.did.recorded.trace) at.forked.did.recorded.fits
 
 module _ (set : Setting) (m n : Moment) (here : RanHere set m n) where
   pub here_floor : floor m.view ≤ floor n.view
@@ -200,19 +200,19 @@ module _ (set : Setting) (m n : Moment) (here : RanHere set m n) where
 
   pub here_fits : AllByRecursion StepFits m.steps → AllByRecursion StepFits n.steps
   here_fits fits =
-      subst (AllByRecursion StepFits) (sym here.unstall.told.trace)
+      subst (AllByRecursion StepFits) (sym here.unstall.recorded.trace)
       (each_append StepFits here.middle.steps (map step_of here.unstall.made_steps)
-      (subst (AllByRecursion StepFits) (sym here.stall.told.trace)
-      (each_append StepFits m.steps (map step_of here.stall.made_steps) fits here.stall.told.fits))
-      here.unstall.told.fits)
+      (subst (AllByRecursion StepFits) (sym here.stall.recorded.trace)
+      (each_append StepFits m.steps (map step_of here.stall.made_steps) fits here.stall.recorded.fits))
+      here.unstall.recorded.fits)
 
 -- the line of a fork
 module _ (before after : Gathered) (line : SeenLine) (lines : after.lines ≡ before.lines ++ line ∷ [])
     (line_room : after.line_room + 1 ≡ before.line_room) (step_room : before.step_room ≤ after.step_room + 20)
     (byte_room : before.byte_room ≤ after.byte_room) where
   fills_fork : (child : ℕ) (acts : List Bound) → AllByRecursion IsWaitingAct acts →
-      AreTold (length before.lines) (asks_of acts) → Fills (Fork child) before after acts acts
-  fills_fork child acts fresh told = record {
+      AreEmitted (length before.lines) (asks_of acts) → Fills (Fork child) before after acts acts
+  fills_fork child acts fresh recorded = record {
     lines = ap length lines ∙ length-append before.lines (line ∷ []);
     line_room = line_room;
     step_room = omega arith;
@@ -220,8 +220,8 @@ module _ (before after : Gathered) (line : SeenLine) (lines : after.lines ≡ be
     wanted = omega arith;
     many = refl;
     fresh = fresh;
-    told = subst (λ (ls : List SeenLine). AreTold (length ls) (asks_of acts)) (sym lines)
-        (told_more before.lines line (asks_of acts) told);
+    recorded = subst (λ (ls : List SeenLine). AreEmitted (length ls) (asks_of acts)) (sym lines)
+        (emitted_more before.lines line (asks_of acts) recorded);
   }
 
   pub can_past : (t : Lanes) (child : ℕ) (c e : Caller) (log : Log) {served inside : ℕ} {rest : List Event} →
@@ -231,21 +231,21 @@ module _ (before after : Gathered) (line : SeenLine) (lines : after.lines ≡ be
       let goes : CanAdvanceWith t c before log.acts.items served inside (Fork child ∷ rest) =
       subst (λ (l : Gathered). CanAdvanceWith t c l log.acts.items served inside (Fork child ∷ rest)) is can.goes in
       record {
-        goes = can_next c refl goes.ready.has goes.states on (fills_fork child log.acts.items goes.fresh goes.told) goes;
+        goes = can_next c refl goes.ready.has goes.states on (fills_fork child log.acts.items goes.fresh goes.recorded) goes;
         act_room = can.act_room;
       }
 
-pub can_on : (t : Lanes) (script : Script) (child : ℕ) (rest : List Event) (w z : Way) (steps : List Step) →
+pub can_on : (t : Lanes) (script : Script) (child : ℕ) (rest : List Event) (w z : RunningCaller) (steps : List Step) →
     CanTell t script child rest w steps → z.kids ≡ w.kids → CanAdvanceIn t z rest → CanAdvanceOn t script rest z
 can_on t script child rest w z steps tell kids can = record {
   can = can;
   well = tell.well;
   cpus = tell.cpus;
-  ready = subst (λ ks. ArePrepared script.callers (grove_of (map plot ks.items)) (forks rest)) (sym kids) tell.ready;
+  ready = subst (λ ks. ArePrepared script.callers (fork_tree_of (map layout ks.items)) (forks rest)) (sym kids) tell.ready;
 }
 
--- the line was made, and the caller went on
-module _ (t : Lanes) (script : Script) (child : ℕ) {rest : List Event} (w : Way) {z y : Way} (d : Caller) (steps : List Step)
+-- the line of the fork was made, and the caller went on to its end
+module _ (t : Lanes) (script : Script) (child : ℕ) {rest : List Event} (w : RunningCaller) {z y : RunningCaller} (d : Caller) (steps : List Step)
     (gone : (begun : Start) (events : List Event) (kids : List Start) (m : Caller) (u : View) →
     TookFrom m d child u steps → begun.caller < child → GoneIn begun events (Fork child ∷ rest) m w kids →
     GoneIn begun events rest z.caller z (kids ++ kid_of m child u ∷ []))
@@ -254,28 +254,28 @@ module _ (t : Lanes) (script : Script) (child : ℕ) {rest : List Event} (w : Wa
       TookFrom m d child u steps → begun.caller < child → AreAbove begun.caller rest →
       GoneIn begun events (Fork child ∷ rest) m w kids → Past script begun events kids u (kid_of m child u) y
   past begun events kids m v from low above g = record {
-    behind = view z.caller.pass;
+    following = view z.caller.pass;
     after = record {
-      share = ap (λ (p : Pass). (view p).share) pass ∙ from.took.behind.ran.same.share;
-      halvings = ap (λ (p : Pass). (view p).halvings) pass ∙ from.took.behind.ran.same.halvings;
+      share = ap (λ (p : Pass). (view p).share) pass ∙ from.took.following.ran.same.share;
+      halvings = ap (λ (p : Pass). (view p).halvings) pass ∙ from.took.following.ran.same.halvings;
     };
     went = on.goes begun events (kids ++ kid_of m child v ∷ []) above (gone begun events kids m v from low g);
   }
 
 -- ---- a fork, and the rest
 
-module _ (t : Lanes) (script : Script) (child : ℕ) {events rest : List Event} {x m w y : Way} {steps : List Step}
-    {theirs q : Pass} (kid back : Room) (z : Way) where
+module _ (t : Lanes) (script : Script) (child : ℕ) {events rest : List Event} {x m w y : RunningCaller} {steps : List Step}
+    {theirs q : Pass} (kid back : Room) (z : RunningCaller) where
   pub went_fork : RanPlain t events x (Fork child ∷ rest) m → AtFork m.caller w.caller steps child theirs →
-      w.sheet ≡ m.sheet → kids_of m ≡ plant (plot kid) (kids_of w) →
+      w.buffers ≡ m.buffers → kids_of m ≡ plant (layout kid) (kids_of w) →
       (vec_len w.kids + 1 ≡ vec_len m.kids) × (vec_capacity w.kids ≡ vec_capacity m.kids) →
-      WentBeside t script child rest w steps theirs (plot kid) y q (plot back) →
-      z.caller.set ≡ y.caller.set → z.sheet ≡ y.sheet → IsSamePass t y.caller.pass z.caller.pass →
+      WentBeside t script child rest w steps theirs (layout kid) y q (layout back) →
+      z.caller.set ≡ y.caller.set → z.buffers ≡ y.buffers → IsSamePass t y.caller.pass z.caller.pass →
       z.caller.pass.seat.me ≡ (both_of (view y.caller.pass) (view q), slots y.caller.pass) →
       z.kids.items ≡ y.kids.items ++ back ∷ [] → vec_len z.kids ≡ vec_len y.kids + 1 →
       vec_capacity z.kids ≡ vec_capacity y.kids → WentOn t script events x z
-  went_fork plain at sheet took space beside set filled same joined pushed longer log =
-      let put : kids_of z ≡ plant (plot back) (kids_of y) = grove_pushed z.kids.items y.kids.items back pushed in
+  went_fork plain at buffers took space beside set filled same joined pushed longer log =
+      let put : kids_of z ≡ plant (layout back) (kids_of y) = fork_tree_pushed z.kids.items y.kids.items back pushed in
       record {
         has = subst (λ (s : Setting). HoldsLanes t s.caller [] z.caller.pass) (sym set)
             (has_joined t y.caller.set.caller (view q) y.caller.pass z.caller.pass
@@ -283,7 +283,7 @@ module _ (t : Lanes) (script : Script) (child : ℕ) {events rest : List Event} 
         same = record {
           shape = ap tree put
               ∙ (λ i. more (beside.of_child.caller i) (beside.of_child.shape i) (beside.same.shape i))
-              ∙ sym (ap tree took) ∙ ap (λ ks. tree (grove_of (map plot ks.items))) plain.kids;
+              ∙ sym (ap tree took) ∙ ap (λ ks. tree (fork_tree_of (map layout ks.items))) plain.kids;
           many = (let a = beside.same.many in let b = space.0 in let e = ap vec_len plain.kids in omega arith);
           space = log ∙ beside.same.space ∙ space.1 ∙ ap vec_capacity plain.kids;
         };
@@ -294,8 +294,8 @@ module _ (t : Lanes) (script : Script) (child : ℕ) {events rest : List Event} 
             let first = (thread_took m.caller w.caller steps child theirs at).took.first.ran.same in
             let to_m : SameHalves (view x.caller.pass) (view m.caller.pass) = gone_halves gone g in
             let gw : GoneIn begun all (Fork child ∷ rest) m.caller w kids =
-            subst (λ (s : Sheet). HasAdvanced begun all (Fork child ∷ rest) m.caller s.log.lines.lines
-            (waiting_in s.log) kids) (sym sheet) g in
+            subst (λ (s : Buffers). HasAdvanced begun all (Fork child ∷ rest) m.caller s.log.lines.lines
+            (waiting_in s.log) kids) (sym buffers) g in
             let p = beside.goes begun all kids m.caller at high.0 high.1 gw in
             let new : Start = kid_of m.caller child u in
             let is : start_of (child_set child w.caller.set) theirs ≡ new =
@@ -311,7 +311,7 @@ module _ (t : Lanes) (script : Script) (child : ℕ) {events rest : List Event} 
               ran = subst (λ (v : View). RanOn script (view x.caller.pass) p.went.end v (new ∷ p.went.starts)
                   ((beside.of_child.own ∷ beside.of_child.runs) ++ p.went.runs))
                   (sym (ap (λ s. s.0) joined))
-                  (ran_fork script (view x.caller.pass) u p.behind p.went.end (view y.caller.pass) (view q) new
+                  (ran_fork script (view x.caller.pass) u p.following p.went.end (view y.caller.pass) (view q) new
                   p.went.starts p.went.runs beside.of_child.own beside.of_child.runs
                   (record {
                     share = first.share ∙ to_m.share;
@@ -320,13 +320,13 @@ module _ (t : Lanes) (script : Script) (child : ℕ) {events rest : List Event} 
                   p.after p.went.ran refl theirs_ran
                   (sym theirs_ran.joined.sized ∙ beside.of_child.has.pass.sized ∙ sym beside.has.pass.sized
                   ∙ p.went.ran.joined.sized));
-              ended = subst (RunEnded begun all p.went.end z.sheet.log.lines.lines)
+              ended = subst (RunEnded begun all p.went.end z.buffers.log.lines.lines)
                   (append_assoc kids (new ∷ []) p.went.starts)
-                  (subst (λ (s : Sheet). RunEnded begun all p.went.end s.log.lines.lines
+                  (subst (λ (s : Buffers). RunEnded begun all p.went.end s.log.lines.lines
                   ((kids ++ new ∷ []) ++ p.went.starts)) (sym filled) p.went.ended);
               seen = p.went.seen;
-              told = ap told_in put
-                  ∙ (λ i. beside.of_child.told i ++ p.went.told i)
+              recorded = ap emitted_in put
+                  ∙ (λ i. beside.of_child.recorded i ++ p.went.recorded i)
                   ∙ sym (map-append numbered (beside.of_child.own ∷ beside.of_child.runs) p.went.runs);
             };
       }
@@ -364,10 +364,10 @@ all_wiped = record { all = replicate 16 wiped_state; current = 0 }
 abbrev pub newly : Pass → Setting → Box States → Caller
 newly p set states = record { pass = p; set = set; states = states }
 
-module _ (t : Lanes) (script : Script) (set : Setting) (p : Pass) (a : Plot) (sheet : Sheet) (x : Way)
+module _ (t : Lanes) (script : Script) (set : Setting) (p : Pass) (a : Layout) (buffers : Buffers) (x : RunningCaller)
     {events : List Event} (can : CanRun t script set p a) (begins : x.caller ≡ newly p set x.caller.states)
-    (wiped : x.caller.states.value ≡ all_wiped) (filled : x.sheet ≡ sheet)
-    (kids : grove_of (map plot x.kids.items) ≡ a.kids) (is : a.sheet ≡ sheet)
+    (wiped : x.caller.states.value ≡ all_wiped) (filled : x.buffers ≡ buffers)
+    (kids : fork_tree_of (map layout x.kids.items) ≡ a.kids) (is : a.buffers ≡ buffers)
     (there : slice_get script.callers a.caller ≡ Some events) where
   listed : list_at script.callers a.caller ≡ events
   listed = list_is script.callers a.caller events there
@@ -375,9 +375,9 @@ module _ (t : Lanes) (script : Script) (set : Setting) (p : Pass) (a : Plot) (sh
   own_there : slice_get script.callers set.caller ≡ Some events
   own_there = ap (slice_get script.callers) (sym can.is) ∙ there
 
-  new : IsNewSheet x.sheet events
-  new = subst (λ (s : Sheet). IsNewSheet s events) (is ∙ sym filled)
-      (subst (IsNewSheet a.sheet) listed can.new)
+  new : IsNewBuffers x.buffers events
+  new = subst (λ (s : Buffers). IsNewBuffers s events) (is ∙ sym filled)
+      (subst (IsNewBuffers a.buffers) listed can.new)
 
   starts_well : CanAdvanceIn t x events
   starts_well = record {
@@ -403,13 +403,13 @@ module _ (t : Lanes) (script : Script) (set : Setting) (p : Pass) (a : Plot) (sh
       step_room = (let n = new.step_room in let none = ap length new.acts in omega arith);
       byte_room = (let n = new.byte_room in let b = ap (λ (l : List Bound). all_wanted (asks_of l)) new.acts in
           omega arith);
-      longest = recursion_from_All (λ event. most_shown event ≤ vec_len x.sheet.served) events new.longest;
+      longest = recursion_from_All (λ event. most_shown event ≤ vec_len x.buffers.served) events new.longest;
       wanted = (let n = new.inside_is in let b = ap (λ (l : List Bound). all_wanted (asks_of l)) new.acts in
           omega arith);
       few = subst (λ (l : List Bound). (length l ≤ 8) × FewActs (length l) events) (sym new.acts)
           (omega arith, at_number (FewActs 0) script.callers a.caller events there can.well.acts);
       fresh = subst (AllByRecursion IsWaitingAct) (sym new.acts) tt;
-      told = subst (λ (l : List Bound). AllByRecursion (λ b. b.event < length x.sheet.log.lines.lines) (asks_of l))
+      recorded = subst (λ (l : List Bound). AllByRecursion (λ b. b.event < length x.buffers.log.lines.lines) (asks_of l))
           (sym new.acts) tt;
     };
     act_room = new.act_room;
@@ -419,19 +419,19 @@ module _ (t : Lanes) (script : Script) (set : Setting) (p : Pass) (a : Plot) (sh
       none_yet = ap (λ (c : Caller). c.set.event) begins ∙ can.none_yet
 
       Seen' : Caller → Type 0
-      Seen' c = StatesStand c
+      Seen' c = StatesConform c
 
   pub can_start : CanAdvanceOn t script events x
   can_start = record {
     can = starts_well;
     well = can.well;
     cpus = can.cpus;
-    ready = subst (λ (g : Grove). ArePrepared script.callers g (forks events)) (sym kids)
+    ready = subst (λ (g : ForkTree). ArePrepared script.callers g (forks events)) (sym kids)
         (subst (λ (es : List Event). ArePrepared script.callers a.kids (forks es)) listed can.ready);
   }
 
-  -- a caller at its end
-  pub returned : (y : Way) (b : Plot) → b ≡ plot_by a.caller y.sheet (map plot y.kids.items) →
+  -- a caller that went on from its start to its end has returned (`Returned`)
+  pub returned : (y : RunningCaller) (b : Layout) → b ≡ layout_by a.caller y.buffers (map layout y.kids.items) →
       WentOn t script events x y → Returned t script (start_of set p) a y.caller.pass b
   returned y b put on =
       let begun : Start = start_of set p in
@@ -440,7 +440,7 @@ module _ (t : Lanes) (script : Script) (set : Setting) (p : Pass) (a : Plot) (sh
       (gone_nothing begun events (newly p set x.caller.states) refl can.none_yet (ap (caller_at (setting_of set)) wiped)
       refl) in
       let gone : GoneIn begun events events x.caller x [] =
-      subst (λ (l : List SeenLine). HasAdvanced begun events events x.caller l (waiting_in x.sheet.log) [])
+      subst (λ (l : List SeenLine). HasAdvanced begun events events x.caller l (waiting_in x.buffers.log) [])
       (sym new.lines)
       (subst (λ (l : List Bound). HasAdvanced begun events events x.caller [] (asks_of l) []) (sym new.acts) none) in
       let high : AreAbove set.caller events =
@@ -450,7 +450,7 @@ module _ (t : Lanes) (script : Script) (set : Setting) (p : Pass) (a : Plot) (sh
       let own : Run = record {
         begun = begun;
         end = w.end;
-        lines = y.sheet.log.lines.lines;
+        lines = y.buffers.log.lines.lines;
         kids = w.starts;
       } in
       let from : view x.caller.pass ≡ view p = ap (λ (c : Caller). view c.pass) begins in
@@ -464,8 +464,8 @@ module _ (t : Lanes) (script : Script) (set : Setting) (p : Pass) (a : Plot) (sh
           has = record { own = refl; ended = w.ended; seen = w.seen };
         })
             (subst (λ (v : View). RanOn script v w.end (view y.caller.pass) w.starts w.runs) from w.ran);
-        told = ap (λ (c : Plot). (c.caller, c.sheet.log.lines.lines) ∷ told_in c.kids) put
-            ∙ (λ i. (can.is i, y.sheet.log.lines.lines) ∷ w.told i);
-        caller = ap (λ (c : Plot). c.caller) put;
-        shape = ap (λ (c : Plot). tree c.kids) put ∙ on.same.shape ∙ ap tree kids;
+        recorded = ap (λ (c : Layout). (c.caller, c.buffers.log.lines.lines) ∷ emitted_in c.kids) put
+            ∙ (λ i. (can.is i, y.buffers.log.lines.lines) ∷ w.recorded i);
+        caller = ap (λ (c : Layout). c.caller) put;
+        shape = ap (λ (c : Layout). tree c.kids) put ∙ on.same.shape ∙ ap tree kids;
       }

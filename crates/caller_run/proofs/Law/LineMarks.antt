@@ -1,4 +1,5 @@
--- The marks of a caller's lines are those of its visits: they have the same weights, in each lane and in all.
+-- The marks of a caller's lines are those of its visits: a sum over the marks equals the sum over the visits, in each
+-- lane and in all lanes together.
 use Rattle.std.proofs.Common.{◌≡◌, ℕ, suc, ◌+◌, Bool, true, false, cond, List, [], ◌∷◌, ◌++◌, map, refl, sym, ap, ◌∙◌, arith, append-nil}
 use Rattle.std.specs.Prelude.{◌==◌, if◌then◌else◌}
 use Rattle.std.specs.List.{AllByRecursion, flat_map, sum_by}
@@ -78,12 +79,12 @@ same_lane (CpuLane c) PoolLane = grind (arith, nat_tests)
 same_lane (CpuLane c) BaseLane = grind (arith, nat_tests)
 same_lane (CpuLane c) (CpuLane d) = same_lane_number c d
 
--- the weight of a lane's places
+-- a weight w of each place, in sums over a lane
 module _ (w : ℕ → ℕ) where
   abbrev pub place_of : Mark → ℕ
   place_of mark = mark.place
 
-  -- a mark, in the sum over a lane
+  -- what a mark adds to the sum over a lane
   abbrev pub in_lane : LaneId → MarkBy → ℕ
   in_lane lane by = cond (index_of by.mark.lane == index_of lane) (w by.mark.place) 0
 
@@ -126,7 +127,7 @@ module _ (w : ℕ → ℕ) where
           (places_in (index_of lane) (made_steps_of numbered_steps))
           ∙ (λ i. sym (sum_one (in_lane lane) (record { mark = mark; who = maker caller d.event d.number })) i + same i)
 
-  -- the places of a lane have the same weight in the marks and in the caller's steps
+  -- the sum of w over a lane's places is the same for the marks of the lines and for the caller's steps
   pub lane_weight : (lane : LaneId) (caller : ℕ) (lines : List SeenLine) (numbered_steps : List NumberedStep) →
       AllByRecursion (IsOfCaller caller) lines →
       ((f : Item → ℕ) → sum_by f (items_of numbered_steps) ≡ sum_by f (lines_items lines)) →

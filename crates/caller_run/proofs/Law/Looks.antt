@@ -1,4 +1,4 @@
--- Each look of a caller is right: at least the generation seen before it, and at most the number of reseeds.
+-- Each look of a caller is right: it finds at least the generation seen before it, and at most the number of reseeds.
 use Rattle.std.proofs.Common.{◌≡◌, ℕ, suc, ◌+◌, ◌<◌, ◌≤◌, max, List, [], ◌∷◌, length, map, take, ◌++◌, refl, sym, subst, ap, arith, Some, None, Option}
 use Rattle.std.specs.Prelude.{slice_get}
 use Rattle.std.proofs.lemmas.List.Sums.{fold-append}
@@ -11,8 +11,8 @@ use Rattle.key_names.specs.declared.names.Step.TheVariants.{Visit as Marked}
 use Rattle.key_names.specs.Lanes.BaseList.{BaseState, base_after, base_step, base_start}
 use Rattle.key_names.specs.Lanes.CpuList.{CpuState, cpu_after, cpu_step, cpu_start}
 use Rattle.key_names.specs.Lanes.Book.{Lists, cpu_list}
-use Rattle.key_names.specs.Callers.Deeds.{Deed, looked as see, at_pool, at_base, at_cpu, deed_or, deed_at, deed_of, deeds_of, pool_visit, base_visit, cpu_visit}
-use Rattle.key_names.specs.Callers.History.{seen, seen_after, LookStands, LooksStand}
+use Rattle.key_names.specs.Callers.Effects.{Effect, looked as see, at_pool, at_base, at_cpu, effect_or, effect_at, effect_of, effects_of, pool_visit, base_visit, cpu_visit}
+use Rattle.key_names.specs.Callers.History.{seen, seen_after, LookConforms, LooksConform}
 use Rattle.base_gen.specs.BaseValue.{BaseValue}
 use Rattle.cpu_gen.specs.CpuValue.{CpuValue}
 use Rattle.lane_table.specs.declared.view.Visit.{Visit}
@@ -60,52 +60,52 @@ module _ (lanes : ℕ) (visits : ℕ → List Visit) (callers : StateLists) (ok 
       ap (λ (s : CpuState). s.generation)
       (fold_next (cpu_step lists.base c) cpu_start (cpu_list lists c) place e is) in omega arith
 
-  -- a visit is no look, and raises the seen generation at most to the lane's
-  abbrev Passes : ℕ → ℕ → ℕ → Deed → Type 0
-  Passes reseeds seen mid deed = LookStands reseeds seen deed × (seen_after seen deed ≤ mid)
+  -- the effect conforms to `LookConforms`, and the generation seen after it is at most `mid`
+  abbrev Passes : ℕ → ℕ → ℕ → Effect → Type 0
+  Passes reseeds seen mid effect = LookConforms reseeds seen effect × (seen_after seen effect ≤ mid)
 
   passes : (lane : LaneId) (place reseeds seen mid : ℕ) → index_of lane < lanes →
       place < length (visits (index_of lane)) → seen ≤ mid → generation_at lane place ≤ mid →
-      Passes reseeds seen mid (deed_at lists lane place)
+      Passes reseeds seen mid (effect_at lists lane place)
   passes PoolLane place reseeds seen mid below within low reached = go (slice_get lists.pool place)
     where
-      go : (o : Option PoolEntry) → Passes reseeds seen mid (deed_or (λ e. at_pool (pool_visit lists place e)) o)
+      go : (o : Option PoolEntry) → Passes reseeds seen mid (effect_or (λ e. at_pool (pool_visit lists place e)) o)
       go None = (tt, low)
       go (Some e) = (tt, low)
   passes BaseLane place reseeds seen mid below within low reached = go (slice_get lists.base place) refl
     where
       go : (o : Option BaseEntry) → slice_get lists.base place ≡ o →
-          Passes reseeds seen mid (deed_or (λ e. at_base (base_visit lists place e)) o)
+          Passes reseeds seen mid (effect_or (λ e. at_base (base_visit lists place e)) o)
       go None is = (tt, low)
       go (Some e) is = (tt, (let r = base_reached place e within is in omega arith))
   passes (CpuLane c) place reseeds seen mid below within low reached = go (slice_get (cpu_list lists c) place) refl
     where
       go : (o : Option CpuEntry) → slice_get (cpu_list lists c) place ≡ o →
-          Passes reseeds seen mid (deed_or (λ e. at_cpu (cpu_visit lists c place e)) o)
+          Passes reseeds seen mid (effect_or (λ e. at_cpu (cpu_visit lists c place e)) o)
       go None is = (tt, low)
       go (Some e) is = (tt, (let r = cpu_reached c place e below within is in omega arith))
 
--- the seen generation after one more step
-seen_more : (before : List Deed) (deed : Deed) → seen (before ++ deed ∷ []) ≡ seen_after (seen before) deed
-seen_more before deed = fold-append seen_after 0 before (deed ∷ [])
+-- the generation seen after one effect more follows from the generation seen before that effect
+seen_more : (before : List Effect) (effect : Effect) → seen (before ++ effect ∷ []) ≡ seen_after (seen before) effect
+seen_more before effect = fold-append seen_after 0 before (effect ∷ [])
 
 -- the looks in a list of steps are right, if each visit among the steps is in the final lists
-pub looks_stand : (w : View) (callers : StateLists) → ClosedLanes (length w.lanes) (known_of w) →
-    (made_steps : List MadeStep) (low high reseeds : ℕ) (before : List Deed) → AllKnown w made_steps →
+pub looks_conform : (w : View) (callers : StateLists) → ClosedLanes (length w.lanes) (known_of w) →
+    (made_steps : List MadeStep) (low high reseeds : ℕ) (before : List Effect) → AllKnown w made_steps →
     Sees w low made_steps high → seen before ≤ low → high ≤ reseeds →
-    LooksStand reseeds before (deeds_of (book_lists (length w.lanes) (known_of w) callers) (map step_of made_steps))
-looks_stand w callers ok [] low high reseeds before known s from to = tt
-looks_stand w callers ok (looked g ∷ made_steps) low high reseeds before known s from to = (
+    LooksConform reseeds before (effects_of (book_lists (length w.lanes) (known_of w) callers) (map step_of made_steps))
+looks_conform w callers ok [] low high reseeds before known s from to = tt
+looks_conform w callers ok (looked g ∷ made_steps) low high reseeds before known s from to = (
   (let a = s.0 in omega arith, (let b = sees_up w g high made_steps s.1 in omega arith)),
-  looks_stand w callers ok made_steps g high reseeds (before ++ see g ∷ []) known s.1
+  looks_conform w callers ok made_steps g high reseeds (before ++ see g ∷ []) known s.1
       (let a = s.0 in let e : seen (before ++ see g ∷ []) ≡ max (seen before) g = seen_more before (see g) in
       omega arith) to,
 )
-looks_stand w callers ok (visited mark e ∷ made_steps) low high reseeds before known s from to =
-    let deed : Deed = deed_of (book_lists (length w.lanes) (known_of w) callers) (Marked mark) in
+looks_conform w callers ok (visited mark e ∷ made_steps) low high reseeds before known s from to =
+    let effect : Effect = effect_of (book_lists (length w.lanes) (known_of w) callers) (Marked mark) in
     let p = passes (length w.lanes) (known_of w) callers ok mark.lane mark.place reseeds (seen before) s.0 known.0
     known.1 (let a = s.1 in omega arith) s.2 in (
       p.0,
-      looks_stand w callers ok made_steps s.0 high reseeds (before ++ deed ∷ []) known.2 s.3
-          (subst (λ (n : ℕ). n ≤ s.0) (sym (seen_more before deed)) p.1) to,
+      looks_conform w callers ok made_steps s.0 high reseeds (before ++ effect ∷ []) known.2 s.3
+          (subst (λ (n : ℕ). n ≤ s.0) (sym (seen_more before effect)) p.1) to,
     )

@@ -8,7 +8,7 @@ use Rattle.key_names.specs.declared.names.LaneId.{LaneId}
 use Rattle.key_names.specs.declared.names.LaneId.TheVariants.{Pool as PoolLane, Base as BaseLane, Cpu as CpuLane}
 use Rattle.key_names.specs.declared.names.Mark.{Mark}
 use Rattle.key_names.specs.Transcripts.SeenLine.{SeenLine}
-use Rattle.key_names.specs.Transcripts.IsTranscript.{MarkBy, EachCaller, PlacesStand, VisitsAre, all_marks, line_marks, lane_marks, is_same_lane}
+use Rattle.key_names.specs.Transcripts.IsTranscript.{MarkBy, EachCaller, PlacesConform, VisitsAre, all_marks, line_marks, lane_marks, is_same_lane}
 use Rattle.key_names.proofs.Lists.Each.{each_append, each_parts, each_weaker}
 use Rattle.key_names.proofs.Transcripts.TranscriptBooks.{lt_or_le}
 use Rattle.lane_table.specs.declared.view.View.{View}
@@ -30,7 +30,7 @@ use Rattle.std.proofs.lemmas.Bool.{eqb-true}
 use Rattle.caller_run.specs.Items.{Item}
 use Rattle.lane_table.specs.declared.view.Visit.{Visit}
 use Rattle.lane_table.specs.Advances.{MadeStep, looked, visited}
-use Rattle.lane_table.proofs.Lists.Places.{stands_at}
+use Rattle.lane_table.proofs.Lists.Places.{conforms_at}
 use Rattle.caller_run.specs.NumberedSteps.{NumberedStep, item_of, items_of}
 use Rattle.caller_run.specs.Ran.{Stood}
 
@@ -72,7 +72,7 @@ none_beyond lanes visits lane (by ∷ marks) beyond all =
 -- a caller that made these steps, with a view of all final lists
 module _ (caller : ℕ) (w : View) (numbered_steps : List NumberedStep)
     (stood : AllByRecursion (Stood w caller) numbered_steps) where
-  -- each of its marks is that of a visit
+  -- each mark of the item is that of a visit
   abbrev Visits : Item → Type 0
   Visits item = AllByRecursion (MarksVisit (length w.lanes) (known_of w)) (mark_of caller item)
 
@@ -87,7 +87,7 @@ module _ (caller : ℕ) (w : View) (numbered_steps : List NumberedStep)
         (
           here.visit,
           here.near,
-          stands_at (known_of w (index_of mark.lane)) mark.place here.visit here.there,
+          conforms_at (known_of w (index_of mark.lane)) mark.place here.visit here.there,
           (λ i. (here.stamped i, here.by i)),
         ),
         tt,
@@ -184,12 +184,12 @@ module _ (w : View) (t : List (List SeenLine)) (callers : StateLists) (low : 2 �
       length (lane_marks lane marks) ≡ (at (index_of lane) w).made
   counted lane near = sym (sum_ones (lane_marks lane marks)) ∙ sym (made lane near)
 
-  pub all_places : (lane : LaneId) → PlacesStand (lane_marks lane marks)
+  pub all_places : (lane : LaneId) → PlacesConform (lane_marks lane marks)
   all_places lane = elim (lt_or_le (index_of lane) (length w.lanes)) [
     | inl near ↦ ended_places w callers low ended (index_of lane) near (lane_marks lane marks)
         (in_one_lane (length w.lanes) (known_of w) lane marks visit) (counted lane near)
         (λ place. sum_by-map (λ p. cond (p == place) 1 0) (λ (mark : Mark). mark.place) (lane_marks lane marks)
         ∙ sym (placed (λ p. cond (p == place) 1 0) lane near))
-    | inr beyond ↦ subst PlacesStand (sym (none_beyond (length w.lanes) (known_of w) lane marks beyond visit))
+    | inr beyond ↦ subst PlacesConform (sym (none_beyond (length w.lanes) (known_of w) lane marks beyond visit))
         (record { once = tt; rise = tt })
   ]

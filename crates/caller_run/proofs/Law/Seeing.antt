@@ -1,4 +1,4 @@
--- A bound on the generations of a caller's vgetrandom states, kept event by event.
+-- Each event keeps `Seen`, the bound on the generations of a caller's vgetrandom states.
 use Rattle.std.proofs.Common.{◌≡◌, ℕ, ◌≤◌, List, [], replicate, refl, sym, ◌∙◌, subst, arith}
 use Rattle.std.proofs.lemmas.List.{length-set}
 use Rattle.key_names.specs.declared.events.Event.{Event}
@@ -22,11 +22,11 @@ use Rattle.rng_core.proofs.Makings.{did_floor}
 use Rattle.caller_run.proofs.Events.Callings.{no_count}
 use Rattle.lane_table.proofs.Rule.Sights.{sees_up}
 use Rattle.rng_core.specs.Acts.{Ask, ActOutcome}
-use Rattle.caller_run.specs.Calling.{caller_at, stand, Seen, StatesStand, Called, StateRead}
+use Rattle.caller_run.specs.Calling.{caller_at, conform, Seen, StatesConform, Called, StateRead}
 use Rattle.caller_run.specs.NumberedSteps.{made_steps_of}
 use Rattle.caller_run.specs.Says.{ShowsFit}
-use Rattle.caller_run.specs.declared.caller.Caller.{Caller}
-use Rattle.caller_run.specs.declared.reply.Reply.{Reply}
+use Rattle.caller_run.specs.declared.making.caller.Caller.{Caller}
+use Rattle.caller_run.specs.declared.output.reply.Reply.{Reply}
 
 -- `Seen` holds at a caller's start
 pub seen_start : (found : ℕ) (set : calls.Setting) → Seen found (caller_start set)
@@ -58,7 +58,7 @@ seen_with found s st low k = record {
       low;
 }
 
--- `Seen` still holds after an event alone
+-- `Seen` still holds after `caller_after`, by which an event itself changes the caller
 pub seen_after : (version cpus found : ℕ) (s : CallerState) (event : Event) → InRange version cpus event →
     Seen found s →
     Seen found (caller_after s event)
@@ -73,19 +73,19 @@ seen_after version cpus found s event range k = record { many = k.many; current 
 pub record Kept (t : Lanes) (event : Event) (c d : Caller) (said : Reply) : Type 0 where
   pub has : HoldsLanes t d.set.caller [] d.pass
   pub set : d.set ≡ c.set
-  pub states : StatesStand c → StatesStand d
+  pub states : StatesConform c → StatesConform d
   pub shows : ShowsFit (event_word event) said.shows
 
 module _ {t : Lanes} {event : Event} {c d : Caller} {said : Reply} {served : List ℕ} {steps : List Step} where
-  pub same_stand : Called t event c d said served steps → stand d ≡ stand c
-  same_stand k = (λ i. caller_at (setting_of (k.set i)) (k.states i).value)
+  pub same_conform : Called t event c d said served steps → conform d ≡ conform c
+  same_conform k = (λ i. caller_at (setting_of (k.set i)) (k.states i).value)
 
   pub called_kept : Called t event c d said served steps → Kept t event c d said
   called_kept k = record {
     has = k.has;
     set = k.set;
-    states = λ s. subst (Seen (floor (view d.pass))) (sym (same_stand k))
-        (seen_up (floor (view c.pass)) (floor (view d.pass)) (stand c)
+    states = λ s. subst (Seen (floor (view d.pass))) (sym (same_conform k))
+        (seen_up (floor (view c.pass)) (floor (view d.pass)) (conform c)
         (did_floor c.set (moment c.pass []) (moment d.pass steps) k.does) s);
     shows = k.shows;
   }
@@ -96,9 +96,9 @@ pub read_kept : {t : Lanes} {n flags : ℕ} {c d : Caller} {said : Reply} {serve
 read_kept {t = t} {c = c} {d = d} {said = said} k = record {
   has = k.has;
   set = k.set;
-  states = λ s. subst (Seen (floor (view d.pass))) (sym k.stands)
-      (seen_with (floor (view d.pass)) (stand c) k.left k.published
-      (seen_up (floor (view c.pass)) (floor (view d.pass)) (stand c)
+  states = λ s. subst (Seen (floor (view d.pass))) (sym k.conforms)
+      (seen_with (floor (view d.pass)) (conform c) k.left k.published
+      (seen_up (floor (view c.pass)) (floor (view d.pass)) (conform c)
       (sees_up (view d.pass) (floor (view c.pass)) (floor (view d.pass)) (made_steps_of k.done.numbered_steps)
       k.done.ran.sees) s));
   shows = no_count _ said.shows (λ same. cc) k.shows;

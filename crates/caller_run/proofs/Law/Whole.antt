@@ -12,13 +12,13 @@ use Rattle.key_names.specs.declared.names.Step.{Step}
 use Rattle.key_names.specs.Lanes.BaseList.{base_after}
 use Rattle.key_names.specs.Lanes.Book.{Book, Visit, lists_of, list_at}
 use Rattle.key_names.specs.Callers.Calls.{Setting, Call, calls_of, all_calls, alone, vread_call, unbound, ending, BoundAct}
-use Rattle.key_names.specs.Callers.Deeds.{deeds_of, Deed, deed_at, deed_of}
-use Rattle.key_names.specs.Callers.History.{ancestors_steps, calls_steps, orders_from, caller_orders, stamps_of, LooksStand}
+use Rattle.key_names.specs.Callers.Effects.{effects_of, Effect, effect_at, effect_of}
+use Rattle.key_names.specs.Callers.History.{ancestors_steps, calls_steps, orders_from, caller_orders, stamps_of, LooksConform}
 use Rattle.key_names.specs.Callers.Meaning.{CallMeaning, caller_start, LineMeaning}
 use Rattle.key_names.specs.Lanes.Samples.{LawfulSamples, fast_before, visits_of}
 use Rattle.key_names.specs.Texts.ScriptGrammar.{Script, WellFormed}
 use Rattle.key_names.specs.Transcripts.SeenLine.{SeenLine}
-use Rattle.key_names.specs.Transcripts.IsTranscript.{EachCaller, EachLine, CallsMean, CallerMeans, LinesFit, state_lists, start_setting, Rises, VisitsAre, all_marks, lane_marks, PlacesStand, FormsStand, IsTranscriptBy, EachAct, EachOfCall}
+use Rattle.key_names.specs.Transcripts.IsTranscript.{EachCaller, EachLine, CallsMean, CallerMeans, LinesFit, state_lists, start_setting, Rises, VisitsAre, all_marks, lane_marks, PlacesConform, FormsConform, IsTranscriptBy, EachAct, EachOfCall}
 use Rattle.base_gen.specs.BaseValue.{BaseValue}
 use Rattle.key_names.proofs.History.CallerOrders.{long_ancestors}
 use Rattle.lane_table.specs.declared.view.View.{View}
@@ -33,16 +33,16 @@ use Rattle.lane_table.proofs.Book.BookEnds.{ended_lanes, ended_lawful}
 use Rattle.lane_table.proofs.Book.BookMarks.{MarksVisit}
 use Rattle.lane_table.proofs.Book.BookMeans.{lanes_replay}
 use Rattle.lane_table.proofs.Rule.Floors.{generation_begun}
-use Rattle.key_names.specs.Callers.LineSamples.{SamplesStand}
-use Rattle.rng_core.specs.SampleDeeds.{fast_in}
+use Rattle.key_names.specs.Callers.LineSamples.{SamplesConform}
+use Rattle.rng_core.specs.SampleEffects.{fast_in}
 use Rattle.caller_run.specs.Done.{CallsMeant}
 use Rattle.caller_run.specs.Items.{steps_of}
 use Rattle.caller_run.specs.Laws.{Run, HasRun, IsOneOf, lines_of_all, RanAll, LawfulRuns}
 use Rattle.caller_run.proofs.Law.Marks.{all_visit, all_visits, all_places}
-use Rattle.caller_run.proofs.Planning.Ancestors.{Course, course_more, starts_so, has_course}
+use Rattle.caller_run.proofs.Planning.Ancestors.{Path, path_more, starts_so, has_path}
 use Rattle.caller_run.proofs.Orders.CallWeights.{calls_lines}
 use Rattle.caller_run.proofs.Orders.ItemSteps.{same_steps}
-use Rattle.caller_run.proofs.Law.Looks.{looks_stand}
+use Rattle.caller_run.proofs.Law.Looks.{looks_conform}
 use Rattle.caller_run.proofs.Planning.Parents.{each_of}
 use Rattle.key_names.proofs.Samples.Lines.{apart}
 use Rattle.key_names.proofs.Samples.SampleLaw.{samples_lawful}
@@ -50,28 +50,28 @@ use Rattle.lane_table.proofs.Book.BookSamples.{OfLane, cpu_visited, fast_met}
 use Rattle.key_names.specs.declared.names.LaneId.TheVariants.{Pool as PoolLane, Base as BaseLane, Cpu as CpuLane}
 use Rattle.key_names.specs.declared.names.Step.TheVariants.{Look, Visit as Marked}
 
--- stamps that climb rise
+-- stamps that meet `Climbs` meet `Rises`
 pub climbs_rise : (low high : ℕ) (stamps : List ℕ) → Climbs low stamps high → Rises stamps
 climbs_rise low high [] c = tt
 climbs_rise low high (a ∷ []) c = tt
 climbs_rise low high (a ∷ b ∷ stamps) c = (c.1.0, climbs_rise a high (b ∷ stamps) c.1)
 
--- the deed at a place does not depend on the callers' own lists
+-- the effect at a place does not depend on the callers' own lists
 
-deed_same : (lanes : ℕ) (w : View) (callers : StateLists) (lane : LaneId) (place : ℕ) →
-    deed_at (book_lists lanes (known_of w) []) lane place ≡ deed_at (book_lists lanes (known_of w) callers) lane place
-deed_same lanes w callers PoolLane place = refl
-deed_same lanes w callers BaseLane place = refl
-deed_same lanes w callers (CpuLane c) place = refl
+effect_same : (lanes : ℕ) (w : View) (callers : StateLists) (lane : LaneId) (place : ℕ) →
+    effect_at (book_lists lanes (known_of w) []) lane place ≡ effect_at (book_lists lanes (known_of w) callers) lane place
+effect_same lanes w callers PoolLane place = refl
+effect_same lanes w callers BaseLane place = refl
+effect_same lanes w callers (CpuLane c) place = refl
 
-pub deeds_same : (lanes : ℕ) (w : View) (callers : StateLists) (steps : List Step) →
-    deeds_of (book_lists lanes (known_of w) []) steps ≡ deeds_of (book_lists lanes (known_of w) callers) steps
-deeds_same lanes w callers [] = refl
-deeds_same lanes w callers (Look g ∷ steps) = ap
-    (λ (l : List Deed). deed_of (book_lists lanes (known_of w) []) (Look g) ∷ l)
-    (deeds_same lanes w callers steps)
-deeds_same lanes w callers (Marked mark ∷ steps) =
-    (λ i. deed_same lanes w callers mark.lane mark.place i ∷ deeds_same lanes w callers steps i)
+pub effects_same : (lanes : ℕ) (w : View) (callers : StateLists) (steps : List Step) →
+    effects_of (book_lists lanes (known_of w) []) steps ≡ effects_of (book_lists lanes (known_of w) callers) steps
+effects_same lanes w callers [] = refl
+effects_same lanes w callers (Look g ∷ steps) = ap
+    (λ (l : List Effect). effect_of (book_lists lanes (known_of w) []) (Look g) ∷ l)
+    (effects_same lanes w callers steps)
+effects_same lanes w callers (Marked mark ∷ steps) =
+    (λ i. effect_same lanes w callers mark.lane mark.place i ∷ effects_same lanes w callers steps i)
 
 module _ (P Q : SeenLine → LineMeaning → Type 0) (weaker : (line : SeenLine) (m : LineMeaning) → P line m → Q line m)
   where
@@ -204,10 +204,10 @@ module _ (script : Script) (runs : List Run) (w : View) (ok : WellFormed script)
         record {
           follows = subst (λ (set : Setting). CallsMean (caller_start set) (calls_of events r.lines) m.meanings)
               (sym (starts k r (sub r (inl refl)) each.0.own (omega arith))) m.means;
-          deeds = lines_weaker (λ line m. deeds_of (book_lists lanes (known_of w) []) line.steps ≡ m.deeds)
-              (λ line m. deeds_of (lists_of book) line.steps ≡ m.deeds)
-              (λ line m is. sym (deeds_same lanes w states line.steps) ∙ is) (calls_of events r.lines) m.meanings
-              m.deeds;
+          effects = lines_weaker (λ line m. effects_of (book_lists lanes (known_of w) []) line.steps ≡ m.effects)
+              (λ line m. effects_of (lists_of book) line.steps ≡ m.effects)
+              (λ line m is. sym (effects_same lanes w states line.steps) ∙ is) (calls_of events r.lines) m.meanings
+              m.effects;
         },
         callers_mean (suc k) es rs each.1 (λ q is. sub q (inr is)) (omega arith),
       )
@@ -232,23 +232,23 @@ module _ (script : Script) (runs : List Run) (w : View) (ok : WellFormed script)
 
   -- Orders
 
-  course_whole : (c : ℕ) (events : List Event) (r : Run) → HasRun c events r → IsOneOf r runs → (before : List Step) →
-      Course w r.begun.view before → Course w r.end (before ++ calls_steps (calls_of events r.lines))
-  course_whole c events r has here before course =
+  path_whole : (c : ℕ) (events : List Event) (r : Run) → HasRun c events r → IsOneOf r runs → (before : List Step) →
+      Path w r.begun.view before → Path w r.end (before ++ calls_steps (calls_of events r.lines))
+  path_whole c events r has here before path =
       let done = has.ended.done in
-      subst (λ (l : List Step). Course w r.end (before ++ l)) (ap steps_of done.order ∙ same_steps (calls_of events
+      subst (λ (l : List Step). Path w r.end (before ++ l)) (ap steps_of done.order ∙ same_steps (calls_of events
       r.lines))
-      (course_more w r.begun.view r.end r.begun.caller _ done.numbered_steps before done.ran (as_long r here)
-      (grown r here) course)
+      (path_more w r.begun.view r.end r.begun.caller _ done.numbered_steps before done.ran (as_long r here)
+      (grown r here) path)
 
   module _ (P : List Step → Type 0)
-      (holds : (r : Run) → IsOneOf r runs → floor r.end ≤ reseeds → (steps : List Step) → Course w r.end steps →
+      (holds : (r : Run) → IsOneOf r runs → floor r.end ≤ reseeds → (steps : List Step) → Path w r.end steps →
       P steps)
       (most : (c : ℕ) (events : List Event) (r : Run) → HasRun c events r → IsOneOf r runs → floor r.end ≤ reseeds)
     where
       orders_hold : (k : ℕ) (es : List (List Event)) (rs : List Run) → EachCaller HasRun k es rs → Here rs →
           (ancestors : List (List Step)) → length ancestors ≡ length es →
-          ((i : ℕ) (r : Run) → IsOneOf r rs → r.begun.caller ≡ k + i → Course w r.begun.view (list_at ancestors i)) →
+          ((i : ℕ) (r : Run) → IsOneOf r rs → r.begun.caller ≡ k + i → Path w r.begun.view (list_at ancestors i)) →
           AllByRecursion P (orders_from ancestors (all_calls es (lines_of_all rs)))
       orders_hold k [] [] each sub ancestors long at = tt
       orders_hold k [] (r ∷ rs) each sub ancestors long at = absurd each
@@ -257,7 +257,7 @@ module _ (script : Script) (runs : List Run) (w : View) (ok : WellFormed script)
       orders_hold k (events ∷ es) (r ∷ rs) each sub (before ∷ ancestors) long at =
           let here = sub r (inl refl) in (
             holds r here (most k events r each.0 here) (before ++ calls_steps (calls_of events r.lines))
-                (course_whole k events r each.0 here before (at 0 r (inl refl) (let e = each.0.own in omega arith))),
+                (path_whole k events r each.0 here before (at 0 r (inl refl) (let e = each.0.own in omega arith))),
             orders_hold (suc k) es rs each.1 (λ q is. sub q (inr is)) ancestors (omega arith)
                 (λ i q is own. at (suc i) q (inr is) (omega arith)),
           )
@@ -270,13 +270,13 @@ module _ (script : Script) (runs : List Run) (w : View) (ok : WellFormed script)
           (λ i r here own. elim_within i r here own)
         where
           elim_within : (i : ℕ) (r : Run) → IsOneOf r runs → r.begun.caller ≡ 0 + i →
-              Course w r.begun.view (list_at (ancestors_steps callers (length callers)) i)
+              Path w r.begun.view (list_at (ancestors_steps callers (length callers)) i)
           elim_within i r here own =
               let near = numbers_low 0 script.callers runs ran.each r here in
               let long = long_calls 0 script.callers runs ran.each in
-              subst (λ (k : ℕ). Course w r.begun.view (list_at (ancestors_steps callers (length callers)) k))
+              subst (λ (k : ℕ). Path w r.begun.view (list_at (ancestors_steps callers (length callers)) k))
               (let q : r.begun.caller ≡ i = omega arith in q)
-              (has_course script runs w ok ran.each ran.began ran.sized ran.known (length callers) r here (omega arith))
+              (has_path script runs w ok ran.each ran.began ran.sized ran.known (length callers) r here (omega arith))
 
   reached : (replay (known_of w 1)).base.generation ≡ reseeds
   reached = ap (λ (b : BaseValue). b.generation) (lanes_replay lanes (known_of w) states closed).base
@@ -293,10 +293,10 @@ module _ (script : Script) (runs : List Run) (w : View) (ok : WellFormed script)
       (subst Rises (sym (stamps_are c.made_steps)) (climbs_rise c.first r.end.stamp (stamps_in c.made_steps) c.climbs)))
       below_reseeds
 
-  seen : AllByRecursion (λ order. LooksStand reseeds [] (deeds_of (lists_of book) order)) (caller_orders callers)
-  seen = all_orders (λ order. LooksStand reseeds [] (deeds_of (lists_of book) order))
-      (λ r here most steps c. subst (λ (l : List Step). LooksStand reseeds [] (deeds_of (lists_of book) l)) c.steps_are
-      (looks_stand w states closed c.made_steps 0 (floor r.end) reseeds [] c.known c.sees (omega arith) most))
+  seen : AllByRecursion (λ order. LooksConform reseeds [] (effects_of (lists_of book) order)) (caller_orders callers)
+  seen = all_orders (λ order. LooksConform reseeds [] (effects_of (lists_of book) order))
+      (λ r here most steps c. subst (λ (l : List Step). LooksConform reseeds [] (effects_of (lists_of book) l)) c.steps_are
+      (looks_conform w states closed c.made_steps 0 (floor r.end) reseeds [] c.known c.sees (omega arith) most))
       below_reseeds
 
   -- Marks and samples
@@ -307,7 +307,7 @@ module _ (script : Script) (runs : List Run) (w : View) (ok : WellFormed script)
   visits : VisitsAre book (all_marks t)
   visits = all_visits w t states low ended visit ran.placed ran.made
 
-  places : (lane : LaneId) → PlacesStand (lane_marks lane (all_marks t))
+  places : (lane : LaneId) → PlacesConform (lane_marks lane (all_marks t))
   places = all_places w t states low ended visit ran.placed ran.made
 
   -- a CPU's fast pool before a visit is the same in the book and in the lanes
@@ -315,11 +315,11 @@ module _ (script : Script) (runs : List Run) (w : View) (ok : WellFormed script)
       fast_before (visits_of book c) place ≡ fast_in (known_of w) c place
   fast_is c place v at =
       let x : OfLane lanes (known_of w) states c place v = cpu_visited lanes (known_of w) states closed c place v at in
-      let within = slice_get_within (known_of w (c + 2)) place x.visited.visit x.visited.stands in
+      let within = slice_get_within (known_of w (c + 2)) place x.visited.visit x.visited.conforms in
       fast_met lanes (known_of w) states closed c place x.below (omega arith)
 
   abbrev Sampled : SeenLine → Type 0
-  Sampled line = SamplesStand (fast_in (known_of w)) (deeds_of (lists_of book) line.steps)
+  Sampled line = SamplesConform (fast_in (known_of w)) (effects_of (lists_of book) line.steps)
 
   sampled : (k : ℕ) (es : List (List Event)) (rs : List Run) → EachCaller HasRun k es rs → Here rs →
       AllByRecursion (AllByRecursion Sampled) (lines_of_all rs)
@@ -338,7 +338,7 @@ module _ (script : Script) (runs : List Run) (w : View) (ok : WellFormed script)
       (apart script.callers t (lines_fit 0 script.callers runs ran.each)) visits places
       (sampled 0 script.callers runs ran.each (λ r is. is))
 
-  forms : FormsStand script t book meanings
+  forms : FormsConform script t book meanings
   forms = record {
     cpus = length-map (range_with_len 0 (lanes - 2)) _ ∙ length-range_with_len 0 (lanes - 2)
         ∙ (let e = ran.wide in omega arith);

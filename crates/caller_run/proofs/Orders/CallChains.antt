@@ -15,7 +15,7 @@ use Rattle.lane_table.specs.BookLists.{book_lists}
 use Rattle.lane_table.proofs.Book.BookEnds.{continues_before}
 use Rattle.caller_run.specs.NumberedSteps.{item_of}
 use Rattle.caller_run.specs.Done.{CallMeant, CallSamples, CallDone, CallDoneBy, CallsMeant, CallsDone}
-use Rattle.rng_core.specs.SampleDeeds.{fast_in}
+use Rattle.rng_core.specs.SampleEffects.{fast_in}
 use Rattle.caller_run.proofs.Orders.Chains.{ran_nothing, ran_then}
 
 each_line_more : (P : SeenLine → LineMeaning → Type 0) (calls : List Call) (ms : List CallMeaning) (call : Call)
@@ -44,7 +44,7 @@ meant_more lists s t u calls call a b = record {
   meanings = a.meanings ++ b.meaning ∷ [];
   means = calls_mean_more s calls a.meanings call b.meaning a.means (b.before ∙ sym a.reaches) b.means;
   reaches = reached_more s a.meanings b.meaning ∙ b.after;
-  deeds = each_line_more _ calls a.meanings call b.meaning a.deeds b.deeds;
+  effects = each_line_more _ calls a.meanings call b.meaning a.effects b.effects;
   answers = each_line_more _ calls a.meanings call b.meaning a.answers b.answers;
   shown = each_line_more _ calls a.meanings call b.meaning a.shown b.shown;
 }
@@ -59,7 +59,7 @@ calls_done_nothing caller v s = record {
     meanings = [];
     means = tt;
     reaches = refl;
-    deeds = tt;
+    effects = tt;
     answers = tt;
     shown = tt;
   };

@@ -132,7 +132,7 @@ module _ (f : Item → ℕ) where
       let acts_all = acts_weight acts in
       let whole : weight items ≡ weight (take 2 items) + weight (drop 2 items) =
       ap weight (sym (take-append-drop 2 items)) ∙ sum_by-append f (take 2 items) (drop 2 items) in
-      let behind : weight (drop 2 items) ≡ weight r + weight end =
+      let following : weight (drop 2 items) ≡ weight r + weight end =
       ap weight (rekey_whole (drop 2 items)) ∙ sum_by-append f r end in omega arith
 
 -- a fact about each step
@@ -140,7 +140,7 @@ module _ (P : Item → Type 0) where
   abbrev Each : List Item → Type 0
   Each items = AllByRecursion P items
 
-  -- an act with this line at point p, and other acts at a point
+  -- P holds for each step of the acts at a point: for those of `acts`, and for those of `line`, whose act is at point p
   abbrev At : List BoundAct → SeenLine → Point → Point → Type 0
   At acts line p point =
       Each (if is_same_point p point then line_items line ++ items_at_point acts point else items_at_point acts point)

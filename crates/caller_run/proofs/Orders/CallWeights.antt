@@ -30,7 +30,8 @@ module _ (f : Item → ℕ) where
   Weighs waiting events lines calls =
       weight (calls_items calls) ≡ weight (lines_items (map act_line waiting)) + weight (lines_items lines)
 
-  -- one call more in front adds the same weight as its own line
+  -- if a call weighs n more than its own line, putting the call and the line in front adds n to the difference of the
+  -- weights
   in_front_of : (call : Call) (line : SeenLine) (calls : List Call) (lines : List SeenLine) (n m : ℕ) →
       weight (call_items call) ≡ n + weight (line_items line) →
       weight (calls_items calls) ≡ m + weight (lines_items lines) →

@@ -1,4 +1,4 @@
--- The steps of a caller, part after part.
+-- Two parts of a caller's steps, one after another, make one part (`RanBy`).
 use Rattle.std.proofs.Common.{◌≡◌, ℕ, suc, ◌+◌, ◌<◌, List, [], ◌∷◌, ◌++◌, length, map, refl, sym, ap, ◌∙◌, subst, arith, append_assoc, append-nil, length-append}
 use Rattle.std.proofs.lemmas.List.{map-append}
 use Rattle.std.specs.List.{AllByRecursion}
@@ -8,7 +8,7 @@ use Rattle.lane_table.specs.declared.view.Visit.{Visit}
 use Rattle.lane_table.specs.declared.view.View.{View}
 use Rattle.lane_table.specs.WorldRule.{at, known_of}
 use Rattle.lane_table.specs.Steps.{Grows}
-use Rattle.lane_table.specs.Advances.{MadeStep, looked, visited, step_of, maker, AllStand, places_in, stamps_in, Climbs, Sees, Advances, floor}
+use Rattle.lane_table.specs.Advances.{MadeStep, looked, visited, step_of, maker, AllConform, places_in, stamps_in, Climbs, Sees, Advances, floor}
 use Rattle.lane_table.specs.LaneNumbers.{index_of}
 use Rattle.lane_table.proofs.Lists.Lists.{at_below}
 use Rattle.lane_table.proofs.Rule.Sights.{AllKnown, sees_append, sees_grown}
@@ -32,12 +32,12 @@ items_from_doings event n (made_step ∷ made_steps) =
     ap (λ (l : List Item). record { event = event; number = n; step = step_of made_step } ∷ l)
     (items_from_doings event (suc n) made_steps)
 
-stood_from : (w : View) (caller event n : ℕ) (made_steps : List MadeStep) → AllStand w caller event n made_steps →
+stood_from : (w : View) (caller event n : ℕ) (made_steps : List MadeStep) → AllConform w caller event n made_steps →
     AllByRecursion (Stood w caller) (numbered_steps_from event n made_steps)
-stood_from w caller event n [] stand = tt
-stood_from w caller event n (looked g ∷ made_steps) stand = (tt, stood_from w caller event (suc n) made_steps stand)
-stood_from w caller event n (visited mark e ∷ made_steps) stand =
-    (stand.0, stood_from w caller event (suc n) made_steps stand.1)
+stood_from w caller event n [] conform = tt
+stood_from w caller event n (looked g ∷ made_steps) conform = (tt, stood_from w caller event (suc n) made_steps conform)
+stood_from w caller event n (visited mark e ∷ made_steps) conform =
+    (conform.0, stood_from w caller event (suc n) made_steps conform.1)
 
 pub unsplit : (v w : View) → SameView v w → SplitView 0 v w
 unsplit v w k =
@@ -55,7 +55,7 @@ ran_went caller event n v w made_steps went = let same = deals_from event n made
   heard = went.heard;
   climbs = subst (λ (l : List MadeStep). Climbs v.stamp (stamps_in l) w.stamp) (sym same) went.climbs;
   sees = subst (λ (l : List MadeStep). Sees w (floor v) l (floor w)) (sym same) went.sees;
-  stood = stood_from w caller event n made_steps went.stand;
+  stood = stood_from w caller event n made_steps went.conform;
 }
 
 -- between a view and itself no step was made

@@ -1,4 +1,4 @@
--- Runs with one for each caller, in the order of the callers.
+-- Runs that have exactly one run of each caller can be listed in the order of the callers.
 use Rattle.std.proofs.Common.{◌≡◌, inl, inr, ℕ, zero, suc, ◌+◌, ◌<◌, ◌≤◌, Bool, true, false, cond, List, [], ◌∷◌, map, refl, sym, ap, ◌∙◌, arith}
 use mathlib.Core.Logic.{dite}
 use native.Mathlib.Decide.{ℕ_discrete}
@@ -17,7 +17,7 @@ number r = r.begun.caller
 abbrev pub numbers_of : List Run → List ℕ
 numbers_of runs = map number runs
 
--- the weight of caller k's runs among some
+-- the weight of a run if it is caller k's, and otherwise 0
 abbrev of_caller : (Run → ℕ) → ℕ → Run → ℕ
 of_caller f k r = cond (number r == k) (f r) 0
 
@@ -33,12 +33,12 @@ nothing_of f k (r ∷ rs) none = go (number r == k) refl (λ rest. nothing_of f 
   where
     go : (b : Bool) → (number r == k) ≡ b → (times_in k (numbers_of rs) ≡ 0 → sum_by (of_caller f k) rs ≡ 0) →
         sum_by (of_caller f k) (r ∷ rs) ≡ 0
-    go true is behind = let c = cons_times k r rs in let h : hit (number r == k) ≡ 1 = ap hit is in absurd (omega arith)
-    go false is behind =
+    go true is following = let c = cons_times k r rs in let h : hit (number r == k) ≡ 1 = ap hit is in absurd (omega arith)
+    go false is following =
         let c = cons_times k r rs in let h : hit (number r == k) ≡ 0 = ap hit is in
         let here : of_caller f k r ≡ 0 = ap (λ b. cond b (f r) 0) is in
         let all = sum_by-cons (of_caller f k) r rs in
-        let rest = behind (omega arith) in omega arith
+        let rest = following (omega arith) in omega arith
 
 -- the one run of a caller
 pub record OneOf (k : ℕ) (runs : List Run) : Type 0 where
@@ -86,7 +86,7 @@ one_of k (r ∷ rs) one = go (number r == k) refl (λ rest. one_of k rs rest)
           ];
         }
 
--- the runs of these callers are among some, each once
+-- `runs` has exactly one run of each of these callers: the `count` callers from k on
 abbrev pub AllOnce : ℕ → ℕ → List Run → Type 0
 AllOnce k count runs = (c : ℕ) → k ≤ c → c < k + count → times_in c (numbers_of runs) ≡ 1
 

@@ -1,4 +1,4 @@
--- The steps of a caller in a call with acts inside, in one order with those of its acts.
+-- In a vgetrandom call with acts inside, the caller's own steps and those of its acts have the order of `vread_items`.
 use Rattle.std.proofs.Common.{◌≡◌, ◌⊎◌, inl, inr, List, [], ◌∷◌, ◌++◌, refl, sym, ap, ◌∙◌, subst}
 use Rattle.key_names.specs.declared.names.Step.{Step}
 use Rattle.key_names.specs.declared.point.Point.{Point}
@@ -15,7 +15,7 @@ use Rattle.caller_run.proofs.Orders.OwnSteps.{Spot, view_at, line_of, items_at, 
 use Rattle.caller_run.proofs.Orders.PartItems.{Part, part_then}
 
 module _ (set : Setting) (asks : List Ask) where
-  -- the acts at a point keep their steps
+  -- from s to t the acts at the point q keep their steps, and if none of these acts was done, none is done
   pub record Kept (q : Point) (s t : Spot) : Type 0 where
     pub items : items_at set asks t q ≡ items_at set asks s q
     pub untouched : Untouched q asks s.outcomes → Untouched q asks t.outcomes
@@ -33,7 +33,7 @@ module _ (set : Setting) (asks : List Ask) where
   kept_at q p s t other k = record { items = (k.elsewhere q other).0; untouched = (k.elsewhere q other).1 }
 
   -- a call that came to points: two looks, Start and Written, the steps for a new key, Serve and End, and the rest
-  pub record Course (s t : Spot) : Type 0 where
+  pub record Path (s t : Spot) : Type 0 where
     pub looked : Spot
     pub started : Spot
     pub written : Spot
@@ -54,7 +54,7 @@ module _ (set : Setting) (asks : List Ask) where
     pub cut : AreParts (cut_rekey (rekey ++ rest)) rekey rest
         ⊎ ((items_at set asks t Serve ≡ []) × (items_at set asks t End ≡ []))
 
-  module _ (s t : Spot) (new : (p : Point) → Untouched p asks s.outcomes) (empty : s.moment.steps ≡ []) (c : Course s t)
+  module _ (s t : Spot) (new : (p : Point) → Untouched p asks s.outcomes) (empty : s.moment.steps ≡ []) (c : Path s t)
     where
       abbrev acts : List BoundAct
       acts = bound_acts set asks t.outcomes
@@ -101,10 +101,10 @@ module _ (set : Setting) (asks : List Ask) where
       from_started q a b d =
           kept_then q c.started c.written t (kept_at q Written c.started c.written a c.write) (from_written q b d)
 
-      abbrev behind_write : List Item
-      behind_write = (c.first ∷ c.second ∷ []) ++ here Start ++ here Written
+      abbrev after_write : List Item
+      after_write = (c.first ∷ c.second ∷ []) ++ here Start ++ here Written
 
-      all : Part set.caller (view_at s) (view_at t) (behind_write ++ c.rekey ++ here Serve ++ here End ++ c.rest)
+      all : Part set.caller (view_at s) (view_at t) (after_write ++ c.rekey ++ here Serve ++ here End ++ c.rest)
       all =
           let one = at_last Start c.looked c.started c.start (kept_own Start s c.looked _ c.looks)
           (from_started Start refl refl refl) in
@@ -120,20 +120,20 @@ module _ (set : Setting) (asks : List Ask) where
           (part_then set.caller (view_at s) (view_at c.looked) (view_at c.started) _ (here Start) c.looks.part one) two)
           c.key.part) three) four) c.goes_on.part
 
-      in_order : behind_write ++ c.rekey ++ here Serve ++ here End ++ c.rest ≡ vread_items (line_of set asks t) acts
+      in_order : after_write ++ c.rekey ++ here Serve ++ here End ++ c.rest ≡ vread_items (line_of set asks t) acts
       in_order = go c.cut ∙ ap (λ (l : List Item). vread_items l acts) (sym line)
         where
           go : AreParts (cut_rekey (c.rekey ++ c.rest)) c.rekey c.rest ⊎ ((here Serve ≡ []) × (here End ≡ [])) →
-              behind_write ++ c.rekey ++ here Serve ++ here End ++ c.rest
+              after_write ++ c.rekey ++ here Serve ++ here End ++ c.rest
               ≡ vread_items (c.first ∷ c.second ∷ c.rekey ++ c.rest) acts
-          go (inl parts) = ap (λ (cut : List Item × List Item). behind_write ++ cut.0 ++ here Serve ++ here End ++ cut.1)
+          go (inl parts) = ap (λ (cut : List Item × List Item). after_write ++ cut.0 ++ here Serve ++ here End ++ cut.1)
               (sym parts)
           go (inr none) =
-              no_steps c.rekey c.rest (here Serve) (here End) behind_write none.0 none.1
+              no_steps c.rekey c.rest (here Serve) (here End) after_write none.0 none.1
               ∙ sym (no_late (c.first ∷ c.second ∷ c.rekey ++ c.rest) acts none.0 none.1)
 
-      pub course_part : Part set.caller (view_at s) (view_at t) (vread_items (line_of set asks t) acts)
-      course_part = subst (Part set.caller (view_at s) (view_at t)) in_order all
+      pub path_part : Part set.caller (view_at s) (view_at t) (vread_items (line_of set asks t) acts)
+      path_part = subst (Part set.caller (view_at s) (view_at t)) in_order all
 
   -- a call that came to no point made exactly its own steps
   pub quiet_part : (s t : Spot) (items : List Item) → ((p : Point) → Untouched p asks s.outcomes) → s.moment.steps ≡ [] →

@@ -1,4 +1,4 @@
--- The order of a caller's calls, without the makers of its steps.
+-- Without their makers, the items of a caller's calls are the steps of the calls in the same order.
 use Rattle.std.proofs.Common.{◌≡◌, ℕ, suc, Bool, true, false, List, [], ◌∷◌, ◌++◌, take, drop, refl, ap, ◌∙◌}
 use Rattle.std.specs.Prelude.{if◌then◌else◌}
 use Rattle.std.proofs.lemmas.List.{map-append}
@@ -6,7 +6,7 @@ use Rattle.key_names.specs.declared.names.Step.{Step}
 use Rattle.key_names.specs.declared.point.Point.{Point}
 use Rattle.key_names.specs.declared.point.Point.TheVariants.{Start, Written, Serve, End}
 use Rattle.key_names.specs.Callers.Calls.{Call, alone, vread_call, unbound, ending, BoundAct}
-use Rattle.key_names.specs.Callers.History.{is_mark, cut_behind_visits, cut_behind_rekey, steps_at_point, vread_steps, call_steps, calls_steps}
+use Rattle.key_names.specs.Callers.History.{is_mark, cut_after_visits, cut_after_rekey, steps_at_point, vread_steps, call_steps, calls_steps}
 use Rattle.key_names.specs.Kernel.Points.{is_same_point}
 use Rattle.key_names.specs.Transcripts.SeenLine.{SeenLine}
 use Rattle.caller_run.specs.Items.{Item, steps_of, items_from, line_items, items_at_point, cut_items, cut_rekey, vread_items, call_items, calls_items}
@@ -35,18 +35,18 @@ point_steps (bound ∷ acts) point = go (is_same_point bound.point point) (point
 abbrev both_steps : List Item × List Item → List Step × List Step
 both_steps cut = (steps_of cut.0, steps_of cut.1)
 
-cut_steps : (items : List Item) → both_steps (cut_items items) ≡ cut_behind_visits (steps_of items)
+cut_steps : (items : List Item) → both_steps (cut_items items) ≡ cut_after_visits (steps_of items)
 cut_steps [] = refl
 cut_steps (item ∷ items) = go (is_mark item.step) (cut_steps items)
   where
-    go : (b : Bool) → both_steps (cut_items items) ≡ cut_behind_visits (steps_of items) →
+    go : (b : Bool) → both_steps (cut_items items) ≡ cut_after_visits (steps_of items) →
         both_steps (if b then (item ∷ (cut_items items).0, (cut_items items).1) else ([], item ∷ items))
-        ≡ (if b then (item.step ∷ (cut_behind_visits (steps_of items)).0, (cut_behind_visits (steps_of items)).1)
+        ≡ (if b then (item.step ∷ (cut_after_visits (steps_of items)).0, (cut_after_visits (steps_of items)).1)
         else ([], item.step ∷ steps_of items))
     go true rest = ap (λ (c : List Step × List Step). (item.step ∷ c.0, c.1)) rest
     go false rest = refl
 
-rekey_steps : (items : List Item) → both_steps (cut_rekey items) ≡ cut_behind_rekey (steps_of items)
+rekey_steps : (items : List Item) → both_steps (cut_rekey items) ≡ cut_after_rekey (steps_of items)
 rekey_steps [] = refl
 rekey_steps (a ∷ []) = refl
 rekey_steps (a ∷ b ∷ []) = refl
@@ -56,8 +56,8 @@ rekey_steps (a ∷ b ∷ c ∷ items) = go (is_mark c.step)
         both_steps (if by then (a ∷ b ∷ (cut_items (c ∷ items)).0, (cut_items (c ∷ items)).1) else
         ([], a ∷ b ∷ c ∷ items))
         ≡ (if by then (
-          a.step ∷ b.step ∷ (cut_behind_visits (steps_of (c ∷ items))).0,
-          (cut_behind_visits (steps_of (c ∷ items))).1,
+          a.step ∷ b.step ∷ (cut_after_visits (steps_of (c ∷ items))).0,
+          (cut_after_visits (steps_of (c ∷ items))).1,
         ) else ([], steps_of (a ∷ b ∷ c ∷ items)))
     go true = ap (λ (x : List Step × List Step). (a.step ∷ b.step ∷ x.0, x.1)) (cut_steps (c ∷ items))
     go false = refl
@@ -81,8 +81,8 @@ vread_each items acts =
     let a4 : List Item = items_at_point acts End in
     let r : List Item = (cut_rekey (drop 2 items)).0 in
     let end : List Item = (cut_rekey (drop 2 items)).1 in
-    let cut : both_steps (cut_rekey (drop 2 items)) ≡ cut_behind_rekey (drop 2 (steps_of items)) =
-    rekey_steps (drop 2 items) ∙ ap cut_behind_rekey (drop_two items) in
+    let cut : both_steps (cut_rekey (drop 2 items)) ≡ cut_after_rekey (drop 2 (steps_of items)) =
+    rekey_steps (drop 2 items) ∙ ap cut_after_rekey (drop_two items) in
     steps_append (take 2 items ++ a1 ++ a2 ++ r ++ a3 ++ a4) end
     ∙ (λ i. (steps_append (take 2 items ++ a1 ++ a2 ++ r ++ a3) a4
     ∙ (λ i. (steps_append (take 2 items ++ a1 ++ a2 ++ r) a3
@@ -99,7 +99,7 @@ one_call (vread_call len flags line acts) =
 one_call (unbound bound) = line_steps bound.line
 one_call (ending line) = line_steps line
 
--- a caller's order is that of its numbered steps
+-- the items of a caller's calls, without their makers, are the steps of these calls in the same order
 pub same_steps : (calls : List Call) → steps_of (calls_items calls) ≡ calls_steps calls
 same_steps [] = refl
 same_steps (call ∷ calls) =

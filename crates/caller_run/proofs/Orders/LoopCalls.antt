@@ -1,4 +1,4 @@
--- The calls in the invariant of a loop over a caller's events, after one event more of each kind.
+-- `CallsSoFar`, the invariant of a loop over a caller's events, holds again after one event more of each kind.
 use Rattle.std.proofs.Common.{◌≡◌, ℕ, zero, suc, ◌<◌, true, false, List, [], ◌∷◌, ◌++◌, length, refl, sym, ap, ◌∙◌, arith, append_assoc, length-append}
 use Rattle.std.specs.Prelude.{if◌then◌else◌}
 use Rattle.key_names.specs.declared.events.Event.{Event}
@@ -7,8 +7,8 @@ use Rattle.key_names.specs.Transcripts.SeenLine.{SeenLine}
 use Rattle.key_names.specs.Callers.Calls.{Call, alone, vread_call, unbound, ending, BoundAct, has_vread, calls_from, calls_of}
 use Rattle.key_names.proofs.Lists.Each.{each_more}
 use Rattle.rng_core.specs.Acts.{Ask}
-use Rattle.caller_run.specs.Waiting.{told_anew, bound_by, all_bound, IsAlone, CallsSoFar}
-use Rattle.caller_run.proofs.Orders.ToldAnew.{told_more, anew_front, anew_last}
+use Rattle.caller_run.specs.Waiting.{emitted_anew, bound_by, all_bound, IsAlone, CallsSoFar}
+use Rattle.caller_run.proofs.Orders.EmittedAnew.{emitted_more, anew_front, anew_last}
 
 bound_more : (asks : List Ask) (acts : List SeenLine) (x : Ask) (line : SeenLine) → length acts ≡ length asks →
     all_bound (asks ++ x ∷ []) (acts ++ line ∷ []) ≡ all_bound asks acts ++ bound_by x line ∷ []
@@ -57,7 +57,7 @@ one_call calls call rest = sym (append_assoc calls (call ∷ []) rest)
 -- at the start no call was made
 pub so_far_nothing : (events : List Event) → CallsSoFar events events [] [] []
 so_far_nothing events = record {
-  told = tt;
+  recorded = tt;
   follows = λ none. refl;
   calls_are = λ acts more none. refl;
 }
@@ -70,11 +70,11 @@ module _ (events es : List Event) (lines : List SeenLine) (waiting : List Ask) (
       calls_from acts (event ∷ es) (line ∷ more) ≡ call ∷ calls_from acts es more) →
       CallsSoFar events es (lines ++ line ∷ []) waiting (calls ++ call ∷ [])
   one_more event line call s follows first = record {
-    told = told_more lines line waiting s.told;
+    recorded = emitted_more lines line waiting s.recorded;
     follows = follows;
     calls_are = λ acts more many.
-        ap (λ (ls : List SeenLine). calls_of events (ls ++ more)) (anew_front lines (line ∷ []) waiting acts s.told)
-        ∙ ap (calls_of events) (append_assoc (told_anew lines waiting acts) (line ∷ []) more)
+        ap (λ (ls : List SeenLine). calls_of events (ls ++ more)) (anew_front lines (line ∷ []) waiting acts s.recorded)
+        ∙ ap (calls_of events) (append_assoc (emitted_anew lines waiting acts) (line ∷ []) more)
         ∙ s.calls_are acts (line ∷ more) many
         ∙ ap (λ (cs : List Call). calls ++ cs) (first (all_bound waiting acts) more)
         ∙ one_call calls call (calls_from (all_bound waiting acts) es more);
@@ -102,8 +102,8 @@ module _ (events es : List Event) (lines : List SeenLine) (waiting : List Ask) (
       CallsSoFar events (Inside x.point x.act ∷ es) lines waiting calls →
       CallsSoFar events es (lines ++ idle ∷ []) (waiting ++ x ∷ []) calls
   so_far_waits x idle has at s = record {
-    told = each_more (λ (a : Ask). a.event < length (lines ++ idle ∷ [])) waiting x
-        (told_more lines idle waiting s.told)
+    recorded = each_more (λ (a : Ask). a.event < length (lines ++ idle ∷ [])) waiting x
+        (emitted_more lines idle waiting s.recorded)
         (omega (arith, length-append lines (idle ∷ [])));
     follows = λ none. cc;
     calls_are = λ acts more many. goes acts more
@@ -111,14 +111,14 @@ module _ (events es : List Event) (lines : List SeenLine) (waiting : List Ask) (
   }
     where
       goes : (acts more : List SeenLine) → Last (length waiting) acts →
-          calls_of events (told_anew (lines ++ idle ∷ []) (waiting ++ x ∷ []) acts ++ more)
+          calls_of events (emitted_anew (lines ++ idle ∷ []) (waiting ++ x ∷ []) acts ++ more)
           ≡ calls ++ calls_from (all_bound (waiting ++ x ∷ []) acts) es more
       goes acts more l =
-          ap (λ (ls : List SeenLine). calls_of events (told_anew (lines ++ idle ∷ []) (waiting ++ x ∷ []) ls ++ more))
+          ap (λ (ls : List SeenLine). calls_of events (emitted_anew (lines ++ idle ∷ []) (waiting ++ x ∷ []) ls ++ more))
           l.is
           ∙ ap (λ (ls : List SeenLine). calls_of events (ls ++ more))
-          (anew_last lines idle l.line waiting x l.front at s.told l.many)
-          ∙ ap (calls_of events) (append_assoc (told_anew lines waiting l.front) (l.line ∷ []) more)
+          (anew_last lines idle l.line waiting x l.front at s.recorded l.many)
+          ∙ ap (calls_of events) (append_assoc (emitted_anew lines waiting l.front) (l.line ∷ []) more)
           ∙ s.calls_are l.front (l.line ∷ more) l.many
           ∙ ap (λ b. calls ++ (if b then calls_from (all_bound waiting l.front ++ bound_by x l.line ∷ []) es more else
           unbound (bound_by x l.line) ∷ calls_from (all_bound waiting l.front) es more)) has
@@ -129,23 +129,23 @@ module _ (events es : List Event) (lines : List SeenLine) (waiting : List Ask) (
   -- after a vread there is one call more, with the lines of the acts that waited for it
   pub so_far_vread : (len flags : ℕ) (line : SeenLine) (acts : List SeenLine) → length acts ≡ length waiting →
       CallsSoFar events (Vread len flags ∷ es) lines waiting calls →
-      CallsSoFar events es (told_anew lines waiting acts ++ line ∷ []) []
+      CallsSoFar events es (emitted_anew lines waiting acts ++ line ∷ []) []
       (calls ++ vread_call len flags line (all_bound waiting acts) ∷ [])
   so_far_vread len flags line acts many s = record {
-    told = tt;
+    recorded = tt;
     follows = λ none. refl;
     calls_are = λ none more many_none.
-        ap (calls_of events) (append_assoc (told_anew lines waiting acts) (line ∷ []) more)
+        ap (calls_of events) (append_assoc (emitted_anew lines waiting acts) (line ∷ []) more)
         ∙ s.calls_are acts (line ∷ more) many
         ∙ one_call calls (vread_call len flags line (all_bound waiting acts)) (calls_from [] es more);
   }
 
--- the end: these are all calls
+-- with the caller's end, these are all its calls
 pub so_far_end : (events : List Event) (lines : List SeenLine) (waiting : List Ask) (calls : List Call)
     (line : SeenLine) → CallsSoFar events [] lines waiting calls →
     calls_of events (lines ++ line ∷ []) ≡ calls ++ ending line ∷ []
 so_far_end events lines waiting calls line s =
     let none : waiting ≡ [] = s.follows refl in
-    ap (λ (asks : List Ask). calls_of events (told_anew lines asks [] ++ line ∷ [])) (sym none)
+    ap (λ (asks : List Ask). calls_of events (emitted_anew lines asks [] ++ line ∷ [])) (sym none)
     ∙ s.calls_are [] (line ∷ []) (ap length (sym none))
     ∙ ap (λ (asks : List Ask). calls ++ calls_from (all_bound asks []) [] (line ∷ [])) none

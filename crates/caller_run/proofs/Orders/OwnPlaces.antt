@@ -1,4 +1,4 @@
--- The weight of a caller's own visits is the same in its pass and in the marks of its lines.
+-- A sum over the places of a caller's own visits is the same for its pass and for the marks of its lines.
 use Rattle.std.proofs.Common.{◌≡◌, ℕ, ◌<◌, List, [], ◌∷◌, ◌++◌, length, sym, ap, ◌∙◌, arith}
 use Rattle.std.specs.List.{sum_by}
 use Rattle.std.proofs.Math.ListN.{get_or-map}
@@ -10,7 +10,7 @@ use Rattle.lane_table.specs.declared.view.LaneView.{LaneView}
 use Rattle.lane_table.specs.declared.view.View.{View}
 use Rattle.lane_table.specs.LaneNumbers.{index_of}
 use Rattle.lane_table.specs.WorldRule.{at, blank}
-use Rattle.lane_table.specs.Steps.{told, child as split_off}
+use Rattle.lane_table.specs.Steps.{recorded, child as split_off}
 use Rattle.lane_table.specs.Advances.{places_in}
 use Rattle.lane_table.proofs.Lists.Lists.{sum_by-map}
 use Rattle.caller_run.specs.NumberedSteps.{NumberedStep, made_steps_of, items_of}
@@ -30,8 +30,8 @@ pub record MadeNothing (v : View) : Type 0 where
 
 pub made_nothing : (v : View) → MadeNothing (split_off v)
 made_nothing v = record {
-  places = λ lane. ap (λ (a : LaneView). a.places) (get_or-map told v.lanes lane blank);
-  made = λ lane. ap (λ (a : LaneView). a.made) (get_or-map told v.lanes lane blank);
+  places = λ lane. ap (λ (a : LaneView). a.places) (get_or-map recorded v.lanes lane blank);
+  made = λ lane. ap (λ (a : LaneView). a.made) (get_or-map recorded v.lanes lane blank);
 }
 
 module _ (caller : ℕ) (events : List Event) (r : Run) (has : HasRun caller events r) (new : MadeNothing r.begun.view)

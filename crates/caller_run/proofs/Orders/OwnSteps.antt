@@ -1,4 +1,5 @@
--- The caller's own steps in a call with acts inside, and its points, one after another.
+-- The steps of a caller as the host of a call with acts inside: some steps are its own, and the acts made the others at
+-- the points.
 use Rattle.std.proofs.Common.{◌≡◌, ℕ, ◌+◌, Bool, true, false, List, [], ◌∷◌, ◌++◌, length, map, refl, sym, ap, ◌∙◌, subst, arith, append_assoc, append-nil}
 use Rattle.std.specs.Prelude.{MatchBool, ⊤}
 use Rattle.std.proofs.lemmas.List.{append_cancel_left}
@@ -16,7 +17,7 @@ use Rattle.rng_core.specs.declared.vdso.attempt.Attempt.TheVariants.{First, Late
 use Rattle.rng_core.specs.declared.setting.Setting.{Setting}
 use Rattle.rng_core.specs.Traces.{Moment, TraceRecords, BeginsWithLook}
 use Rattle.rng_core.specs.Acts.{Ask, ActOutcome, ActsAt}
-use Rattle.rng_core.specs.Acting.{attempt_at, is_first, acting, act_stand, ActStand, ActPublished, ActAnswered, ActPassed}
+use Rattle.rng_core.specs.Acting.{attempt_at, is_first, acting, act_conform, ActConform, ActPublished, ActAnswered, ActPassed}
 use Rattle.caller_run.specs.Items.{Item, items_from}
 use Rattle.caller_run.proofs.Orders.PartItems.{Part, part_nothing, part_then, part_went, items_append}
 use Rattle.caller_run.proofs.Events.ActSteps.{Apart, Untouched, act_items, untouched_items, acts_part, acts_elsewhere}
@@ -29,7 +30,7 @@ pub record Spot : Type 0 where
 abbrev pub view_at : Spot → View
 view_at s = s.moment.view
 
-abbrev pub spot : ActStand → Spot
+abbrev pub spot : ActConform → Spot
 spot t = record { moment = t.core.moment; outcomes = t.outcomes }
 
 -- no act can run: no attempt has begun, or only a later attempt will come to points
@@ -58,8 +59,8 @@ BeginsUnmarked [] = ⊤
 BeginsUnmarked (item ∷ items) = is_mark item.step ≡ false
 
 module _ (set : Setting) (asks : List Ask) where
-  abbrev pub at : Attempt → Spot → ActStand
-  at attempt s = act_stand (record { set = set; moment = s.moment }) attempt asks s.outcomes
+  abbrev pub at : Attempt → Spot → ActConform
+  at attempt s = act_conform (record { set = set; moment = s.moment }) attempt asks s.outcomes
 
   -- the items of the caller's own line so far
   abbrev pub line_of : Spot → List Item
@@ -70,22 +71,22 @@ module _ (set : Setting) (asks : List Ask) where
 
   -- One step of the host
 
-  is_at : (t : ActStand) (attempt : Attempt) → t.core.set ≡ set → t.attempt ≡ attempt → t.asks ≡ asks →
+  is_at : (t : ActConform) (attempt : Attempt) → t.core.set ≡ set → t.attempt ≡ attempt → t.asks ≡ asks →
       t ≡ at attempt (spot t)
-  is_at t attempt a b c = λ i. act_stand (record { set = a i; moment = t.core.moment }) (b i) (c i) t.outcomes
+  is_at t attempt a b c = λ i. act_conform (record { set = a i; moment = t.core.moment }) (b i) (c i) t.outcomes
 
-  abbrev pub Goes : (ActStand → Type 0) → Attempt → List HostStep → ActStand → Type 0
+  abbrev pub Goes : (ActConform → Type 0) → Attempt → List HostStep → ActConform → Type 0
   Goes P attempt steps last = (t : Spot) × P (at attempt t) × DoesAll acting (at attempt t) steps last
 
-  goes : (P : ActStand → Type 0) (attempt : Attempt) (steps : List HostStep) (t last : ActStand) → t.core.set ≡ set →
+  goes : (P : ActConform → Type 0) (attempt : Attempt) (steps : List HostStep) (t last : ActConform) → t.core.set ≡ set →
       t.attempt ≡ attempt → t.asks ≡ asks → P t → DoesAll acting t steps last → Goes P attempt steps last
   goes P attempt steps t last a b c p does = (
     spot t,
     subst P (is_at t attempt a b c) p,
-    subst (λ (z : ActStand). DoesAll acting z steps last) (is_at t attempt a b c) does,
+    subst (λ (z : ActConform). DoesAll acting z steps last) (is_at t attempt a b c) does,
   )
 
-  module _ (attempt : Attempt) (s : Spot) (steps : List HostStep) (last : ActStand) where
+  module _ (attempt : Attempt) (s : Spot) (steps : List HostStep) (last : ActConform) where
     pub goes_published : (g : ℕ) → DoesAll acting (at attempt s) (publishes g ∷ steps) last →
         Goes (λ t. ActPublished (at attempt s) g t) attempt steps last
     goes_published g does =
@@ -133,21 +134,21 @@ module _ (set : Setting) (asks : List Ask) where
   abbrev pub next_items : Spot → List Step → List Item
   next_items s steps = items_from set.event (length s.moment.steps) steps
 
-  pub own_told : (s t : Spot) (made_steps : List MadeStep) → TraceRecords set s.moment t.moment made_steps →
+  pub own_emitted : (s t : Spot) (made_steps : List MadeStep) → TraceRecords set s.moment t.moment made_steps →
       t.outcomes ≡ s.outcomes → OwnSteps s t (next_items s (map step_of made_steps))
-  own_told s t made_steps told same =
+  own_emitted s t made_steps recorded same =
       let e : length s.moment.steps + 0 ≡ length s.moment.steps = omega arith in record {
-        line = ap (items_from set.event 0) told.trace ∙ items_append set.event 0 s.moment.steps (map step_of made_steps)
+        line = ap (items_from set.event 0) recorded.trace ∙ items_append set.event 0 s.moment.steps (map step_of made_steps)
             ∙ ap (λ (n : ℕ). line_of s ++ items_from set.event n (map step_of made_steps)) e;
-        part = part_went set.caller set.event (length s.moment.steps) (view_at s) (view_at t) made_steps told.went;
+        part = part_went set.caller set.event (length s.moment.steps) (view_at s) (view_at t) made_steps recorded.went;
         outcomes = same;
       }
 
   pub own_look : (attempt : Attempt) (s t : Spot) (g : ℕ) (k : ActPublished (at attempt s) g (at attempt t)) →
       OwnSteps s t (next_items s (Look k.core.found ∷ []))
-  own_look attempt s t g k = own_told s t (looked k.core.found ∷ []) k.core.told k.acts.outcomes
+  own_look attempt s t g k = own_emitted s t (looked k.core.found ∷ []) k.core.recorded k.acts.outcomes
 
-  -- steps without acts
+  -- from s to t the host made these steps, and no act made a step
   pub record Quietly (steps : List HostStep) (s t : Spot) : Type 0 where
     pub items : List Item
     pub own : OwnSteps s t items
@@ -179,8 +180,8 @@ module _ (set : Setting) (asks : List Ask) where
       let did = k.1.core.did in record {
         items = next_items s (map step_of did.made_steps) ++ rest.items;
         own = own_then s k.0 t (next_items s (map step_of did.made_steps)) rest.items
-            (own_told s k.0 did.made_steps did.told k.1.acts.outcomes) rest.own;
-        begins = λ first. looks s did.made_steps rest.items k.0.moment.steps did.told.trace (k.1.begins first);
+            (own_emitted s k.0 did.made_steps did.recorded k.1.acts.outcomes) rest.own;
+        begins = λ first. looks s did.made_steps rest.items k.0.moment.steps did.recorded.trace (k.1.begins first);
       }
   quietly (at_point point wiped ∷ steps) attempt s end t quiet does =
       let k = goes_passed attempt s steps (at end t) point wiped does in
@@ -204,7 +205,8 @@ module _ (set : Setting) (asks : List Ask) where
 
   -- Points
 
-  -- the acts of a point were done, if the caller came to it
+  -- from s to t the acts at the point made their steps, if they made any; the caller's own line and all other acts stay
+  -- as they were
   pub record Reached (p : Point) (s t : Spot) : Type 0 where
     pub line : line_of t ≡ line_of s
     pub part : Untouched p asks s.outcomes → Part set.caller (view_at s) (view_at t) (items_at t p)

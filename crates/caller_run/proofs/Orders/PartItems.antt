@@ -1,4 +1,4 @@
--- Parts of a caller's steps, each with its items in the caller's order.
+-- Parts of a caller's steps, each with its items; two parts one after another make one part.
 use Rattle.std.proofs.Common.{◌≡◌, ℕ, suc, ◌+◌, List, [], ◌∷◌, ◌++◌, length, map, refl, sym, ap, ◌∙◌, subst, arith}
 use Rattle.std.proofs.lemmas.List.{map-append}
 use Rattle.key_names.specs.declared.names.Step.{Step}

@@ -1,4 +1,4 @@
--- An event that is an act, which a caller keeps for its next vread.
+-- A caller can go on after an act, which it keeps for its next vread.
 use Rattle.std.proofs.Common.{◌≡◌, ℕ, suc, Bool, true, false, Some, ◌+◌, ◌≤◌, List, [], ◌∷◌, ◌++◌, length, refl, sym, ap, ◌∙◌, subst}
 use Rattle.std.specs.Prelude.{slice_get}
 use Rattle.std.specs.List.{AllByRecursion}
@@ -21,15 +21,15 @@ use Rattle.lane_table.specs.Calls.{view}
 use Rattle.rng_core.specs.declared.vdso.acts.Bound.{Bound}
 use Rattle.transcript_text.specs.Gathered.{Gathered}
 use Rattle.rng_core.specs.Acts.{Ask, asks_of, ask_of}
-use Rattle.caller_run.specs.declared.caller.Caller.{Caller}
-use Rattle.caller_run.specs.Calling.{stand}
+use Rattle.caller_run.specs.declared.making.caller.Caller.{Caller}
+use Rattle.caller_run.specs.Calling.{conform}
 use Rattle.caller_run.specs.Waiting.{bound_by}
 use Rattle.caller_run.specs.Standing.{CanAdvanceWith, HasLine, Start, HasAdvanced}
 use Rattle.caller_run.proofs.Events.AloneDone.{unbound_done}
 use Rattle.caller_run.proofs.Orders.LoopCalls.{so_far_idle, so_far_waits}
 use Rattle.key_names.specs.declared.point.Point.{Point}
 use Rattle.caller_run.proofs.Events.CanAdvance.{GoesOn}
-use Rattle.caller_run.proofs.Orders.ToldAnew.{idle_more}
+use Rattle.caller_run.proofs.Orders.EmittedAnew.{idle_more}
 use Rattle.caller_run.proofs.Forks.HasAdvanced.{gone_by, fit_more}
 
 -- the line of c for an act that is not done
@@ -43,8 +43,9 @@ idle_line c = record {
   shown = no_data;
 }
 
--- c keeps an act for its next vread at this event, and e goes on. `before` and `after` are the lines, of which the last
--- has the act as not done; `acts` and `left` are the acts that wait, before the event and after it
+-- at this event the caller `c` keeps an act for its next vread; `e` is the caller when it goes on. `before` and `after`
+-- are the caller's lines; the last line of `after` shows the act as not done. `acts` are the acts that wait before the
+-- event, and `left` those that wait after it
 pub record Keeps (event : Event) (c e : Caller) (before after : Gathered) (acts left : List Bound) : Type 0 where
   pub point : Point
   pub act : InsideAct
@@ -79,7 +80,7 @@ module _ {event : Event} {c e : Caller} {before after : Gathered} {acts left : L
       (subst (λ (y : Event). Fills y before after acts left) (sym k.event_is)
       (subst (Fills (Inside k.point k.act) before after acts) (sym k.kept)
       (fills_act before after line k.lines k.line_room k.point k.act c.set.event acts k.step_room k.byte_room range g.at
-      g.fresh g.told))) g
+      g.fresh g.recorded))) g
 
   module _ (at : c.set.event ≡ length before.lines) (begun : Start) (events rest : List Event) (kids : List Start)
       (g : HasAdvanced begun events (Inside k.point k.act ∷ rest) c before.lines asks kids)
@@ -104,7 +105,7 @@ module _ {event : Event} {c e : Caller} {before after : Gathered} {acts left : L
         HasAdvanced begun events rest e (before.lines ++ line ∷ []) (asks ++ x ∷ []) kids
     gone_idle none =
         gone_by c g refl on (unbound (bound_by x line)) (before.lines ++ line ∷ []) (asks ++ x ∷ []) g.waiting
-        (unbound_done c.set.caller (view c.pass) (stand c) (bound_by x line) refl refl refl) refl
+        (unbound_done c.set.caller (view c.pass) (conform c) (bound_by x line) refl refl refl) refl
         (λ has. let b : false ≡ true = sym none ∙ has in absurd (cc b))
         (so_far_idle events rest before.lines g.waiting g.calls x line none g.so_far) fit idle
 

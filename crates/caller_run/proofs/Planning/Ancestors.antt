@@ -18,7 +18,7 @@ use Rattle.lane_table.specs.declared.view.View.{View}
 use Rattle.lane_table.specs.LaneNumbers.{index_of}
 use Rattle.lane_table.specs.Meaning.{replay}
 use Rattle.lane_table.specs.WorldRule.{blank, known_of}
-use Rattle.lane_table.specs.Steps.{Grows, told, child as split_off}
+use Rattle.lane_table.specs.Steps.{Grows, recorded, child as split_off}
 use Rattle.lane_table.specs.Advances.{MadeStep, looked, visited, step_of, stamps_in, Climbs, Sees, floor}
 use Rattle.lane_table.proofs.Rule.Sights.{AllKnown, sees_append, sees_grown}
 use Rattle.lane_table.proofs.Lists.VisitLists.{begins_trans}
@@ -32,8 +32,9 @@ use Rattle.caller_run.proofs.Planning.Parents.{ParentIs, parent_is, no_parent, e
 
 -- Steps in an order
 
--- all callers of the order made these steps, up to the view v of a pass; w has all visits at the end
-pub record Course (w v : View) (steps : List Step) : Type 0 where
+-- a caller and its ancestors made these steps, in this order, up to the view v of the caller's pass; w has all visits
+-- at the end of the run
+pub record Path (w v : View) (steps : List Step) : Type 0 where
   pub made_steps : List MadeStep
   pub first : ℕ
   pub steps_are : map step_of made_steps ≡ steps
@@ -41,8 +42,8 @@ pub record Course (w v : View) (steps : List Step) : Type 0 where
   pub sees : Sees w 0 made_steps (floor v)
   pub known : AllKnown w made_steps
 
-pub course_start : (w v : View) → Course w v []
-course_start w v =
+pub path_start : (w v : View) → Path w v []
+path_start w v =
     record { made_steps = []; first = v.stamp; steps_are = refl; climbs = refl; sees = omega arith; known = tt }
 
 known_append : (w : View) (xs ys : List MadeStep) → AllKnown w xs → AllKnown w ys → AllKnown w (xs ++ ys)
@@ -66,10 +67,10 @@ pub steps_of_doings : (numbered_steps : List NumberedStep) →
 steps_of_doings [] = refl
 steps_of_doings (d ∷ numbered_steps) = ap (λ (l : List Step). step_of d.made_step ∷ l) (steps_of_doings numbered_steps)
 
-pub course_more : (w u v : View) (caller n : ℕ) (numbered_steps : List NumberedStep) (steps : List Step) →
-    RanBy caller n u v numbered_steps → length w.lanes ≡ length v.lanes → Grows v w → Course w u steps →
-    Course w v (steps ++ steps_of (items_of numbered_steps))
-course_more w u v caller n numbered_steps steps ran sized grows c =
+pub path_more : (w u v : View) (caller n : ℕ) (numbered_steps : List NumberedStep) (steps : List Step) →
+    RanBy caller n u v numbered_steps → length w.lanes ≡ length v.lanes → Grows v w → Path w u steps →
+    Path w v (steps ++ steps_of (items_of numbered_steps))
+path_more w u v caller n numbered_steps steps ran sized grows c =
     let here = stood_known v caller numbered_steps ran.stood in record {
       made_steps = c.made_steps ++ made_steps_of numbered_steps;
       first = c.first;
@@ -87,10 +88,10 @@ course_more w u v caller n numbered_steps steps ran sized grows c =
 
 -- a pass that was split off has seen as much as the pass that was split
 pub floor_child : (v : View) → floor (split_off v) ≡ floor v
-floor_child v = ap (λ (a : LaneView). max v.seen (replay a.known).base.generation) (get_or-map told v.lanes 1 blank)
+floor_child v = ap (λ (a : LaneView). max v.seen (replay a.known).base.generation) (get_or-map recorded v.lanes 1 blank)
 
-pub course_child : (w v : View) (steps : List Step) → Course w v steps → Course w (split_off v) steps
-course_child w v steps c = record {
+pub path_child : (w v : View) (steps : List Step) → Path w v steps → Path w (split_off v) steps
+path_child w v steps c = record {
   made_steps = c.made_steps;
   first = c.first;
   steps_are = c.steps_are;
@@ -164,21 +165,21 @@ module _ (script : Script) (runs : List Run) (w : View) (ok : WellFormed script)
 
   -- The steps of its ancestors
 
-  abbrev HasCourse : ℕ → Type 0
-  HasCourse n = (r : Run) → IsOneOf r runs → r.begun.caller < n →
-      Course w r.begun.view (list_at (ancestors_steps callers n) r.begun.caller)
+  abbrev HasPath : ℕ → Type 0
+  HasPath n = (r : Run) → IsOneOf r runs → r.begun.caller < n →
+      Path w r.begun.view (list_at (ancestors_steps callers n) r.begun.caller)
 
-  next_course : (n : ℕ) → HasCourse n → (r : Run) → IsOneOf r runs → r.begun.caller ≡ n →
-      Course w r.begun.view (inherited_steps (ancestors_steps callers n) (parent_from n 0 callers))
-  next_course n before r here is = go (ancestors_steps callers n) before (how r here)
+  next_path : (n : ℕ) → HasPath n → (r : Run) → IsOneOf r runs → r.begun.caller ≡ n →
+      Path w r.begun.view (inherited_steps (ancestors_steps callers n) (parent_from n 0 callers))
+  next_path n before r here is = go (ancestors_steps callers n) before (how r here)
     where
       go : (earlier : List (List Step)) → ((r : Run) → IsOneOf r runs → r.begun.caller < n →
-          Course w r.begun.view (list_at earlier r.begun.caller)) → HowBegan r →
-          Course w r.begun.view (inherited_steps earlier (parent_from n 0 callers))
+          Path w r.begun.view (list_at earlier r.begun.caller)) → HowBegan r →
+          Path w r.begun.view (inherited_steps earlier (parent_from n 0 callers))
       go earlier before (inl first) =
-          subst (Course w r.begun.view)
+          subst (Path w r.begun.view)
           (sym (ap (λ (k : ℕ). inherited_steps earlier (parent_from k 0 callers)) (sym is ∙ first.0)
-          ∙ ap (inherited_steps earlier) nobody)) (course_start w r.begun.view)
+          ∙ ap (inherited_steps earlier) nobody)) (path_start w r.begun.view)
       go earlier before (inr child) =
           let p : ParentIs 0 script.callers runs child.0 r.begun =
           parent_is 0 script.callers runs child.0 r.begun each child.1 child.2 (once r.begun.caller) in
@@ -186,8 +187,8 @@ module _ (script : Script) (runs : List Run) (w : View) (ok : WellFormed script)
           let low : q.begun.caller < n = (let a = f.above in omega arith) in
           let long = each_of (λ r. length w.lanes ≡ length r.end.lanes) q runs sized child.1 in
           let more = each_of (λ r. Grows r.end w) q runs grows child.1 in
-          let all : Course w f.middle (list_at earlier q.begun.caller ++ steps_of (items_of f.numbered_steps)) =
-          course_more w q.begun.view f.middle q.begun.caller f.splits f.numbered_steps (list_at earlier q.begun.caller)
+          let all : Path w f.middle (list_at earlier q.begun.caller ++ steps_of (items_of f.numbered_steps)) =
+          path_more w q.begun.view f.middle q.begun.caller f.splits f.numbered_steps (list_at earlier q.begun.caller)
           f.ran (long ∙ f.sized)
           (λ lane near. begins_trans (known_of f.middle lane) (known_of q.end lane) (known_of w lane)
           (f.grows lane near) (more lane (let e = f.sized in omega arith)))
@@ -198,20 +199,20 @@ module _ (script : Script) (runs : List Run) (w : View) (ok : WellFormed script)
           ∙ sym (append_assoc (list_at earlier q.begun.caller) (calls_steps f.before) (through_visit f.line.steps))
           ∙ sym (ap (λ (k : ℕ). inherited_steps earlier (parent_from k 0 callers)) (sym is)
           ∙ ap (inherited_steps earlier) p.is) in
-          subst (λ (v : View). Course w v (inherited_steps earlier (parent_from n 0 callers))) (sym f.view_is)
-          (course_child w f.middle (inherited_steps earlier (parent_from n 0 callers))
-          (subst (Course w f.middle) is_so all))
+          subst (λ (v : View). Path w v (inherited_steps earlier (parent_from n 0 callers))) (sym f.view_is)
+          (path_child w f.middle (inherited_steps earlier (parent_from n 0 callers))
+          (subst (Path w f.middle) is_so all))
 
-  pub has_course : (n : ℕ) → HasCourse n
-  has_course zero r here low = absurd (omega arith)
-  has_course (suc n) r here low =
+  pub has_path : (n : ℕ) → HasPath n
+  has_path zero r here low = absurd (omega arith)
+  has_path (suc n) r here low =
       let lists = ancestors_steps callers n in
       let x : List Step = inherited_steps lists (parent_from n 0 callers) in
       let long = long_ancestors callers n in
       elim (below r.begun.caller n low) [
-        | inl less ↦ subst (Course w r.begun.view) (sym (list_front lists x r.begun.caller (omega arith)))
-            (has_course n r here less)
-        | inr same ↦ subst (Course w r.begun.view)
+        | inl less ↦ subst (Path w r.begun.view) (sym (list_front lists x r.begun.caller (omega arith)))
+            (has_path n r here less)
+        | inr same ↦ subst (Path w r.begun.view)
             (sym (ap (list_at (lists ++ x ∷ [])) (same ∙ sym long) ∙ list_last lists x))
-            (next_course n (has_course n) r here same)
+            (next_path n (has_path n) r here same)
       ]

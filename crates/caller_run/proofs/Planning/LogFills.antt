@@ -1,4 +1,4 @@
--- A caller's lines and waiting acts after an event of each kind.
+-- How an event of each kind changes a caller's lines, the room for more, and the waiting acts (`Fills`).
 use Rattle.std.proofs.Common.{◌≡◌, ℕ, nat_cmp, false, Ok, ◌+◌, ◌*◌, ◌<◌, ◌≤◌, List, [], ◌∷◌, ◌++◌, length, take, drop, refl, sym, ap, ◌∙◌, subst, arith, length-append}
 use Rattle.std.specs.List.{AllByRecursion}
 use Rattle.std.specs.Ordering.{ord_max}
@@ -20,16 +20,16 @@ use Rattle.caller_run.specs.Kinds.{IsCall}
 use Rattle.caller_run.specs.Says.{most_shown}
 use Rattle.transcript_text.specs.Gathered.{Gathered}
 use Rattle.caller_run.specs.Standing.{read_inside}
-use Rattle.caller_run.proofs.Orders.ToldAnew.{AreTold, told_more}
+use Rattle.caller_run.proofs.Orders.EmittedAnew.{AreEmitted, emitted_more}
 
--- a list has the items that came back, after its own were lent out
+-- a list whose items were lent out has the items that came back
 pub put_back : {A : Type 0} (back items : List A) (n : ℕ) → length back ≡ n
     → take n (back ++ drop (length back) items) ≡ back
 put_back back items n long =
     ap (λ (k : ℕ). take k (back ++ drop (length back) items)) (sym long)
     ∙ take-append_seam back (drop (length back) items)
 
--- a number that is at most one of two is at most the larger
+-- if n is at most the number `most`, it is at most the larger of `most` and `more`
 pub above : (n most more max : ℕ) → max ≡ ord_max nat_cmp most more → n ≤ most → n ≤ max
 above n most more max is le = grind (arith, nat_tests)
 
@@ -46,7 +46,7 @@ pub record Fills (event : Event) (before after : Gathered) (acts left : List Bou
   pub wanted : all_wanted (asks_of left) ≤ read_inside event + all_wanted (asks_of acts)
   pub many : length left ≡ acts_after (length acts) event
   pub fresh : AllByRecursion IsWaitingAct left
-  pub told : AreTold (length after.lines) (asks_of left)
+  pub recorded : AreEmitted (length after.lines) (asks_of left)
 
 -- an act shows at most the bytes that it reads
 shown_inside : (point : Point) (act : InsideAct) → most_shown (Inside point act) ≡ wants act
@@ -86,8 +86,8 @@ module _ (before after : Gathered) (line : SeenLine) (lines : after.lines ≡ be
   -- a call of the core adds its line
   pub fills_call : {event : Event} {acts : List Bound} → IsCall event → before.step_room ≤ after.step_room + 20 →
       before.byte_room ≤ after.byte_room + most_shown event →
-      AllByRecursion IsWaitingAct acts → AreTold (length before.lines) (asks_of acts) → Fills event before after acts acts
-  fills_call {event = event} {acts = acts} is steps bytes fresh told = record {
+      AllByRecursion IsWaitingAct acts → AreEmitted (length before.lines) (asks_of acts) → Fills event before after acts acts
+  fills_call {event = event} {acts = acts} is steps bytes fresh recorded = record {
     lines = one_line;
     line_room = line_room;
     step_room = omega arith;
@@ -95,16 +95,16 @@ module _ (before after : Gathered) (line : SeenLine) (lines : after.lines ≡ be
     wanted = omega arith;
     many = sym (waits_same (length acts) event is);
     fresh = fresh;
-    told = subst (λ (ls : List SeenLine). AreTold (length ls) (asks_of acts)) (sym lines)
-        (told_more before.lines line (asks_of acts) told);
+    recorded = subst (λ (ls : List SeenLine). AreEmitted (length ls) (asks_of acts)) (sym lines)
+        (emitted_more before.lines line (asks_of acts) recorded);
   }
 
   -- an act that waits adds its line
   pub fills_act : (point : Point) (act : InsideAct) (event : ℕ) (acts : List Bound) →
       before.step_room ≤ after.step_room → before.byte_room ≤ after.byte_room → ActInRange act →
-      event ≡ length before.lines → AllByRecursion IsWaitingAct acts → AreTold (length before.lines) (asks_of acts) →
+      event ≡ length before.lines → AllByRecursion IsWaitingAct acts → AreEmitted (length before.lines) (asks_of acts) →
       Fills (Inside point act) before after acts (acts ++ new_bound point act event ∷ [])
-  fills_act point act event acts steps bytes range at fresh told =
+  fills_act point act event acts steps bytes range at fresh recorded =
       let b = new_bound point act event in
       let asks : asks_of (acts ++ b ∷ []) ≡ asks_of acts ++ ask_of b ∷ [] = map-append ask_of acts (b ∷ []) in
       let more : all_wanted (asks_of (acts ++ b ∷ [])) ≡ all_wanted (asks_of acts) + wants act =
@@ -118,10 +118,10 @@ module _ (before after : Gathered) (line : SeenLine) (lines : after.lines ≡ be
         wanted = omega arith;
         many = length-append acts (b ∷ []);
         fresh = each_more IsWaitingAct acts b fresh (record { short = short act range; idle = refl; empty = refl });
-        told = subst (λ (ls : List SeenLine). AreTold (length ls) (asks_of (acts ++ b ∷ []))) (sym lines)
-            (subst (AreTold (length (before.lines ++ line ∷ []))) (sym asks)
+        recorded = subst (λ (ls : List SeenLine). AreEmitted (length ls) (asks_of (acts ++ b ∷ []))) (sym lines)
+            (subst (AreEmitted (length (before.lines ++ line ∷ []))) (sym asks)
             (each_more (λ (a : Ask). a.event < length (before.lines ++ line ∷ [])) (asks_of acts) (ask_of b)
-            (told_more before.lines line (asks_of acts) told) (omega (arith, length-append before.lines (line ∷ [])))));
+            (emitted_more before.lines line (asks_of acts) recorded) (omega (arith, length-append before.lines (line ∷ [])))));
       }
 
 -- a vread adds its line; after it no act waits
@@ -141,5 +141,5 @@ fills_read {after = after} {left = left} lines line_room steps bytes none =
       wanted = omega arith;
       many = ap length none;
       fresh = subst (AllByRecursion IsWaitingAct) (sym none) tt;
-      told = subst (λ (l : List Bound). AreTold (length after.lines) (asks_of l)) (sym none) tt;
+      recorded = subst (λ (l : List Bound). AreEmitted (length after.lines) (asks_of l)) (sym none) tt;
     }

@@ -1,4 +1,4 @@
--- Each caller is once in the tree of a well-formed script.
+-- The tree of a well-formed script contains each caller exactly once.
 use Rattle.std.proofs.Common.{◌≡◌, ℕ, zero, suc, ◌+◌, ◌*◌, ◌<◌, ◌≤◌, List, [], ◌∷◌, ◌++◌, length, refl, sym, ap, ◌∙◌, arith}
 use mathlib.Core.Logic.{dite}
 use native.Mathlib.Decide.{ℕ_discrete, dec_lt}
@@ -29,11 +29,11 @@ forks_times k (e ∷ es) =
     let d = sum_by-cons (λ x. hit (is_fork_of k x)) e es in omega arith
 
 module _ (callers : List (List Event)) where
-  -- how often an event of a caller forks a number
+  -- how often the events of caller x fork caller k
   abbrev pub edges : ℕ → ℕ → ℕ
   edges k x = count_by (is_fork_of k) (list_at callers x)
 
-  -- each caller in a tree is a root, or forked by one of the tree
+  -- a number is in a tree as often as it is a root or is forked by a caller of the tree
   pub incoming : (k : ℕ) (f : Forest) (xs : List ℕ) → AreForked callers f xs →
       times_in k (numbers f) ≡ times_in k xs + sum_by (edges k) (numbers f)
   incoming k no_more [] are = refl
@@ -50,7 +50,7 @@ module _ (callers : List (List Event)) where
       let outs = sum_by-append (edges k) (numbers kids) (numbers rest) in
       let same : hit (c == k) ≡ hit (x == k) = ap (λ (n : ℕ). hit (n == k)) are.0 in omega arith
 
--- sums over numbers, by how often each is among them
+-- a sum of g over a list of numbers is a sum over a range: g of each number, times how often the list has the number
 
 none_of : (g : ℕ → ℕ) (x first count : ℕ) → x < first →
     sum_by (λ j. hit (x == j) * g j) (range_with_len first count) ≡ 0
@@ -61,7 +61,7 @@ none_of g x first (suc count) low =
     let here : hit (x == first) * g first ≡ 0 = ap (λ (n : ℕ). n * g first) none ∙ omega arith in
     let rest = none_of g x (first + 1) count (omega arith) in omega arith
 
--- a sum that counts only the number x is the term of x
+-- a sum over a range that counts only the number x is g of x
 pick : (g : ℕ → ℕ) (x first count : ℕ) → first ≤ x → x < first + count →
     sum_by (λ j. hit (x == j) * g j) (range_with_len first count) ≡ g x
 pick g x first zero low high = absurd (omega arith)

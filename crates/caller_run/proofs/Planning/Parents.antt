@@ -1,4 +1,4 @@
--- The parent of a caller of a well-formed script, and the call that forked it.
+-- The definition of a caller's parent finds the caller that forked it, and the call that did so.
 use Rattle.std.proofs.Common.{◌≡◌, inl, inr, ℕ, suc, ◌+◌, ◌≤◌, Bool, true, false, Some, None, List, [], ◌∷◌, ◌++◌, refl, sym, ap, ◌∙◌, subst, arith}
 use Rattle.std.specs.Prelude.{count_by, ◌==◌, if◌then◌else◌}
 use Rattle.std.specs.List.{AllByRecursion, sum_by}
@@ -88,7 +88,7 @@ forks_append c [] ys = omega arith
 forks_append c (alone (Fork child) line ∷ xs) ys = let rest = forks_append c xs ys in omega arith
 forks_append c (call ∷ xs) ys = forks_append c xs ys
 
--- these calls fork the number at this fork
+-- these calls fork the number c at this fork
 pub record ForksAt (c : ℕ) (calls : List Call) (fork : ForkPoint) : Type 0 where
   pub after : List Call
   pub is : calls ≡ fork.before ++ alone (Fork c) fork.line ∷ after
@@ -126,7 +126,8 @@ some_forked c k (es ∷ callers) (r ∷ rs) p kid each (inr rest) there =
     let more = some_forked c (suc k) callers rs p kid each.1 rest there in
     let all = sum_by-cons (count_by (is_fork_of kid.caller)) es callers in omega arith
 
--- the parent of a child that p forked; k is the number of the first of some callers
+-- the definition finds p, which forked the child `kid`, as this child's parent; k is the number of the first of
+-- `callers`
 pub record ParentIs (k : ℕ) (callers : List (List Event)) (runs : List Run) (p : Run) (kid : Start) : Type 0 where
   pub calls : List Call
   pub forked : Forked p.begun p.end calls kid

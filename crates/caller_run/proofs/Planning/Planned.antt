@@ -14,47 +14,47 @@ use Rattle.key_names.specs.Texts.ScriptGrammar.{Script, WellFormed, is_fork_of, 
 use Rattle.key_names.specs.Transcripts.SeenLine.{SeenLine}
 use Rattle.key_names.proofs.Lists.ListFacts.{list_is}
 use Rattle.transcript_text.specs.Gathered.{Gathered}
-use Rattle.caller_run.specs.declared.rooms.Room.{Room}
-use Rattle.caller_run.specs.declared.rooms.Sheet.{Sheet}
+use Rattle.caller_run.specs.declared.forking.rooms.Room.{Room}
+use Rattle.caller_run.specs.declared.forking.rooms.Buffers.{Buffers}
 use Rattle.caller_run.specs.Forest.{forks}
-use Rattle.caller_run.specs.Grove.{Grove, Plot, plant, grove_of, told_by, told_in}
+use Rattle.caller_run.specs.ForkTree.{ForkTree, Layout, plant, fork_tree_of, emitted_by, emitted_in}
 use Rattle.caller_run.specs.Plans.{IsNewRoom, lines_in, put_in, HaveSlots}
-use Rattle.caller_run.specs.Plots.{plot, plot_by}
-use Rattle.caller_run.specs.Ways.{IsNewSheet, ArePrepared}
-use Rattle.caller_run.proofs.Planning.Groves.{grove_pushed}
+use Rattle.caller_run.specs.Layouts.{layout, layout_by}
+use Rattle.caller_run.specs.RunningCallers.{IsNewBuffers, ArePrepared}
+use Rattle.caller_run.proofs.Planning.ForkTrees.{fork_tree_pushed}
 use Rattle.caller_run.proofs.Planning.OnceEach.{edge_most}
 use Rattle.caller_run.proofs.Planning.Sums.{hit, hit_same}
 use Rattle.caller_run.proofs.Planning.Slots.{put_long, put_append}
 use Rattle.caller_run.proofs.Forks.WentOn.{above_number, few_events}
 
 -- these events of a caller are left, and the rooms of the callers that its other events fork are made
-pub record PreparedSoFar (callers : List (List Event)) (c : ℕ) (rest : List Event) (g : Grove) : Type 0 where
+pub record PreparedSoFar (callers : List (List Event)) (c : ℕ) (rest : List Event) (g : ForkTree) : Type 0 where
   pub done : List Event
   pub all : list_at callers c ≡ rest ++ done
   pub ready : ArePrepared callers g (forks done)
 
--- the lines of the rooms in g are still in them, and the other lines are in their slots
-pub record GatheredSoFar (before now : List Gathered) (all : List (ℕ × List SeenLine)) (g : Grove) : Type 0 where
+-- the lines of the rooms in g are still in these rooms, and the other lines are in their slots
+pub record GatheredSoFar (before now : List Gathered) (all : List (ℕ × List SeenLine)) (g : ForkTree) : Type 0 where
   pub many : length now ≡ length before
-  pub left : put_in (lines_in now) (told_in g) ≡ put_in (lines_in before) all
-  pub have : HaveSlots (length now) (told_in g)
-  pub fewer : length (told_in g) < length all
+  pub left : put_in (lines_in now) (emitted_in g) ≡ put_in (lines_in before) all
+  pub have : HaveSlots (length now) (emitted_in g)
+  pub fewer : length (emitted_in g) < length all
 
 -- ---- before a run
 
 pub prepared_none_yet : (callers : List (List Event)) (c : ℕ) (es : List Event) (kids : List Room) →
-    slice_get callers c ≡ Some es → kids ≡ [] → PreparedSoFar callers c es (grove_of (map plot kids))
+    slice_get callers c ≡ Some es → kids ≡ [] → PreparedSoFar callers c es (fork_tree_of (map layout kids))
 prepared_none_yet callers c es kids there none = record {
   done = [];
   all = list_is callers c es there ∙ sym (append-nil es);
-  ready = subst (λ (l : List Room). ArePrepared callers (grove_of (map plot l)) []) (sym none) tt;
+  ready = subst (λ (l : List Room). ArePrepared callers (fork_tree_of (map layout l)) []) (sym none) tt;
 }
 
 forks_plain : (e : Event) (es : List Event) → ((x : ℕ) → e ≡ Fork x → ⊥) → forks (e ∷ es) ≡ forks es
 forks_plain (Fork child) es other = absurd (other child refl)
 forks_plain e es other = refl
 
-module _ (callers : List (List Event)) (c : ℕ) {rest : List Event} {g : Grove} (p : PreparedSoFar callers c rest g)
+module _ (callers : List (List Event)) (c : ℕ) {rest : List Event} {g : ForkTree} (p : PreparedSoFar callers c rest g)
     (front : List Event) where
   all_of : (e : Event) → rest ≡ front ++ e ∷ [] → list_at callers c ≡ front ++ e ∷ p.done
   all_of e is = p.all ∙ ap (λ (l : List Event). l ++ p.done) is ∙ append_assoc front (e ∷ []) p.done
@@ -67,7 +67,7 @@ module _ (callers : List (List Event)) (c : ℕ) {rest : List Event} {g : Grove}
     ready = subst (ArePrepared callers g) (sym (forks_plain e p.done other)) p.ready;
   }
 
-  pub prepared_fork : (child : ℕ) (a : Plot) → rest ≡ front ++ Fork child ∷ [] → IsNewRoom callers child a →
+  pub prepared_fork : (child : ℕ) (a : Layout) → rest ≡ front ++ Fork child ∷ [] → IsNewRoom callers child a →
       PreparedSoFar callers c front (plant a g)
   prepared_fork child a is ready = record {
     done = Fork child ∷ p.done;
@@ -76,11 +76,11 @@ module _ (callers : List (List Event)) (c : ℕ) {rest : List Event} {g : Grove}
   }
 
 pub prepared_push : (callers : List (List Event)) (c : ℕ) {rest front : List Event} (kids more : List Room) (kid : Room)
-    (child : ℕ) → PreparedSoFar callers c rest (grove_of (map plot kids)) → rest ≡ front ++ Fork child ∷ [] →
-    IsNewRoom callers child (plot kid) → more ≡ kids ++ kid ∷ [] → PreparedSoFar callers c front (grove_of (map plot more))
+    (child : ℕ) → PreparedSoFar callers c rest (fork_tree_of (map layout kids)) → rest ≡ front ++ Fork child ∷ [] →
+    IsNewRoom callers child (layout kid) → more ≡ kids ++ kid ∷ [] → PreparedSoFar callers c front (fork_tree_of (map layout more))
 prepared_push callers c {front = front} kids more kid child p is ready pushed =
-    subst (PreparedSoFar callers c front) (sym (grove_pushed more kids kid pushed))
-    (prepared_fork callers c p front child (plot kid) is ready)
+    subst (PreparedSoFar callers c front) (sym (fork_tree_pushed more kids kid pushed))
+    (prepared_fork callers c p front child (layout kid) is ready)
 
 each_mid : (P : Event → Type 0) (front : List Event) (e : Event) (back : List Event) →
     AllByRecursion P (front ++ e ∷ back) → P e
@@ -98,7 +98,7 @@ none_past : (n k : ℕ) → n ≤ k → let b : ℕ = (if nat_lt 0 k && nat_lt k
 none_past n k from = grind (arith, nat_tests)
 
 -- a child has a higher number, and is a caller of the script
-pub child_there : (script : Script) → WellFormed script → (c child : ℕ) (front : List Event) {es rest : List Event} {g : Grove} →
+pub child_there : (script : Script) → WellFormed script → (c child : ℕ) (front : List Event) {es rest : List Event} {g : ForkTree} →
     slice_get script.callers c ≡ Some es → PreparedSoFar script.callers c rest g → rest ≡ front ++ Fork child ∷ [] →
     (c < child) × (child < length script.callers)
 child_there script ok c child front {es = es} there p is =
@@ -123,15 +123,15 @@ pub few_here : (script : Script) → WellFormed script → (c : ℕ) (es : List 
     slice_get script.callers c ≡ Some es → length es ≤ 65536
 few_here script ok c es there = let few = few_events script.callers c es there in let all = ok.events in omega arith
 
-pub prepared : (callers : List (List Event)) (c : ℕ) (es : List Event) (sheet : Sheet) (kids : List Room) (a : Plot) →
-    slice_get callers c ≡ Some es → c < length callers → IsNewSheet sheet es →
-    PreparedSoFar callers c [] (grove_of (map plot kids)) → a ≡ plot_by c sheet (map plot kids) → IsNewRoom callers c a
-prepared callers c es sheet kids a there low new p is =
+pub prepared : (callers : List (List Event)) (c : ℕ) (es : List Event) (buffers : Buffers) (kids : List Room) (a : Layout) →
+    slice_get callers c ≡ Some es → c < length callers → IsNewBuffers buffers es →
+    PreparedSoFar callers c [] (fork_tree_of (map layout kids)) → a ≡ layout_by c buffers (map layout kids) → IsNewRoom callers c a
+prepared callers c es buffers kids a there low new p is =
     subst (IsNewRoom callers c) (sym is) (record {
       is = refl;
       there = low;
-      new = subst (IsNewSheet sheet) (sym (list_is callers c es there)) new;
-      ready = subst (λ (l : List Event). ArePrepared callers (grove_of (map plot kids)) (forks l)) (sym p.all) p.ready;
+      new = subst (IsNewBuffers buffers) (sym (list_is callers c es there)) new;
+      ready = subst (λ (l : List Event). ArePrepared callers (fork_tree_of (map layout kids)) (forks l)) (sym p.all) p.ready;
     })
 
 -- ---- after it
@@ -144,63 +144,63 @@ have_second : (n : ℕ) (xs ys : List (ℕ × List SeenLine)) → HaveSlots n (x
 have_second n [] ys have = have
 have_second n (x ∷ xs) ys have = have_second n xs ys have.1
 
-pub gathered_first : (before after : List Gathered) (c : ℕ) (sheet : Sheet) (kids : List Room) (a : Plot) →
-    a ≡ plot_by c sheet (map plot kids) → after ≡ slice_set before c sheet.log.lines →
-    HaveSlots (length before) (told_by a) → GatheredSoFar before after (told_by a) (grove_of (map plot kids))
-gathered_first before after c sheet kids a is put have =
-    let told : told_by a ≡ (c, sheet.log.lines.lines) ∷ told_in (grove_of (map plot kids)) = ap told_by is in
-    let many : length after ≡ length before = ap length put ∙ length-set before c sheet.log.lines in
+pub gathered_first : (before after : List Gathered) (c : ℕ) (buffers : Buffers) (kids : List Room) (a : Layout) →
+    a ≡ layout_by c buffers (map layout kids) → after ≡ slice_set before c buffers.log.lines →
+    HaveSlots (length before) (emitted_by a) → GatheredSoFar before after (emitted_by a) (fork_tree_of (map layout kids))
+gathered_first before after c buffers kids a is put have =
+    let recorded : emitted_by a ≡ (c, buffers.log.lines.lines) ∷ emitted_in (fork_tree_of (map layout kids)) = ap emitted_by is in
+    let many : length after ≡ length before = ap length put ∙ length-set before c buffers.log.lines in
     record {
       many = many;
-      left = (λ i. put_in ((ap lines_in put ∙ map-set (λ (x : Gathered). x.lines) before c sheet.log.lines) i)
-          (told_in (grove_of (map plot kids))))
-          ∙ ap (put_in (lines_in before)) (sym told);
-      have = subst (λ (n : ℕ). HaveSlots n (told_in (grove_of (map plot kids)))) (sym many)
-          (subst (HaveSlots (length before)) told have).1;
-      fewer = (let l = ap length told in omega arith);
+      left = (λ i. put_in ((ap lines_in put ∙ map-set (λ (x : Gathered). x.lines) before c buffers.log.lines) i)
+          (emitted_in (fork_tree_of (map layout kids))))
+          ∙ ap (put_in (lines_in before)) (sym recorded);
+      have = subst (λ (n : ℕ). HaveSlots n (emitted_in (fork_tree_of (map layout kids)))) (sym many)
+          (subst (HaveSlots (length before)) recorded have).1;
+      fewer = (let l = ap length recorded in omega arith);
     }
 
-pub as_many : (before after : List Gathered) (told : List (ℕ × List SeenLine)) →
-    lines_in after ≡ put_in (lines_in before) told → length after ≡ length before
-as_many before after told is =
-    sym (length-map after (λ (x : Gathered). x.lines)) ∙ ap length is ∙ put_long (lines_in before) told
+pub as_many : (before after : List Gathered) (recorded : List (ℕ × List SeenLine)) →
+    lines_in after ≡ put_in (lines_in before) recorded → length after ≡ length before
+as_many before after recorded is =
+    sym (length-map after (λ (x : Gathered). x.lines)) ∙ ap length is ∙ put_long (lines_in before) recorded
     ∙ length-map before (λ (x : Gathered). x.lines)
 
 -- slots that were written as a slice are in their vector again
-pub slots_back : (n : ℕ) (items before after : List Gathered) (told : List (ℕ × List SeenLine)) → before ≡ items →
-    n ≡ length items → lines_in after ≡ put_in (lines_in before) told →
-    lines_in (take n (after ++ drop (length after) items)) ≡ put_in (lines_in items) told
-slots_back n items before after told is long put =
-    let many = as_many before after told put in let same = ap length is in
+pub slots_back : (n : ℕ) (items before after : List Gathered) (recorded : List (ℕ × List SeenLine)) → before ≡ items →
+    n ≡ length items → lines_in after ≡ put_in (lines_in before) recorded →
+    lines_in (take n (after ++ drop (length after) items)) ≡ put_in (lines_in items) recorded
+slots_back n items before after recorded is long put =
+    let many = as_many before after recorded put in let same = ap length is in
     ap (λ (l : List Gathered). lines_in (take n (after ++ l))) (drop_all (length after) items (omega arith))
     ∙ ap (λ (l : List Gathered). lines_in (take n l)) (append-nil after)
     ∙ ap lines_in (take_all n after (omega arith)) ∙ put
-    ∙ ap (λ (l : List Gathered). put_in (lines_in l) told) is
+    ∙ ap (λ (l : List Gathered). put_in (lines_in l) recorded) is
 
-module _ {before now : List Gathered} {all : List (ℕ × List SeenLine)} {g : Grove} (s : GatheredSoFar before now all g)
-    (a : Plot) (h : Grove) (took : g ≡ plant a h) where
-  told : told_in g ≡ told_by a ++ told_in h
-  told = ap told_in took
+module _ {before now : List Gathered} {all : List (ℕ × List SeenLine)} {g : ForkTree} (s : GatheredSoFar before now all g)
+    (a : Layout) (h : ForkTree) (took : g ≡ plant a h) where
+  recorded : emitted_in g ≡ emitted_by a ++ emitted_in h
+  recorded = ap emitted_in took
 
-  pub kid_has : HaveSlots (length now) (told_by a)
-  kid_has = have_first (length now) (told_by a) (told_in h) (subst (HaveSlots (length now)) told s.have)
+  pub kid_has : HaveSlots (length now) (emitted_by a)
+  kid_has = have_first (length now) (emitted_by a) (emitted_in h) (subst (HaveSlots (length now)) recorded s.have)
 
-  pub kid_less : length (told_by a) < length all
+  pub kid_less : length (emitted_by a) < length all
   kid_less =
-      let l = ap length told in let b = length-append (told_by a) (told_in h) in let f = s.fewer in omega arith
+      let l = ap length recorded in let b = length-append (emitted_by a) (emitted_in h) in let f = s.fewer in omega arith
 
-  pub kids_less : length (told_in h) < length (told_in g)
-  kids_less = let l = ap length told in let b = length-append (told_by a) (told_in h) in omega arith
+  pub kids_less : length (emitted_in h) < length (emitted_in g)
+  kids_less = let l = ap length recorded in let b = length-append (emitted_by a) (emitted_in h) in omega arith
 
-  pub gathered_next : (after : List Gathered) → lines_in after ≡ put_in (lines_in now) (told_by a) →
+  pub gathered_next : (after : List Gathered) → lines_in after ≡ put_in (lines_in now) (emitted_by a) →
       GatheredSoFar before after all h
   gathered_next after is =
-      let same = as_many now after (told_by a) is in
+      let same = as_many now after (emitted_by a) is in
       record {
         many = same ∙ s.many;
-        left = ap (λ (t : List (List SeenLine)). put_in t (told_in h)) is
-            ∙ sym (put_append (lines_in now) (told_by a) (told_in h)) ∙ ap (put_in (lines_in now)) (sym told) ∙ s.left;
-        have = subst (λ (n : ℕ). HaveSlots n (told_in h)) (sym same)
-            (have_second (length now) (told_by a) (told_in h) (subst (HaveSlots (length now)) told s.have));
+        left = ap (λ (t : List (List SeenLine)). put_in t (emitted_in h)) is
+            ∙ sym (put_append (lines_in now) (emitted_by a) (emitted_in h)) ∙ ap (put_in (lines_in now)) (sym recorded) ∙ s.left;
+        have = subst (λ (n : ℕ). HaveSlots n (emitted_in h)) (sym same)
+            (have_second (length now) (emitted_by a) (emitted_in h) (subst (HaveSlots (length now)) recorded s.have));
         fewer = (let l = kids_less in let f = s.fewer in omega arith);
       }

@@ -1,4 +1,4 @@
--- Lines in the slots of their callers.
+-- Putting the lines of all runs into the slots fills each caller's slot with its own lines.
 use Rattle.std.proofs.Common.{◌≡◌, inl, inr, ℕ, zero, suc, ◌+◌, ◌<◌, ◌≤◌, Some, List, [], ◌∷◌, ◌++◌, map, length, refl, ap, ◌∙◌, arith}
 use Rattle.std.specs.Prelude.{slice_get, slice_set}
 use Rattle.std.specs.List.{AllByRecursion}
@@ -10,12 +10,12 @@ use Rattle.key_names.specs.Texts.TranscriptGrammar.{LastHasLines}
 use Rattle.key_names.proofs.Transcripts.TranscriptStates.{set_here, set_other}
 use Rattle.caller_run.specs.Laws.{Run, IsOneOf, lines_of_all}
 use Rattle.caller_run.specs.Plans.{put_in, HaveSlots}
-use Rattle.caller_run.specs.Ways.{numbered}
+use Rattle.caller_run.specs.RunningCallers.{numbered}
 use Rattle.caller_run.proofs.Orders.InOrder.{number, numbers_of, cons_times, AllOnce, first_once, rest_once, one_of, in_order}
 use Rattle.caller_run.proofs.Planning.OnceEach.{times_in}
 use Rattle.caller_run.proofs.Planning.Sums.{hit_same}
 
-pub put_long : (t : List (List SeenLine)) (told : List (ℕ × List SeenLine)) → length (put_in t told) ≡ length t
+pub put_long : (t : List (List SeenLine)) (recorded : List (ℕ × List SeenLine)) → length (put_in t recorded) ≡ length t
 put_long t [] = refl
 put_long t (x ∷ xs) = put_long (slice_set t x.0 x.1) xs ∙ length-set t x.0 x.1
 

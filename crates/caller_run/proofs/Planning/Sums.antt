@@ -1,4 +1,4 @@
--- Sums over lists that are made of others.
+-- Sums over lists and ranges of numbers.
 use Rattle.std.proofs.Common.{◌≡◌, ℕ, zero, suc, ◌+◌, ◌<◌, ◌≤◌, Bool, cond, List, [], ◌∷◌, length, refl, ap, ◌∙◌, arith}
 use mathlib.Core.Logic.{dite}
 use native.Mathlib.Decide.{ℕ_discrete}
@@ -57,7 +57,7 @@ pub sum_none : {X : Type 0} (xs : List X) → sum_by (λ x. 0) xs ≡ 0
 sum_none [] = refl
 sum_none (x ∷ xs) = let rest = sum_none xs in let a = sum_by-cons (λ x. 0) x xs in omega arith
 
--- the count of one test
+-- 1 if the test is true, and otherwise 0
 abbrev pub hit : Bool → ℕ
 hit b = cond b 1 0
 
@@ -67,7 +67,7 @@ hit_same n i same = ap hit (eq-eqb n i same)
 pub hit_other : (n i : ℕ) → (n ≡ i → ⊥) → hit (n == i) ≡ 0
 hit_other n i ne = ap hit (ne_eqb n i ne)
 
--- a number is once among those from first on, if it is one of them
+-- a number that is in a range occurs in it once
 
 abbrev times_in : ℕ → ℕ → ℕ → ℕ
 times_in n first count = sum_by (λ i. hit (n == i)) (range_with_len first count)

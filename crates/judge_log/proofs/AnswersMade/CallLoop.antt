@@ -1,15 +1,15 @@
--- The answers and data of calls in sequence.
+-- The loop over a caller's calls: after n calls, the first n calls have answers and data, which are noted.
 use Rattle.std.proofs.Common.{◌≡◌, ℕ, zero, suc, ◌+◌, ◌<◌, min, List, [], ◌∷◌, ◌++◌, length, get_or, take, drop, refl, sym, subst, ap, ◌∙◌, arith, append_assoc}
 use Rattle.std.proofs.lemmas.List.{append-nil, drop_more, length-take-le}
 use Rattle.key_names.specs.Callers.Calls.{Setting, Call, alone, vread_call, unbound, ending}
 use Rattle.std.proofs.lemmas.Option.{same_Some}
 use Rattle.judge_log.specs.declared.kept.Lists.{Lists as KeptLists}
-use Rattle.judge_log.specs.declared.said.Said.{Said}
+use Rattle.judge_log.specs.declared.said.MadeLine.{MadeLine}
 use Rattle.judge_log.specs.Writes.{Write, Written}
 use Rattle.judge_log.specs.CallSays.{VStates, first_states, with_state, CallSaid, CallsSaid}
 use Rattle.judge_log.proofs.AnswersMade.Going.{taken_more}
 
-module _ {Noted : Type 0} (IsNoted : ℕ → Said → Noted → Type 0) where
+module _ {Noted : Type 0} (IsNoted : ℕ → MadeLine → Noted → Type 0) where
   pub written_more : (writes more : List Write) (old mid new : List Noted) → Written IsNoted writes old mid →
       Written IsNoted more mid new → Written IsNoted (writes ++ more) old new
   written_more [] more old mid new is later = subst (λ notes. Written IsNoted more notes new) is later
@@ -17,7 +17,7 @@ module _ {Noted : Type 0} (IsNoted : ℕ → Said → Noted → Type 0) where
       (put.0, put.1, written_more writes more put.0 mid new put.2 later)
 
 module _ (kept : KeptLists) where
-  -- a call determines the states after it
+  -- the states before a call, and the call, determine the states after it
   pub determined : (set : Setting) (call : Call) (s t u : VStates) (writes more : List Write) →
       CallSaid kept set call s t writes → CallSaid kept set call s u more → t ≡ u
   determined set (alone event line) s t u writes more one other = one.new_is ∙ sym other.new_is
@@ -51,7 +51,7 @@ module _ (kept : KeptLists) where
 
   module _ (sets : List Setting) (calls : List Call) where
     -- the first n calls have answers and data, and these are noted
-    abbrev pub SoFar : {Noted : Type 0} → (ℕ → Said → Noted → Type 0) → ℕ → VStates → List Noted → Type 0
+    abbrev pub SoFar : {Noted : Type 0} → (ℕ → MadeLine → Noted → Type 0) → ℕ → VStates → List Noted → Type 0
     SoFar IsNoted n here notes =
         (writes : List Write) × CallsSaid kept (take n sets) (take n calls) first_states here writes
         × Written IsNoted writes [] notes
@@ -62,7 +62,7 @@ module _ (kept : KeptLists) where
 
     module _ (n : ℕ) (low : n < length sets) (low' : n < length calls) (set : Setting) (call : Call)
         (set_is : set ≡ get_or sets n set) (call_is : call ≡ get_or calls n call) (here : VStates) where
-      pub so_far_more : {Noted : Type 0} (IsNoted : ℕ → Said → Noted → Type 0) (next : VStates) (notes more : List Noted) →
+      pub so_far_more : {Noted : Type 0} (IsNoted : ℕ → MadeLine → Noted → Type 0) (next : VStates) (notes more : List Noted) →
           SoFar IsNoted n here notes →
           (writes : List Write) × CallSaid kept set call here next writes × Written IsNoted writes notes more →
           SoFar IsNoted (n + 1) next more

@@ -1,4 +1,5 @@
--- The answers and data of calls in sequence are those of their meanings.
+-- If the code makes answers and data for a caller's calls, the calls have meanings with these answers and data, and
+-- conversely.
 use Rattle.std.proofs.Common.{◌≡◌, ℕ, suc, List, [], ◌∷◌, ◌++◌, map, refl, sym, subst, ap, ◌∙◌}
 use Rattle.std.specs.Prelude.{true, false, if◌then◌else◌, Option, Some, None, MatchOption, IfSome, IsSome}
 use Rattle.std.specs.Global.{Vec}
@@ -19,11 +20,11 @@ use Rattle.judge_log.specs.declared.kept.Lists.{Lists as KeptLists}
 use Rattle.judge_log.specs.Kept.{Keeps}
 use Rattle.judge_log.specs.Filled.{CallsFill}
 use Rattle.judge_vread.specs.declared.inside.Reached.{Reached}
-use Rattle.judge_log.specs.declared.said.Said.{Said}
+use Rattle.judge_log.specs.declared.said.MadeLine.{MadeLine}
 use Rattle.judge_log.specs.Said.{NotedAt, SaysIt, IsSaid, AreCallsOf}
 use Rattle.judge_log.specs.Writes.{Write, Written}
 use Rattle.judge_log.specs.CallSays.{VStates, first_states, act_write, CallSaid, CallsSaid}
-use Rattle.judge_log.proofs.AnswersMade.CallMeant.{standing, CallLooks, IsSaidIn, HasDeeds, call_meant}
+use Rattle.judge_log.proofs.AnswersMade.CallMeant.{standing, CallLooks, IsSaidIn, HasEffects, call_meant}
 use Rattle.judge_log.proofs.AnswersMade.MeantSaid.{meant_said}
 use Rattle.judge_log.proofs.AnswersMade.Numbers.{act_number, call_numbers, numbers, Distinct, all_there, distinct_from}
 
@@ -43,8 +44,8 @@ call_numbered : (kept : KeptLists) (set : Setting) (call : Call) (s t : VStates)
 call_numbered kept set (alone event line) s t writes said = ap (map event_of) said.writes_are
 call_numbered kept set (vread_call n flags line acts) s t writes said =
     ap (map event_of) said.writes_are
-    ∙ map-append event_of (map (act_write kept set said.f.course.reached) acts) _
-    ∙ ap (λ ns. ns ++ line.event ∷ []) (acts_numbered kept set said.f.course.reached acts)
+    ∙ map-append event_of (map (act_write kept set said.f.path.reached) acts) _
+    ∙ ap (λ ns. ns ++ line.event ∷ []) (acts_numbered kept set said.f.path.reached acts)
 call_numbered kept set (unbound bound) s t writes said = ap (map event_of) said.writes_are
 call_numbered kept set (ending line) s t writes said = ap (map event_of) said.writes_are
 
@@ -59,16 +60,16 @@ calls_numbered kept set (call ∷ calls) s t writes said =
 -- ---- the meanings of calls
 
 module _ (kept : KeptLists) (book : Lists) (keeps : Keeps kept book) (lawful : LawfulLanes book) where
-  pub record CallsMeant (At : ℕ → Said → Type 0) (set : Setting) (calls : List Call) (s : VStates) (writes : List Write) : Type 0 where
+  pub record CallsMeant (At : ℕ → MadeLine → Type 0) (set : Setting) (calls : List Call) (s : VStates) (writes : List Write) : Type 0 where
     pub ms : List CallMeaning
     pub follows : CallsMean (standing set s) calls ms
-    pub deeds : EachLine (HasDeeds book) calls ms
+    pub effects : EachLine (HasEffects book) calls ms
     pub says : AllByRecursion (IsSaidIn At) writes → EachLine (SaysIt At) calls ms
 
-  pub calls_meant : (At : ℕ → Said → Type 0) (set : Setting) (calls : List Call) (s t : VStates) (writes : List Write) →
+  pub calls_meant : (At : ℕ → MadeLine → Type 0) (set : Setting) (calls : List Call) (s t : VStates) (writes : List Write) →
       AllByRecursion CallLooks calls → CallsFill book set calls →
       CallsSaid kept (settings_from set calls) calls s t writes → CallsMeant At set calls s writes
-  calls_meant At set [] s t writes looks fill said = record { ms = []; follows = tt; deeds = tt; says = λ all. tt }
+  calls_meant At set [] s t writes looks fill said = record { ms = []; follows = tt; effects = tt; says = λ all. tt }
   calls_meant At set (call ∷ calls) s t writes looks fill said =
       let one = call_meant kept book keeps lawful At set s said.0 said.1 call looks.0 fill.0 said.3 in
       let more = calls_meant At (setting_after_call set call) calls said.0 t said.2 looks.1 fill.1 said.4 in
@@ -76,22 +77,22 @@ module _ (kept : KeptLists) (book : Lists) (keeps : Keeps kept book) (lawful : L
       let Q : List Write → Type 0 = λ ws. AllByRecursion (IsSaidIn At) ws in record {
         ms = one.m ∷ more.ms;
         follows = (one.before, one.means, subst P (sym one.after) more.follows);
-        deeds = (one.deeds, more.deeds);
+        effects = (one.effects, more.effects);
         says = λ all.
             let parts = each_parts (IsSaidIn At) said.1 said.2 (subst Q said.5 all) in
             (one.says parts.0, more.says parts.1);
       }
 
   pub meant_calls : (set : Setting) (calls : List Call) (ms : List CallMeaning) (s : VStates) →
-      AllByRecursion CallLooks calls → CallsMean (standing set s) calls ms → EachLine (HasDeeds book) calls ms →
+      AllByRecursion CallLooks calls → CallsMean (standing set s) calls ms → EachLine (HasEffects book) calls ms →
       (t : VStates) × (writes : List Write) × CallsSaid kept (settings_from set calls) calls s t writes
-  meant_calls set [] [] s looks means deeds = (s, [], (refl, refl))
-  meant_calls set [] (m ∷ ms) s looks means deeds = absurd means
-  meant_calls set (call ∷ calls) [] s looks means deeds = absurd means
-  meant_calls set (call ∷ calls) (m ∷ ms) s looks means deeds =
-      let one = meant_said kept book keeps lawful set s m means.0 call looks.0 means.1 deeds.0 in
+  meant_calls set [] [] s looks means effects = (s, [], (refl, refl))
+  meant_calls set [] (m ∷ ms) s looks means effects = absurd means
+  meant_calls set (call ∷ calls) [] s looks means effects = absurd means
+  meant_calls set (call ∷ calls) (m ∷ ms) s looks means effects =
+      let one = meant_said kept book keeps lawful set s m means.0 call looks.0 means.1 effects.0 in
       let P : CallerState → Type 0 = λ b. CallsMean b calls ms in
-      let more = meant_calls (setting_after_call set call) calls ms one.t looks.1 (subst P one.after means.2) deeds.1 in
+      let more = meant_calls (setting_after_call set call) calls ms one.t looks.1 (subst P one.after means.2) effects.1 in
       (more.0, one.writes ++ more.1, (one.t, one.writes, more.1, one.said, more.2, refl))
 
 -- ---- looks of lines, and of calls
@@ -124,7 +125,7 @@ calls_look events lines calls of =
 module _ (kept : KeptLists) (book : Lists) (set : Setting) (events : List Event) (lines : List SeenLine)
     (calls : List Call) (settings : List Setting) (keeps : Keeps kept book) (lawful : LawfulLanes book)
     (of : AreCallsOf events lines calls) (found : settings ≡ settings_from set calls)
-    {Noted : Type 0} (IsNoted : ℕ → Said → Noted → Type 0) where
+    {Noted : Type 0} (IsNoted : ℕ → MadeLine → Noted → Type 0) where
   said_is : (t : VStates) (writes : List Write) (notes : List Noted) → CallsFill book set calls →
       CallsSaid kept settings calls first_states t writes → Written IsNoted writes [] notes →
       IsSaid book set calls (NotedAt IsNoted notes)
@@ -137,7 +138,7 @@ module _ (kept : KeptLists) (book : Lists) (set : Setting) (events : List Event)
       let all_differ = subst Distinct (sym (calls_numbered kept set calls first_states t writes here))
       (subst P (sym of.are) differ) in record {
         meanings = meant.ms;
-        mean = record { follows = meant.follows; deeds = meant.deeds };
+        mean = record { follows = meant.follows; effects = meant.effects };
         says = meant.says (all_there IsNoted writes [] notes written all_differ);
       }
 
@@ -145,7 +146,7 @@ module _ (kept : KeptLists) (book : Lists) (set : Setting) (events : List Event)
       (t : VStates) × (writes : List Write) × CallsSaid kept settings calls first_states t writes
   is_said ms means =
       let said = meant_calls kept book keeps lawful set calls ms first_states (calls_look events lines calls of)
-      means.follows means.deeds in
+      means.follows means.effects in
       let P : List Setting → Type 0 = λ sets. (t : VStates) × (writes : List Write)
       × CallsSaid kept sets calls first_states t writes in subst P (sym found) said
 

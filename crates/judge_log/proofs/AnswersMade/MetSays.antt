@@ -1,4 +1,4 @@
--- The answer and data that are made from the kept data of steps are those that are made from their deeds.
+-- From the kept data of steps, the code makes the answers and data that the definitions make from the steps' effects.
 use Rattle.std.proofs.Common.{◌≡◌, ℕ, suc, ◌-◌, ◌<◌, Bool, true, false, List, [], ◌∷◌, length, refl, sym, subst, ap, ◌∙◌, arith, Some, None}
 use Rattle.std.specs.Prelude.{◌==◌, ◌^◌, ⊤, Option, slice_get, unwrap_or, if◌then◌else◌}
 use Rattle.std.specs.List.{AllByRecursion}
@@ -13,12 +13,12 @@ use Rattle.key_names.specs.declared.names.LaneId.TheVariants.{Pool as PoolLane, 
 use Rattle.key_names.specs.declared.names.Step.{Step}
 use Rattle.key_names.specs.declared.names.Step.TheVariants.{Look, Visit as Marked}
 use Rattle.key_names.specs.Callers.Answers as answers
-use Rattle.key_names.specs.Callers.Deeds.{Deed, looked, at_pool, at_base, at_cpu, nothing_there, PoolVisit, BaseVisit, CpuVisit}
-use Rattle.key_names.specs.Callers.Deeds.{base_serves}
+use Rattle.key_names.specs.Callers.Effects.{Effect, looked, at_pool, at_base, at_cpu, nothing_there, PoolVisit, BaseVisit, CpuVisit}
+use Rattle.key_names.specs.Callers.Effects.{base_serves}
 use Rattle.key_names.specs.Keys.KeyInUse.{zero_key}
 use Rattle.key_names.specs.Transcripts.SeenLine.{count, bytes_or_none}
 use Rattle.key_names.specs.Texts.TranscriptGrammar.{StepFits}
-use Rattle.input_pool.specs.PoolStands.{crossing_of}
+use Rattle.input_pool.specs.PoolConforms.{crossing_of}
 use Rattle.judge_lines.specs.Kinds.{base_kind, is_resume, kinds_of}
 use Rattle.judge_lines.specs.LaneFacts as facts
 use Rattle.std.proofs.lemmas.Simd.{map-map}
@@ -27,7 +27,7 @@ use Rattle.judge_log.specs.declared.kept.KeptBase.{KeptBase}
 use Rattle.judge_log.specs.declared.kept.KeptCpu.{KeptCpu}
 use Rattle.judge_log.specs.declared.kept.Lists.{Lists as KeptLists}
 use Rattle.judge_log.specs.Kept.{KeepsPool}
-use Rattle.judge_vread.specs.declared.seen.Seen.TheVariants.{Unready, Ready}
+use Rattle.judge_vread.specs.declared.seen.SeenStep.TheVariants.{Unready, Ready}
 use Rattle.judge_vread.specs.Recipe.{bytes_made}
 use Rattle.judge_vread.specs.Seen.{seen_kind, IsSeen, AllSeen, LookFits}
 use Rattle.judge_vread.proofs.SeenShapes.{kinds_seen}
@@ -39,7 +39,7 @@ use Rattle.judge_log.specs.EventSays.{first_crossing, recipe_met, recipe_or_none
 use Rattle.judge_log.specs.EventSays.{was_interrupted, system_says, reseed_says, tick_says, event_says, bits_shown}
 use Rattle.judge_log.specs.EventSays.{event_shows}
 use Rattle.judge_log.specs.Said.{shown_by}
-use Rattle.judge_log.proofs.AnswersMade.MetDeeds.{MetBase, MetCpu, IsMet, AreMet}
+use Rattle.judge_log.proofs.AnswersMade.MetEffects.{MetBase, MetCpu, IsMet, AreMet}
 
 -- ---- the looks and visits of steps with these kept data
 
@@ -63,22 +63,22 @@ One (InBase k) = OfBase k
 One (InCpu on k) = OfCpu on k
 One Nothing = ⊤
 
-abbrev pub deed : (m : Met) → One m → Deed
-deed (Looked g) p = looked g
-deed (InPool k) p = at_pool p.v
-deed (InBase k) p = at_base p.v
-deed (InCpu on k) p = at_cpu p.v
-deed Nothing p = nothing_there
+abbrev pub effect : (m : Met) → One m → Effect
+effect (Looked g) p = looked g
+effect (InPool k) p = at_pool p.v
+effect (InBase k) p = at_base p.v
+effect (InCpu on k) p = at_cpu p.v
+effect Nothing p = nothing_there
 
 abbrev pub Shape : List Met → Type 0
 Shape [] = ⊤
 Shape (m ∷ met) = One m × Shape met
 
-abbrev pub deeds_in : (met : List Met) → Shape met → List Deed
-deeds_in [] s = []
-deeds_in (m ∷ met) s = deed m s.0 ∷ deeds_in met s.1
+abbrev pub effects_in : (met : List Met) → Shape met → List Effect
+effects_in [] s = []
+effects_in (m ∷ met) s = effect m s.0 ∷ effects_in met s.1
 
-one : (m : Met) (d : Deed) → IsMet m d → (p : One m) × (d ≡ deed m p)
+one : (m : Met) (d : Effect) → IsMet m d → (p : One m) × (d ≡ effect m p)
 one (Looked g) (looked found) h = (tt, ap looked (sym h))
 one (InPool k) (at_pool v) h = (record { v = v; keeps = h }, refl)
 one (InBase k) (at_base v) h = (record { v = v; met = h }, refl)
@@ -86,16 +86,16 @@ one (InCpu on k) (at_cpu v) h = (record { v = v; same = h.0; met = h.1 }, refl)
 one Nothing nothing_there h = (tt, refl)
 one _ _ h = absurd h
 
-both : (x y : Deed) (xs ys : List Deed) → x ≡ y → xs ≡ ys → x ∷ xs ≡ y ∷ ys
+both : (x y : Effect) (xs ys : List Effect) → x ≡ y → xs ≡ ys → x ∷ xs ≡ y ∷ ys
 both x y xs ys p q = cc
 
-pub shaped : (met : List Met) (ds : List Deed) → AreMet met ds → (s : Shape met) × (ds ≡ deeds_in met s)
+pub shaped : (met : List Met) (ds : List Effect) → AreMet met ds → (s : Shape met) × (ds ≡ effects_in met s)
 shaped [] [] h = (tt, refl)
 shaped [] (d ∷ ds) h = absurd h
 shaped (m ∷ met) [] h = absurd h
 shaped (m ∷ met) (d ∷ ds) h =
     let p = one m d h.0 in
-    let r = shaped met ds h.1 in ((p.0, r.0), both d (deed m p.0) ds (deeds_in met r.0) p.1 r.1)
+    let r = shaped met ds h.1 in ((p.0, r.0), both d (effect m p.0) ds (effects_in met r.0) p.1 r.1)
 
 -- ---- seen steps
 
@@ -114,7 +114,7 @@ module _ (cpu : ℕ) where
   cpu_is on k p true h = (let e : on ≡ cpu = grind (arith, nat_tests) in sym p.same ∙ e, p.met.serves)
   cpu_is on k p false h = ap (λ c. c == cpu) (sym p.same) ∙ h
 
-  one_seen : (m : Met) (p : One m) → IsSeen cpu (seen_of cpu m) (deed m p)
+  one_seen : (m : Met) (p : One m) → IsSeen cpu (seen_of cpu m) (effect m p)
   one_seen (Looked g) p = look_is g (g == 0) refl
   one_seen (InPool k) p = tt
   one_seen (InBase k) p =
@@ -122,16 +122,16 @@ module _ (cpu : ℕ) where
   one_seen (InCpu on k) p = cpu_is on k p (on == cpu) refl
   one_seen Nothing p = tt
 
-  shape_seen : (met : List Met) (s : Shape met) → AllSeen cpu (seen_in cpu met) (deeds_in met s)
+  shape_seen : (met : List Met) (s : Shape met) → AllSeen cpu (seen_in cpu met) (effects_in met s)
   shape_seen [] s = tt
   shape_seen (m ∷ met) s = (one_seen m s.0, shape_seen met s.1)
 
-  pub all_seen : (met : List Met) (ds : List Deed) → AreMet met ds → AllSeen cpu (seen_in cpu met) ds
+  pub all_seen : (met : List Met) (ds : List Effect) → AreMet met ds → AllSeen cpu (seen_in cpu met) ds
   all_seen met ds h =
       let s = shaped met ds h in
-      let P : List Deed → Type 0 = λ xs. AllSeen cpu (seen_in cpu met) xs in subst P (sym s.1) (shape_seen met s.0)
+      let P : List Effect → Type 0 = λ xs. AllSeen cpu (seen_in cpu met) xs in subst P (sym s.1) (shape_seen met s.0)
 
-  pub kinds_are : (met : List Met) (ds : List Deed) → AreMet met ds → kinds_met cpu met ≡ kinds_of cpu ds
+  pub kinds_are : (met : List Met) (ds : List Effect) → AreMet met ds → kinds_met cpu met ≡ kinds_of cpu ds
   kinds_are met ds h = sym (map-map seen_kind (seen_of cpu) met) ∙ sym (kinds_seen cpu (seen_in cpu met) ds (all_seen met ds h))
 
   -- ---- looks
@@ -179,7 +179,7 @@ module _ (cpu : ℕ) where
 
 -- ---- answers and data
 
-crossing_in : (met : List Met) (s : Shape met) → crossing_of (first_crossing met) ≡ facts.first_crossing (deeds_in met s)
+crossing_in : (met : List Met) (s : Shape met) → crossing_of (first_crossing met) ≡ facts.first_crossing (effects_in met s)
 crossing_in [] s = refl
 crossing_in (InPool k ∷ met) s = s.0.keeps.crosses
 crossing_in (Looked g ∷ met) s = crossing_in met s.1
@@ -187,11 +187,11 @@ crossing_in (InBase k ∷ met) s = crossing_in met s.1
 crossing_in (InCpu on k ∷ met) s = crossing_in met s.1
 crossing_in (Nothing ∷ met) s = crossing_in met s.1
 
-pub crossing_is : (met : List Met) (ds : List Deed) → AreMet met ds →
+pub crossing_is : (met : List Met) (ds : List Effect) → AreMet met ds →
     crossing_of (first_crossing met) ≡ facts.first_crossing ds
 crossing_is met ds h = let s = shaped met ds h in crossing_in met s.0 ∙ ap facts.first_crossing (sym s.1)
 
-pub crossings_known : (c : facts.LaneFacts) (ds : List Deed) → facts.AllFit c ds → facts.CrossingsKnown c ds
+pub crossings_known : (c : facts.LaneFacts) (ds : List Effect) → facts.AllFit c ds → facts.CrossingsKnown c ds
 crossings_known c [] fit = tt
 crossings_known c (looked g ∷ ds) fit = (tt, crossings_known c ds fit.1)
 crossings_known c (at_pool v ∷ ds) fit = (fit.0, crossings_known c ds fit.1)
@@ -199,25 +199,25 @@ crossings_known c (at_base v ∷ ds) fit = (tt, crossings_known c ds fit.1)
 crossings_known c (at_cpu v ∷ ds) fit = (tt, crossings_known c ds fit.1)
 crossings_known c (nothing_there ∷ ds) fit = (tt, crossings_known c ds fit.1)
 
-unready_in : (met : List Met) (s : Shape met) → found_unready met ≡ answers.found_unready (deeds_in met s)
+unready_in : (met : List Met) (s : Shape met) → found_unready met ≡ answers.found_unready (effects_in met s)
 unready_in [] s = refl
 unready_in (Looked g ∷ met) s = refl
 unready_in _ s = refl
 
-interrupted_in : (met : List Met) (s : Shape met) → was_interrupted met ≡ answers.was_interrupted (deeds_in met s)
+interrupted_in : (met : List Met) (s : Shape met) → was_interrupted met ≡ answers.was_interrupted (effects_in met s)
 interrupted_in (Looked g ∷ InBase k ∷ InBase l ∷ []) s = ap answers.is_interrupt s.1.1.0.met.entry
 interrupted_in _ s = refl
 
-tick_in : (met : List Met) (s : Shape met) → tick_says met ≡ answers.tick_answer (deeds_in met s)
+tick_in : (met : List Met) (s : Shape met) → tick_says met ≡ answers.tick_answer (effects_in met s)
 tick_in [] s = refl
 tick_in (InBase k ∷ []) s = refl
 tick_in _ s = refl
 
-bits_in : (met : List Met) (s : Shape met) → shown_by (bits_shown met) ≡ answers.bits_read (deeds_in met s)
+bits_in : (met : List Met) (s : Shape met) → shown_by (bits_shown met) ≡ answers.bits_read (effects_in met s)
 bits_in (InPool k ∷ []) s = ap count s.0.keeps.before
 bits_in _ s = refl
 
-visit_bytes : (m : Met) (p : One m) → bytes_made (recipe_met m) ≡ answers.deed_bytes (deed m p)
+visit_bytes : (m : Met) (p : One m) → bytes_made (recipe_met m) ≡ answers.effect_bytes (effect m p)
 visit_bytes (Looked g) p = refl
 visit_bytes (InPool k) p = refl
 visit_bytes (InBase k) p = p.met.bytes
@@ -230,14 +230,14 @@ last_later m n met =
     let b : length (n ∷ met) - 1 ≡ length met = omega arith in
     ap (λ i. recipe_or_none (slice_get (m ∷ n ∷ met) i)) a ∙ sym (ap (λ i. recipe_or_none (slice_get (n ∷ met) i)) b)
 
-bytes_in : (met : List Met) (s : Shape met) → bytes_made (last_recipe met) ≡ answers.served_bytes (deeds_in met s)
+bytes_in : (met : List Met) (s : Shape met) → bytes_made (last_recipe met) ≡ answers.served_bytes (effects_in met s)
 bytes_in [] s = refl
 bytes_in (m ∷ []) s = visit_bytes m s.0
 bytes_in (m ∷ n ∷ met) s = ap bytes_made (last_later m n met) ∙ bytes_in (n ∷ met) s.1
 
 module _ (met : List Met) (s : Shape met) where
-  abbrev ds : List Deed
-  ds = deeds_in met s
+  abbrev ds : List Effect
+  ds = effects_in met s
 
   system_in : (flags : ℕ) → system_says flags met ≡ answers.system_answer flags ds
   system_in flags = rw (unready_in met s, interrupted_in met s) refl
@@ -266,22 +266,22 @@ module _ (met : List Met) (s : Shape met) where
   event_in Tick = (sym (tick_in met s), refl)
   event_in _ = (refl, refl)
 
-module _ (met : List Met) (ds : List Deed) (h : AreMet met ds) where
-  shape : (s : Shape met) × (ds ≡ deeds_in met s)
+module _ (met : List Met) (ds : List Effect) (h : AreMet met ds) where
+  shape : (s : Shape met) × (ds ≡ effects_in met s)
   shape = shaped met ds h
 
-  -- for a single event, kept data and deeds give the same answer and data
+  -- for a single event, the kept data give the same answer and data as the effects
   pub event_said : (event : Event) → (answers.answer_of event ds ≡ event_says event met)
       × (answers.shown_of event ds ≡ shown_by (event_shows event met))
   event_said event =
-      let P : List Deed → Type 0 = λ xs. (answers.answer_of event xs ≡ event_says event met)
+      let P : List Effect → Type 0 = λ xs. (answers.answer_of event xs ≡ event_says event met)
       × (answers.shown_of event xs ≡ shown_by (event_shows event met)) in
       subst P (sym shape.1) (event_in met shape.0 event)
 
-  -- for a system call, kept data and deeds give the same answer and data
+  -- for a system call, the kept data give the same answer and data as the effects
   pub system_said : (flags : ℕ) → (answers.system_answer flags ds ≡ system_says flags met)
       × (bytes_or_none (answers.served_bytes ds) ≡ bytes_or_none (bytes_made (last_recipe met)))
   system_said flags =
-      let P : List Deed → Type 0 = λ xs. (answers.system_answer flags xs ≡ system_says flags met)
+      let P : List Effect → Type 0 = λ xs. (answers.system_answer flags xs ≡ system_says flags met)
       × (bytes_or_none (answers.served_bytes xs) ≡ bytes_or_none (bytes_made (last_recipe met))) in
       subst P (sym shape.1) (sym (system_in met shape.0 flags), served_in met shape.0)

@@ -9,7 +9,7 @@ use Rattle.key_names.specs.Callers.Calls.{Call, alone, vread_call, unbound, endi
 use Rattle.key_names.specs.Transcripts.IsTranscript.{LinesFit}
 use Rattle.key_names.specs.Transcripts.SeenLine.{SeenLine}
 use Rattle.key_names.proofs.Lists.Each.{each_append, each_weaker}
-use Rattle.judge_log.specs.declared.said.Said.{Said}
+use Rattle.judge_log.specs.declared.said.MadeLine.{MadeLine}
 use Rattle.judge_log.specs.Said.{NotedAt}
 use Rattle.judge_log.specs.Writes.{Write, Written}
 use Rattle.judge_log.proofs.AnswersMade.CallMeant.{IsSaidIn}
@@ -28,7 +28,7 @@ each_mapped : {A : Type 0} (f : A → ℕ) (P : ℕ → Type 0) (xs : List A) �
 each_mapped f P [] all = tt
 each_mapped f P (x ∷ xs) all = (all.0, each_mapped f P xs all.1)
 
-module _ {Noted : Type 0} (IsNoted : ℕ → Said → Noted → Type 0) where
+module _ {Noted : Type 0} (IsNoted : ℕ → MadeLine → Noted → Type 0) where
   stays : (writes : List Write) (old new : List Noted) (k : ℕ) (x : Noted) → Written IsNoted writes old new →
       AllByRecursion (λ w. Differs k w.event) writes → slice_get old k ≡ Some x → slice_get new k ≡ Some x
   stays [] old new k x is others here = ap (λ notes. slice_get notes k) is ∙ here
@@ -80,7 +80,7 @@ all_below n ns all = each_weaker (λ k. k < n) (λ k. k < suc n) ns (λ k low. o
 all_differ : (n : ℕ) (ns : List ℕ) → AllByRecursion (λ k. k < n) ns → AllByRecursion (Differs n) ns
 all_differ n ns all = each_weaker (λ k. k < n) (Differs n) ns (λ k low is. omega arith) all
 
--- each number above n differs from each number up to n
+-- if all numbers in a list are above n, each of them differs from a number k that is at most n
 all_above : (n k : ℕ) (ns : List ℕ) → k ≤ n → AllByRecursion (λ m. n < m) ns → AllByRecursion (Differs k) ns
 all_above n k ns low all = each_weaker (λ m. n < m) (Differs k) ns (λ m high is. omega arith) all
 
@@ -88,7 +88,7 @@ waits_more : (waiting : List BoundAct) (bound : BoundAct) →
     map act_number (waiting ++ bound ∷ []) ≡ map act_number waiting ++ bound.line.event ∷ []
 waits_more waiting bound = map-append act_number waiting (bound ∷ [])
 
--- a fact of the waiting acts' numbers and of all numbers from n on holds of the numbers of the calls
+-- if P holds of the waiting acts' numbers and of all numbers from n on, P holds of the numbers of the calls
 each_number : (P : ℕ → Type 0) (c n : ℕ) (waiting : List BoundAct) (events : List Event) (lines : List SeenLine) →
     LinesFit c n events lines → AllByRecursion P (map act_number waiting) → ((k : ℕ) → n ≤ k → P k) →
     AllByRecursion P (numbers (calls_from waiting events lines))
@@ -115,7 +115,7 @@ each_number P c n waiting (event ∷ events) (line ∷ lines) fit wait above = (
   each_number P c (suc n) waiting events lines fit.1 wait (λ k high. above k (omega arith)),
 )
 
--- the number of a single event's line differs from those of the other calls
+-- the number of a single event's line differs from the numbers of the other calls
 one_first : (c n : ℕ) (waiting : List BoundAct) (events : List Event) (lines : List SeenLine) (line : SeenLine) →
     line.event ≡ n → LinesFit c (suc n) events lines → Waits n waiting →
     Distinct (numbers (calls_from waiting events lines)) → Distinct (line.event ∷ numbers (calls_from waiting events lines))

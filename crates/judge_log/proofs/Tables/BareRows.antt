@@ -1,12 +1,12 @@
--- Tables before any entry is inferred: lanes without rows, and one more row of a lane.
+-- The tables before any entry is inferred. At first they have no rows; then they get one unfilled row for each mark.
 use Rattle.std.proofs.Common.{◌≡◌, ◌≢◌, ℕ, zero, suc, ◌+◌, ◌<◌, ◌≤◌, Bool, true, false, List, [], ◌∷◌, ◌++◌, length, map, drop, slice_set, get_or, Vec, Global, ◌⊎◌, inl, inr, refl, sym, subst, ap, ◌∙◌, arith}
 use Rattle.std.proofs.Common.{add-one}
 use Rattle.std.proofs.lemmas.List.{length_push}
 use Rattle.key_names.specs.declared.names.Mark.{Mark}
 use Rattle.key_names.specs.declared.names.Step.TheVariants.{Visit as Marked}
-use Rattle.judge_lines.specs.declared.told.BaseTold.{BaseTold}
-use Rattle.judge_log.specs.declared.told.ToldPool.{ToldPool}
-use Rattle.judge_log.specs.declared.told.ToldCpu.{ToldCpu}
+use Rattle.judge_lines.specs.declared.inferred.BaseInferred.{BaseInferred}
+use Rattle.judge_log.specs.declared.inferred.InferredPool.{InferredPool}
+use Rattle.judge_log.specs.declared.inferred.InferredCpu.{InferredCpu}
 use Rattle.judge_log.specs.Tables.{Tables}
 use Rattle.judge_log.specs.Rows.{cpu_row}
 use Rattle.judge_log.specs.Spots.{Spot, rows_in, Changes, IsLonger}
@@ -15,7 +15,7 @@ use Rattle.std.specs.Prelude.{slice_get, Some, None, ◌==◌, if◌then◌else�
 use Rattle.std.proofs.lemmas.Option.{slice_get-get_or}
 use Rattle.key_names.specs.declared.entries.CpuEntry.TheVariants.{Prepare}
 use Rattle.key_names.proofs.Transcripts.TranscriptBooks.{lt_or_le}
-use Rattle.judge_lines.specs.declared.told.CpuTold.TheVariants.{Is as cpu_is}
+use Rattle.judge_lines.specs.declared.inferred.CpuInferred.TheVariants.{Is as cpu_is}
 use Rattle.std.proofs.lemmas.Bool.{eq-eqb, eqb-true}
 use Rattle.key_names.specs.declared.names.LaneId.{LaneId}
 use Rattle.key_names.specs.declared.names.LaneId.TheVariants.{Pool as PoolLane, Base as BaseLane, Cpu as CpuLane}
@@ -28,7 +28,7 @@ module _ {T : Type 0} where
   abbrev pub items_of : List (Vec T Global) → List (List T)
   items_of vecs = map (λ (v : Vec T Global). v.items) vecs
 
-  -- if no lane has rows, and one more without rows is added, no lane has rows
+  -- if no lane has rows and a lane without rows is added, still no lane has rows
   pub bare_more : (vecs : List (Vec T Global)) (v : Vec T Global) → v.items ≡ [] →
       ((c : ℕ) → list_at (items_of vecs) c ≡ []) → (c : ℕ) → list_at (items_of (vecs ++ v ∷ [])) c ≡ []
   bare_more [] v none bare zero = none
@@ -36,7 +36,7 @@ module _ {T : Type 0} where
   bare_more (x ∷ vecs) v none bare zero = bare 0
   bare_more (x ∷ vecs) v none bare (suc c) = bare_more vecs v none (λ d. bare (suc d)) c
 
-  -- if one vector is replaced, its lane has the new rows and no other lane changes
+  -- if the vector of a lane is replaced, this lane has the new rows, and no other lane changes
   pub lane_set : (vecs : List (Vec T Global)) (c : ℕ) (v : Vec T Global) → c < length vecs →
       list_at (items_of (slice_set vecs c v)) c ≡ v.items
   lane_set [] c v low = absurd (omega arith)
@@ -51,7 +51,7 @@ module _ {T : Type 0} where
   lane_kept (x ∷ vecs) (suc c) zero v other = refl
   lane_kept (x ∷ vecs) (suc c) (suc d) v other = lane_kept vecs c d v (λ e. other (ap suc e))
 
--- if a mark of the lane is passed, the lane has one mark less left
+-- once a mark of the lane is passed, the lane has one mark fewer left
 pub marks_left : (lane : LaneId) (marks : List MarkOf) (i : ℕ) (of : MarkOf) → slice_get marks i ≡ Some of →
     length (lane_marks lane (map seen_mark (drop i marks)))
     ≡ (if is_same_lane of.mark.lane lane then suc (length (lane_marks lane (map seen_mark (drop (suc i) marks))))
@@ -75,13 +75,13 @@ set_long [] c v = refl
 set_long (x ∷ vecs) zero v = refl
 set_long (x ∷ vecs) (suc c) v = ap suc (set_long vecs c v)
 
--- tables whose CPUs' rows are in these vectors
-abbrev pub with_lanes : List ToldPool → List BaseTold → List (Vec ToldCpu Global) → Tables
+-- the tables with the CPUs' rows from these vectors
+abbrev pub with_lanes : List InferredPool → List BaseInferred → List (Vec InferredCpu Global) → Tables
 with_lanes pool base vecs = record { pool = pool; base = base; cpus = items_of vecs }
 
--- one more row in a CPU's vector makes this lane longer
-pub cpu_longer : (pool : List ToldPool) (base : List BaseTold) (vecs : List (Vec ToldCpu Global)) (c : ℕ)
-    (v : Vec ToldCpu Global) (row : ToldCpu) → c < length vecs → v.items ≡ list_at (items_of vecs) c ++ row ∷ [] →
+-- one more row in a CPU's vector makes the CPU's lane one row longer
+pub cpu_longer : (pool : List InferredPool) (base : List BaseInferred) (vecs : List (Vec InferredCpu Global)) (c : ℕ)
+    (v : Vec InferredCpu Global) (row : InferredCpu) → c < length vecs → v.items ≡ list_at (items_of vecs) c ++ row ∷ [] →
     IsLonger (CpuLane c) (with_lanes pool base vecs) (with_lanes pool base (slice_set vecs c v))
 cpu_longer pool base vecs c v row low more = record { cpus = set_long vecs c v; rows = rows }
   where
@@ -102,19 +102,19 @@ cpu_longer pool base vecs c v row low more = record { cpus = set_long vecs c v; 
     rows BaseLane = refl
     rows (CpuLane d) = at_cpu d (c == d) refl
 
--- a row that is put into the vector of a CPU is put into its lane
-pub cpu_row_put : (pool : List ToldPool) (base : List BaseTold) (vecs : List (Vec ToldCpu Global)) (c : ℕ)
-    (v : Vec ToldCpu Global) (spot : Spot) (mark : Mark) → c < length vecs → spot.step ≡ Marked mark →
+-- a row that is put into the vector of a CPU is put into the CPU's lane
+pub cpu_row_put : (pool : List InferredPool) (base : List BaseInferred) (vecs : List (Vec InferredCpu Global)) (c : ℕ)
+    (v : Vec InferredCpu Global) (spot : Spot) (mark : Mark) → c < length vecs → spot.step ≡ Marked mark →
     mark.lane ≡ CpuLane c →
-    PutAt (list_at (items_of vecs) c) v.items mark.place (cpu_row spot.set spot.tells spot.first spot.around) →
+    PutAt (list_at (items_of vecs) c) v.items mark.place (cpu_row spot.set spot.tells spot.first spot.neighbours) →
     Changes (spot ∷ []) (with_lanes pool base vecs) (with_lanes pool base (slice_set vecs c v))
 cpu_row_put pool base vecs c v spot mark low is lane_is put =
     cpu_put spot mark (with_lanes pool base vecs) (with_lanes pool base (slice_set vecs c v)) is c lane_is
-    (subst (λ xs. PutAt (list_at (items_of vecs) c) xs mark.place (cpu_row spot.set spot.tells spot.first spot.around))
+    (subst (λ xs. PutAt (list_at (items_of vecs) c) xs mark.place (cpu_row spot.set spot.tells spot.first spot.neighbours))
     (sym (lane_set vecs c v low)) put)
     (λ d other. lane_kept vecs c d v other) (set_long vecs c v) refl refl
 
--- after one more row, a lane's rows and remaining marks are together as many as before
+-- if a mark is passed and its lane gets a row, the rows and the marks left of each lane are together as many as before
 pub rows_and_left : (lane : LaneId) (marks : List MarkOf) (i : ℕ) (d : MarkOf) (old new : Tables) (n : ℕ) →
     i < length marks → IsLonger (get_or marks i d).mark.lane old new →
     rows_in old lane + length (lane_marks lane (map seen_mark (drop i marks))) ≡ n →
@@ -136,7 +136,7 @@ pub longer_at : (l m : LaneId) (old new : Tables) → l ≡ m → IsLonger m old
 longer_at l m old new is longer = subst (λ x. IsLonger x old new) (sym is) longer
 
 -- the content of an unfilled row
-abbrev pub bare_row : ToldCpu
+abbrev pub bare_row : InferredCpu
 bare_row = record { entry = cpu_is Prepare; dumps = false }
 
 pub put_as : {A : Type 0} (old old' new : List A) (place : ℕ) (row row' : A) → old ≡ old' → row ≡ row' →

@@ -1,4 +1,4 @@
--- The tables of a transcript: a row for each mark, or none if a line visits a CPU that does not exist.
+-- The result of gather: tables with a row for each mark, or none if a line visits a CPU that does not exist.
 use Rattle.std.proofs.Common.{◌≡◌, ℕ, zero, suc, ◌<◌, ◌≤◌, List, [], ◌∷◌, length, map, Some, None, sym, subst, ap, ◌∙◌, arith}
 use Rattle.std.specs.Prelude.{Any, slice_index_or}
 use Rattle.std.specs.List.{AllByRecursion}
@@ -14,9 +14,9 @@ use Rattle.key_names.specs.Texts.ScriptGrammar.{Script, WellFormed}
 use Rattle.key_names.specs.Transcripts.SeenLine.{SeenLine}
 use Rattle.key_names.specs.Transcripts.IsTranscript.{MarkBy, all_marks, stamped, stamped_at}
 use Rattle.key_names.proofs.Lists.ListFacts.{list_beyond}
-use Rattle.judge_lines.specs.declared.begin.Parts.{Parts}
+use Rattle.judge_lines.specs.declared.begin.TranscriptParts.{TranscriptParts}
 use Rattle.judge_lines.specs.declared.marks.MarkOf.{MarkOf}
-use Rattle.judge_lines.specs.Begun.{PartsStand}
+use Rattle.judge_lines.specs.Begun.{PartsConform}
 use Rattle.judge_lines.specs.Called.{seen_calls}
 use Rattle.judge_lines.specs.Marks.{seen_mark}
 use Rattle.judge_lines.specs.Settings.{AreSettings}
@@ -24,29 +24,29 @@ use Rattle.judge_log.specs.Tables.{Tables}
 use Rattle.judge_log.specs.Gathered.{IsBookOf, IsGathered}
 use Rattle.judge_log.specs.Spots.{callers_spots, Changes, HasRows, IsAbsent}
 use Rattle.judge_log.proofs.Tables.FilledLanes.{lines_and_lanes}
-use Rattle.judge_log.proofs.Tables.Gathers.{has_rows, rows_stand}
+use Rattle.judge_log.proofs.Tables.Gathers.{has_rows, rows_conform}
 use Rattle.judge_log.proofs.Tables.SampledLines.{all_sampled}
 use Rattle.judge_log.proofs.Tables.SampledVisits.{all_samples}
 use Rattle.judge_log.proofs.Tables.TableRanges.{tables_in_range}
 
-pub gathered : (script : Script) (t : List (List SeenLine)) (parts : Parts) (settings : List (Vec CallSetting))
-    (bare told : Tables) → WellFormed script → AreSettings (seen_calls parts.calls.items) settings →
+pub gathered : (script : Script) (t : List (List SeenLine)) (parts : TranscriptParts) (settings : List (Vec CallSetting))
+    (bare inferred : Tables) → WellFormed script → AreSettings (seen_calls parts.calls.items) settings →
     HasRows script.cpus (map seen_mark parts.marks.items) bare →
-    Changes (callers_spots (seen_calls parts.calls.items) (map (λ sets. sets.items) settings)) bare told →
-    PartsStand script t parts → IsGathered script t told
-gathered script t parts settings bare told well found long changes stands =
-    let rows = rows_stand script t parts settings bare told stands found long changes in
-    let counts = has_rows script t parts settings bare told stands found long changes in record {
-      in_range = tables_in_range script t parts told well stands counts rows;
+    Changes (callers_spots (seen_calls parts.calls.items) (map (λ sets. sets.items) settings)) bare inferred →
+    PartsConform script t parts → IsGathered script t inferred
+gathered script t parts settings bare inferred well found long changes conforms =
+    let rows = rows_conform script t parts settings bare inferred conforms found long changes in
+    let counts = has_rows script t parts settings bare inferred conforms found long changes in record {
+      in_range = tables_in_range script t parts inferred well conforms counts rows;
       pool_count = counts.rows PoolLane;
       base_count = counts.rows BaseLane;
       cpus_count = counts.count;
       cpu_count = λ c. counts.rows (CpuLane c);
-      fills = λ book of. lines_and_lanes script t told book stands.lines stands.marks_stand counts rows of;
+      fills = λ book of. lines_and_lanes script t inferred book conforms.lines conforms.marks_conform counts rows of;
       samples = λ book ms of means fills lanes.
-          all_samples script t told stands.lines stands.marks_stand rows book ms of means fills lanes;
+          all_samples script t inferred conforms.lines conforms.marks_conform rows book ms of means fills lanes;
       sampled = λ book ms of means lanes samples.
-          all_sampled script t book ms stands.lines stands.marks_stand of means lanes samples;
+          all_sampled script t book ms conforms.lines conforms.marks_conform of means lanes samples;
     }
 
 -- ---- a CPU that does not exist
@@ -81,13 +81,13 @@ at_index P [] k x all low is = absurd (omega arith)
 at_index P (y ∷ ys) zero x all low is = subst P is all.0
 at_index P (y ∷ ys) (suc k) x all low is = at_index P ys k x all.1 (omega arith) is
 
-pub absent_cpu : (script : Script) (t : List (List SeenLine)) (parts : Parts) → PartsStand script t parts →
+pub absent_cpu : (script : Script) (t : List (List SeenLine)) (parts : TranscriptParts) → PartsConform script t parts →
     Any (λ of. IsAbsent script.cpus of.mark.lane) parts.marks.items → (book : Book) → IsBookOf script t book → ⊥
-absent_cpu script t parts stands some book of =
-    let Stands : MarkBy → Type 0 = λ by. stamped_at book by.mark.lane by.mark.place ≡ Some (by.mark.stamp, by.who) in
-    let all : AllByRecursion Stands (map seen_mark parts.marks.items) =
-    recursion_from_All Stands (map seen_mark parts.marks.items)
-    (All-permutation Stands (all_marks t) (map seen_mark parts.marks.items) stands.all_marks
-    (All-from_recursion Stands (all_marks t) of.visits.stand)) in
+absent_cpu script t parts conforms some book of =
+    let Conforms : MarkBy → Type 0 = λ by. stamped_at book by.mark.lane by.mark.place ≡ Some (by.mark.stamp, by.who) in
+    let all : AllByRecursion Conforms (map seen_mark parts.marks.items) =
+    recursion_from_All Conforms (map seen_mark parts.marks.items)
+    (All-permutation Conforms (all_marks t) (map seen_mark parts.marks.items) conforms.all_marks
+    (All-from_recursion Conforms (all_marks t) of.visits.conform)) in
     at_index (λ (m : MarkOf). IsAbsent script.cpus m.mark.lane → ⊥) parts.marks.items some.0 some.1
     (none_absent script t book of parts.marks.items all) some.2 some.3 some.4

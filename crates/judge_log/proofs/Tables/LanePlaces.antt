@@ -7,7 +7,7 @@ use Rattle.std.proofs.lemmas.Bool.Decides.{nat_tests}
 use Rattle.std.proofs.lemmas.List.Sums.{sum_by-cons}
 use Rattle.key_names.specs.declared.names.LaneId.{LaneId}
 use Rattle.key_names.specs.declared.names.Mark.{Mark}
-use Rattle.key_names.specs.Transcripts.IsTranscript.{MarkBy, is_same_lane, lane_marks, PlacesStand}
+use Rattle.key_names.specs.Transcripts.IsTranscript.{MarkBy, is_same_lane, lane_marks, PlacesConform}
 use Rattle.key_names.proofs.Transcripts.LaneCounts.{lane_itself}
 use Rattle.key_names.proofs.Transcripts.TakenMarks.{from_range}
 use Rattle.key_names.proofs.Transcripts.TranscriptBooks.{lt_or_le}
@@ -58,8 +58,8 @@ no_room : (n q : ℕ) (ms : List Mark) → n ≤ q → below n ms + at q ms ≤ 
 no_room n q [] le = omega arith
 no_room n q (m ∷ ms) le = omega (arith, no_room n q ms le, one_of_both m.place n q le)
 
-none_at : (q : ℕ) (ms : List Mark) → PlacesStand ms → length ms ≤ q → at q ms ≡ 0
-none_at q ms stand le =
+none_at : (q : ℕ) (ms : List Mark) → PlacesConform ms → length ms ≤ q → at q ms ≡ 0
+none_at q ms conform le =
     let all : below (length ms) ms ≡ length ms = all_below (length ms) ms once in
     omega (arith, no_room (length ms) q ms le)
   where
@@ -67,7 +67,7 @@ none_at q ms stand le =
     once i low =
         let p : 0 + i ≡ i = omega arith in
         sym (at_is_count i ms) ∙ sym (ap (λ j. count_by (λ (mark : Mark). mark.place == j) ms) p)
-        ∙ from_range (λ place. count_by (λ mark. mark.place == place) ms ≡ 1) 0 (length ms) stand.once i low
+        ∙ from_range (λ place. count_by (λ mark. mark.place == place) ms ≡ 1) 0 (length ms) conform.once i low
 
 -- if no mark has a place of n or more, all places are below n
 low_places : (n : ℕ) (ms : List Mark) → ((q : ℕ) → n ≤ q → at q ms ≡ 0) → AllByRecursion (λ m. m.place < n) ms
@@ -83,8 +83,8 @@ low_places n (m ∷ ms) none = (
         let itself : hit (m.place == m.place) ≡ 1 = ap hit (eq-eqb m.place m.place refl) in
         let whole : hit (m.place == m.place) + at m.place ms ≡ 0 = none m.place le in absurd (omega arith)
 
-pub places_low : (ms : List Mark) → PlacesStand ms → AllByRecursion (λ m. m.place < length ms) ms
-places_low ms stand = low_places (length ms) ms (λ q le. none_at q ms stand le)
+pub places_low : (ms : List Mark) → PlacesConform ms → AllByRecursion (λ m. m.place < length ms) ms
+places_low ms conform = low_places (length ms) ms (λ q le. none_at q ms conform le)
 
 -- ---- from lanes to all marks
 
@@ -99,7 +99,7 @@ module _ (P : LaneId → Mark → Type 0) where
   rest_of true lane m ms all = all.1
   rest_of false lane m ms all = all
 
-  -- a fact of the marks of each lane holds of all marks
+  -- if P holds of the marks of each lane, P holds of all marks
   pub in_lanes : (marks : List MarkBy) → ((lane : LaneId) → AllByRecursion (P lane) (lane_marks lane marks)) →
       AllByRecursion (λ by. P by.mark.lane by.mark) marks
   in_lanes [] all = tt
@@ -109,8 +109,8 @@ module _ (P : LaneId → Mark → Type 0) where
     in_lanes marks (λ lane. rest_of (is_same_lane by.mark.lane lane) lane by.mark (lane_marks lane marks) (all lane)),
   )
 
-pub marks_low : (marks : List MarkBy) → ((lane : LaneId) → PlacesStand (lane_marks lane marks)) →
+pub marks_low : (marks : List MarkBy) → ((lane : LaneId) → PlacesConform (lane_marks lane marks)) →
     AllByRecursion (λ by. by.mark.place < length (lane_marks by.mark.lane marks)) marks
-marks_low marks stand =
+marks_low marks conform =
     in_lanes (λ lane m. m.place < length (lane_marks lane marks)) marks
-    (λ lane. places_low (lane_marks lane marks) (stand lane))
+    (λ lane. places_low (lane_marks lane marks) (conform lane))

@@ -1,4 +1,5 @@
--- A fact of the lane and place of each mark holds of each visit of the lines and of the calls' lines, and conversely.
+-- A fact about a lane and a place holds of all marks exactly if it holds of each visit of the lines. The lines of all
+-- calls have the same visits.
 use Rattle.std.proofs.Common.{ℕ, suc, List, [], ◌∷◌}
 use Rattle.std.specs.Bool.{⊤}
 use Rattle.std.specs.List.{AllByRecursion, flat_map}
@@ -63,7 +64,7 @@ module _ (Q : LaneId → ℕ → Type 0) where
   all_of_lines (lines ∷ t) all =
       each_append MarkHas (flat_map line_marks lines) (all_marks t) (of_lines lines all.0) (all_of_lines t all.1)
 
--- a fact of each line holds of each line of the calls, and conversely
+-- a fact holds of each line exactly if it holds of each line of the calls
 module _ (P : SeenLine → Type 0) where
   pub to_callers : (c : ℕ) (ess : List (List Event)) (t : List (List SeenLine)) →
       EachCaller (λ c events lines. LinesFit c 0 events lines) c ess t →

@@ -1,4 +1,4 @@
--- A row is put at the place of a mark, in the table of its lane.
+-- The row of a mark is put at the mark's place, in the table of the mark's lane.
 use Rattle.std.proofs.Common.{◌≡◌, ◌≢◌, ℕ, ◌<◌, ◌≤◌, Bool, true, false, List, [], ◌∷◌, length, Some, refl, sym, subst, ap, ◌∙◌, arith}
 use Rattle.std.specs.Prelude.{slice_get, ◌==◌, ◌&&◌}
 use Rattle.std.proofs.lemmas.Bool.{and_parts, eq-eqb, eqb-true}
@@ -10,9 +10,9 @@ use Rattle.key_names.specs.Lanes.Book.{list_at}
 use Rattle.key_names.specs.Transcripts.IsTranscript.{is_same_lane}
 use Rattle.key_names.proofs.Transcripts.LaneCounts.{lane_itself, same_lane}
 use Rattle.key_names.proofs.Lists.ListFacts.{list_beyond}
-use Rattle.judge_lines.specs.Told.{pool_told, base_told}
-use Rattle.judge_log.specs.declared.told.ToldPool.{ToldPool}
-use Rattle.judge_log.specs.declared.told.ToldCpu.{ToldCpu}
+use Rattle.judge_lines.specs.Inferred.{pool_inferred, base_inferred}
+use Rattle.judge_log.specs.declared.inferred.InferredPool.{InferredPool}
+use Rattle.judge_log.specs.declared.inferred.InferredCpu.{InferredCpu}
 use Rattle.judge_log.specs.Tables.{Tables}
 use Rattle.judge_log.specs.Rows.{IsPoolRow, cpu_row}
 use Rattle.judge_log.specs.Spots.{Spot, rows_in, SameRow, is_visit, SpotRow, Changes}
@@ -49,8 +49,8 @@ module _ (spot : Spot) (mark : Mark) (old new : Tables) (is : spot.step ≡ Mark
       (subst (λ p. p < rows_in old mark.lane → SpotRow new spot mark.lane p) v.1 here)))
       (λ lane place no. others lane place (not_visited lane place no))
 
-  pub pool_put : mark.lane ≡ PoolLane → (row : ToldPool) → PutAt old.pool new.pool mark.place row →
-      IsPoolRow spot.set spot.tells (pool_told spot.tells spot.around) row → new.base ≡ old.base → new.cpus ≡ old.cpus →
+  pub pool_put : mark.lane ≡ PoolLane → (row : InferredPool) → PutAt old.pool new.pool mark.place row →
+      IsPoolRow spot.set spot.tells (pool_inferred spot.tells spot.neighbours) row → new.base ≡ old.base → new.cpus ≡ old.cpus →
       Changes (spot ∷ []) old new
   pool_put lane_is row put tells base cpus = row_put (ap length cpus) sizes
       (subst (λ l. mark.place < rows_in old l → SpotRow new spot l mark.place) (sym lane_is)
@@ -59,14 +59,14 @@ module _ (spot : Spot) (mark : Mark) (old new : Tables) (is : spot.step ≡ Mark
       sizes : (lane : LaneId) → rows_in new lane ≡ rows_in old lane
       sizes PoolLane = put.long
       sizes BaseLane = ap length base
-      sizes (CpuLane c) = ap (λ (xs : List (List ToldCpu)). length (list_at xs c)) cpus
+      sizes (CpuLane c) = ap (λ (xs : List (List InferredCpu)). length (list_at xs c)) cpus
 
       others : (lane : LaneId) (place : ℕ) → (mark.lane ≡ lane → place ≢ mark.place) → SameRow old new lane place
       others PoolLane place ne = put.others place (ne lane_is)
       others BaseLane place ne = ap (λ xs. slice_get xs place) base
-      others (CpuLane c) place ne = ap (λ (xs : List (List ToldCpu)). slice_get (list_at xs c) place) cpus
+      others (CpuLane c) place ne = ap (λ (xs : List (List InferredCpu)). slice_get (list_at xs c) place) cpus
 
-  pub base_put : mark.lane ≡ BaseLane → PutAt old.base new.base mark.place (base_told spot.set spot.tells spot.around) →
+  pub base_put : mark.lane ≡ BaseLane → PutAt old.base new.base mark.place (base_inferred spot.set spot.tells spot.neighbours) →
       new.pool ≡ old.pool → new.cpus ≡ old.cpus → Changes (spot ∷ []) old new
   base_put lane_is put pool cpus = row_put (ap length cpus) sizes
       (subst (λ l. mark.place < rows_in old l → SpotRow new spot l mark.place) (sym lane_is) put.at) others
@@ -74,16 +74,16 @@ module _ (spot : Spot) (mark : Mark) (old new : Tables) (is : spot.step ≡ Mark
       sizes : (lane : LaneId) → rows_in new lane ≡ rows_in old lane
       sizes PoolLane = ap length pool
       sizes BaseLane = put.long
-      sizes (CpuLane c) = ap (λ (xs : List (List ToldCpu)). length (list_at xs c)) cpus
+      sizes (CpuLane c) = ap (λ (xs : List (List InferredCpu)). length (list_at xs c)) cpus
 
       others : (lane : LaneId) (place : ℕ) → (mark.lane ≡ lane → place ≢ mark.place) → SameRow old new lane place
       others PoolLane place ne = ap (λ xs. slice_get xs place) pool
       others BaseLane place ne = put.others place (ne lane_is)
-      others (CpuLane c) place ne = ap (λ (xs : List (List ToldCpu)). slice_get (list_at xs c) place) cpus
+      others (CpuLane c) place ne = ap (λ (xs : List (List InferredCpu)). slice_get (list_at xs c) place) cpus
 
-  -- if a row is put into the table of a CPU and nothing else changes, the tables change by one spot
+  -- if only one row changes, and that row is in the table of a CPU, the tables change by one spot
   pub cpu_put : (cpu : ℕ) → mark.lane ≡ CpuLane cpu →
-      PutAt (list_at old.cpus cpu) (list_at new.cpus cpu) mark.place (cpu_row spot.set spot.tells spot.first spot.around) →
+      PutAt (list_at old.cpus cpu) (list_at new.cpus cpu) mark.place (cpu_row spot.set spot.tells spot.first spot.neighbours) →
       ((c : ℕ) → c ≢ cpu → list_at new.cpus c ≡ list_at old.cpus c) → length new.cpus ≡ length old.cpus →
       new.pool ≡ old.pool → new.base ≡ old.base → Changes (spot ∷ []) old new
   cpu_put cpu lane_is put elsewhere count pool base = row_put count sizes

@@ -1,4 +1,5 @@
--- Stamps rise along the steps of a single event, so the places of one lane rise too.
+-- Stamps rise along the steps of a single event. So if the event's line visits one CPU twice, the second place is
+-- higher.
 use Rattle.std.proofs.Common.{◌≡◌, ◌≢◌, ℕ, zero, suc, ◌<◌, inl, inr, Bool, true, false, List, [], ◌∷◌, ◌++◌, length, refl, sym, ap, ◌∙◌, subst, arith, Some, Option}
 use Rattle.std.specs.Prelude.{⊤, if◌then◌else◌, unwrap_or}
 use Rattle.std.specs.List.{AllByRecursion}
@@ -12,16 +13,16 @@ use Rattle.key_names.specs.declared.names.Step.TheVariants.{Look, Visit as Marke
 use Rattle.key_names.specs.Lanes.Book.{Book, Lists, lists_of, list_at}
 use Rattle.key_names.specs.Callers.Calls.{Call, alone, vread_call, unbound, ending}
 use Rattle.key_names.specs.Callers.CallerOrders.{start_of}
-use Rattle.key_names.specs.Callers.Deeds.{Deed, CpuVisit, at_cpu, deed_of, deeds_of}
+use Rattle.key_names.specs.Callers.Effects.{Effect, CpuVisit, at_cpu, effect_of, effects_of}
 use Rattle.key_names.specs.Callers.History.{stamps_of, call_steps, calls_steps, caller_orders}
 use Rattle.key_names.specs.Texts.ScriptGrammar.{Script}
 use Rattle.key_names.specs.Transcripts.SeenLine.{SeenLine}
-use Rattle.key_names.specs.Transcripts.IsTranscript.{MarkBy, Rises, MarksStand, PlacesStand, VisitsAre, is_same_lane, lane_marks, all_marks}
+use Rattle.key_names.specs.Transcripts.IsTranscript.{MarkBy, Rises, MarksConform, PlacesConform, VisitsAre, is_same_lane, lane_marks, all_marks}
 use Rattle.key_names.specs.Transcripts.IsTranscript.{stamped_at, script_calls}
 use Rattle.key_names.proofs.History.CallerOrders.{order_is_start_and_own}
 use Rattle.key_names.proofs.History.SortedVisits.{IsIn}
 use Rattle.key_names.proofs.Transcripts.TranscriptBooks.{lt_or_le}
-use Rattle.key_names.proofs.Samples.DeedPlaces.{CpuStep, cpu_step}
+use Rattle.key_names.proofs.Samples.EffectPlaces.{CpuStep, cpu_step}
 use Rattle.key_names.proofs.Samples.Lines.{each_in, Among, MarkOf, mark_of}
 use Rattle.key_names.proofs.Samples.LineVisits.{stamp_at}
 
@@ -80,7 +81,7 @@ each_at P [] none all c = none
 each_at P (xs ∷ xss) none all zero = all.0
 each_at P (xs ∷ xss) none all (suc c) = each_at P xss none all.1 c
 
-pub lines_rise : (script : Script) (t : List (List SeenLine)) → MarksStand script t → (c : ℕ) →
+pub lines_rise : (script : Script) (t : List (List SeenLine)) → MarksConform script t → (c : ℕ) →
     c < length (script_calls script t) → AllByRecursion LineRises (list_at (script_calls script t) c)
 lines_rise script t marks c lt =
     let callers = script_calls script t in
@@ -114,7 +115,7 @@ in_order a b ne above = elim (lt_or_le a b) [
 ]
 
 module _ (t : List (List SeenLine)) (book : Book) (visits : VisitsAre book (all_marks t))
-    (places : (lane : LaneId) → PlacesStand (lane_marks lane (all_marks t))) where
+    (places : (lane : LaneId) → PlacesConform (lane_marks lane (all_marks t))) where
   abbrev lists : Lists
   lists = lists_of book
 
@@ -168,13 +169,13 @@ module _ (t : List (List SeenLine)) (book : Book) (visits : VisitsAre book (all_
           let gt : n.mark.stamp < m.mark.stamp = rise (omega arith) in omega arith
 
   steps_in_order : (line : SeenLine) (steps : List Step) → line.steps ≡ steps → Among line t →
-      Rises (stamps_of steps) → (s d : CpuVisit) (ds : List Deed) → deeds_of lists steps ≡ at_cpu s ∷ at_cpu d ∷ ds →
+      Rises (stamps_of steps) → (s d : CpuVisit) (ds : List Effect) → effects_of lists steps ≡ at_cpu s ∷ at_cpu d ∷ ds →
       d.cpu ≡ s.cpu → s.place < d.place
   steps_in_order line [] same among rises s d ds is on = absurd (cc is)
   steps_in_order line (x ∷ []) same among rises s d ds is on = absurd (cc is)
   steps_in_order line (x ∷ y ∷ steps) same among rises s d ds is on =
-      let first : deed_of lists x ≡ at_cpu s = cc in
-      let second : deed_of lists y ≡ at_cpu d = cc in
+      let first : effect_of lists x ≡ at_cpu s = cc in
+      let second : effect_of lists y ≡ at_cpu d = cc in
       let k : CpuStep lists x s = cpu_step lists x s first in
       let l : CpuStep lists y d = cpu_step lists y d second in
       let P : Step → Type 0 = λ z. Rises (stamps_of (z ∷ y ∷ steps)) in
@@ -188,6 +189,6 @@ module _ (t : List (List SeenLine)) (book : Book) (visits : VisitsAre book (all_
       marks_in_order s.cpu s.place d.place k.mark.stamp l.mark.stamp m (subst R on n) lt
 
   -- if a line has a dump after a sample on the same CPU, the dump has the higher place
-  pub after : (line : SeenLine) → Among line t → Rises (stamps_of line.steps) → (s d : CpuVisit) (ds : List Deed) →
-      deeds_of lists line.steps ≡ at_cpu s ∷ at_cpu d ∷ ds → d.cpu ≡ s.cpu → s.place < d.place
+  pub after : (line : SeenLine) → Among line t → Rises (stamps_of line.steps) → (s d : CpuVisit) (ds : List Effect) →
+      effects_of lists line.steps ≡ at_cpu s ∷ at_cpu d ∷ ds → d.cpu ≡ s.cpu → s.place < d.place
   after line among rises s d ds is on = steps_in_order line line.steps refl among rises s d ds is on

@@ -1,4 +1,4 @@
--- Inferred entries are in the ranges of the tables: moments are those of the script, and integers have its widths.
+-- Inferred entries are in range: their moments are those of the script, and their integers have 1, 2, 4 or 8 bytes.
 use Rattle.std.proofs.Common.{◌≡◌, ℕ, zero, suc, ◌<◌, ◌^◌, Bool, true, false, List, [], ◌∷◌, length, Option, Some, None, inl, inr, refl, sym, subst, arith}
 use Rattle.std.specs.Bool.{⊤}
 use Rattle.std.specs.Prelude.{slice_get, if◌then◌else◌, ◌==◌}
@@ -28,22 +28,22 @@ use Rattle.key_names.proofs.Lists.Each.{each_append, each_weaker}
 use Rattle.key_names.proofs.Lists.ListFacts.{at_list, each_list}
 use Rattle.key_names.proofs.Unique.UniqueMarks.{one_entry}
 use Rattle.key_names.proofs.Unique.UniqueMeanings.{OfCall}
-use Rattle.judge_lines.specs.declared.told.Around.{Around}
-use Rattle.judge_lines.specs.declared.told.BaseTold.{BaseTold}
-use Rattle.judge_lines.specs.declared.told.PoolTold.{PoolTold}
-use Rattle.judge_lines.specs.declared.told.PoolTold.TheVariants.{Own as own, Extracted as extracted, Dumped as dumped_told}
-use Rattle.judge_lines.specs.declared.told.Sign.{Sign}
-use Rattle.judge_lines.specs.declared.told.Sign.TheVariants.{Saw as saw, InPool as in_pool, InBase as in_base}
-use Rattle.judge_lines.specs.declared.told.Sign.TheVariants.{InCpu as in_cpu, Nowhere as nowhere}
-use Rattle.judge_lines.specs.Told.{Telling, reads, ints, credits, samples, reseeds, ticks, forks, prepares, vmforks, ends, silent}
-use Rattle.judge_lines.specs.Told.{telling, act_telling, own_entry, pool_told, base_told, cpu_told, read_told, drawn_or_woken, crossed_told, forked_told}
-use Rattle.judge_lines.specs.Told.{cpu_read_told, cpu_int_told, int_told, sample_told, look_in}
+use Rattle.judge_lines.specs.declared.inferred.Neighbours.{Neighbours}
+use Rattle.judge_lines.specs.declared.inferred.BaseInferred.{BaseInferred}
+use Rattle.judge_lines.specs.declared.inferred.PoolInferred.{PoolInferred}
+use Rattle.judge_lines.specs.declared.inferred.PoolInferred.TheVariants.{Own as own, Extracted as extracted, Dumped as dumped_inferred}
+use Rattle.judge_lines.specs.declared.inferred.Sign.{Sign}
+use Rattle.judge_lines.specs.declared.inferred.Sign.TheVariants.{Saw as saw, InPool as in_pool, InBase as in_base}
+use Rattle.judge_lines.specs.declared.inferred.Sign.TheVariants.{InCpu as in_cpu, Nowhere as nowhere}
+use Rattle.judge_lines.specs.Inferred.{Telling, reads, ints, credits, samples, reseeds, ticks, forks, prepares, vmforks, ends, silent}
+use Rattle.judge_lines.specs.Inferred.{telling, act_telling, own_entry, pool_inferred, base_inferred, cpu_inferred, read_inferred, drawn_or_woken, crossed_inferred, forked_inferred}
+use Rattle.judge_lines.specs.Inferred.{cpu_read_inferred, cpu_int_inferred, int_inferred, sample_inferred, look_in}
 use Rattle.key_names.specs.declared.entries.Taken.{Taken}
-use Rattle.judge_log.specs.declared.told.ToldPool.{ToldPool}
-use Rattle.judge_log.specs.declared.told.ToldPool.TheVariants.{Is as pool_is, Dumped as dumped}
-use Rattle.judge_log.specs.declared.told.ToldCpu.{ToldCpu}
+use Rattle.judge_log.specs.declared.inferred.InferredPool.{InferredPool}
+use Rattle.judge_log.specs.declared.inferred.InferredPool.TheVariants.{Is as pool_is, Dumped as dumped}
+use Rattle.judge_log.specs.declared.inferred.InferredCpu.{InferredCpu}
 use Rattle.judge_log.specs.Tables.{Tables, NoteIsNear, PoolIsNear, BaseIsNear, IsWidth, EntryIsWide, CpuIsWide}
-use Rattle.judge_log.specs.Rows.{IsPoolRow, RowAt, cpu_row, AllRows, RowStands, LineRows, ActRows, CallRows, CallsRows, AllCallsRows, part_telling, first_shown, step_sign}
+use Rattle.judge_log.specs.Rows.{IsPoolRow, RowAt, cpu_row, AllRows, RowConforms, LineRows, ActRows, CallRows, CallsRows, AllCallsRows, part_telling, first_shown, step_sign}
 use Rattle.judge_log.proofs.Tables.MarkedSteps.{StepHas, LineHas}
 
 abbrev pub IsNear : Setting → Type 0
@@ -57,15 +57,15 @@ EntryIsNear (Mix text bits) = ⊤
 EntryIsNear BitsEntry = ⊤
 EntryIsNear (Extract hw base_place) = ⊤
 
-abbrev WidthStands : Telling → Type 0
-WidthStands (ints width) = IsWidth width
-WidthStands (prepares e) = EntryIsWide e
-WidthStands _ = ⊤
+abbrev WidthConforms : Telling → Type 0
+WidthConforms (ints width) = IsWidth width
+WidthConforms (prepares e) = EntryIsWide e
+WidthConforms _ = ⊤
 
 -- the entries that are inferred for this kind of line are in range
 record TellsNear (t : Telling) : Type 0 where
   own_near : EntryIsNear (own_entry t)
-  width : WidthStands t
+  width : WidthConforms t
 
 note_near : (note : PoolNote) (e : PoolEntry) → entry_of note ≡ e → EntryIsNear e → NoteIsNear note
 note_near (InputNote word kind code value now) e is near = subst EntryIsNear (sym is) near
@@ -74,30 +74,30 @@ note_near (DeviceNote word text) e is near = tt
 note_near BitsNote e is near = tt
 note_near (ExtractNote hw base_place) e is near = tt
 
-pool_near : (set : Setting) (t : Telling) (p : PoolTold) (row : ToldPool) → EntryIsNear (own_entry t) →
+pool_near : (set : Setting) (t : Telling) (p : PoolInferred) (row : InferredPool) → EntryIsNear (own_entry t) →
     IsPoolRow set t p row → PoolIsNear row
 pool_near set t own (pool_is note) near is = note_near note (own_entry t) is near
 pool_near set t (extracted i) (pool_is note) near is = note_near note (Extract set.hw i) is tt
-pool_near set t (dumped_told c k) (pool_is note) near is = absurd is
+pool_near set t (dumped_inferred c k) (pool_is note) near is = absurd is
 pool_near set t p (dumped cpu place) near is = tt
 
 woken_near : (taken : Taken) (before : Sign) → BaseIsNear (drawn_or_woken taken before)
 woken_near taken (in_base i) = tt
 woken_near taken _ = tt
 
-read_near : (set : Setting) (taken : Taken) (a b behind : Sign) →
-    BaseIsNear (read_told set taken (record { second_before = a; before = b; behind = behind }))
+read_near : (set : Setting) (taken : Taken) (a b following : Sign) →
+    BaseIsNear (read_inferred set taken (record { second_before = a; before = b; following = following }))
 read_near set taken a b (in_cpu c k) = tt
 read_near set taken a b (in_base i) = tt
 read_near set taken a b (saw g) = woken_near taken b
 read_near set taken a b (in_pool p) = woken_near taken b
 read_near set taken a b nowhere = woken_near taken b
 
-crossed_near : (set : Setting) (a b : Sign) → IsNear set → BaseIsNear (crossed_told set a b)
+crossed_near : (set : Setting) (a b : Sign) → IsNear set → BaseIsNear (crossed_inferred set a b)
 crossed_near set (in_pool p) b near = near
 crossed_near set _ b near = tt
 
-forked_near : (child : ℕ) (a b : Sign) → BaseIsNear (forked_told child a b)
+forked_near : (child : ℕ) (a b : Sign) → BaseIsNear (forked_inferred child a b)
 forked_near child a nowhere = tt
 forked_near child nowhere (saw g) = tt
 forked_near child nowhere (in_pool p) = tt
@@ -108,77 +108,77 @@ forked_near child a (in_pool p) = tt
 forked_near child a (in_base i) = tt
 forked_near child a (in_cpu c k) = tt
 
-base_near : (set : Setting) (t : Telling) (a b behind : Sign) → IsNear set →
-    BaseIsNear (base_told set t (record { second_before = a; before = b; behind = behind }))
-base_near set (reads taken) a b behind near = read_near set taken a b behind
-base_near set (ints width) a b behind near = read_near set _ a b behind
-base_near set (credits e) a b behind near = crossed_near set a b near
-base_near set (samples v1 v2) a b behind near = crossed_near set a b near
-base_near set reseeds a b behind near = near
-base_near set (vmforks e) a b behind near = near
-base_near set ticks a b behind near = near
-base_near set (forks child) a b behind near = forked_near child a b
-base_near set _ a b behind near = tt
+base_near : (set : Setting) (t : Telling) (a b following : Sign) → IsNear set →
+    BaseIsNear (base_inferred set t (record { second_before = a; before = b; following = following }))
+base_near set (reads taken) a b following near = read_near set taken a b following
+base_near set (ints width) a b following near = read_near set _ a b following
+base_near set (credits e) a b following near = crossed_near set a b near
+base_near set (samples v1 v2) a b following near = crossed_near set a b near
+base_near set reseeds a b following near = near
+base_near set (vmforks e) a b following near = near
+base_near set ticks a b following near = near
+base_near set (forks child) a b following near = forked_near child a b
+base_near set _ a b following near = tt
 
-cpu_read_wide : (taken : Taken) (a b : Sign) → CpuIsWide (cpu_read_told taken a b)
+cpu_read_wide : (taken : Taken) (a b : Sign) → CpuIsWide (cpu_read_inferred taken a b)
 cpu_read_wide taken a (in_base i) = tt
 cpu_read_wide taken a _ = tt
 
-cpu_int_wide : (width : ℕ) (a b : Sign) → IsWidth width → CpuIsWide (cpu_int_told width a b)
+cpu_int_wide : (width : ℕ) (a b : Sign) → IsWidth width → CpuIsWide (cpu_int_inferred width a b)
 cpu_int_wide width a (in_base i) wide = wide
 cpu_int_wide width a _ wide = wide
 
-int_wide : (width found : ℕ) (a b : Sign) → IsWidth width → CpuIsWide (int_told width found a b)
+int_wide : (width found : ℕ) (a b : Sign) → IsWidth width → CpuIsWide (int_inferred width found a b)
 int_wide width zero a b wide = cpu_read_wide _ a b
 int_wide width (suc g) a b wide = cpu_int_wide width a b wide
 
-sample_wide : (set : Setting) (v1 v2 : ℕ) (b : Sign) → CpuIsWide (sample_told set v1 v2 b)
+sample_wide : (set : Setting) (v1 v2 : ℕ) (b : Sign) → CpuIsWide (sample_inferred set v1 v2 b)
 sample_wide set v1 v2 nowhere = tt
 sample_wide set v1 v2 _ = tt
 
-cpu_wide : (set : Setting) (t : Telling) (first a b behind : Sign) → WidthStands t →
-    CpuIsWide (cpu_told set t first (record { second_before = a; before = b; behind = behind }))
-cpu_wide set (reads taken) first a b behind wide = cpu_read_wide taken a b
-cpu_wide set (ints width) first a b behind wide = int_wide width (look_in first) a b wide
-cpu_wide set (samples v1 v2) first a b behind wide = sample_wide set v1 v2 b
-cpu_wide set (prepares e) first a b behind wide = wide
-cpu_wide set _ first a b behind wide = tt
+cpu_wide : (set : Setting) (t : Telling) (first a b following : Sign) → WidthConforms t →
+    CpuIsWide (cpu_inferred set t first (record { second_before = a; before = b; following = following }))
+cpu_wide set (reads taken) first a b following wide = cpu_read_wide taken a b
+cpu_wide set (ints width) first a b following wide = int_wide width (look_in first) a b wide
+cpu_wide set (samples v1 v2) first a b following wide = sample_wide set v1 v2 b
+cpu_wide set (prepares e) first a b following wide = wide
+cpu_wide set _ first a b following wide = tt
 
-module _ (told : Tables) where
+module _ (inferred : Tables) where
   -- if there is a row at this place, it is in range
   abbrev pub NearAt : LaneId → ℕ → Type 0
-  NearAt PoolLane place = (u : ToldPool) → slice_get told.pool place ≡ Some u → PoolIsNear u
-  NearAt BaseLane place = (u : BaseTold) → slice_get told.base place ≡ Some u → BaseIsNear u
-  NearAt (CpuLane c) place = (u : ToldCpu) → slice_get (list_at told.cpus c) place ≡ Some u → CpuIsWide u.entry
+  NearAt PoolLane place = (u : InferredPool) → slice_get inferred.pool place ≡ Some u → PoolIsNear u
+  NearAt BaseLane place = (u : BaseInferred) → slice_get inferred.base place ≡ Some u → BaseIsNear u
+  NearAt (CpuLane c) place = (u : InferredCpu) → slice_get (list_at inferred.cpus c) place ≡ Some u → CpuIsWide u.entry
 
-  row_near : (set : Setting) (t : Telling) (first : Sign) (around : Around) (lane : LaneId) (place : ℕ) → IsNear set →
-      TellsNear t → RowAt told set t first around lane place → NearAt lane place
-  row_near set t first around PoolLane place near tells row = λ u at.
-      subst PoolIsNear (one_entry told.pool told.pool place row.row u row.is at refl)
-      (pool_near set t (pool_told t around) row.row tells.own_near row.tells)
-  row_near set t first around BaseLane place near tells row = λ u at.
-      subst BaseIsNear (one_entry told.base told.base place (base_told set t around) u row at refl)
-      (base_near set t around.second_before around.before around.behind near)
-  row_near set t first around (CpuLane c) place near tells row = λ u at.
-      subst (λ (v : ToldCpu). CpuIsWide v.entry)
-      (one_entry (list_at told.cpus c) (list_at told.cpus c) place (cpu_row set t first around) u row at refl)
-      (cpu_wide set t first around.second_before around.before around.behind tells.width)
+  row_near : (set : Setting) (t : Telling) (first : Sign) (neighbours : Neighbours) (lane : LaneId) (place : ℕ) → IsNear set →
+      TellsNear t → RowAt inferred set t first neighbours lane place → NearAt lane place
+  row_near set t first neighbours PoolLane place near tells row = λ u at.
+      subst PoolIsNear (one_entry inferred.pool inferred.pool place row.row u row.is at refl)
+      (pool_near set t (pool_inferred t neighbours) row.row tells.own_near row.tells)
+  row_near set t first neighbours BaseLane place near tells row = λ u at.
+      subst BaseIsNear (one_entry inferred.base inferred.base place (base_inferred set t neighbours) u row at refl)
+      (base_near set t neighbours.second_before neighbours.before neighbours.following near)
+  row_near set t first neighbours (CpuLane c) place near tells row = λ u at.
+      subst (λ (v : InferredCpu). CpuIsWide v.entry)
+      (one_entry (list_at inferred.cpus c) (list_at inferred.cpus c) place (cpu_row set t first neighbours) u row at refl)
+      (cpu_wide set t first neighbours.second_before neighbours.before neighbours.following tells.width)
 
   module _ (set : Setting) (near : IsNear set) where
-    steps_near : (tell : Around → Telling) (first a b : Sign) (steps : List Step) →
-        ((around : Around) → TellsNear (tell around)) → AllRows (RowStands told set tell first) a b steps →
+    steps_near : (tell : Neighbours → Telling) (first a b : Sign) (steps : List Step) →
+        ((neighbours : Neighbours) → TellsNear (tell neighbours)) → AllRows (RowConforms inferred set tell first) a b steps →
         AllByRecursion (StepHas NearAt) steps
     steps_near tell first a b [] tells rows = tt
     steps_near tell first a b (step ∷ steps) tells rows =
-        let around : Around = record { second_before = a; before = b; behind = first_shown steps } in
-        (one around step rows.0, steps_near tell first b (step_sign step) steps tells rows.1)
+        let neighbours : Neighbours = record { second_before = a; before = b; following = first_shown steps } in
+        (one neighbours step rows.0, steps_near tell first b (step_sign step) steps tells rows.1)
       where
-        one : (around : Around) (step : Step) → RowStands told set tell first around step → StepHas NearAt step
-        one around (Look g) row = tt
-        one around (Marked mark) row = row_near set (tell around) first around mark.lane mark.place near (tells around) row
+        one : (neighbours : Neighbours) (step : Step) → RowConforms inferred set tell first neighbours step → StepHas NearAt step
+        one neighbours (Look g) row = tt
+        one neighbours (Marked mark) row = row_near set (tell neighbours) first neighbours mark.lane mark.place near (tells neighbours) row
 
-    line_near : (tell : Around → Telling) (steps : List Step) → ((around : Around) → TellsNear (tell around)) →
-        LineRows told set tell steps → AllByRecursion (StepHas NearAt) steps
+    line_near : (tell : Neighbours → Telling) (steps : List Step) → ((neighbours : Neighbours) → TellsNear (tell neighbours)) →
+        LineRows inferred set tell steps → AllByRecursion (StepHas NearAt) steps
     line_near tell steps tells rows = steps_near tell (first_shown steps) nowhere nowhere steps tells rows
 
     plain : (taken : Taken) → TellsNear (reads taken)
@@ -200,22 +200,22 @@ module _ (told : Tables) where
     act_tells (VreadAct n) = plain _
     act_tells ReseedAct = record { own_near = tt; width = tt }
 
-    acts_near : (acts : List BoundAct) → AllByRecursion (ActRows told set) acts →
+    acts_near : (acts : List BoundAct) → AllByRecursion (ActRows inferred set) acts →
         AllByRecursion (λ bound. LineHas NearAt bound.line) acts
     acts_near [] rows = tt
     acts_near (bound ∷ acts) rows = (
-      line_near (λ around. act_telling bound.act) bound.line.steps (λ around. act_tells bound.act) rows.0,
+      line_near (λ neighbours. act_telling bound.act) bound.line.steps (λ neighbours. act_tells bound.act) rows.0,
       acts_near acts rows.1,
     )
 
-    call_near : (call : Call) → CallRows told set call → OfCall (LineHas NearAt) call
+    call_near : (call : Call) → CallRows inferred set call → OfCall (LineHas NearAt) call
     call_near (alone event line) rows =
-        line_near (λ around. telling set event) line.steps (λ around. event_tells event) rows
+        line_near (λ neighbours. telling set event) line.steps (λ neighbours. event_tells event) rows
     call_near (vread_call n flags line acts) rows =
-        (line_near (part_telling n) line.steps (λ around. plain _) rows.0, acts_near acts rows.1)
-    call_near (unbound bound) rows = line_near (λ around. silent) bound.line.steps (λ around. none) rows
+        (line_near (part_telling n) line.steps (λ neighbours. plain _) rows.0, acts_near acts rows.1)
+    call_near (unbound bound) rows = line_near (λ neighbours. silent) bound.line.steps (λ neighbours. none) rows
     call_near (ending line) rows =
-        line_near (λ around. ends) line.steps (λ around. record { own_near = tt; width = tt }) rows
+        line_near (λ neighbours. ends) line.steps (λ neighbours. record { own_near = tt; width = tt }) rows
 
 -- ---- settings
 
@@ -240,12 +240,12 @@ call_after set (vread_call n flags line acts) near moves = near
 call_after set (unbound bound) near moves = near
 call_after set (ending line) near moves = near
 
-calls_near : (told : Tables) (set : Setting) (calls : List Call) → IsNear set → AllByRecursion CallIsNear calls →
-    CallsRows told set calls → AllByRecursion (OfCall (LineHas (NearAt told))) calls
-calls_near told set [] near all rows = tt
-calls_near told set (call ∷ calls) near all rows = (
-  call_near told set near call rows.0,
-  calls_near told (setting_after_call set call) calls (call_after set call near all.0) all.1 rows.1,
+calls_near : (inferred : Tables) (set : Setting) (calls : List Call) → IsNear set → AllByRecursion CallIsNear calls →
+    CallsRows inferred set calls → AllByRecursion (OfCall (LineHas (NearAt inferred))) calls
+calls_near inferred set [] near all rows = tt
+calls_near inferred set (call ∷ calls) near all rows = (
+  call_near inferred set near call rows.0,
+  calls_near inferred (setting_after_call set call) calls (call_after set call near all.0) all.1 rows.1,
 )
 
 after_calls : (set : Setting) (calls : List Call) → IsNear set → AllByRecursion CallIsNear calls →
@@ -341,11 +341,11 @@ all_calls_near version cpus (es ∷ ess) (lines ∷ t) all = (
   all_calls_near version cpus ess t all.1,
 )
 
-pub all_rows_near : (told : Tables) (callers : List (List Call)) →
-    AllByRecursion (λ calls. AllByRecursion CallIsNear calls) callers → AllCallsRows told callers →
-    AllByRecursion (λ calls. AllByRecursion (OfCall (LineHas (NearAt told))) calls) callers
-all_rows_near told callers all rows =
-    each_list (λ calls. AllByRecursion (OfCall (LineHas (NearAt told))) calls) callers
-    (λ c low. calls_near told (start_setting callers c) (list_at callers c)
+pub all_rows_near : (inferred : Tables) (callers : List (List Call)) →
+    AllByRecursion (λ calls. AllByRecursion CallIsNear calls) callers → AllCallsRows inferred callers →
+    AllByRecursion (λ calls. AllByRecursion (OfCall (LineHas (NearAt inferred))) calls) callers
+all_rows_near inferred callers all rows =
+    each_list (λ calls. AllByRecursion (OfCall (LineHas (NearAt inferred))) calls) callers
+    (λ c low. calls_near inferred (start_setting callers c) (list_at callers c)
     (setting_at (first_settings callers (length callers)) c (firsts_near callers (length callers) all))
     (at_list (λ calls. AllByRecursion CallIsNear calls) callers c low all) (rows c low))

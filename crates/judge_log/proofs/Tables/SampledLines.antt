@@ -9,17 +9,17 @@ use Rattle.key_names.specs.declared.entries.CpuEntry.TheVariants.{Irq as IrqSamp
 use Rattle.key_names.specs.declared.events.Event.{Event}
 use Rattle.key_names.specs.Lanes.Book.{Book, Lists, LawfulLanes, Visit, lists_of, list_at}
 use Rattle.key_names.specs.Callers.Calls.{Setting, Call, alone, vread_call, unbound, ending, setting_after_call}
-use Rattle.key_names.specs.Callers.Deeds.{Deed, CpuVisit, at_pool, at_cpu, deeds_of, cpu_visit}
+use Rattle.key_names.specs.Callers.Effects.{Effect, CpuVisit, at_pool, at_cpu, effects_of, cpu_visit}
 use Rattle.key_names.specs.declared.entries.CpuEntry.{CpuEntry}
 use Rattle.key_names.specs.Kernel.FastPool.{FastPool, fast_after, makes_due, dump_bytes, dump_bits}
 use Rattle.key_names.specs.Callers.Forms.{IrqForm}
-use Rattle.key_names.specs.Callers.LineSamples.{IsQuiet, IsCrossing, SamplesStand}
+use Rattle.key_names.specs.Callers.LineSamples.{IsQuiet, IsCrossing, SamplesConform}
 use Rattle.key_names.specs.Lanes.Samples.{MakesDue, IsDump, DueAt, DumpAt, visits_of, fast_before, LawfulSamples}
 use Rattle.key_names.specs.Texts.ScriptGrammar.{Script}
 use Rattle.key_names.specs.Transcripts.SeenLine.{SeenLine}
 use Rattle.key_names.specs.Callers.Meaning.{CallMeaning}
-use Rattle.key_names.specs.Transcripts.IsTranscript.{HasLines, MarksStand, script_calls, start_setting, all_marks, lane_marks}
-use Rattle.key_names.specs.Transcripts.IsTranscript.{PlacesStand, VisitsAre}
+use Rattle.key_names.specs.Transcripts.IsTranscript.{HasLines, MarksConform, script_calls, start_setting, all_marks, lane_marks}
+use Rattle.key_names.specs.Transcripts.IsTranscript.{PlacesConform, VisitsAre}
 use Rattle.key_names.proofs.History.SortedVisits.{IsIn}
 use Rattle.key_names.proofs.Unique.UniqueEvents.{entries_at}
 use Rattle.key_names.proofs.Unique.UniqueMeanings.{OfCall}
@@ -28,11 +28,11 @@ use Rattle.judge_log.specs.Gathered.{IsBookOf, AllMean}
 use Rattle.judge_log.proofs.Tables.CallForms.{CallsForm, all_forms}
 use Rattle.judge_log.proofs.Tables.CallLines.{to_calls, to_lines}
 use Rattle.judge_log.proofs.Tables.IrqShapes.{IrqOnly, IrqDumps, irq_shape, crosses, sample_quiet, sample_due}
-use Rattle.judge_log.proofs.Tables.IrqShapes.{CallsHere, calls_stand}
+use Rattle.judge_log.proofs.Tables.IrqShapes.{CallsHere, calls_conform}
 use Rattle.key_names.proofs.Samples.Lines.{Among, Apart, apart, each_among, each_in}
 use Rattle.key_names.proofs.Samples.SampleLaw.{due_dump, due_at, dump_at, mix_at, due_in, dump_in_line}
 
--- a CPU's fast pool before a place is determined by the CPU's entries
+-- a CPU's entries determine its fast pool before each place
 fast_before_is : (book : Book) (c place : ℕ) →
     fast_before (visits_of book c) place ≡ (facts_of (lists_of book)).fast c place
 fast_before_is book c place = ap (λ es. fast_after (take place es)) (entries_at book.cpus c)
@@ -42,41 +42,41 @@ pub fast_is : (book : Book) (c place : ℕ) (v : Visit CpuEntry) → slice_get (
 fast_is book c place v at = fast_before_is book c place
 
 module _ (t : List (List SeenLine)) (book : Book) (apart : Apart t) (visits : VisitsAre book (all_marks t))
-    (places : (lane : LaneId) → PlacesStand (lane_marks lane (all_marks t))) (samples : LawfulSamples book) where
+    (places : (lane : LaneId) → PlacesConform (lane_marks lane (all_marks t))) (samples : LawfulSamples book) where
   abbrev lists : Lists
   lists = lists_of book
 
   abbrev fast : ℕ → ℕ → FastPool
   fast = (facts_of lists).fast
 
-  abbrev deeds : SeenLine → List Deed
-  deeds line = deeds_of lists line.steps
+  abbrev effects : SeenLine → List Effect
+  effects line = effects_of lists line.steps
 
-  abbrev Stands : SeenLine → Type 0
-  Stands line = SamplesStand fast (deeds line)
+  abbrev Conforms : SeenLine → Type 0
+  Conforms line = SamplesConform fast (effects line)
 
   module _ (line : SeenLine) (here : Among line t) (set : Setting) (v1 v2 : ℕ) where
     abbrev who : Who
     who = record { caller = line.caller; event = line.event; step = 0 }
 
-    -- a sample is no dump
+    -- the visit of a sample is not the visit of a dump
     not_dump : (s d : CpuVisit) → s.entry ≡ IrqSample v1 v2 set.now → at_cpu s ≡ at_cpu d → IsDump d.entry → ⊥
     not_dump s d is same dump =
         let p : s ≡ d = cc in
         let q : d.entry ≡ IrqSample v1 v2 set.now = sym (ap (λ (v : CpuVisit). v.entry) p) ∙ is in subst IsDump q dump
 
-    only_stands : IrqOnly set v1 v2 (deeds line) → Stands line
-    only_stands f = go (makes_due (fast f.sample.cpu f.sample.place) set.now) refl
+    only_conforms : IrqOnly set v1 v2 (effects line) → Conforms line
+    only_conforms f = go (makes_due (fast f.sample.cpu f.sample.place) set.now) refl
       where
-        there : IsIn (at_cpu f.sample) (deeds line)
-        there = subst (IsIn (at_cpu f.sample)) (sym f.deeds_are) (inl refl)
+        there : IsIn (at_cpu f.sample) (effects line)
+        there = subst (IsIn (at_cpu f.sample)) (sym f.effects_are) (inl refl)
 
         no_dump : (v : CpuVisit) → IsDump v.entry → IsIn (at_cpu v) (at_cpu f.sample ∷ []) → ⊥
         no_dump v dump (inl same) = not_dump f.sample v f.samples same dump
         no_dump v dump (inr none) = none
 
-        go : (b : Bool) → makes_due (fast f.sample.cpu f.sample.place) set.now ≡ b → Stands line
-        go false not_due = inl (subst (AllByRecursion (IsQuiet fast)) (sym f.deeds_are)
+        go : (b : Bool) → makes_due (fast f.sample.cpu f.sample.place) set.now ≡ b → Conforms line
+        go false not_due = inl (subst (AllByRecursion (IsQuiet fast)) (sym f.effects_are)
             (sample_quiet (fast f.sample.cpu f.sample.place) f.sample.entry v1 v2 set.now f.samples not_due, tt))
         go true due_now =
             let due : DueAt (visits_of book f.sample.cpu) f.sample.place who =
@@ -84,17 +84,17 @@ module _ (t : List (List SeenLine)) (book : Book) (apart : Apart t) (visits : Vi
             (sample_due (fast f.sample.cpu f.sample.place) f.sample.entry v1 v2 set.now f.samples due_now) in
             let d = samples.due_is_dumped f.sample.cpu f.sample.place who due in
             let v : CpuVisit = cpu_visit lists f.sample.cpu d.0 d.2.visit.entry in
-            let in_line : IsIn (at_cpu v) (deeds line) =
+            let in_line : IsIn (at_cpu v) (effects line) =
             dump_in_line t book fast (fast_is book) apart visits places line f.sample.cpu d.0 who here refl refl d.2 in
-            absurd (no_dump v d.2.dumps (subst (IsIn (at_cpu v)) f.deeds_are in_line))
+            absurd (no_dump v d.2.dumps (subst (IsIn (at_cpu v)) f.effects_are in_line))
 
-    dumps_stand : IrqDumps set v1 v2 (deeds line) → Stands line
-    dumps_stand f = inr (record {
+    dumps_conform : IrqDumps set v1 v2 (effects line) → Conforms line
+    dumps_conform f = inr (record {
       sample = f.sample;
       dump = f.dump;
       mix = f.mix;
       rest = f.rest;
-      deeds_are = f.deeds_are;
+      effects_are = f.effects_are;
       due = the_sample.0;
       on = f.on;
       after = the_sample.1;
@@ -107,8 +107,8 @@ module _ (t : List (List SeenLine)) (book : Book) (apart : Apart t) (visits : Vi
         is_dump : IsDump f.dump.entry
         is_dump = subst IsDump (sym f.dumps) tt
 
-        there : (d : Deed) → IsIn d (at_cpu f.sample ∷ at_cpu f.dump ∷ at_pool f.mix ∷ f.rest) → IsIn d (deeds line)
-        there d among = subst (IsIn d) (sym f.deeds_are) among
+        there : (d : Effect) → IsIn d (at_cpu f.sample ∷ at_cpu f.dump ∷ at_pool f.mix ∷ f.rest) → IsIn d (effects line)
+        there d among = subst (IsIn d) (sym f.effects_are) among
 
         dumped : DumpAt (visits_of book f.dump.cpu) f.dump.place who
         dumped = dump_at t book fast (fast_is book) apart visits places line f.dump who here (there (at_cpu f.dump) (inr (inl refl))) refl
@@ -120,7 +120,7 @@ module _ (t : List (List SeenLine)) (book : Book) (apart : Apart t) (visits : Vi
             (mix_at t book fast (fast_is book) apart visits places line f.mix who f.text f.bits here
             (there (at_pool f.mix) (inr (inr (inl refl)))) refl refl f.mixes)
 
-        -- if a visit of this line before its dump made a dump due, it is the line's sample
+        -- if a visit of this line made a dump due at a place before the line's dump, the visit is the line's sample
         at_sample : (v : CpuVisit) → v.place < f.dump.place → MakesDue (fast v.cpu v.place) v.entry →
             IsIn (at_cpu v) (at_cpu f.sample ∷ at_cpu f.dump ∷ at_pool f.mix ∷ f.rest) →
             MakesDue (fast f.sample.cpu f.sample.place) f.sample.entry × (f.sample.place < f.dump.place)
@@ -140,20 +140,20 @@ module _ (t : List (List SeenLine)) (book : Book) (apart : Apart t) (visits : Vi
             let d = samples.dump_is_due f.dump.cpu f.dump.place who dumped in
             let v : CpuVisit = cpu_visit lists f.dump.cpu d.0 d.2.visit.entry in
             let found = due_in t book fast (fast_is book) apart visits places line f.dump.cpu d.0 who here refl refl d.2 in
-            at_sample v d.1 found.1 (subst (IsIn (at_cpu v)) f.deeds_are found.0)
+            at_sample v d.1 found.1 (subst (IsIn (at_cpu v)) f.effects_are found.0)
 
   abbrev Here : Setting → Event → SeenLine → Type 0
   Here set event line = Among line t
 
-  irq_stands : (set : Setting) (v1 v2 : ℕ) (line : SeenLine) → Among line t → IrqForm set v1 v2 (deeds line) →
-      Stands line
-  irq_stands set v1 v2 line here f = elim (irq_shape set v1 v2 (deeds line) f) [
-    | inl only ↦ only_stands line here set v1 v2 only
-    | inr dumps ↦ dumps_stand line here set v1 v2 dumps
+  irq_conforms : (set : Setting) (v1 v2 : ℕ) (line : SeenLine) → Among line t → IrqForm set v1 v2 (effects line) →
+      Conforms line
+  irq_conforms set v1 v2 line here f = elim (irq_shape set v1 v2 (effects line) f) [
+    | inl only ↦ only_conforms line here set v1 v2 only
+    | inr dumps ↦ dumps_conform line here set v1 v2 dumps
   ]
 
   all_here : (set : Setting) (calls : List Call) → AllByRecursion (OfCall (λ line. Among line t)) calls →
-      CallsHere lists Here irq_stands set calls
+      CallsHere lists Here irq_conforms set calls
   all_here set [] among = tt
   all_here set (alone event line ∷ calls) among =
       (among.0, all_here (setting_after_call set (alone event line)) calls among.1)
@@ -162,17 +162,17 @@ module _ (t : List (List SeenLine)) (book : Book) (apart : Apart t) (visits : Vi
   all_here set (ending line ∷ calls) among = (tt, all_here set calls among.1)
 
   pub calls_sampled : (set : Setting) (calls : List Call) → AllByRecursion (OfCall (λ line. Among line t)) calls →
-      CallsForm lists set calls → AllByRecursion (OfCall Stands) calls
-  calls_sampled set calls among form = calls_stand lists Here irq_stands set calls (all_here set calls among) form
+      CallsForm lists set calls → AllByRecursion (OfCall Conforms) calls
+  calls_sampled set calls among form = calls_conform lists Here irq_conforms set calls (all_here set calls among) form
 
--- if a book of these marks has lawful lanes and samples, the samples of each line are lawful
+-- if a book of these marks has lawful lanes and lawful samples, the samples of each line are lawful
 pub all_sampled : (script : Script) (t : List (List SeenLine)) (book : Book) (ms : List (List CallMeaning)) →
-    HasLines script t → MarksStand script t → IsBookOf script t book → AllMean script t book ms →
+    HasLines script t → MarksConform script t → IsBookOf script t book → AllMean script t book ms →
     LawfulLanes (lists_of book) → LawfulSamples book →
-    AllByRecursion (AllByRecursion (λ line. SamplesStand (facts_of (lists_of book)).fast
-    (deeds_of (lists_of book) line.steps))) t
+    AllByRecursion (AllByRecursion (λ line. SamplesConform (facts_of (lists_of book)).fast
+    (effects_of (lists_of book) line.steps))) t
 all_sampled script t book ms lines marks of means lawful samples =
-    to_lines (λ line. SamplesStand (facts_of (lists_of book)).fast (deeds_of (lists_of book) line.steps)) script.callers
+    to_lines (λ line. SamplesConform (facts_of (lists_of book)).fast (effects_of (lists_of book) line.steps)) script.callers
     t lines
     (λ c lt. calls_sampled t book (apart script.callers t lines) of.visits marks.lanes samples
     (start_setting (script_calls script t) c) (list_at (script_calls script t) c)

@@ -1,4 +1,5 @@
--- Rows are put into tables in sequence. If a place has one spot, it has the row that is inferred there.
+-- The rows of spots are put into tables one after another. Then a place that exactly one spot visits has that spot's
+-- row.
 use Rattle.std.proofs.Common.{◌≡◌, ℕ, ◌+◌, ◌<◌, ◌≤◌, Bool, true, false, cond, List, [], ◌∷◌, ◌++◌, length, Option, Some, None, refl, sym, subst, ap, ◌∙◌, arith}
 use Rattle.std.specs.Prelude.{MatchOption, ◌==◌, ◌&&◌, if◌then◌else◌}
 use Rattle.std.specs.List.{AllByRecursion}
@@ -49,7 +50,7 @@ unchanged a (CpuLane c) place = refl
 pub changes_none : (a : Tables) → Changes [] a a
 changes_none a = record { cpus = refl; sizes = λ lane. refl; rows = λ lane place. unchanged a lane place }
 
--- the row at a place is that of its last spot, or unchanged if it has no spot
+-- the row at a place is that of the place's last spot, or is unchanged if no spot visits the place
 abbrev pub RowBy : Option Spot → Tables → Tables → LaneId → ℕ → Type 0
 RowBy o a b lane place = MatchOption o (SameRow a b lane place) (λ spot. place < rows_in a lane → SpotRow b spot lane place)
 
@@ -76,7 +77,7 @@ row_if : (b : Bool) (spot : Spot) (old new : Tables) (lane : LaneId) (place : �
 row_if true spot old new lane place put same = put refl
 row_if false spot old new lane place put same = same refl
 
--- the row of the spot is at the place that it visits, and no other row changes
+-- the row of the spot is at the place that the spot visits, and no other row changes
 pub one_row : (spot : Spot) (old new : Tables) → length new.cpus ≡ length old.cpus →
     ((lane : LaneId) → rows_in new lane ≡ rows_in old lane) →
     ((lane : LaneId) (place : ℕ) → is_visit lane place spot.step ≡ true → place < rows_in old lane →
@@ -95,7 +96,7 @@ abbrev pub hit : Bool → ℕ
 hit b = cond b 1 0
 
 module _ (lane : LaneId) (place : ℕ) where
-  -- how many spots visit the place
+  -- how many of these spots visit the place
   abbrev pub spots_takes : List Spot → ℕ
   spots_takes [] = 0
   spots_takes (spot ∷ spots) = hit (is_visit lane place spot.step) + spots_takes spots
@@ -114,7 +115,7 @@ module _ (lane : LaneId) (place : ℕ) where
       go true none rest = absurd (omega arith)
       go false none rest = or_none (last_at lane place spots) ∙ rest (omega arith)
 
-  -- if at most one spot visits the place and the first spot does, it is also the last one there
+  -- if the first spot visits the place and no other spot does, the first spot is also the last one at the place
   last_first : (spot : Spot) (spots : List Spot) → spots_takes (spot ∷ spots) ≤ 1 →
       is_visit lane place spot.step ≡ true → last_at lane place (spot ∷ spots) ≡ Some spot
   last_first spot spots once is =
@@ -123,13 +124,13 @@ module _ (lane : LaneId) (place : ℕ) where
       ap (λ o. or_else o (if is_visit lane place spot.step then Some spot else None)) (last_none spots none)
       ∙ ap (λ (b : Bool). if b then Some spot else None) is
 
-  last_behind : (s spot : Spot) (spots : List Spot) → last_at lane place spots ≡ Some s →
+  last_after : (s spot : Spot) (spots : List Spot) → last_at lane place spots ≡ Some s →
       last_at lane place (spot ∷ spots) ≡ Some s
-  last_behind s spot spots is = ap (λ o. or_else o (if is_visit lane place spot.step then Some spot else None)) is
+  last_after s spot spots is = ap (λ o. or_else o (if is_visit lane place spot.step then Some spot else None)) is
 
 -- the row of a spot's visit is the one inferred there
-abbrev pub SpotStands : Tables → Spot → Type 0
-SpotStands told spot = StepHas (λ lane place. SpotRow told spot lane place) spot.step
+abbrev pub SpotConforms : Tables → Spot → Type 0
+SpotConforms inferred spot = StepHas (λ lane place. SpotRow inferred spot lane place) spot.step
 
 module _ (old new : Tables) (whole : List Spot) (changes : Changes whole old new)
     (once : (lane : LaneId) (place : ℕ) → spots_takes lane place whole ≤ 1) where
@@ -140,15 +141,15 @@ module _ (old new : Tables) (whole : List Spot) (changes : Changes whole old new
       SpotRow new spot lane place
   row_of spot lane place is low = subst (λ o. RowBy o old new lane place) is (changes.rows lane place) low
 
-  spots_stand : (spots : List Spot) → ((lane : LaneId) (place : ℕ) → spots_takes lane place spots ≤ 1) →
+  spots_conform : (spots : List Spot) → ((lane : LaneId) (place : ℕ) → spots_takes lane place spots ≤ 1) →
       ((lane : LaneId) (place : ℕ) (s : Spot) → last_at lane place spots ≡ Some s →
       last_at lane place whole ≡ Some s) →
-      AllByRecursion (λ spot. StepHas Within spot.step) spots → AllByRecursion (SpotStands new) spots
-  spots_stand [] few last low = tt
-  spots_stand (spot ∷ spots) few last low = (
+      AllByRecursion (λ spot. StepHas Within spot.step) spots → AllByRecursion (SpotConforms new) spots
+  spots_conform [] few last low = tt
+  spots_conform (spot ∷ spots) few last low = (
     one spot.step refl low.0,
-    spots_stand spots (λ lane place. (let f : spots_takes lane place (spot ∷ spots) ≤ 1 = few lane place in omega arith))
-        (λ lane place s is. last lane place s (last_behind lane place s spot spots is)) low.1,
+    spots_conform spots (λ lane place. (let f : spots_takes lane place (spot ∷ spots) ≤ 1 = few lane place in omega arith))
+        (λ lane place s is. last lane place s (last_after lane place s spot spots is)) low.1,
   )
     where
       itself : (lane : LaneId) (place : ℕ) → (is_same_lane lane lane && place == place) ≡ true
@@ -163,5 +164,5 @@ module _ (old new : Tables) (whole : List Spot) (changes : Changes whole old new
           (last_first mark.lane mark.place spot spots (few mark.lane mark.place)
           (ap (is_visit mark.lane mark.place) is ∙ itself mark.lane mark.place))) low
 
-  pub all_stand : AllByRecursion (λ spot. StepHas Within spot.step) whole → AllByRecursion (SpotStands new) whole
-  all_stand low = spots_stand whole once (λ lane place s is. is) low
+  pub all_conform : AllByRecursion (λ spot. StepHas Within spot.step) whole → AllByRecursion (SpotConforms new) whole
+  all_conform low = spots_conform whole once (λ lane place s is. is) low

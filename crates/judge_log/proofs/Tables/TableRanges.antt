@@ -1,4 +1,4 @@
--- If the tables have a row for each mark, inferred from its line, they are in range.
+-- If the tables have for each mark the row inferred from the mark's line, the tables are in range.
 use Rattle.std.proofs.Common.{◌≡◌, ℕ, suc, ◌<◌, ◌≤◌, ◌^◌, List, [], ◌∷◌, length, Some, refl, subst, arith, Bool, true, false}
 use Rattle.std.specs.Prelude.{slice_get, All, if◌then◌else◌, nat_lt}
 use Rattle.std.specs.List.{AllByRecursion}
@@ -11,9 +11,9 @@ use Rattle.key_names.specs.Texts.ScriptGrammar.{Script, WellFormed, most_cpus}
 use Rattle.key_names.specs.Transcripts.SeenLine.{SeenLine}
 use Rattle.key_names.specs.Transcripts.IsTranscript.{all_marks, script_calls}
 use Rattle.key_names.proofs.Transcripts.LaneCounts.{every_place}
-use Rattle.judge_lines.specs.declared.begin.Parts.{Parts}
-use Rattle.judge_lines.specs.Begun.{PartsStand}
-use Rattle.judge_log.specs.declared.told.ToldCpu.{ToldCpu}
+use Rattle.judge_lines.specs.declared.begin.TranscriptParts.{TranscriptParts}
+use Rattle.judge_lines.specs.Begun.{PartsConform}
+use Rattle.judge_log.specs.declared.inferred.InferredCpu.{InferredCpu}
 use Rattle.judge_log.specs.Tables.{Tables, InRange, PoolIsNear, BaseIsNear, CpuIsWide}
 use Rattle.judge_log.specs.Rows.{AllCallsRows}
 use Rattle.judge_log.specs.Spots.{rows_in, HasRows}
@@ -42,27 +42,27 @@ each_lane P (xs ∷ xss) each = (
   each_lane P xss (λ c k x at. each (suc c) k x at),
 )
 
-module _ (script : Script) (t : List (List SeenLine)) (parts : Parts) (told : Tables) (well : WellFormed script)
-    (stands : PartsStand script t parts) (long : HasRows script.cpus (all_marks t) told)
-    (rows : AllCallsRows told (script_calls script t)) where
-  near : (lane : LaneId) (place : ℕ) → place < rows_in told lane → NearAt told lane place
+module _ (script : Script) (t : List (List SeenLine)) (parts : TranscriptParts) (inferred : Tables) (well : WellFormed script)
+    (conforms : PartsConform script t parts) (long : HasRows script.cpus (all_marks t) inferred)
+    (rows : AllCallsRows inferred (script_calls script t)) where
+  near : (lane : LaneId) (place : ℕ) → place < rows_in inferred lane → NearAt inferred lane place
   near lane place low =
-      every_place (NearAt told) lane (all_marks t) (stands.marks_stand.lanes lane)
-      (all_of_lines (NearAt told) t
-      (to_all_lines (LineHas (NearAt told)) 0 script.callers t stands.lines
-      (all_rows_near told (script_calls script t)
+      every_place (NearAt inferred) lane (all_marks t) (conforms.marks_conform.lanes lane)
+      (all_of_lines (NearAt inferred) t
+      (to_all_lines (LineHas (NearAt inferred)) 0 script.callers t conforms.lines
+      (all_rows_near inferred (script_calls script t)
       (all_calls_near script.version script.cpus script.callers t well.ranges) rows))) place
       (subst (λ n. place < n) (long.rows lane) low)
 
-  pub tables_in_range : InRange told
+  pub tables_in_range : InRange inferred
   tables_in_range = record {
-    cpus_count = (let same : length told.cpus ≡ script.cpus = long.count in
+    cpus_count = (let same : length inferred.cpus ≡ script.cpus = long.count in
         omega (arith, cpus_few script.version script.cpus well.cpus.1));
-    notes = All-from_recursion PoolIsNear told.pool
-        (each_at PoolIsNear told.pool (λ p u at. near PoolLane p (slice_get_within told.pool p u at) u at));
-    moments = All-from_recursion BaseIsNear told.base
-        (each_at BaseIsNear told.base (λ i u at. near BaseLane i (slice_get_within told.base i u at) u at));
-    widths = All-from_recursion (λ (lane : List ToldCpu). All (λ (u : ToldCpu). CpuIsWide u.entry) lane) told.cpus
-        (each_lane (λ (u : ToldCpu). CpuIsWide u.entry) told.cpus
-        (λ c k u at. near (CpuLane c) k (slice_get_within (list_at told.cpus c) k u at) u at));
+    notes = All-from_recursion PoolIsNear inferred.pool
+        (each_at PoolIsNear inferred.pool (λ p u at. near PoolLane p (slice_get_within inferred.pool p u at) u at));
+    moments = All-from_recursion BaseIsNear inferred.base
+        (each_at BaseIsNear inferred.base (λ i u at. near BaseLane i (slice_get_within inferred.base i u at) u at));
+    widths = All-from_recursion (λ (lane : List InferredCpu). All (λ (u : InferredCpu). CpuIsWide u.entry) lane) inferred.cpus
+        (each_lane (λ (u : InferredCpu). CpuIsWide u.entry) inferred.cpus
+        (λ c k u at. near (CpuLane c) k (slice_get_within (list_at inferred.cpus c) k u at) u at));
   }

@@ -1,4 +1,5 @@
--- A caller's order is its start and its own steps, and a look depends on earlier steps only by a number.
+-- A caller's order is its start and then its own steps. A look depends on the earlier steps only by the greatest
+-- generation seen in them.
 use Rattle.std.proofs.Common.{◌≡◌, ◌⊎◌, inl, inr, ℕ, zero, suc, ◌<◌, List, [], ◌∷◌, ◌++◌, length, refl, sym, subst, ap, ◌∙◌, arith, length-append}
 use Rattle.std.specs.List.{fold}
 use Rattle.std.proofs.lemmas.List.Sums.{fold-append}
@@ -7,9 +8,9 @@ use native.Mathlib.Decide.{ℕ_discrete}
 use Rattle.key_names.specs.declared.names.Step.{Step}
 use Rattle.key_names.specs.Lanes.Book.{list_at}
 use Rattle.key_names.specs.Callers.Calls.{Call}
-use Rattle.key_names.specs.Callers.Deeds.{Deed}
+use Rattle.key_names.specs.Callers.Effects.{Effect}
 use Rattle.key_names.specs.Callers.History.{ancestors_steps, inherited_steps, orders_from, calls_steps, through_visit}
-use Rattle.key_names.specs.Callers.History.{seen, seen_after, LooksStand}
+use Rattle.key_names.specs.Callers.History.{seen, seen_after, LooksConform}
 use Rattle.key_names.specs.Callers.CallerOrders.{start_of, OrderIsStartAndOwn, StartIsAFront, LooksFrom, LooksAreCounted, LooksInParts}
 
 -- Lists that grow at the end
@@ -68,29 +69,29 @@ start_is_a_front callers c parent is low =
 
 -- Looks
 
-looks_to_number : (reseeds : ℕ) (before deeds : List Deed) → LooksStand reseeds before deeds →
-    LooksFrom reseeds (seen before) deeds
+looks_to_number : (reseeds : ℕ) (before effects : List Effect) → LooksConform reseeds before effects →
+    LooksFrom reseeds (seen before) effects
 looks_to_number reseeds before [] h = tt
-looks_to_number reseeds before (d ∷ deeds) h = (
+looks_to_number reseeds before (d ∷ effects) h = (
   h.0,
-  subst (λ (n : ℕ). LooksFrom reseeds n deeds) (fold-append seen_after 0 before (d ∷ []))
-      (looks_to_number reseeds (before ++ d ∷ []) deeds h.1),
+  subst (λ (n : ℕ). LooksFrom reseeds n effects) (fold-append seen_after 0 before (d ∷ []))
+      (looks_to_number reseeds (before ++ d ∷ []) effects h.1),
 )
 
-looks_from_number : (reseeds : ℕ) (before deeds : List Deed) → LooksFrom reseeds (seen before) deeds →
-    LooksStand reseeds before deeds
+looks_from_number : (reseeds : ℕ) (before effects : List Effect) → LooksFrom reseeds (seen before) effects →
+    LooksConform reseeds before effects
 looks_from_number reseeds before [] h = tt
-looks_from_number reseeds before (d ∷ deeds) h = (
+looks_from_number reseeds before (d ∷ effects) h = (
   h.0,
-  looks_from_number reseeds (before ++ d ∷ []) deeds
-      (subst (λ (n : ℕ). LooksFrom reseeds n deeds) (sym (fold-append seen_after 0 before (d ∷ []))) h.1),
+  looks_from_number reseeds (before ++ d ∷ []) effects
+      (subst (λ (n : ℕ). LooksFrom reseeds n effects) (sym (fold-append seen_after 0 before (d ∷ []))) h.1),
 )
 
 pub looks_are_counted : LooksAreCounted
-looks_are_counted reseeds before deeds =
-    (looks_to_number reseeds before deeds, looks_from_number reseeds before deeds)
+looks_are_counted reseeds before effects =
+    (looks_to_number reseeds before effects, looks_from_number reseeds before effects)
 
-apart : (reseeds seen : ℕ) (front back : List Deed) → LooksFrom reseeds seen (front ++ back) →
+apart : (reseeds seen : ℕ) (front back : List Effect) → LooksFrom reseeds seen (front ++ back) →
     LooksFrom reseeds seen front × LooksFrom reseeds (fold seen_after seen front) back
 apart reseeds seen [] back h = (tt, h)
 apart reseeds seen (d ∷ front) back h =
@@ -98,7 +99,7 @@ apart reseeds seen (d ∷ front) back h =
     × LooksFrom reseeds (fold seen_after (seen_after seen d) front) back = apart reseeds (seen_after seen d) front back h.1 in
     ((h.0, rest.0), rest.1)
 
-together : (reseeds seen : ℕ) (front back : List Deed) → LooksFrom reseeds seen front →
+together : (reseeds seen : ℕ) (front back : List Effect) → LooksFrom reseeds seen front →
     LooksFrom reseeds (fold seen_after seen front) back → LooksFrom reseeds seen (front ++ back)
 together reseeds seen [] back f b = b
 together reseeds seen (d ∷ front) back f b = (f.0, together reseeds (seen_after seen d) front back f.1 b)

@@ -1,4 +1,4 @@
--- The history cut down to one lane is that lane's list.
+-- The visits of one lane in a history are that lane's list, because the stamps of a lane rise along its list.
 use Rattle.std.proofs.Common.{◌≡◌, ℕ, zero, suc, ◌+◌, ◌<◌, ◌≤◌, Bool, true, false, cond, List, [], ◌∷◌, ◌++◌, refl, sym}
 use Rattle.std.proofs.Common.{subst, ap, ◌∙◌, inl, inr, arith, Some, None, Option, length}
 use Rattle.std.specs.Prelude.{⊤, ◌==◌, ◌&&◌, nat_lt, count_by, filter, slice_index_or, IsSortedBy}
@@ -17,7 +17,7 @@ use Rattle.key_names.specs.declared.entries.CpuEntry.{CpuEntry}
 use Rattle.key_names.specs.Lanes.Book.{Book, Visit, list_at}
 use Rattle.key_names.specs.Lanes.BookHistory.{Happening, visits_from, visits_of_lane, visits_of_cpus, all_visits, lane_visits}
 use Rattle.key_names.specs.Lanes.BookHistory.{comes_before, HistoryKeepsLanes}
-use Rattle.key_names.specs.Transcripts.IsTranscript.{MarkBy, is_same_lane, all_marks, lane_marks, PlacesStand, stamped, stamped_at}
+use Rattle.key_names.specs.Transcripts.IsTranscript.{MarkBy, is_same_lane, all_marks, lane_marks, PlacesConform, stamped, stamped_at}
 use Rattle.key_names.specs.Transcripts.IsTranscript.{VisitsAre}
 use Rattle.key_names.proofs.Lists.Each.{each_weaker, each_both}
 use Rattle.key_names.proofs.Transcripts.LaneCounts.{of_lane, each_place, within_lane, lane_counts}
@@ -55,7 +55,7 @@ module _ (p : Happening → Bool) where
       go true rest = (all_filter (λ y. h.stamp ≤ y.stamp) hs sorted.0, rest)
       go false rest = rest
 
-  -- an element that passes the test stays
+  -- an element that passes the test is in the filtered list
   abbrev Left : List Happening → Happening → Type 0
   Left hs h = p h ≡ true → IsIn h (filter p hs)
 
@@ -89,14 +89,14 @@ sorted_stamps : (hs : List Happening) → IsSortedBy comes_before hs → Sorted 
 sorted_stamps [] sorted = tt
 sorted_stamps (h ∷ []) sorted = (tt, tt)
 sorted_stamps (h ∷ next ∷ hs) sorted =
-    let rest = sorted_stamps (next ∷ hs) (λ k d low lt. behind k d (sorted (suc k) d (omega arith) (omega arith))) in
+    let rest = sorted_stamps (next ∷ hs) (λ k d low lt. following k d (sorted (suc k) d (omega arith) (omega arith))) in
     let le : h.stamp ≤ next.stamp = not_less next h (sorted 0 h (omega arith) (omega arith)) in
     ((le, each_weaker (λ y. next.stamp ≤ y.stamp) (λ y. h.stamp ≤ y.stamp) hs (λ y above. omega arith) rest.0), rest)
   where
-    behind : (k : ℕ) (d : Happening) →
+    following : (k : ℕ) (d : Happening) →
         comes_before (slice_index_or (h ∷ next ∷ hs) (suc k + 1) d) (slice_index_or (next ∷ hs) k d) ≡ false →
         comes_before (slice_index_or (next ∷ hs) (k + 1) d) (slice_index_or (next ∷ hs) k d) ≡ false
-    behind k d is =
+    following k d is =
         let P : ℕ → Type 0 = λ i.
         comes_before (slice_index_or (h ∷ next ∷ hs) i d) (slice_index_or (next ∷ hs) k d) ≡ false in
         let p : suc k + 1 ≡ suc (k + 1) = omega arith in subst P p is
@@ -108,7 +108,7 @@ sorted_stamps (h ∷ next ∷ hs) sorted =
         go true less = cc
         go false less = ltb-false a.stamp b.stamp less
 
--- the visits of one lane among all visits
+-- whether a visit is one of this lane
 abbrev in_lane : LaneId → Happening → Bool
 in_lane lane h = is_same_lane h.lane lane
 
@@ -120,7 +120,7 @@ filter_lane lane other false is i [] = refl
 filter_lane lane other true is i (v ∷ visits) = rw (is, filter_lane lane other true is (suc i) visits) refl
 filter_lane lane other false is i (v ∷ visits) = rw is (filter_lane lane other false is (suc i) visits)
 
--- no CPU has visits in this lane
+-- if the lane is none of the CPUs from c on, no visit of these CPUs is in the lane
 filter_others : (lane : LaneId) (c : ℕ) (cpus : List (List (Visit CpuEntry))) →
     ((d : ℕ) → c ≤ d → is_same_lane (CpuLane d) lane ≡ false) → filter (in_lane lane) (visits_of_cpus c cpus) ≡ []
 filter_others lane c [] other = refl
@@ -185,7 +185,7 @@ lane_of_all book lane =
           filter_lane (CpuLane c) BaseLane false refl 0 book.base,
         ) (subst P p (filter_cpu 0 c book.cpus))
 
--- the stamps of a lane's visits rise
+-- if both places have a visit, the first visit's stamp is below the second's
 abbrev Below : Option (ℕ × Who) → Option (ℕ × Who) → Type 0
 Below None there = ⊤
 Below (Some here) None = ⊤
@@ -209,7 +209,7 @@ module _ {E : Type 0} (lane : LaneId) where
     rising (suc i) visits (λ a b lt. below (suc a) (suc b) (omega arith)),
   )
 
-module _ (book : Book) (marks : List MarkBy) (places : (lane : LaneId) → PlacesStand (lane_marks lane marks))
+module _ (book : Book) (marks : List MarkBy) (places : (lane : LaneId) → PlacesConform (lane_marks lane marks))
     (visits : VisitsAre book marks) where
   -- the stamp of a mark is that of its visit
   abbrev Stamped : LaneId → Mark → Type 0
@@ -218,7 +218,7 @@ module _ (book : Book) (marks : List MarkBy) (places : (lane : LaneId) → Place
   all_stamped : (lane : LaneId) → AllByRecursion (Stamped lane) (lane_marks lane marks)
   all_stamped lane = of_lane Stamped lane marks
       (each_weaker (λ by. stamped_at book by.mark.lane by.mark.place ≡ Some (by.mark.stamp, by.who))
-      (λ by. Stamped by.mark.lane by.mark) marks (λ by at. (by.who, at)) visits.stand)
+      (λ by. Stamped by.mark.lane by.mark) marks (λ by at. (by.who, at)) visits.conform)
 
   abbrev Rises : LaneId → ℕ → ℕ → Type 0
   Rises lane a b = a < b → Below (stamped_at book lane a) (stamped_at book lane b)
@@ -227,7 +227,7 @@ module _ (book : Book) (marks : List MarkBy) (places : (lane : LaneId) → Place
       (m.place < n.place → m.stamp < n.stamp) → Rises lane m.place n.place
   marks_rise lane m n at at' rise lt = rw (at.1, at'.1) (rise lt)
 
-  -- the marks of higher places have higher stamps
+  -- each mark of the lane with a higher place than `m` has a higher stamp
   abbrev Row : LaneId → Mark → Type 0
   Row lane m = AllByRecursion (λ n. m.place < n.place → m.stamp < n.stamp) (lane_marks lane marks)
 

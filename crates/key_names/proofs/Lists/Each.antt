@@ -1,14 +1,14 @@
--- Facts that hold for each element of a list, as the list grows or changes.
+-- If a fact holds for each element of a list, it still does after the list grows or an element changes.
 use Rattle.std.proofs.Common.{ℕ, zero, suc, set, List, [], ◌∷◌, ◌++◌}
 use Rattle.std.specs.List.{AllByRecursion}
 
--- one more element at the end
+-- the fact also holds after one more element at the end
 pub each_more : {X : Type 0} (P : X → Type 0) (xs : List X) (x : X) → AllByRecursion P xs → P x →
     AllByRecursion P (xs ++ x ∷ [])
 each_more P [] x all here = (here, tt)
 each_more P (y ∷ ys) x all here = (all.0, each_more P ys x all.1 here)
 
--- one element is replaced
+-- the fact also holds after one element is replaced
 pub each_set : {X : Type 0} (P : X → Type 0) (xs : List X) (i : ℕ) (x : X) → AllByRecursion P xs → P x →
     AllByRecursion P (set xs i x)
 each_set P [] i x all here = tt
@@ -20,13 +20,13 @@ pub each_append : {X : Type 0} (P : X → Type 0) (xs ys : List X) → AllByRecu
 each_append P [] ys all more = more
 each_append P (x ∷ xs) ys all more = (all.0, each_append P xs ys all.1 more)
 
--- a weaker fact holds for each element too
+-- if a fact holds for each element, a weaker fact does too
 pub each_weaker : {X : Type 0} (P Q : X → Type 0) (xs : List X) → ((x : X) → P x → Q x) → AllByRecursion P xs →
     AllByRecursion Q xs
 each_weaker P Q [] weaker all = tt
 each_weaker P Q (x ∷ xs) weaker all = (weaker x all.0, each_weaker P Q xs weaker all.1)
 
--- a fact about each element of two joined lists holds for each element of either
+-- if a fact holds for each element of two joined lists, it holds for each element of either list
 pub each_parts : {X : Type 0} (P : X → Type 0) (xs ys : List X) → AllByRecursion P (xs ++ ys) →
     AllByRecursion P xs × AllByRecursion P ys
 each_parts P [] ys all = (tt, all)
@@ -39,7 +39,7 @@ each_left P xs ys all = (each_parts P xs ys all).0
 pub each_right : {X : Type 0} (P : X → Type 0) (xs ys : List X) → AllByRecursion P (xs ++ ys) → AllByRecursion P ys
 each_right P xs ys all = (each_parts P xs ys all).1
 
--- two facts about each element hold together
+-- if each of two facts holds for all elements, both facts hold together for each element
 pub each_both : {X : Type 0} (P Q : X → Type 0) (xs : List X) → AllByRecursion P xs → AllByRecursion Q xs →
     AllByRecursion (λ x. P x × Q x) xs
 each_both P Q [] all all' = tt

@@ -1,11 +1,11 @@
--- Marks of one lane in the order of their places, with rising stamps.
+-- PlacesConform holds for the marks of a lane if they are in order: places count up, and stamps rise.
 use Rattle.std.proofs.Common.{ℕ, zero, suc, ◌+◌, ◌≡◌, ◌<◌, ◌≤◌, Bool, true, false, cond, List, [], ◌∷◌, ◌++◌, length, refl, ◌∙◌, arith}
 use Rattle.std.specs.Prelude.{count_by, ◌==◌}
 use Rattle.std.specs.List.{AllByRecursion, range_with_len}
 use Rattle.std.proofs.lemmas.List.Sums.{sum_by-cons}
 use Rattle.std.proofs.lemmas.Bool.Decides.{nat_tests}
 use Rattle.key_names.specs.declared.names.Mark.{Mark}
-use Rattle.key_names.specs.Transcripts.IsTranscript.{PlacesStand}
+use Rattle.key_names.specs.Transcripts.IsTranscript.{PlacesConform}
 use Rattle.key_names.specs.Transcripts.PlacesInOrder.{InOrder}
 use Rattle.key_names.proofs.Lists.Each.{each_more, each_weaker}
 
@@ -16,7 +16,7 @@ pub count_more : (p : ℕ) (m : Mark) (ms : List Mark) →
     count_by (at_place p) (m ∷ ms) ≡ cond (m.place == p) 1 0 + count_by (at_place p) ms
 count_more p m ms = sum_by-cons (λ n. cond (at_place p n) 1 0) m ms
 
--- no mark has a place below the first
+-- no mark has a place below that of the first mark
 none_below : (i p : ℕ) (ms : List Mark) → InOrder i ms → p < i → count_by (at_place p) ms ≡ 0
 none_below i p [] order below = refl
 none_below i p (m ∷ ms) order below =
@@ -72,21 +72,21 @@ rise_from i [] order = tt
 rise_from i (m ∷ ms) order =
     let here : m.place ≡ i = order.0 in
     let self : Above m m = (λ h. absurd (omega arith)) in
-    let behind : AllByRecursion (Above m) ms = each_weaker (λ n. m.stamp < n.stamp) (Above m) ms (λ n h lt. h) order.1
+    let following : AllByRecursion (Above m) ms = each_weaker (λ n. m.stamp < n.stamp) (Above m) ms (λ n h lt. h) order.1
     in
     let from : AllByRecursion (λ a. m.place ≤ a.place) ms =
     each_weaker (λ a. suc i ≤ a.place) (λ a. m.place ≤ a.place) ms (λ a h. omega arith) (each_from (suc i) ms order.2)
     in
-    ((self, behind), with_first m ms ms from (rise_from (suc i) ms order.2))
+    ((self, following), with_first m ms ms from (rise_from (suc i) ms order.2))
 
--- PlacesStand holds for marks in order
-pub in_order_stand : (ms : List Mark) → InOrder 0 ms → PlacesStand ms
-in_order_stand ms order = record {
+-- PlacesConform holds for marks in order
+pub in_order_conform : (ms : List Mark) → InOrder 0 ms → PlacesConform ms
+in_order_conform ms order = record {
   once = each_once 0 (length ms) ms (λ p from below. once_at 0 p ms order from below);
   rise = rise_from 0 ms order;
 }
 
--- one more mark at the end, at the next place and with a stamp above all others
+-- marks in order stay in order if a mark is added at the end, with the next place and a stamp above all others
 pub in_order_more : (i : ℕ) (ms : List Mark) (m : Mark) → InOrder i ms → AllByRecursion (λ n. n.stamp < m.stamp) ms →
     m.place ≡ i + length ms → InOrder i (ms ++ m ∷ [])
 in_order_more i [] m order below at = (omega arith, tt, tt)

@@ -1,4 +1,4 @@
--- The lines of all callers: each mark belongs to one line, and no two lines have the same caller and event.
+-- Each mark belongs to one line, and no two lines of a transcript have the same caller and event.
 use Rattle.std.proofs.Common.{◌≡◌, ℕ, suc, ◌+◌, ◌≤◌, ◌⊎◌, inl, inr, List, [], ◌∷◌, ◌++◌, length, refl, sym, ap, ◌∙◌, subst, arith}
 use Rattle.std.specs.List.{AllByRecursion, flat_map}
 use Rattle.key_names.specs.declared.events.Event.{Event}
@@ -6,7 +6,7 @@ use Rattle.key_names.specs.declared.names.Mark.{Mark}
 use Rattle.key_names.specs.declared.names.Step.{Step}
 use Rattle.key_names.specs.declared.names.Step.TheVariants.{Look, Visit as Marked}
 use Rattle.key_names.specs.Lanes.Book.{Lists}
-use Rattle.key_names.specs.Callers.Deeds.{Deed, deed_of, deeds_of}
+use Rattle.key_names.specs.Callers.Effects.{Effect, effect_of, effects_of}
 use Rattle.key_names.specs.Transcripts.SeenLine.{SeenLine}
 use Rattle.key_names.specs.Transcripts.IsTranscript.{LinesFit, EachCaller, MarkBy, marks_from, line_marks, all_marks}
 use Rattle.key_names.proofs.History.SortedVisits.{IsIn}
@@ -51,18 +51,18 @@ into_flat f x y (z ∷ xs) (inr rest) there = in_back y (f z) (flat_map f xs) (i
 
 -- ---- steps
 
-pub deed_in : (lists : Lists) (step : Step) (steps : List Step) → IsIn step steps →
-    IsIn (deed_of lists step) (deeds_of lists steps)
-deed_in lists step [] here = absurd here
-deed_in lists step (s ∷ steps) (inl same) = inl (ap (deed_of lists) same)
-deed_in lists step (s ∷ steps) (inr rest) = inr (deed_in lists step steps rest)
+pub effect_in : (lists : Lists) (step : Step) (steps : List Step) → IsIn step steps →
+    IsIn (effect_of lists step) (effects_of lists steps)
+effect_in lists step [] here = absurd here
+effect_in lists step (s ∷ steps) (inl same) = inl (ap (effect_of lists) same)
+effect_in lists step (s ∷ steps) (inr rest) = inr (effect_in lists step steps rest)
 
-pub step_of_deed : (lists : Lists) (deed : Deed) (steps : List Step) → IsIn deed (deeds_of lists steps) →
-    (step : Step) × IsIn step steps × (deed_of lists step ≡ deed)
-step_of_deed lists deed [] here = absurd here
-step_of_deed lists deed (s ∷ steps) (inl same) = (s, inl refl, same)
-step_of_deed lists deed (s ∷ steps) (inr rest) =
-    let more = step_of_deed lists deed steps rest in (more.0, inr more.1, more.2)
+pub step_of_effect : (lists : Lists) (effect : Effect) (steps : List Step) → IsIn effect (effects_of lists steps) →
+    (step : Step) × IsIn step steps × (effect_of lists step ≡ effect)
+step_of_effect lists effect [] here = absurd here
+step_of_effect lists effect (s ∷ steps) (inl same) = (s, inl refl, same)
+step_of_effect lists effect (s ∷ steps) (inr rest) =
+    let more = step_of_effect lists effect steps rest in (more.0, inr more.1, more.2)
 
 record FromSteps (caller event : ℕ) (steps : List Step) (by : MarkBy) : Type 0 where
   caller_is : by.who.caller ≡ caller
@@ -100,7 +100,7 @@ mark_in caller event i mark (Marked m ∷ steps) (inr rest) =
 abbrev pub Among : SeenLine → List (List SeenLine) → Type 0
 Among line t = (lines : List SeenLine) × IsIn lines t × IsIn line lines
 
--- the line of a mark
+-- the line of some caller to which a mark belongs
 pub record LineOf (t : List (List SeenLine)) (by : MarkBy) : Type 0 where
   pub line : SeenLine
   pub among : Among line t
@@ -232,7 +232,7 @@ Apart t = (a b : SeenLine) → Among a t → Among b t → a.caller ≡ b.caller
 pub apart : (callers : List (List Event)) (t : List (List SeenLine)) → AllFit 0 callers t → Apart t
 apart callers t fit a b = lines_apart 0 callers t a b fit
 
--- every line is among them
+-- every line of the transcript is a line of some caller
 pub each_among : (t : List (List SeenLine)) → AllByRecursion (λ lines. AllByRecursion (λ line. Among line t) lines) t
 each_among t = each_of (λ lines. AllByRecursion (λ line. Among line t) lines) t
     (λ lines here. each_of (λ line. Among line t) lines (λ line there. (lines, here, there)))

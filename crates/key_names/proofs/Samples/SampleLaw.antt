@@ -1,4 +1,4 @@
--- If the samples of each line are correct, those of the book are lawful.
+-- If the samples of each line are correct, then LawfulSamples holds for the book.
 use Rattle.std.proofs.Common.{◌≡◌, ℕ, ◌<◌, inl, inr, List, [], ◌∷◌, refl, sym, ap, ◌∙◌, subst, arith, Some}
 use Rattle.std.specs.Prelude.{slice_get}
 use Rattle.std.specs.List.{AllByRecursion}
@@ -9,17 +9,17 @@ use Rattle.key_names.specs.declared.entries.PoolEntry.TheVariants.{Mix}
 use Rattle.key_names.specs.declared.entries.CpuEntry.{CpuEntry}
 use Rattle.key_names.specs.declared.entries.CpuEntry.TheVariants.{Irq, Dump}
 use Rattle.key_names.specs.Lanes.Book.{Book, Lists, Visit, lists_of}
-use Rattle.key_names.specs.Callers.Deeds.{Deed, PoolVisit, CpuVisit, at_pool, at_cpu, deeds_of, pool_visit, cpu_visit}
+use Rattle.key_names.specs.Callers.Effects.{Effect, PoolVisit, CpuVisit, at_pool, at_cpu, effects_of, pool_visit, cpu_visit}
 use Rattle.key_names.specs.Kernel.FastPool.{FastPool, dump_bytes, dump_bits}
-use Rattle.key_names.specs.Callers.LineSamples.{EntryIsQuiet, IsQuiet, Dumps, IsMix, IsCrossing, SamplesStand}
+use Rattle.key_names.specs.Callers.LineSamples.{EntryIsQuiet, IsQuiet, Dumps, IsMix, IsCrossing, SamplesConform}
 use Rattle.key_names.specs.Lanes.Samples.{SameEvent, fast_before, MakesDue, IsDump, DueAt, DumpAt, MixAt, visits_of, LawfulSamples}
 use Rattle.key_names.specs.Transcripts.SeenLine.{SeenLine}
-use Rattle.key_names.specs.Transcripts.IsTranscript.{all_marks, lane_marks, PlacesStand, VisitsAre}
+use Rattle.key_names.specs.Transcripts.IsTranscript.{all_marks, lane_marks, PlacesConform, VisitsAre}
 use Rattle.key_names.proofs.History.SortedVisits.{IsIn}
 use Rattle.key_names.proofs.Samples.Lines.{each_in, Among, Apart}
-use Rattle.key_names.proofs.Samples.LineVisits.{InLine, Behind, cpu_in_line, pool_in_line, cpu_behind, pool_behind}
+use Rattle.key_names.proofs.Samples.LineVisits.{InLine, After, cpu_in_line, pool_in_line, cpu_after, pool_after}
 
--- facts about entries that exclude each other
+-- facts about an entry that exclude each other
 
 pub quiet_dump : (f : FastPool) (e : CpuEntry) → EntryIsQuiet f e → IsDump e → ⊥
 quiet_dump f (Dump now) quiet dump = quiet
@@ -33,31 +33,31 @@ pub due_dump : (f : FastPool) (e : CpuEntry) → MakesDue f e → IsDump e → �
 due_dump f (Dump now) due dump = due
 due_dump f _ due dump = dump
 
-abbrev Crosses : List Deed → Type 0
+abbrev Crosses : List Effect → Type 0
 Crosses rest = AllByRecursion IsCrossing rest
 
--- the deeds of one line
-module _ (fast : ℕ → ℕ → FastPool) (deeds : List Deed) where
-  must_dump : SamplesStand fast deeds → (s : CpuVisit) → IsIn (at_cpu s) deeds → IsDump s.entry →
-      Dumps fast Crosses deeds
+-- Dumps holds for the effects of a line with correct samples, if the line has a dump or makes one due
+module _ (fast : ℕ → ℕ → FastPool) (effects : List Effect) where
+  must_dump : SamplesConform fast effects → (s : CpuVisit) → IsIn (at_cpu s) effects → IsDump s.entry →
+      Dumps fast Crosses effects
   must_dump (inl quiet) s here dump = absurd (quiet_dump (fast s.cpu s.place) s.entry
-      (each_in (IsQuiet fast) (at_cpu s) deeds quiet here) dump)
+      (each_in (IsQuiet fast) (at_cpu s) effects quiet here) dump)
   must_dump (inr d) s here dump = d
 
-  was_due : SamplesStand fast deeds → (s : CpuVisit) → IsIn (at_cpu s) deeds → MakesDue (fast s.cpu s.place) s.entry →
-      Dumps fast Crosses deeds
+  was_due : SamplesConform fast effects → (s : CpuVisit) → IsIn (at_cpu s) effects → MakesDue (fast s.cpu s.place) s.entry →
+      Dumps fast Crosses effects
   was_due (inl quiet) s here due = absurd (quiet_due (fast s.cpu s.place) s.entry
-      (each_in (IsQuiet fast) (at_cpu s) deeds quiet here) due)
+      (each_in (IsQuiet fast) (at_cpu s) effects quiet here) due)
   was_due (inr d) s here due = d
 
-  module _ (d : Dumps fast Crosses deeds) where
-    abbrev Front : Deed → Type 0
-    Front deed = IsIn deed (at_cpu d.sample ∷ at_cpu d.dump ∷ at_pool d.mix ∷ d.rest)
+  module _ (d : Dumps fast Crosses effects) where
+    abbrev Front : Effect → Type 0
+    Front effect = IsIn effect (at_cpu d.sample ∷ at_cpu d.dump ∷ at_pool d.mix ∷ d.rest)
 
-    front : (deed : Deed) → IsIn deed deeds → Front deed
-    front deed here = subst (IsIn deed) d.deeds_are here
+    front : (effect : Effect) → IsIn effect effects → Front effect
+    front effect here = subst (IsIn effect) d.effects_are here
 
-    is_the_dump : (s : CpuVisit) → IsIn (at_cpu s) deeds → IsDump s.entry → d.dump ≡ s
+    is_the_dump : (s : CpuVisit) → IsIn (at_cpu s) effects → IsDump s.entry → d.dump ≡ s
     is_the_dump s here dump = go (front (at_cpu s) here)
       where
         go : Front (at_cpu s) → d.dump ≡ s
@@ -70,7 +70,7 @@ module _ (fast : ℕ → ℕ → FastPool) (deeds : List Deed) where
         go (inr (inr (inl same))) = cc
         go (inr (inr (inr rest))) = absurd (each_in IsCrossing (at_cpu s) d.rest d.crosses rest)
 
-    is_the_sample : (s : CpuVisit) → IsIn (at_cpu s) deeds → MakesDue (fast s.cpu s.place) s.entry → d.sample ≡ s
+    is_the_sample : (s : CpuVisit) → IsIn (at_cpu s) effects → MakesDue (fast s.cpu s.place) s.entry → d.sample ≡ s
     is_the_sample s here due = go (front (at_cpu s) here)
       where
         go : Front (at_cpu s) → d.sample ≡ s
@@ -81,7 +81,7 @@ module _ (fast : ℕ → ℕ → FastPool) (deeds : List Deed) where
         go (inr (inr (inl same))) = cc
         go (inr (inr (inr rest))) = absurd (each_in IsCrossing (at_cpu s) d.rest d.crosses rest)
 
-    is_the_mix : (s : PoolVisit) → IsIn (at_pool s) deeds → IsMix s.entry → d.mix ≡ s
+    is_the_mix : (s : PoolVisit) → IsIn (at_pool s) effects → IsMix s.entry → d.mix ≡ s
     is_the_mix s here mix = go (front (at_pool s) here)
       where
         go : Front (at_pool s) → d.mix ≡ s
@@ -90,16 +90,16 @@ module _ (fast : ℕ → ℕ → FastPool) (deeds : List Deed) where
         go (inr (inr (inl same))) = cc
         go (inr (inr (inr rest))) = absurd (each_in IsCrossing (at_pool s) d.rest d.crosses rest mix)
 
-    sample_in : IsIn (at_cpu d.sample) deeds
-    sample_in = subst (IsIn (at_cpu d.sample)) (sym d.deeds_are) (inl refl)
+    sample_in : IsIn (at_cpu d.sample) effects
+    sample_in = subst (IsIn (at_cpu d.sample)) (sym d.effects_are) (inl refl)
 
-    dump_in : IsIn (at_cpu d.dump) deeds
-    dump_in = subst (IsIn (at_cpu d.dump)) (sym d.deeds_are) (inr (inl refl))
+    dump_in : IsIn (at_cpu d.dump) effects
+    dump_in = subst (IsIn (at_cpu d.dump)) (sym d.effects_are) (inr (inl refl))
 
-    mix_in : IsIn (at_pool d.mix) deeds
-    mix_in = subst (IsIn (at_pool d.mix)) (sym d.deeds_are) (inr (inr (inl refl)))
+    mix_in : IsIn (at_pool d.mix) effects
+    mix_in = subst (IsIn (at_pool d.mix)) (sym d.effects_are) (inr (inr (inl refl)))
 
--- the bytes that a mix mixes
+-- the bytes of a mix, and no bytes for another entry
 abbrev text_or : PoolEntry → List ℕ
 text_or (Mix text bits) = text
 text_or _ = []
@@ -113,18 +113,18 @@ module _ (t : List (List SeenLine)) (book : Book) (fast : ℕ → ℕ → FastPo
     (fast_is : (c place : ℕ) (v : Visit CpuEntry) → slice_get (visits_of book c) place ≡ Some v →
     fast_before (visits_of book c) place ≡ fast c place)
     (apart : Apart t) (visits : VisitsAre book (all_marks t))
-    (places : (lane : LaneId) → PlacesStand (lane_marks lane (all_marks t))) where
+    (places : (lane : LaneId) → PlacesConform (lane_marks lane (all_marks t))) where
   abbrev lists : Lists
   lists = lists_of book
 
-  abbrev InSome : Who → Deed → Type 0
-  InSome who deed = InLine t book visits who deed
+  abbrev InSome : Who → Effect → Type 0
+  InSome who effect = InLine t book visits who effect
 
-  abbrev deeds : SeenLine → List Deed
-  deeds line = deeds_of lists line.steps
+  abbrev effects : SeenLine → List Effect
+  effects line = effects_of lists line.steps
 
-  abbrev Stands : SeenLine → Type 0
-  Stands line = SamplesStand fast (deeds line)
+  abbrev Conforms : SeenLine → Type 0
+  Conforms line = SamplesConform fast (effects line)
 
   cpu_line : (c place : ℕ) (v : Visit CpuEntry) → slice_get (visits_of book c) place ≡ Some v →
       InSome v.who (at_cpu (cpu_visit lists c place v.entry))
@@ -134,16 +134,16 @@ module _ (t : List (List SeenLine)) (book : Book) (fast : ℕ → ℕ → FastPo
       InSome v.who (at_pool (pool_visit lists place v.entry))
   pool_line = pool_in_line t book visits places
 
-  of_cpu : (line : SeenLine) (s : CpuVisit) → Among line t → IsIn (at_cpu s) (deeds line) →
-      Behind t book visits (visits_of book s.cpu) s.place s.entry line
-  of_cpu = cpu_behind t book visits
+  of_cpu : (line : SeenLine) (s : CpuVisit) → Among line t → IsIn (at_cpu s) (effects line) →
+      After t book visits (visits_of book s.cpu) s.place s.entry line
+  of_cpu = cpu_after t book visits
 
-  of_pool : (line : SeenLine) (s : PoolVisit) → Among line t → IsIn (at_pool s) (deeds line) →
-      Behind t book visits book.pool s.place s.entry line
-  of_pool = pool_behind t book visits
+  of_pool : (line : SeenLine) (s : PoolVisit) → Among line t → IsIn (at_pool s) (effects line) →
+      After t book visits book.pool s.place s.entry line
+  of_pool = pool_after t book visits
 
-  -- the visit of a line's deed, if the line's event is this one
-  pub due_at : (line : SeenLine) (s : CpuVisit) (who : Who) → Among line t → IsIn (at_cpu s) (deeds line) →
+  -- in the book, each visit among a line's effects was made by the line's event
+  pub due_at : (line : SeenLine) (s : CpuVisit) (who : Who) → Among line t → IsIn (at_cpu s) (effects line) →
       line.event ≡ who.event → who.caller ≡ line.caller → MakesDue (fast s.cpu s.place) s.entry →
       DueAt (visits_of book s.cpu) s.place who
   due_at line s who among here event by due =
@@ -156,7 +156,7 @@ module _ (t : List (List SeenLine)) (book : Book) (fast : ℕ → ℕ → FastPo
             (subst (λ (f : FastPool). MakesDue f s.entry) (sym (fast_is s.cpu s.place b.visit b.at)) due);
       }
 
-  pub dump_at : (line : SeenLine) (s : CpuVisit) (who : Who) → Among line t → IsIn (at_cpu s) (deeds line) →
+  pub dump_at : (line : SeenLine) (s : CpuVisit) (who : Who) → Among line t → IsIn (at_cpu s) (effects line) →
       line.event ≡ who.event → who.caller ≡ line.caller → IsDump s.entry → DumpAt (visits_of book s.cpu) s.place who
   dump_at line s who among here event by dump =
       let b = of_cpu line s among here in
@@ -168,23 +168,23 @@ module _ (t : List (List SeenLine)) (book : Book) (fast : ℕ → ℕ → FastPo
       }
 
   pub mix_at : (line : SeenLine) (s : PoolVisit) (who : Who) (text : List ℕ) (bits : ℕ) → Among line t →
-      IsIn (at_pool s) (deeds line) → line.event ≡ who.event → who.caller ≡ line.caller → s.entry ≡ Mix text bits →
+      IsIn (at_pool s) (effects line) → line.event ≡ who.event → who.caller ≡ line.caller → s.entry ≡ Mix text bits →
       MixAt book.pool s.place who text bits
   mix_at line s who text bits among here event by mixes =
       let b = of_pool line s among here in
       record { visit = b.visit; is = b.at; event = (b.by ∙ sym by, b.event ∙ event); mixes = b.is ∙ mixes }
 
-  -- a visit of a line's event is the deed of one of its steps
-  own_line : (line : SeenLine) (a who : Who) (deed : Deed) → Among line t → line.event ≡ who.event →
-      who.caller ≡ line.caller → SameEvent a who → InSome a deed → IsIn deed (deeds line)
-  own_line line a who deed among event by same g =
+  -- each visit by the line's event is the effect of one of the line's steps
+  own_line : (line : SeenLine) (a who : Who) (effect : Effect) → Among line t → line.event ≡ who.event →
+      who.caller ≡ line.caller → SameEvent a who → InSome a effect → IsIn effect (effects line)
+  own_line line a who effect among event by same g =
       let is : g.line ≡ line =
       apart g.line line g.among among (sym g.by ∙ same.0 ∙ by) (g.event ∙ same.1 ∙ sym event) in
-      subst (λ l. IsIn deed (deeds l)) is g.deed_there
+      subst (λ l. IsIn effect (effects l)) is g.effect_there
 
   pub due_in : (line : SeenLine) (c i : ℕ) (who : Who) → Among line t → line.event ≡ who.event →
       who.caller ≡ line.caller → (a : DueAt (visits_of book c) i who) →
-      IsIn (at_cpu (cpu_visit lists c i a.visit.entry)) (deeds line) × MakesDue (fast c i) a.visit.entry
+      IsIn (at_cpu (cpu_visit lists c i a.visit.entry)) (effects line) × MakesDue (fast c i) a.visit.entry
   due_in line c i who among event by a = (
     own_line line a.visit.who who (at_cpu (cpu_visit lists c i a.visit.entry)) among event by a.event
         (cpu_line c i a.visit a.is),
@@ -193,17 +193,17 @@ module _ (t : List (List SeenLine)) (book : Book) (fast : ℕ → ℕ → FastPo
 
   pub dump_in_line : (line : SeenLine) (c k : ℕ) (who : Who) → Among line t → line.event ≡ who.event →
       who.caller ≡ line.caller → (a : DumpAt (visits_of book c) k who) →
-      IsIn (at_cpu (cpu_visit lists c k a.visit.entry)) (deeds line)
+      IsIn (at_cpu (cpu_visit lists c k a.visit.entry)) (effects line)
   dump_in_line line c k who among event by a =
       own_line line a.visit.who who (at_cpu (cpu_visit lists c k a.visit.entry)) among event by a.event
       (cpu_line c k a.visit a.is)
 
   -- ---- from lines to the book
 
-  module _ (samples : AllByRecursion (AllByRecursion Stands) t) where
-    stands : (line : SeenLine) → Among line t → Stands line
-    stands line (lines, lines_in, line_in) =
-        each_in Stands line lines (each_in (AllByRecursion Stands) lines t samples lines_in) line_in
+  module _ (samples : AllByRecursion (AllByRecursion Conforms) t) where
+    conforms : (line : SeenLine) → Among line t → Conforms line
+    conforms line (lines, lines_in, line_in) =
+        each_in Conforms line lines (each_in (AllByRecursion Conforms) lines t samples lines_in) line_in
 
     -- the line of a dump
     record OfDump (c k : ℕ) (who : Who) : Type 0 where
@@ -211,7 +211,7 @@ module _ (t : List (List SeenLine)) (book : Book) (fast : ℕ → ℕ → FastPo
       among : Among line t
       event : line.event ≡ who.event
       by : who.caller ≡ line.caller
-      dumps : Dumps fast Crosses (deeds line)
+      dumps : Dumps fast Crosses (effects line)
       on : dumps.dump.cpu ≡ c
       at : dumps.dump.place ≡ k
 
@@ -219,9 +219,9 @@ module _ (t : List (List SeenLine)) (book : Book) (fast : ℕ → ℕ → FastPo
     of_dump c k who a =
         let f : InSome a.visit.who (at_cpu (cpu_visit lists c k a.visit.entry)) = cpu_line c k a.visit a.is in
         let s : CpuVisit = cpu_visit lists c k a.visit.entry in
-        let d : Dumps fast Crosses (deeds f.line) =
-        must_dump fast (deeds f.line) (stands f.line f.among) s f.deed_there a.dumps in
-        let same : d.dump ≡ s = is_the_dump fast (deeds f.line) d s f.deed_there a.dumps in
+        let d : Dumps fast Crosses (effects f.line) =
+        must_dump fast (effects f.line) (conforms f.line f.among) s f.effect_there a.dumps in
+        let same : d.dump ≡ s = is_the_dump fast (effects f.line) d s f.effect_there a.dumps in
         record {
           line = f.line;
           among = f.among;
@@ -236,12 +236,12 @@ module _ (t : List (List SeenLine)) (book : Book) (fast : ℕ → ℕ → FastPo
         (i : ℕ) × (i < k) × DueAt (visits_of book c) i who
     dump_due c k who a =
         let o : OfDump c k who = of_dump c k who a in
-        let d : Dumps fast Crosses (deeds o.line) = o.dumps in
+        let d : Dumps fast Crosses (effects o.line) = o.dumps in
         let cpu : d.sample.cpu ≡ c = sym d.on ∙ o.on in (
           d.sample.place,
           (let lt = d.after in let e = o.at in omega arith),
           subst (λ (n : ℕ). DueAt (visits_of book n) d.sample.place who) cpu
-              (due_at o.line d.sample who o.among (sample_in fast (deeds o.line) d) o.event o.by d.due),
+              (due_at o.line d.sample who o.among (sample_in fast (effects o.line) d) o.event o.by d.due),
         )
 
     due_dumped : (c i : ℕ) (who : Who) → DueAt (visits_of book c) i who →
@@ -251,15 +251,15 @@ module _ (t : List (List SeenLine)) (book : Book) (fast : ℕ → ℕ → FastPo
         let s : CpuVisit = cpu_visit lists c i a.visit.entry in
         let due : MakesDue (fast c i) a.visit.entry =
         subst (λ (f : FastPool). MakesDue f a.visit.entry) (fast_is c i a.visit a.is) a.due in
-        let d : Dumps fast Crosses (deeds f.line) =
-        was_due fast (deeds f.line) (stands f.line f.among) s f.deed_there due in
-        let same : d.sample ≡ s = is_the_sample fast (deeds f.line) d s f.deed_there due in
+        let d : Dumps fast Crosses (effects f.line) =
+        was_due fast (effects f.line) (conforms f.line f.among) s f.effect_there due in
+        let same : d.sample ≡ s = is_the_sample fast (effects f.line) d s f.effect_there due in
         let cpu : d.dump.cpu ≡ c = d.on ∙ ap (λ (v : CpuVisit). v.cpu) same in
         let from : d.sample.place ≡ i = ap (λ (v : CpuVisit). v.place) same in (
           d.dump.place,
           (let lt = d.after in omega arith),
           subst (λ (n : ℕ). DumpAt (visits_of book n) d.dump.place who) cpu
-              (dump_at f.line d.dump who f.among (dump_in fast (deeds f.line) d) (f.event ∙ a.event.1)
+              (dump_at f.line d.dump who f.among (dump_in fast (effects f.line) d) (f.event ∙ a.event.1)
               (sym a.event.0 ∙ f.by) d.dumps),
         )
 
@@ -267,11 +267,11 @@ module _ (t : List (List SeenLine)) (book : Book) (fast : ℕ → ℕ → FastPo
     one_dump c j k who a b =
         let o : OfDump c j who = of_dump c j who a in
         let v : CpuVisit = cpu_visit lists c k b.visit.entry in
-        let here : IsIn (at_cpu v) (deeds o.line) = dump_in_line o.line c k who o.among o.event o.by b in
-        let same : o.dumps.dump ≡ v = is_the_dump fast (deeds o.line) o.dumps v here b.dumps in
+        let here : IsIn (at_cpu v) (effects o.line) = dump_in_line o.line c k who o.among o.event o.by b in
+        let same : o.dumps.dump ≡ v = is_the_dump fast (effects o.line) o.dumps v here b.dumps in
         sym o.at ∙ ap (λ (v : CpuVisit). v.place) same
 
-    -- the fast pool at the dump
+    -- the line and the book have the same fast pool at the dump
     dumped : (c k : ℕ) (who : Who) (o : OfDump c k who) → DumpAt (visits_of book c) k who →
         fast o.dumps.dump.cpu o.dumps.dump.place ≡ fast_before (visits_of book c) k
     dumped c k who o a = (λ i. fast (o.on i) (o.at i)) ∙ sym (fast_is c k a.visit a.is)
@@ -285,10 +285,10 @@ module _ (t : List (List SeenLine)) (book : Book) (fast : ℕ → ℕ → FastPo
         (dump_bits (fast_before (visits_of book c) k))
     dump_mixed c k who a =
         let o : OfDump c k who = of_dump c k who a in
-        let d : Dumps fast Crosses (deeds o.line) = o.dumps in (
+        let d : Dumps fast Crosses (effects o.line) = o.dumps in (
           d.mix.place,
           mix_at o.line d.mix who (dump_bytes (fast_before (visits_of book c) k))
-              (dump_bits (fast_before (visits_of book c) k)) o.among (mix_in fast (deeds o.line) d) o.event o.by
+              (dump_bits (fast_before (visits_of book c) k)) o.among (mix_in fast (effects o.line) d) o.event o.by
               (mixed c k who o a),
         )
 
@@ -299,10 +299,10 @@ module _ (t : List (List SeenLine)) (book : Book) (fast : ℕ → ℕ → FastPo
     mix_dumped c k p who text bits a b =
         let o : OfDump c k who = of_dump c k who a in
         let s : PoolVisit = pool_visit lists p b.visit.entry in
-        let here : IsIn (at_pool s) (deeds o.line) =
+        let here : IsIn (at_pool s) (effects o.line) =
         own_line o.line b.visit.who who (at_pool s) o.among o.event o.by b.event (pool_line p b.visit b.is) in
         let same : o.dumps.mix ≡ s =
-        is_the_mix fast (deeds o.line) o.dumps s here (subst IsMix (sym b.mixes) tt) in
+        is_the_mix fast (effects o.line) o.dumps s here (subst IsMix (sym b.mixes) tt) in
         let f : FastPool = fast_before (visits_of book c) k in
         let is : Mix text bits ≡ Mix (dump_bytes f) (dump_bits f) =
         sym b.mixes ∙ sym (ap (λ (v : PoolVisit). v.entry) same) ∙ mixed c k who o a in

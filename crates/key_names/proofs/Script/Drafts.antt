@@ -1,4 +1,5 @@
--- A draft, the script before a line: one more event, or one more block.
+-- A draft is the script before a line. If an event or a block without a fault is added to a draft without a fault
+-- (`Fine`), the draft stays so. At the end the script of such a draft is well formed.
 use Rattle.std.proofs.Common.{◌≡◌, ℕ, zero, suc, ◌+◌, ◌<◌, ◌≤◌, ◌==◌, leb, ltb, false, cond, ◌&&◌, ◌||◌, ◌⊎◌, inl, inr, List, [], ◌∷◌, ◌++◌, length, refl, sym, subst, ◌∙◌, arith}
 use Rattle.std.specs.List.{AllByRecursion, list_any}
 use Rattle.std.specs.Prelude.{count_by, fold, nat_lt, sum_by, if◌then◌else◌}
@@ -13,7 +14,7 @@ use Rattle.key_names.specs.Texts.ScriptFaults.{Draft, blocks_of, has_orphan, is_
 
 -- ---- sums over events
 
--- f is 0 for no events, and f of two joined lists is the sum of both
+-- `f` counts over a list of events: it is 0 for the empty list, and for two joined lists the sum of their counts
 pub record Adds (f : List Event → ℕ) : Type 0 where
   pub none : f [] ≡ 0
   pub more : (xs ys : List Event) → f (xs ++ ys) ≡ f xs + f ys
@@ -27,7 +28,8 @@ reads = record { none = refl; more = λ xs ys. sum_by-append bytes_read xs ys }
 pub forks_of : (c : ℕ) → Adds (count_by (is_fork_of c))
 forks_of c = record { none = refl; more = λ xs ys. sum_by-append (λ e. cond (is_fork_of c e) 1 0) xs ys }
 
--- the total over all blocks is the sum over the blocks before one, that block, and the blocks after it
+-- the total over all blocks is the total of `done` and of `events`, plus that of `es`, the later events of the same
+-- block, plus that of the blocks `later`
 pub total_split : (f : List Event → ℕ) → Adds f → (done later : List (List Event)) (events es : List Event)
     → sum_by f (done ++ (events ++ es) ∷ later) ≡ sum_by f (done ++ events ∷ []) + (f es + sum_by f later)
 total_split f adds done later events es =
@@ -90,7 +92,7 @@ pub record Fine (d : Draft) : Type 0 where
   pub events : sum_by length (blocks_of d) ≤ 65536
   pub reads : sum_by (sum_by bytes_read) (blocks_of d) ≤ 16777216
 
--- an event forks the number, or it does not
+-- the event forks caller `c`, whose number is new and above the forking caller's
 pub record ForksNew (d : Draft) (e : Event) (c : ℕ) : Type 0 where
   pub one : count_by (is_fork_of c) (e ∷ []) ≡ 1
   pub new : times_forked (blocks_of d) c ≡ 0
@@ -116,7 +118,7 @@ fork_above d (Fork child) good =
     omega arith
 fork_above d e good = tt
 
--- how often a number is forked, with one more event
+-- one more event adds its own forks of `c` to the number of times that `c` is forked
 pub times_with : (d : Draft) (e : Event) (c : ℕ)
     → times_forked (blocks_of (with_event d e)) c ≡ times_forked (blocks_of d) c + count_by (is_fork_of c) (e ∷ [])
 times_with d e c = total_split (count_by (is_fork_of c)) (forks_of c) d.done [] d.events (e ∷ []) ∙ omega arith
@@ -232,7 +234,7 @@ none_of n c (event ∷ events) high e =
     let here : count_by (is_fork_of c) (event ∷ []) ≡ 0 = rw (not_of n c event high parts.0) refl in
     omega (arith, (forks_of c).more (event ∷ []) events, none_of n c events high parts.1)
 
--- if no number is orphaned, no number from n on is forked
+-- if no event forks n or a higher number, then number c, which is at least n, is never forked
 pub no_orphan : (n c : ℕ) (callers : List (List Event)) → n ≤ c → list_any (list_any (is_fork_from n)) callers ≡
     false → times_forked callers c ≡ 0
 no_orphan n c [] high e = refl
@@ -264,7 +266,7 @@ none_from n (e ∷ events) none =
     (not_from n e (λ c high. omega (arith, none c high, (forks_of c).more (e ∷ []) events)))
     (none_from n events (λ c high. omega (arith, none c high, (forks_of c).more (e ∷ []) events)))
 
--- if no number from n on is forked, no number is orphaned
+-- if no number from n on is forked, then no event forks n or a higher number
 pub orphanless : (n : ℕ) (callers : List (List Event)) → NoneFrom n (times_forked callers) →
     list_any (list_any (is_fork_from n)) callers ≡ false
 orphanless n [] none = refl
@@ -332,7 +334,7 @@ none_low k c (Fork child ∷ events) low above =
     omega (arith, (forks_of c).more (Fork child ∷ []) events, none_low k c events low above.1)
 none_low k c (e ∷ events) low above = omega (arith, (forks_of c).more (e ∷ []) events, none_low k c events low above.1)
 
--- blocks from number k on fork no number up to k
+-- if each block forks only numbers above its own, blocks from number k on fork no number up to k
 none_forked_low : (k c : ℕ) (callers : List (List Event)) → c ≤ k → ForksAbove k callers → times_forked callers c ≡ 0
 none_forked_low k c [] low above = refl
 none_forked_low k c (events ∷ callers) low above =
@@ -394,7 +396,7 @@ whole_block d es later whole =
     let all = length-append (blocks_of d) (es ∷ later) in
     let few = whole.callers.1 in
     let c = length (blocks_of d) in
-    let behind = none_forked_low (0 + c) c (es ∷ later) (omega arith)
+    let following = none_forked_low (0 + c) c (es ∷ later) (omega arith)
     (above_right 0 (blocks_of d) (es ∷ later) whole.above) in
     let once = whole.forked c ∙ forked_low c (length (blocks_of d ++ es ∷ later)) (omega arith) (omega arith) in
     (omega arith, omega (arith, sum_by-append (count_by (is_fork_of c)) (blocks_of d) (es ∷ later)))

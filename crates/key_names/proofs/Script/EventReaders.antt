@@ -1,4 +1,5 @@
--- The fields after a word give an event if and only if they are the event's fields, and the event is in its range.
+-- The fields after a word are read as an event if and only if they are the event's fields, and the event is in its
+-- range.
 use Rattle.std.proofs.Common.{◌≡◌, ℕ, ◌^◌, ◌<◌, ◌≤◌, leb, Bool, true, false, cond, inl, inr, Result, Ok, Err, List, [], ◌∷◌, refl, sym, ap, subst, ◌∙◌, arith}
 use Rattle.std.specs.Prelude.{codes}
 use Rattle.std.specs.Str.{bytes_eq}
@@ -17,7 +18,7 @@ use Rattle.key_names.specs.Texts.ScriptGrammar.{ActInRange, InRange, act_fields,
 use Rattle.key_names.specs.Texts.ScriptFaults.{◌>>=◌, event_of, four_fields, input_of, inside_of, number, point_of, one_field, since, two_fields, vread_at}
 use Rattle.key_names.proofs.Script.FieldReaders.{points, Takes, binary_again, binary_takes, byte_fields, hardware_fields, numbers, numbers_in, one_is, plain_takes, same_ok, step_ok, two_are, unary_again, unary_takes}
 
--- the fields are those of this event, which has this word and is in its range
+-- this event has this word and these fields, and it is in its range
 pub record IsEvent (version cpus : ℕ) (by : Word) (fields : List (List ℕ)) (event : Event) : Type 0 where
   pub word : event_word event ≡ by
   pub spelt : fields ≡ arguments event
@@ -141,7 +142,7 @@ since_takes first version r e is =
       | inr not ↦ let none = rw not at is in absurd cc
     ]
 
--- an event that only later versions have is read only from its first version on
+-- if a later version added an event, the event's reader takes the event only from that version on
 later_takes : (first version cpus : ℕ) (word : Word) (read : List (List ℕ) → Result Event FaultKind)
     → (first ≤ version → Takes read (IsEvent version cpus word)) →
     Takes (λ fields. since first version (read fields)) (IsEvent version cpus word)

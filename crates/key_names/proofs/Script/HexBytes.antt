@@ -1,4 +1,4 @@
--- Bytes from their digits.
+-- Lower-case hexadecimal digits decode to the bytes that they spell.
 use Rattle.std.proofs.Common.{◌≡◌, ℕ, zero, suc, ◌+◌, ◌-◌, ◌*◌, ◌/◌, ◌%◌, ◌<◌, ◌≤◌, leb, Bool, true, false, ◌&&◌, inl, inr, Some, Ok, List, [], ◌∷◌, ◌++◌, drop, length, take, refl, sym, subst, ap, ◌∙◌, arith}
 use Rattle.std.specs.Option.{is_some}
 use Rattle.std.specs.Prelude.{◌↔◌, slice_index}
@@ -12,7 +12,7 @@ use Rattle.key_names.specs.Texts.ScriptFaults.{bytes_of}
 use Rattle.key_names.specs.Texts.Spelling.{AllLower, hex, is_lower_digit}
 use Rattle.key_names.proofs.Script.HexFields.{bytes_again, bytes_none, spells_letter, spells_number}
 
--- a digit's place in the table is its value
+-- a lower-case digit is in the table of digits, at the place of its value
 place_of : (c : ℕ) → is_lower_digit c ≡ true → (d : ℕ) × (d < 16) × (slice_index lower_digits d ≡ c)
 place_of c lower =
     elim (or_cases (leb 48 c && leb c 57) (leb 97 c && leb c 102) lower) [
@@ -59,7 +59,7 @@ lower_place n lower = elim (cases_lt n 16) [
       let zero_lower : is_lower_digit 0 ≡ true = rw none at lower in absurd (cc zero_lower))
 ]
 
--- a list with a lower-case spelling is a list of bytes
+-- if a list of numbers has a lower-case spelling, it is a list of bytes
 spelt_bytes : (bytes : List ℕ) → AllLower (encode_lower bytes) → IsBytes bytes
 unfolding encode_with
 spelt_bytes [] lower = λ i. omega arith
@@ -78,7 +78,7 @@ decoded n field twice lower =
     let many : length spelt.0 ≡ n = omega (arith, long, twice, ap length spelt.1) in
     (spelt.0, ap (λ s. decode_sized s n) (sym spelt.1) ∙ decode_sized-encode_lower spelt.0 n many small, spelt.1)
 
--- if a field is the digits of some bytes, it spells them
+-- a field that consists of the digits of some bytes spells these bytes
 pub bytes_spelt : (field bytes : List ℕ) → 0 < length bytes → AllLower field → encode_lower bytes ≡ field →
     Some bytes ≡ bytes_of field
 bytes_spelt field [] some lower is = absurd (omega arith)
@@ -90,7 +90,7 @@ pub no_dash : (field : List ℕ) (n : ℕ) → length field ≡ 2 * n → bytes_
 no_dash field n even = false_from_ne_true _ (λ e.
     omega (arith, even, ap length ((bytes_eq-Decides field (hex [])).0 e)))
 
--- whether a field that is not a dash spells bytes
+-- a field of even length above 0 spells bytes exactly if all its bytes are lower-case hexadecimal digits
 pub is_spelt : (field : List ℕ) (lower : Bool) → bytes_eq field (hex []) ≡ false → 0 < length field →
     length field % 2 ≡ 0 → (lower ≡ true ↔ AllLower field) → lower ≡ is_some (bytes_of field)
 is_spelt field true dash some even is =
@@ -101,7 +101,7 @@ is_spelt field true dash some even is =
 is_spelt field false dash some even is =
     ap is_some (sym (bytes_none field dash (λ found n lower e. absurd (false≢true (is.1 lower)))))
 
--- if the bytes written are as many as the list has, they are the whole list
+-- bytes that are written over a list of their own length replace the whole list
 pub written : (out items : List ℕ) (n : ℕ) → length out ≡ length items → n ≡ length items →
     take n (out ++ drop (length out) items) ≡ out
 written out items n same all =

@@ -1,4 +1,4 @@
--- A field of hexadecimal gives its bytes back, and no other field gives them.
+-- A field is read as bytes if and only if it is the spelling of these bytes.
 use Rattle.std.proofs.Common.{◌≡◌, ℕ, suc, ◌+◌, ◌*◌, ◌-◌, ◌/◌, ◌%◌, ◌<◌, ◌==◌, leb, Bool, true, false, cond, ◌&&◌, inl, inr, Option, Some, None, Result, Ok, Err, List, [], ◌∷◌, length, slice_index, refl, sym, ap, ◌∙◌, arith}
 use Rattle.std.specs.Result.{result_unwrap_or}
 use Rattle.std.specs.Str.{bytes_eq}
@@ -114,7 +114,7 @@ field_takes field bytes false is e =
     let spelt = spelt_takes field bytes (decode_of field) e in
     (spelt.1, (decode_of-ok field bytes spelt.0).3)
 
--- if a field is read as bytes, it is their spelling
+-- a field that is read as bytes is their spelling
 pub bytes_takes : (field bytes : List ℕ) → bytes_of field ≡ Some bytes → (field ≡ hex bytes) × IsBytes bytes
 bytes_takes field bytes e = field_takes field bytes (bytes_eq field (hex [])) refl e
 
@@ -143,7 +143,7 @@ none_else field dash not (Some (b ∷ bytes)) e =
     absurd (not (b ∷ bytes) long (rw (is.0) (lower_encoded (b ∷ bytes) is.1))
     (rw (is.0) (decode_of-encode_lower (b ∷ bytes) is.1)))
 
--- a field without digits, or with digits of another case, is not read
+-- a field that is neither a dash nor lower-case digits that decode is not read
 pub bytes_none : (field : List ℕ) → bytes_eq field (hex []) ≡ false
     → ((bytes : List ℕ) → 0 < length field → AllLower field → decode_of field ≡ Ok bytes → ⊥) → bytes_of field ≡ None
 bytes_none field dash not = none_else field dash not (bytes_of field) refl

@@ -1,4 +1,4 @@
--- Fields and lines: a text of clean lines falls into those lines, and a line of clean fields into those fields.
+-- A text of printable lines is split into these lines, and a line of fields without spaces into these fields.
 use Rattle.std.proofs.Common.{◌≡◌, ℕ, ◌^◌, ◌<◌, ◌==◌, ltb, leb, Bool, true, false, ◌&&◌, inl, inr, List, [], ◌∷◌, ◌++◌, refl, sym, ap, ◌∙◌, arith, append_assoc}
 use Rattle.std.specs.Fmt.{decimal}
 use Rattle.std.specs.List.{AllByRecursion, join_with_byte, list_all, list_any}
@@ -86,7 +86,7 @@ spaceless (b ∷ field) clean = (not_space b clean.0, spaceless field clean.1)
 lacks_space : (field : List ℕ) → Clean field → Lacks 32 field
 lacks_space field clean = All-from_recursion (λ b. (b == 32) ≡ false) field (spaceless field clean)
 
--- a line of clean fields falls into them
+-- a line of fields without spaces (`Clean`) is split into these fields
 pub parts_spaced : (field : List ℕ) (fields : List (List ℕ)) → Clean field → AllByRecursion Clean fields
     → parts 32 (spaced (field ∷ fields)) ≡ field ∷ fields
 parts_spaced field [] clean others = parts_whole 32 field (lacks_space field clean)
@@ -94,7 +94,7 @@ parts_spaced field (next ∷ fields) clean others =
     parts_at 32 field (spaced (next ∷ fields)) (lacks_space field clean)
     ∙ ap (λ (rest : List (List ℕ)). field ∷ rest) (parts_spaced next fields others.0 others.1)
 
--- a line is the spelling of its fields
+-- the parts of a line, joined by spaces, are the line
 pub spaced_parts : (line : List ℕ) → spaced (parts 32 line) ≡ line
 spaced_parts line = join_with_byte-slice_split 32 line
 
@@ -137,7 +137,7 @@ feedless (b ∷ line) fine = (not_feed b fine.0, feedless line fine.1)
 
 -- ---- a text of lines
 
--- a text of printable lines falls into them, with nothing after the last
+-- a text of printable lines is split into these lines, with nothing after the last
 pub parts_lined : (lines : List (List ℕ)) → AllByRecursion Printable lines → parts 10 (lined lines) ≡ lines ++ [] ∷ []
 parts_lined [] fine = refl
 parts_lined (line ∷ lines) fine =
@@ -153,6 +153,6 @@ joined_lines (line ∷ next ∷ lines) =
     ∙ sym (append_assoc line (10 ∷ []) (lined (next ∷ lines)))
     ∙ sym (flat_map-cons (λ (l : List ℕ). l ++ 10 ∷ []) line (next ∷ lines))
 
--- if a text falls into lines, with nothing after the last, it is the text of those lines
+-- a text that is split into lines, with nothing after the last, is the text of those lines
 pub lined_parts : (text : List ℕ) (lines : List (List ℕ)) → parts 10 text ≡ lines ++ [] ∷ [] → text ≡ lined lines
 lined_parts text lines e = sym (join_with_byte-slice_split 10 text) ∙ ap (join_with_byte 10) e ∙ joined_lines lines

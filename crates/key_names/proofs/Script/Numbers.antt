@@ -1,4 +1,4 @@
--- A number's spelling gives the number back, and no other field gives it.
+-- A field is read as a number below a limit if and only if it is the spelling of that number.
 use Rattle.std.proofs.Common.{◌≡◌, ℕ, ◌^◌, ◌<◌, ◌≤◌, Bool, true, false, cond, ◌&&◌, ltb, inl, inr, Option, Some, None, List, get_or, length, refl, sym, ap, ◌∙◌, arith}
 use Rattle.std.specs.Fmt.{decimal}
 use Rattle.std.specs.Str.{bytes_eq}
@@ -12,7 +12,7 @@ use Rattle.key_names.specs.Texts.ScriptFaults.{number_below}
 own : IsNumeralModel (AllDigits 10) (digits_value 10)
 own = numerals_by_value (AllDigits 10) tells_digits
 
--- digits without a leading zero
+-- the field has only digits, at least one, and begins with 0 only if it is one digit
 pub record IsNumber (field : List ℕ) : Type 0 where
   pub digits : AllDigits 10 field
   pub some : 0 < length field
@@ -35,12 +35,12 @@ IsNumber-decimal n small = record {
 pub value_of_decimal : (n : ℕ) → n < 2 ^ 64 → digits_value 10 (decimal n) ≡ n
 value_of_decimal n small = digits_value-decimal own n small
 
--- if a test gave a value, it passed
+-- if the choice gives a value, the test passed, and the value is `x`
 met : {A : Type 0} (b : Bool) (x y : A) → cond b (Some x) None ≡ Some y → (b ≡ true) × (x ≡ y)
 met true x y e = (refl, cc)
 met false x y e = absurd cc
 
--- if a field is read as a number, it is the number's spelling
+-- a field that is read as a number is the number's spelling
 pub number_takes : (limit n : ℕ) (field : List ℕ) → number_below limit field ≡ Some n → (n < limit) ×
     (field ≡ decimal n)
 number_takes limit n field e =

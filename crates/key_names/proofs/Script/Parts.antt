@@ -1,10 +1,10 @@
--- The parts of a text between bytes of one value.
+-- How a text is split at each byte of one value (`parts`).
 use Rattle.std.proofs.Common.{◌≡◌, ℕ, ◌==◌, Bool, true, false, cond, rules, List, [], ◌∷◌, ◌++◌, All, refl}
 use Rattle.std.specs.List.{onto_first}
 use Rattle.std.proofs.lemmas.List.Splits.{slice_split_at, slice_split_none}
 use Rattle.key_names.specs.Texts.ScriptFaults.{parts}
 
--- a text has a first part
+-- the list of parts has a first element
 pub record HasFirst (lists : List (List ℕ)) : Type 0 where
   pub first : List ℕ
   pub others : List (List ℕ)

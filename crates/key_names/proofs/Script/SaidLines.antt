@@ -1,4 +1,4 @@
--- The content of a line, and the line with that content.
+-- A line is read as some content if and only if it is the line with that content.
 use Rattle.std.proofs.Common.{◌≡◌, ℕ, ◌≤◌, false, inl, inr, Some, Result, Ok, List, [], ◌∷◌, refl, sym, ap, subst, ◌∙◌, arith}
 use Rattle.std.specs.Fmt.{decimal}
 use Rattle.std.specs.List.{AllByRecursion}

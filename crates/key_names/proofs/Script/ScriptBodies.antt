@@ -1,4 +1,4 @@
--- The lines after the three head lines give a script if and only if they are the script's lines.
+-- The lines after the first three are read as a script if and only if they are the rest of the script's lines.
 use Rattle.std.proofs.Common.{◌≡◌, ℕ, suc, ◌+◌, ◌<◌, ◌≤◌, ◌==◌, false, inl, inr, Result, Ok, Err, List, [], ◌∷◌, ◌++◌, length, map, refl, sym, ap, subst, ◌∙◌, append_assoc, arith}
 use Rattle.std.specs.List.{list_any}
 use Rattle.std.specs.Prelude.{codes}
@@ -10,7 +10,7 @@ use Rattle.key_names.specs.declared.faults.FaultKind.TheVariants.{UnknownWord}
 use Rattle.key_names.specs.declared.faults.ScriptFault.{ScriptFault}
 use Rattle.key_names.specs.Texts.Spelling.{spaced}
 use Rattle.key_names.specs.Texts.ScriptGrammar.{Script, block_lines, event_fields, most_cpus, times_forked}
-use Rattle.key_names.specs.Texts.ScriptFaults.{◌>>=◌, Draft, Next, GoesOn, Ends, Said, SaysEvent, SaysCaller, SaysEnd, SaidInRange, after, at_line, blocks_of, by_next, has_orphan, is_bad_fork, is_past_limits, is_unprintable, line_of, nothing_behind, said, script_from, script_of_draft, with_block, with_event}
+use Rattle.key_names.specs.Texts.ScriptFaults.{◌>>=◌, Draft, Next, GoesOn, Ends, Said, SaysEvent, SaysCaller, SaysEnd, SaidInRange, after, at_line, blocks_of, by_next, has_orphan, is_bad_fork, is_past_limits, is_unprintable, line_of, nothing_after, said, script_from, script_of_draft, with_block, with_event}
 use Rattle.key_names.proofs.Script.Drafts.{EventFits, Fine, Whole, block_fine, end_whole, event_fine, whole_block, whole_end, whole_event}
 use Rattle.key_names.proofs.Script.FieldReaders.{same_ok, step_ok}
 use Rattle.key_names.proofs.Script.LinedTexts.{Printable, none_unprintable}
@@ -41,7 +41,7 @@ never : {A B : Type 0} (r : Result A FaultKind) (kind : FaultKind) (x : B) → (
 never (Ok a) kind x e = cc
 never (Err k) kind x e = cc
 
-nothing_takes : (n : ℕ) (more : List (List ℕ)) (x : Next) → nothing_behind n more ≡ Ok x → more ≡ [] ∷ []
+nothing_takes : (n : ℕ) (more : List (List ℕ)) (x : Next) → nothing_after n more ≡ Ok x → more ≡ [] ∷ []
 nothing_takes n [] x e = absurd cc
 nothing_takes n ([] ∷ []) x e = refl
 nothing_takes n ((b ∷ tail) ∷ []) x e = absurd cc
@@ -51,7 +51,8 @@ nothing_takes n ((b ∷ tail) ∷ next ∷ more) x e =
 
 -- ---- the lines that are left
 
--- the lines after those of a draft with c finished blocks: more events, more blocks, and the end
+-- the lines after a draft with `c` finished blocks: the lines of the events `es` that the current block still gets, of
+-- the blocks `later`, and of the end
 abbrev pub rest_lines : ℕ → List Event → List (List Event) → List (List ℕ)
 rest_lines c es later = map spaced ((map event_fields es ++ block_lines (suc c) later) ++ (codes "end" ∷ []) ∷ [])
     ++ [] ∷ []
@@ -115,9 +116,10 @@ end_after d next is =
       | inr whole ↦ (whole, same_ok {E = FaultKind} Ends next (rw whole at is))
     ]
 
--- the fact about the lines after the first
-abbrev Behind : List (List ℕ) → Script → Type 0
-Behind more s = (d : Draft) (n : ℕ) → Fine d → script_from d n more ≡ Ok s → Continues d more s
+-- if a draft without a fault and the lines `more` are read as the script s, then `more` is the rest of s after the
+-- draft
+abbrev After : List (List ℕ) → Script → Type 0
+After more s = (d : Draft) (n : ℕ) → Fine d → script_from d n more ≡ Ok s → Continues d more s
 
 event_continues : (d : Draft) (e : Event) (more : List (List ℕ)) (s : Script) → Continues (with_event d e) more s
     → Continues d (said_line (SaysEvent e) ∷ more) s
@@ -168,21 +170,21 @@ by_said : (d : Draft) (n : ℕ) (more : List (List ℕ)) (s : Script) (what : Sa
     SaidInRange d.version d.cpus what
     → after d what ≡ Ok next
     → by_next (λ later. script_from later (n + 1) more)
-    (nothing_behind (n + 1) more >>= λ none. Ok (script_of_draft d)) next ≡ Ok s
-    → Behind more s → Continues d (said_line what ∷ more) s
-by_said d n more s (SaysEvent e) next fine range is follows behind =
+    (nothing_after (n + 1) more >>= λ none. Ok (script_of_draft d)) next ≡ Ok s
+    → After more s → Continues d (said_line what ∷ more) s
+by_said d n more s (SaysEvent e) next fine range is follows following =
     let a = event_after d e next is in
-    event_continues d e more s (behind (with_event d e) (n + 1) (event_fine d e fine range a.0 a.1)
+    event_continues d e more s (following (with_event d e) (n + 1) (event_fine d e fine range a.0 a.1)
     (rw (← a.2) at follows))
-by_said d n more s (SaysCaller c) next fine range is follows behind =
+by_said d n more s (SaysCaller c) next fine range is follows following =
     let a = block_after d c next is in
     let few : length (blocks_of d) < 64 = rw a.0 at range in
     let forked : times_forked (blocks_of d) (length (blocks_of d)) ≡ 0 → ⊥ = rw a.0 at a.1 in
     subst (λ k. Continues d (said_line (SaysCaller k) ∷ more) s) (sym a.0)
-    (block_continues d more s (behind (with_block d) (n + 1) (block_fine d fine few forked) (rw (← a.2) at follows)))
-by_said d n more s SaysEnd next fine range is follows behind =
+    (block_continues d more s (following (with_block d) (n + 1) (block_fine d fine few forked) (rw (← a.2) at follows)))
+by_said d n more s SaysEnd next fine range is follows following =
     let a = end_after d next is in
-    let step = step_ok (nothing_behind (n + 1) more) (λ none. Ok (script_of_draft d)) s (rw (← a.1) at follows) in
+    let step = step_ok (nothing_after (n + 1) more) (λ none. Ok (script_of_draft d)) s (rw (← a.1) at follows) in
     end_continues d more s fine a.0 (nothing_takes (n + 1) more step.0 step.1)
     (same_ok {E = ScriptFault} (script_of_draft d) s step.2)
 
@@ -202,17 +204,17 @@ from_takes d n (line ∷ more) s fine e =
 
 -- ---- the lines of a script give it
 
-first_behind : (lines : List (List ℕ)) (line : List ℕ) (more : List (List ℕ)) → HasFirst (lines ++ line ∷ more)
-first_behind [] line more = record { first = line; others = more; is = refl }
-first_behind (l ∷ lines) line more = record { first = l; others = lines ++ line ∷ more; is = refl }
+first_after : (lines : List (List ℕ)) (line : List ℕ) (more : List (List ℕ)) → HasFirst (lines ++ line ∷ more)
+first_after [] line more = record { first = line; others = more; is = refl }
+first_after (l ∷ lines) line more = record { first = l; others = lines ++ line ∷ more; is = refl }
 
--- a line with content that may come next leads to the next draft
+-- reading the line of some content that may come next leads to the next draft, or to the end
 step_again : (d : Draft) (n : ℕ) (what : Said) (more : List (List ℕ)) (next : Next) → d.cpus ≤ 256 →
     SaidInRange d.version d.cpus what
     → HasFirst more → after d what ≡ Ok next
     → script_from d n (said_line what ∷ more)
     ≡ by_next (λ later. script_from later (n + 1) more)
-    (nothing_behind (n + 1) more >>= λ none. Ok (script_of_draft d)) next
+    (nothing_after (n + 1) more >>= λ none. Ok (script_of_draft d)) next
 unfolding script_from
 step_again d n what more next few range some is =
     rw (
@@ -224,14 +226,14 @@ step_again d n what more next few range some is =
 event_next : (d : Draft) (e : Event) → EventFits d e → after d (SaysEvent e) ≡ Ok (GoesOn (with_event d e))
 event_next d e fits = rw (fits.fork, fits.limits) refl
 
--- the lines of events
+-- the lines of these events
 abbrev event_lines : List Event → List (List ℕ)
 event_lines es = map (λ e. said_line (SaysEvent e)) es
 
 abbrev with_events : Draft → List Event → Draft
 with_events d es = record d { events = d.events ++ es }
 
--- the events of a block, one after another
+-- reading the events of a block one after another leads to the draft with these events
 events_again : (d : Draft) (n : ℕ) (es : List Event) (later : List (List Event)) (line : List ℕ)
     (more : List (List ℕ)) (s : Script)
     → d.cpus ≤ 256 → Whole d.version d.cpus (callers_with d es later)
@@ -244,10 +246,10 @@ events_again d n (e ∷ es) later line more s few whole ends =
     let fits = whole_event d e es later whole in
     let same = append_assoc d.events (e ∷ []) es in
     step_again d n (SaysEvent e) (event_lines es ++ line ∷ more) (GoesOn (with_event d e)) few fits.range
-    (first_behind (event_lines es) line more) (event_next d e fits)
+    (first_after (event_lines es) line more) (event_next d e fits)
     ∙ events_again (with_event d e) (n + 1) es later line more s few (rw same whole) (λ m. rw same (ends m))
 
--- the lines after those of a block's events
+-- the lines after the events of a block
 abbrev tail_lines : ℕ → List (List Event) → List (List ℕ)
 tail_lines c [] = codes "end" ∷ [] ∷ []
 tail_lines c (es ∷ later) = said_line (SaysCaller (suc c)) ∷ rest_lines (suc c) es later
@@ -270,7 +272,7 @@ block_next d forked = subst (λ k. after d (SaysCaller k) ≡ Ok (GoesOn (with_b
     (rw (eq-eqb (length (blocks_of d)) (length (blocks_of d)) refl, forked) refl)
 
 first_rest : (c : ℕ) (es : List Event) (later : List (List Event)) → HasFirst (rest_lines c es later)
-first_rest c es later = first_behind (map spaced
+first_rest c es later = first_after (map spaced
     ((map event_fields es ++ block_lines (suc c) later) ++ (codes "end" ∷ []) ∷ [])) [] []
 
 pub from_again : (d : Draft) (n : ℕ) (es : List Event) (later : List (List Event)) → d.cpus ≤ 256

@@ -1,4 +1,4 @@
--- Each call of a well-formed script's callers has one of the sixteen vgetrandom states as the current one.
+-- In a well-formed script, a caller's current vgetrandom state is always one of its sixteen.
 use Rattle.std.proofs.Common.{ℕ, ◌<◌, List, []}
 use Rattle.std.specs.Prelude.{⊤}
 use Rattle.std.specs.List.{AllByRecursion}

@@ -1,4 +1,4 @@
--- A text gives a script if and only if it is the script's text.
+-- A text is read as a script if and only if it is the script's text.
 use Rattle.std.proofs.Common.{◌≡◌, ℕ, zero, suc, ◌+◌, ◌≤◌, ltb, false, inl, inr, Option, Some, None, Ok, List, [], ◌∷◌, ◌++◌, length, map, refl, sym, ap, subst, ◌∙◌, append_assoc, arith}
 use Rattle.std.specs.Fmt.{decimal, digits}
 use Rattle.std.specs.List.{AllByRecursion}
@@ -9,7 +9,7 @@ use Rattle.key_names.specs.declared.events.Event.{Event}
 use Rattle.key_names.specs.declared.faults.FaultKind.{FaultKind}
 use Rattle.key_names.specs.Texts.Spelling.{spaced}
 use Rattle.key_names.specs.Texts.ScriptGrammar.{Script, InRange, IsScript, WellFormed, block_lines, event_fields, most_cpus, script_lines, script_text}
-use Rattle.key_names.specs.Texts.ScriptFaults.{◌>>=◌, Draft, Said, SaysEvent, SaysCaller, SaysEnd, at_line, behind, cpus_by, cpus_from, first_block, line_of, number_below, parts, said, script_of, script_of_lines, version_of}
+use Rattle.key_names.specs.Texts.ScriptFaults.{◌>>=◌, Draft, Said, SaysEvent, SaysCaller, SaysEnd, at_line, following, cpus_by, cpus_from, first_block, line_of, number_below, parts, said, script_of, script_of_lines, version_of}
 use Rattle.key_names.proofs.Script.Drafts.{Fine, Whole}
 use Rattle.key_names.proofs.Script.EventLines.{clean_event}
 use Rattle.key_names.proofs.Script.FieldReaders.{same_ok, step_ok}
@@ -115,7 +115,7 @@ start_fine version cpus versions few = record {
 
 -- ---- all lines
 
-first_is : (lines : List (List ℕ)) (line : List ℕ) → line_of lines ≡ Ok line → lines ≡ line ∷ behind lines
+first_is : (lines : List (List ℕ)) (line : List ℕ) → line_of lines ≡ Ok line → lines ≡ line ∷ following lines
 first_is [] line e = absurd cc
 first_is (l ∷ more) line e = ap (λ (x : List ℕ). x ∷ more) (line_takes l more line e)
 
@@ -125,8 +125,8 @@ pub record AreLines (lines : List (List ℕ)) (s : Script) : Type 0 where
 
 pub lines_take : (lines : List (List ℕ)) (s : Script) → script_of_lines lines ≡ Ok s → AreLines lines s
 lines_take lines s e =
-    let second = behind lines in
-    let third = behind second in
+    let second = following lines in
+    let third = following second in
     let a = step_ok (at_line 1 (line_of lines >>= version_of)) _ s e in
     let b = step_ok (at_line 2 (line_of second >>= λ line. cpus_by a.0 (parts 32 line))) _ s a.2 in
     let c = step_ok (at_line 3 (line_of third >>= λ line. said a.0 b.0 line >>= first_block a.0 b.0)) _ s b.2 in
@@ -140,13 +140,13 @@ lines_take lines s e =
     let begins = start_takes a.0 b.0 what.0 c.0 what.2 in
     let small = most_small a.0 in
     let says = said_takes a.0 b.0 third_line.0 what.0 (omega (arith, cpus.1.1)) what.1 in
-    let rest = from_takes (start a.0 b.0) 4 (behind third) s (start_fine a.0 b.0 version.1 cpus.1) (rw begins.1 at c.2)
+    let rest = from_takes (start a.0 b.0) 4 (following third) s (start_fine a.0 b.0 version.1 cpus.1) (rw begins.1 at c.2)
     in
     let one = first_is lines first_line.0 first_line.1 ∙ ap (λ (l : List ℕ). l ∷ second) version.0 in
     let two = first_is second second_line.0 second_line.1
     ∙ ap (λ (l : List ℕ). l ∷ third) (sym (spaced_parts second_line.0) ∙ ap spaced cpus.0) in
     let three = first_is third third_line.0 third_line.1
-    ∙ ap (λ (l : List ℕ). l ∷ behind third) (says.0 ∙ ap said_line begins.0) in
+    ∙ ap (λ (l : List ℕ). l ∷ following third) (says.0 ∙ ap said_line begins.0) in
     let all : lines ≡ spaced (codes "rngscript" ∷ decimal a.0 ∷ []) ∷ spaced (codes "cpus" ∷ decimal b.0 ∷ [])
     ∷ said_line (SaysCaller 0) ∷ rest_lines 0 rest.es rest.later =
     one ∙ ap (λ (ls : List (List ℕ)). spaced (codes "rngscript" ∷ decimal a.0 ∷ []) ∷ ls)
@@ -258,7 +258,7 @@ well_formed s whole short = record {
   text = short;
 }
 
--- a text that gives a script is the script's
+-- a text that is read as a script is the script's text
 pub script_takes : (text : List ℕ) (s : Script) → script_of text ≡ Ok s → IsScript s text
 unfolding script_of
 script_takes text s e =
@@ -279,7 +279,7 @@ whole_again s (es ∷ later) e whole =
     (record s { callers = callers })) e
     (lines_again s.version s.cpus es later (subst (Whole s.version s.cpus) (sym e) whole))
 
--- a script's text gives the script
+-- a script's text is read as the script
 pub script_again : (text : List ℕ) (s : Script) → IsScript s text → script_of text ≡ Ok s
 unfolding script_of
 script_again text s is =

@@ -1,4 +1,4 @@
--- The keystream in pieces, and a published block, computed.
+-- Lemmas that cut and join pieces of a keystream. A published block is computed.
 use Rattle.std.proofs.Common.{zero, suc, ◌+◌, ◌-◌, ◌<◌, ◌≤◌, ◌++◌, ap, sym, ◌∙◌, arith, ◌≡◌, ℕ, List, [], ◌∷◌, refl, replicate, length, take, drop, append-nil}
 use Rattle.std.specs.Prelude.{slice_range, slice_index}
 use Rattle.std.proofs.lemmas.List.FromFn.{length-map-range_with_len, get_or-map-range_with_len, take-map-range_with_len}
@@ -26,11 +26,11 @@ keystream-add key from (suc a) b =
     ap (keystream key from) p ∙ ap (λ ys. keystream_byte key from ∷ ys)
     (keystream-add key (from + 1) a b ∙ ap (λ f. keystream key (from + 1) a ++ keystream key f b) q)
 
--- the number of bytes in a piece
+-- a piece of len bytes has len bytes
 pub length-keystream : (key : List ℕ) (from len : ℕ) → length (keystream key from len) ≡ len
 length-keystream key from len = length-map-range_with_len (λ j. keystream_byte key j) from len
 
--- each byte by its position
+-- byte i of a piece is the byte at that position of the keystream
 pub slice_index-keystream : (key : List ℕ) (from len i : ℕ) → i < len → slice_index (keystream key from len) i ≡
     keystream_byte key (from + i)
 slice_index-keystream key from len i below =

@@ -1,4 +1,4 @@
--- How a fact about a caller's calls follows from its events and lines, one event at a time.
+-- A fact about the calls of a caller follows from one rule for each kind of event (`EachStep`).
 use Rattle.std.proofs.Common.{ℕ, Bool, true, false, List, [], ◌∷◌, ◌++◌}
 use Rattle.std.specs.Prelude.{if◌then◌else◌}
 use Rattle.key_names.specs.declared.events.Event.{Event}
@@ -8,7 +8,7 @@ use Rattle.key_names.specs.declared.point.Point.{Point}
 use Rattle.key_names.specs.Callers.Calls.{Call, alone, vread_call, unbound, ending, BoundAct, has_vread, calls_from}
 use Rattle.key_names.specs.Transcripts.SeenLine.{SeenLine}
 
--- a fact about the waiting acts, the events and lines that are left, and the calls that they make
+-- a fact about the waiting acts, the events and lines that are left, and the calls that all of these make
 abbrev pub OfCalls : Type 1
 OfCalls = List BoundAct → List Event → List SeenLine → List Call → Type 0
 

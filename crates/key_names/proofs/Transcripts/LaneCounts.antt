@@ -1,4 +1,5 @@
--- The number of marks in each lane. If a book's visits are the marks, each lane has as many visits as marks.
+-- If the visits of a book are marks for which PlacesConform holds in each lane, then each lane has as many visits as
+-- marks.
 use Rattle.std.proofs.Common.{◌≡◌, ℕ, zero, suc, ◌+◌, ◌<◌, ◌≤◌, Bool, true, false, List, [], ◌∷◌, refl, sym}
 use Rattle.std.proofs.Common.{subst, ap, ◌∙◌, arith, Some, length}
 use Rattle.std.specs.Prelude.{count_by, ◌==◌, if◌then◌else◌}
@@ -12,7 +13,7 @@ use Rattle.key_names.specs.declared.names.Mark.{Mark}
 use Rattle.key_names.specs.declared.names.Who.{Who}
 use Rattle.key_names.specs.declared.entries.CpuEntry.{CpuEntry}
 use Rattle.key_names.specs.Lanes.Book.{Book, Visit, list_at}
-use Rattle.key_names.specs.Transcripts.IsTranscript.{MarkBy, is_same_lane, lane_marks, PlacesStand, stamped}
+use Rattle.key_names.specs.Transcripts.IsTranscript.{MarkBy, is_same_lane, lane_marks, PlacesConform, stamped}
 use Rattle.key_names.specs.Transcripts.IsTranscript.{stamped_at, visit_count, VisitsAre}
 use Rattle.key_names.proofs.Transcripts.TakenMarks.{from_range}
 use Rattle.key_names.proofs.Lists.Each.{each_weaker}
@@ -35,7 +36,7 @@ same_lane (CpuLane c) PoolLane is = cc
 same_lane (CpuLane c) BaseLane is = cc
 same_lane (CpuLane c) (CpuLane d) is = ap CpuLane (eqb-true c d is)
 
--- a fact about each mark holds for each mark of a lane
+-- if Q holds for each mark and that mark's own lane, then Q holds for `lane` and each mark of `lane`
 pub of_lane : (Q : LaneId → Mark → Type 0) (lane : LaneId) (marks : List MarkBy) →
     AllByRecursion (λ by. Q by.mark.lane by.mark) marks → AllByRecursion (λ m. Q lane m) (lane_marks lane marks)
 of_lane Q lane [] all = tt
@@ -47,7 +48,7 @@ of_lane Q lane (by ∷ marks) all = go (is_same_lane by.mark.lane lane) refl (of
         (subst P (same_lane by.mark.lane lane is) all.0, rest)
     go false is rest = rest
 
--- if a fact holds for the place of each mark of a lane, it holds for each place below the number of these marks
+-- if Q holds for the place of each mark of a lane, then Q holds for each place below the number of these marks
 module _ (Q : ℕ → Type 0) where
   at_some : (place : ℕ) (ms : List Mark) → AllByRecursion (λ m. Q m.place) ms →
       1 ≤ count_by (λ mark. mark.place == place) ms → Q place
@@ -66,19 +67,19 @@ module _ (Q : ℕ → Type 0) where
           let whole = count_is in
           let left : 1 ≤ count_by (λ (mark : Mark). mark.place == place) ms = omega arith in rest left
 
-  pub each_place : (ms : List Mark) → PlacesStand ms → AllByRecursion (λ m. Q m.place) ms → (i : ℕ) → i < length ms →
+  pub each_place : (ms : List Mark) → PlacesConform ms → AllByRecursion (λ m. Q m.place) ms → (i : ℕ) → i < length ms →
       Q i
-  each_place ms stand all i lt =
+  each_place ms conform all i lt =
       let p : 0 + i ≡ i = omega arith in
       let once : count_by (λ mark. mark.place == (0 + i)) ms ≡ 1 =
-      from_range (λ place. count_by (λ mark. mark.place == place) ms ≡ 1) 0 (length ms) stand.once i lt in
+      from_range (λ place. count_by (λ mark. mark.place == place) ms ≡ 1) 0 (length ms) conform.once i lt in
       let P : ℕ → Type 0 = λ j. Q j in subst P p (at_some (0 + i) ms all (omega arith))
 
 pub every_place : (Q : LaneId → ℕ → Type 0) (lane : LaneId) (marks : List MarkBy) →
-    PlacesStand (lane_marks lane marks) → AllByRecursion (λ by. Q by.mark.lane by.mark.place) marks → (i : ℕ) →
+    PlacesConform (lane_marks lane marks) → AllByRecursion (λ by. Q by.mark.lane by.mark.place) marks → (i : ℕ) →
     i < length (lane_marks lane marks) → Q lane i
-every_place Q lane marks stand all i lt =
-    each_place (λ i. Q lane i) (lane_marks lane marks) stand (of_lane (λ l m. Q l m.place) lane marks all) i lt
+every_place Q lane marks conform all i lt =
+    each_place (λ i. Q lane i) (lane_marks lane marks) conform (of_lane (λ l m. Q l m.place) lane marks all) i lt
 
 -- the number of visits in a lane
 abbrev pub lane_length : Book → LaneId → ℕ
@@ -102,7 +103,7 @@ within_lane book (CpuLane c) place there at = within (list_at book.cpus c) place
 abbrev pub mark_count : LaneId → List MarkBy → ℕ
 mark_count lane marks = length (lane_marks lane marks)
 
--- the number of marks in the CPUs' lanes together; c is the number of the first
+-- the number of marks in the CPUs' lanes together; `c` is the number of the first CPU
 abbrev cpu_counts : {X : Type 0} → ℕ → List X → List MarkBy → ℕ
 cpu_counts c [] marks = 0
 cpu_counts c (x ∷ xs) marks = mark_count (CpuLane c) marks + cpu_counts (suc c) xs marks
@@ -115,7 +116,7 @@ one_more_mark : (lane : LaneId) (by : MarkBy) (marks : List MarkBy) →
     mark_count lane (by ∷ marks) ≡ one_if (is_same_lane by.mark.lane lane) + mark_count lane marks
 one_more_mark lane by marks = count_if (is_same_lane by.mark.lane lane) by (lane_marks lane marks)
 
--- a mark of another lane is not counted for any CPU from c on
+-- a mark is not counted if its lane is none of the CPUs from `c` on
 skips : {X : Type 0} (c : ℕ) (xs : List X) (by : MarkBy) (marks : List MarkBy) →
     ((d : ℕ) → c ≤ d → is_same_lane by.mark.lane (CpuLane d) ≡ false) →
     cpu_counts c xs (by ∷ marks) ≡ cpu_counts c xs marks
@@ -128,7 +129,7 @@ skips c (x ∷ xs) by marks other =
     let rest : cpu_counts (suc c) xs (by ∷ marks) ≡ cpu_counts (suc c) xs marks =
     skips (suc c) xs by marks (λ d le. other d (omega arith)) in omega arith
 
--- a mark of a CPU in the list is counted for that CPU alone
+-- a mark of one of the counted CPUs adds 1 to the count
 counts_once : {X : Type 0} (c d e : ℕ) (xss : List (List X)) (by : MarkBy) (marks : List MarkBy) → e ≡ c + d →
     by.mark.lane ≡ CpuLane e → 1 ≤ length (list_at xss d) → cpu_counts c xss (by ∷ marks) ≡ 1 + cpu_counts c xss marks
 counts_once c d e [] by marks at lane there = absurd (omega arith)
@@ -153,7 +154,7 @@ counts_once c (suc d) e (xs ∷ xss) by marks at lane there =
     counts_once (suc c) d e xss by marks (omega arith) lane there in omega arith
 
 module _ (book : Book) where
-  -- all marks are counted
+  -- the numbers of marks of the pool, of the base and of the CPUs add up to the number of all marks
   pub counted : (marks : List MarkBy) → AllByRecursion (λ by. by.mark.place < lane_length book by.mark.lane) marks →
       length marks ≡ mark_count PoolLane marks + mark_count BaseLane marks + cpu_counts 0 book.cpus marks
   counted [] all = none_counted book.cpus 0
@@ -196,7 +197,7 @@ module _ (book : Book) where
           let z : cpu_counts 0 book.cpus (by ∷ marks) ≡ 1 + cpu_counts 0 book.cpus marks =
           counts_once 0 c c book.cpus by marks (omega arith) is (omega arith) in omega arith
 
--- if two sums are equal and no part of the first is above that of the second, the parts are equal
+-- if two sums are equal, and no part of the first is above the same part of the second, then the parts are equal
 parts_equal : (a b x y : ℕ) → a ≤ x → b ≤ y → a + b ≡ x + y → (a ≡ x) × (b ≡ y)
 parts_equal a b x y le le' same = (omega arith, omega arith)
 
@@ -242,13 +243,13 @@ cpus_equal {X = X} c (xs ∷ xss) marks le same d =
         let next : c + suc e ≡ suc c + e = omega arith in ap (λ i. mark_count (CpuLane i) marks) next ∙ rest e
 
 -- a lane has as many visits as marks
-pub lane_counts : (book : Book) (marks : List MarkBy) → ((lane : LaneId) → PlacesStand (lane_marks lane marks)) →
+pub lane_counts : (book : Book) (marks : List MarkBy) → ((lane : LaneId) → PlacesConform (lane_marks lane marks)) →
     VisitsAre book marks → (lane : LaneId) → mark_count lane marks ≡ lane_length book lane
 lane_counts book marks places visits lane = at_lane lane
   where
     all : AllByRecursion (λ by. by.mark.place < lane_length book by.mark.lane) marks
     all = each_weaker _ _ marks
-        (λ (by : MarkBy) at. within_lane book by.mark.lane by.mark.place (by.mark.stamp, by.who) at) visits.stand
+        (λ (by : MarkBy) at. within_lane book by.mark.lane by.mark.place (by.mark.stamp, by.who) at) visits.conform
 
     no_more : (lane : LaneId) → mark_count lane marks ≤ lane_length book lane
     no_more lane = at_most (mark_count lane marks) (λ i lt. every_place (λ l i. i < lane_length book l) lane marks

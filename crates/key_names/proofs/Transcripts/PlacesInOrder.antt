@@ -1,4 +1,4 @@
--- If PlacesStand holds for marks that are sorted by stamp, their places count up.
+-- If PlacesConform holds for marks that are sorted by stamp, then the marks' places count up from 0.
 use Rattle.std.proofs.Common.{ℕ, zero, suc, ◌+◌, ◌≡◌, ◌<◌, ◌≤◌, Bool, true, false, cond, List, [], ◌∷◌, length, refl, sym, subst, ap, ◌∙◌, arith}
 use Rattle.std.specs.Prelude.{count_by, ◌==◌, IsPermutation}
 use Rattle.std.specs.List.{AllByRecursion, range_with_len}
@@ -8,7 +8,7 @@ use Rattle.std.proofs.lemmas.List.Sorted.{All-permutation, sum_by-IsPermutation,
 use Rattle.key_names.specs.declared.names.Mark.{Mark}
 use Rattle.key_names.specs.Transcripts.PlacesInOrder.{InOrder, ByStamp, PlacesCountUp, PlacesInAnyOrder}
 use Rattle.key_names.proofs.Lists.Each.{each_weaker, each_both}
-use Rattle.key_names.proofs.Lists.MarkLists.{at_place, count_more, Above, in_order_stand}
+use Rattle.key_names.proofs.Lists.MarkLists.{at_place, count_more, Above, in_order_conform}
 
 abbrev hit : Bool → ℕ
 hit b = cond b 1 0
@@ -45,19 +45,19 @@ module _ (i : ℕ) where
           let no : hit (m.place == i) ≡ 0 = ap hit is in
           (is, rest (let s = sum in omega (arith, no)))
 
--- marks at the places from i on, with each place once
-record StandFrom (i : ℕ) (ms : List Mark) : Type 0 where
+-- the marks have the places from i on, each place once, and a mark at a higher place has a higher stamp
+record ConformFrom (i : ℕ) (ms : List Mark) : Type 0 where
   once : (p : ℕ) → i ≤ p → p < i + length ms → count_by (at_place p) ms ≡ 1
   from : AllByRecursion (λ m. i ≤ m.place) ms
   rise : AllByRecursion (λ a. AllByRecursion (Above a) ms) ms
 
-module _ (i : ℕ) (m : Mark) (ms : List Mark) (s : StandFrom i (m ∷ ms)) (sorted : ByStamp (m ∷ ms)) where
+module _ (i : ℕ) (m : Mark) (ms : List Mark) (s : ConformFrom i (m ∷ ms)) (sorted : ByStamp (m ∷ ms)) where
   once_here : hit (m.place == i) + count_by (at_place i) ms ≡ 1
   once_here = sym (count_more i m ms) ∙ s.once i (omega arith) (omega arith)
 
-  -- a mark after the first has no lower place
-  behind : m.place ≡ i → AllByRecursion (λ n. n.place < m.place → ⊥) ms
-  behind is = each_weaker (λ n. i ≤ n.place) (λ n. n.place < m.place → ⊥) ms (λ n le lt. omega arith) s.from.1
+  -- if the first mark has place i, no later mark has a lower place
+  following : m.place ≡ i → AllByRecursion (λ n. n.place < m.place → ⊥) ms
+  following is = each_weaker (λ n. i ≤ n.place) (λ n. n.place < m.place → ⊥) ms (λ n le lt. omega arith) s.from.1
 
   first : m.place ≡ i
   first = go (m.place == i) refl
@@ -102,7 +102,7 @@ module _ (i : ℕ) (m : Mark) (ms : List Mark) (s : StandFrom i (m ∷ ms)) (sor
       (λ n h. h.0 (let at : m.place ≡ i = first in let le : suc i ≤ n.place = h.1 in omega arith))
       (each_both (Above m) (λ n. suc i ≤ n.place) ms s.rise.0.1 after)
 
-  rest : StandFrom (suc i) ms
+  rest : ConformFrom (suc i) ms
   rest = record {
     once = λ p from low.
         (let at : m.place ≡ i = first in
@@ -115,7 +115,7 @@ module _ (i : ℕ) (m : Mark) (ms : List Mark) (s : StandFrom i (m ∷ ms)) (sor
         s.rise.1;
   }
 
-orders : (i : ℕ) (ms : List Mark) → StandFrom i ms → ByStamp ms → InOrder i ms
+orders : (i : ℕ) (ms : List Mark) → ConformFrom i ms → ByStamp ms → InOrder i ms
 orders i [] s sorted = tt
 orders i (m ∷ ms) s sorted =
     (first i m ms s sorted, strict i m ms s sorted, orders (suc i) ms (rest i m ms s sorted) sorted.1)
@@ -126,12 +126,12 @@ each_any (m ∷ ms) = (omega arith, each_any ms)
 
 pub places_count_up : PlacesCountUp
 places_count_up ms = (
-  in_order_stand ms,
-  λ sorted stand. orders 0 ms (record {
+  in_order_conform ms,
+  λ sorted conform. orders 0 ms (record {
     once = λ p from low.
-        in_range (λ place. count_by (λ mark. mark.place == place) ms ≡ 1) 0 (length ms) p stand.once from low;
+        in_range (λ place. count_by (λ mark. mark.place == place) ms ≡ 1) 0 (length ms) p conform.once from low;
     from = each_any ms;
-    rise = stand.rise;
+    rise = conform.rise;
   }) sorted,
 )
 
@@ -140,13 +140,13 @@ module _ (ms ns : List Mark) (same : IsPermutation ms ns) where
   any_order P all = recursion_from_All P ns (All-permutation P ms ns same (All-from_recursion P ms all))
 
 pub places_in_any_order : PlacesInAnyOrder
-places_in_any_order ms ns same stand = record {
+places_in_any_order ms ns same conform = record {
   once = each_weaker (λ place. count_by (λ mark. mark.place == place) ms ≡ 1)
       (λ place. count_by (λ mark. mark.place == place) ns ≡ 1) (range_with_len 0 (length ns))
       (λ place is. sum_by-IsPermutation (λ mark. cond (mark.place == place) 1 0) ms ns same ∙ is)
       (subst (λ (n : ℕ). AllByRecursion (λ place. count_by (λ mark. mark.place == place) ms ≡ 1) (range_with_len 0 n))
-      (sym (length_permutation ms ns same)) stand.once);
+      (sym (length_permutation ms ns same)) conform.once);
   rise = any_order ms ns same (λ a. AllByRecursion (Above a) ns)
       (each_weaker (λ a. AllByRecursion (Above a) ms) (λ a. AllByRecursion (Above a) ns) ms
-      (λ a all. any_order ms ns same (Above a) all) stand.rise);
+      (λ a all. any_order ms ns same (Above a) all) conform.rise);
 }

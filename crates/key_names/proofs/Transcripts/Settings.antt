@@ -1,4 +1,4 @@
--- The settings of callers, in lists and after an event.
+-- How `setting_of` reads a list of settings, and how an event changes a caller's setting.
 use Rattle.std.proofs.Common.{◌≡◌, ℕ, zero, suc, ◌<◌, List, [], ◌∷◌, ◌++◌, length, refl, arith, length-append}
 use Rattle.key_names.specs.declared.events.Event.{Event}
 use Rattle.key_names.specs.declared.events.Event.TheVariants.{Drop, State}

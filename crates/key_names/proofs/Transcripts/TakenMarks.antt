@@ -1,4 +1,4 @@
--- The number of marks in some lines that have one place of a lane: at most one if MarksStand holds.
+-- If PlacesConform holds for the marks of each lane, the lines of a transcript have at most one mark for each place.
 use Rattle.std.proofs.Common.{◌≡◌, ℕ, zero, suc, ◌+◌, ◌<◌, ◌≤◌, Bool, true, false, cond, List, [], ◌∷◌, ◌++◌, inl, inr, refl, sym, subst, ap, ◌∙◌, arith, Some, None, Option, length}
 use Rattle.std.specs.Prelude.{count_by, ◌==◌, ◌&&◌, nat_lt, if◌then◌else◌, slice_get}
 use Rattle.std.specs.List.{AllByRecursion, range_with_len, flat_map}
@@ -13,27 +13,27 @@ use Rattle.key_names.specs.declared.entries.PoolEntry.{PoolEntry}
 use Rattle.key_names.specs.declared.entries.BaseEntry.{BaseEntry}
 use Rattle.key_names.specs.declared.entries.CpuEntry.{CpuEntry}
 use Rattle.key_names.specs.Lanes.Book.{Lists, cpu_list}
-use Rattle.key_names.specs.Callers.Deeds.{Deed, at_pool, at_base, at_cpu, deed_or, deed_at, deeds_of, pool_visit, base_visit, cpu_visit}
+use Rattle.key_names.specs.Callers.Effects.{Effect, at_pool, at_base, at_cpu, effect_or, effect_at, effects_of, pool_visit, base_visit, cpu_visit}
 use Rattle.key_names.specs.Transcripts.SeenLine.{SeenLine}
-use Rattle.key_names.specs.Transcripts.IsTranscript.{MarkBy, marks_from, line_marks, all_marks, is_same_lane, lane_marks, PlacesStand}
-use Rattle.key_names.proofs.Vgetrandom.KeyTakes.{is_here, deed_takes}
+use Rattle.key_names.specs.Transcripts.IsTranscript.{MarkBy, marks_from, line_marks, all_marks, is_same_lane, lane_marks, PlacesConform}
+use Rattle.key_names.proofs.Vgetrandom.KeyTakes.{is_here, effect_takes}
 use Rattle.key_names.proofs.Transcripts.TranscriptBooks.{lt_or_le}
 
 abbrev pub hit : Bool → ℕ
 hit b = cond b 1 0
 
--- lane and p name a place of a lane
+-- These functions count the marks of place `p` of `lane`.
 module _ (lane : LaneId) (p : ℕ) where
   abbrev pub lane_takes : LaneId → ℕ → ℕ
   lane_takes other place = if is_same_lane other lane then hit (place == p) else 0
 
-  -- the number of marks of this place among some steps
+  -- how many of the steps are marks of this place
   abbrev pub mark_takes : List Step → ℕ
   mark_takes [] = 0
   mark_takes (Look g ∷ steps) = mark_takes steps
   mark_takes (Marked mark ∷ steps) = lane_takes mark.lane mark.place + mark_takes steps
 
-  -- the number of marks of the lane with this place
+  -- how many of the marks of one lane have this place
   abbrev place_count : List Mark → ℕ
   place_count marks = count_by (λ mark. mark.place == p) marks
 
@@ -95,7 +95,7 @@ module _ (lane : LaneId) (p : ℕ) where
       let b : count_here (flat_map line_marks lines) ≡ lines_takes lines = lines_count lines in
       let rest : count_here (all_marks t) ≡ total_takes t = total_count t in omega arith
 
--- a place of a CPU
+-- These functions count how often the read at place `p` of CPU `c` occurs.
 module _ (c p : ℕ) where
   cpu_takes : (d place : ℕ) → lane_takes (CpuLane c) p (CpuLane d) place ≡ is_here c p d place
   cpu_takes d place = go (d == c)
@@ -104,33 +104,33 @@ module _ (c p : ℕ) where
       go true = refl
       go false = refl
 
-  lane_deed : (lists : Lists) (lane : LaneId) (place : ℕ) (ds : List Deed) (n : ℕ) → deed_takes c p ds ≤ n →
-      deed_takes c p (deed_at lists lane place ∷ ds) ≤ lane_takes (CpuLane c) p lane place + n
-  lane_deed lists PoolLane place ds n le = pool (slice_get lists.pool place)
+  lane_effect : (lists : Lists) (lane : LaneId) (place : ℕ) (ds : List Effect) (n : ℕ) → effect_takes c p ds ≤ n →
+      effect_takes c p (effect_at lists lane place ∷ ds) ≤ lane_takes (CpuLane c) p lane place + n
+  lane_effect lists PoolLane place ds n le = pool (slice_get lists.pool place)
     where
-      pool : (o : Option PoolEntry) → deed_takes c p (deed_or (λ e. at_pool (pool_visit lists place e)) o ∷ ds) ≤ 0 + n
+      pool : (o : Option PoolEntry) → effect_takes c p (effect_or (λ e. at_pool (pool_visit lists place e)) o ∷ ds) ≤ 0 + n
       pool None = omega arith
       pool (Some e) = omega arith
-  lane_deed lists BaseLane place ds n le = base (slice_get lists.base place)
+  lane_effect lists BaseLane place ds n le = base (slice_get lists.base place)
     where
-      base : (o : Option BaseEntry) → deed_takes c p (deed_or (λ e. at_base (base_visit lists place e)) o ∷ ds) ≤ 0 + n
+      base : (o : Option BaseEntry) → effect_takes c p (effect_or (λ e. at_base (base_visit lists place e)) o ∷ ds) ≤ 0 + n
       base None = omega arith
       base (Some e) = omega arith
-  lane_deed lists (CpuLane d) place ds n le = cpu (slice_get (cpu_list lists d) place)
+  lane_effect lists (CpuLane d) place ds n le = cpu (slice_get (cpu_list lists d) place)
     where
-      cpu : (o : Option CpuEntry) → deed_takes c p (deed_or (λ e. at_cpu (cpu_visit lists d place e)) o ∷ ds)
+      cpu : (o : Option CpuEntry) → effect_takes c p (effect_or (λ e. at_cpu (cpu_visit lists d place e)) o ∷ ds)
           ≤ lane_takes (CpuLane c) p (CpuLane d) place + n
       cpu None = omega arith
       cpu (Some e) = let same = cpu_takes d place in omega arith
 
-  -- the deeds of steps have the visit at this place no more often than the steps have its mark
-  pub deeds_within : (lists : Lists) (steps : List Step) → deed_takes c p (deeds_of lists steps) ≤ mark_takes (CpuLane c) p steps
-  deeds_within lists [] = omega arith
-  deeds_within lists (Look g ∷ steps) = deeds_within lists steps
-  deeds_within lists (Marked mark ∷ steps) =
-      lane_deed lists mark.lane mark.place (deeds_of lists steps) (mark_takes (CpuLane c) p steps) (deeds_within lists steps)
+  -- the effects of steps contain the visit at this place at most as often as the steps contain the visit's mark
+  pub effects_within : (lists : Lists) (steps : List Step) → effect_takes c p (effects_of lists steps) ≤ mark_takes (CpuLane c) p steps
+  effects_within lists [] = omega arith
+  effects_within lists (Look g ∷ steps) = effects_within lists steps
+  effects_within lists (Marked mark ∷ steps) =
+      lane_effect lists mark.lane mark.place (effects_of lists steps) (mark_takes (CpuLane c) p steps) (effects_within lists steps)
 
--- the number of marks with a place, and of those with a place below a number
+-- `at_place` counts the marks that have place q; `below` counts those that have a place below n
 at_place : ℕ → List Mark → ℕ
 at_place q [] = 0
 at_place q (m ∷ ms) = cond (m.place == q) 1 0 + at_place q ms
@@ -188,9 +188,9 @@ from_range P from (suc n) all zero lt = let p : from ≡ from + 0 = omega arith 
 from_range P from (suc n) all (suc i) lt =
     let p : (from + 1) + i ≡ from + suc i = omega arith in subst P p (from_range P (from + 1) n all.1 i (omega arith))
 
--- if PlacesStand holds for marks, no place occurs twice
-at_most_once : (q : ℕ) (ms : List Mark) → PlacesStand ms → at_place q ms ≤ 1
-at_most_once q ms stand = elim (lt_or_le q (length ms)) [
+-- no place occurs twice among marks for which PlacesConform holds
+at_most_once : (q : ℕ) (ms : List Mark) → PlacesConform ms → at_place q ms ≤ 1
+at_most_once q ms conform = elim (lt_or_le q (length ms)) [
   | inl lt ↦ (let one : at_place q ms ≡ 1 = once q lt in omega arith)
   | inr le ↦ (let all : below (length ms) ms ≡ length ms = all_below (length ms) ms once in
       let room : below (length ms) ms + at_place q ms ≤ length ms = no_room (length ms) q ms le in omega arith)
@@ -200,15 +200,15 @@ at_most_once q ms stand = elim (lt_or_le q (length ms)) [
     once i lt =
         let p : 0 + i ≡ i = omega arith in
         let e : count_by (λ mark. mark.place == (0 + i)) ms ≡ 1 =
-        from_range (λ place. count_by (λ mark. mark.place == place) ms ≡ 1) 0 (length ms) stand.once i lt in
+        from_range (λ place. count_by (λ mark. mark.place == place) ms ≡ 1) 0 (length ms) conform.once i lt in
         sym (at_is_count i ms) ∙ sym (ap (λ j. count_by (λ mark. mark.place == j) ms) p) ∙ e
 
--- a place of a lane has at most one mark in all lines
-pub one_mark : (lane : LaneId) (p : ℕ) (t : List (List SeenLine)) → PlacesStand (lane_marks lane (all_marks t)) →
+-- all lines together have at most one mark of a place
+pub one_mark : (lane : LaneId) (p : ℕ) (t : List (List SeenLine)) → PlacesConform (lane_marks lane (all_marks t)) →
     total_takes lane p t ≤ 1
-one_mark lane p t stand =
+one_mark lane p t conform =
     let a : count_here lane p (all_marks t) ≡ total_takes lane p t = total_count lane p t in
     let b : count_here lane p (all_marks t) ≡ at_place p (lane_marks lane (all_marks t)) =
     at_is_count p (lane_marks lane (all_marks t)) in
-    let le : at_place p (lane_marks lane (all_marks t)) ≤ 1 = at_most_once p (lane_marks lane (all_marks t)) stand in
+    let le : at_place p (lane_marks lane (all_marks t)) ≤ 1 = at_most_once p (lane_marks lane (all_marks t)) conform in
     omega arith

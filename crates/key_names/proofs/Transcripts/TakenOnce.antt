@@ -1,4 +1,4 @@
--- In a lawful transcript no two entries of vgetrandom states take one read.
+-- In a lawful transcript, no two entries of vgetrandom states take the same read as a key.
 use Rattle.std.proofs.Common.{◌≡◌, ℕ, zero, suc, ◌+◌, ◌≤◌, Bool, true, false, List, [], ◌∷◌, ◌++◌, ◌⊎◌, inl, inr, refl, sym, ap, ◌∙◌, arith, Some, Option}
 use Rattle.std.specs.Prelude.{◌==◌, ◌&&◌, ◌||◌, if◌then◌else◌, map}
 use Rattle.std.specs.List.{list_any, range_with_len}
@@ -34,8 +34,8 @@ module _ (c p : ℕ) where
   abbrev all_takes : List (List CallMeaning) → ℕ
   all_takes = calls.all_takes c p
 
-  -- the entries of one state, and those of two states of a caller together, take no more reads than all entries of the
-  -- caller
+  -- the entries of one state take the read at most as often as all entries of the state's caller. So do the entries of
+  -- two states together
   one_state : (k : ℕ) (ms : List CallMeaning) → takes c p (entries_of_state k ms) ≤ caller_takes ms
   one_state k [] = omega arith
   one_state k (m ∷ ms) =
@@ -77,7 +77,7 @@ module _ (c p : ℕ) where
       (if m.before.current == k then m.entries else []) ≤ takes c p m.entries =
       not_both m.before.current j k m.entries ne in omega arith
 
-  -- a read that some entry takes is counted
+  -- if some entry takes the read, then `takes` is at least 1
   pub any_entry : (es : List VEntry) → list_any (rekeys_place c p) es ≡ true → 1 ≤ takes c p es
   any_entry [] is = cc
   any_entry (Rekey cpu place ∷ es) is = elim (or_true (cpu == c && place == p) _ is) [
@@ -109,7 +109,7 @@ module _ (c p : ℕ) where
     | inr later ↦ omega (arith, any_caller mss later)
   ]
 
-  -- the list of a state has the state's entries, or is empty
+  -- the list of state k has the entries that calls append to that state, or is empty
   state_list_is : (k : ℕ) (ms : List CallMeaning) →
       (list_at (state_lists ms) k ≡ entries_of_state k ms) ⊎ (list_at (state_lists ms) k ≡ [])
   state_list_is k ms = elim (lt_or_le k 16) [
@@ -127,7 +127,7 @@ module _ (c p : ℕ) where
     | inr e ↦ (let q : state_takes ms k ≡ 0 = ap (takes c p) e in omega arith)
   ]
 
-  -- how often the list of state k of caller i takes the read
+  -- how often the list of state k of caller i takes the read as a key
   abbrev takes_at : List (List CallMeaning) → ℕ → ℕ → ℕ
   takes_at mss i k = takes c p (list_at (list_at (map state_lists mss) i) k)
 
@@ -171,7 +171,7 @@ module _ (c p : ℕ) where
   abbrev some_read : ℕ → ℕ → Option (ℕ × ℕ)
   some_read cpu place = Some (cpu, place)
 
-  -- an entry that takes the read is counted
+  -- `is_here` is 1 for an entry that takes the read
   here_is : (cpu place : ℕ) → some_read cpu place ≡ some_read c p → is_here c p cpu place ≡ 1
   here_is cpu place is =
       let a : (cpu == c) ≡ true = eq-eqb cpu c (ap (λ o. option_map_or (λ (x : ℕ × ℕ). x.0) o 0) is) in
@@ -218,7 +218,7 @@ module _ (c p : ℕ) where
       let rest : 2 ≤ takes c p es = counts_two es n m (λ x. ne (ap suc x)) is at in
       let more : takes c p es ≤ takes c p (e ∷ es) = more_takes e es in omega arith
 
-  -- if all lines together have at most one mark of the place, only one entry takes its read
+  -- only one entry takes the read, if all callers together take it at most once
   pub one_entry : (mss : List (List CallMeaning)) → all_takes mss ≤ 1 → (h i j k n m : ℕ) →
       rekey_at (list_at (list_at (map state_lists mss) h) j) n ≡ Some (c, p) →
       rekey_at (list_at (list_at (map state_lists mss) i) k) m ≡ Some (c, p) →

@@ -1,4 +1,4 @@
--- The lists of states in the book of a lawful transcript.
+-- In the book of a lawful transcript, the list of each vgetrandom state is lawful.
 use Rattle.std.proofs.Common.{◌≡◌, ℕ, zero, suc, ◌+◌, ◌<◌, ◌≤◌, List, [], ◌∷◌, ◌⊎◌, inl, inr, refl, sym, subst, ap, ◌∙◌, arith}
 use Rattle.std.specs.Prelude.{map}
 use Rattle.std.specs.List.{range_with_len}
@@ -20,7 +20,7 @@ lt_or_le a zero = inr (omega arith)
 lt_or_le zero (suc b) = inl (omega arith)
 lt_or_le (suc a) (suc b) = elim (lt_or_le a b) [ inl lt ↦ inl (omega arith) | inr le ↦ inr (omega arith) ]
 
--- element k of a list made from a range of numbers
+-- element k of the list that f makes from a range is f of the number k places after the range's first
 pub made_at : {A : Type 0} (f : ℕ → List A) (from count k : ℕ) → k < count →
     list_at (map f (range_with_len from count)) k ≡ f (from + k)
 made_at f from zero k lt = absurd (omega arith)
@@ -34,7 +34,7 @@ made_beyond f from zero k le = refl
 made_beyond f from (suc count) zero le = absurd (omega arith)
 made_beyond f from (suc count) (suc k) le = made_beyond f (from + 1) count k (omega arith)
 
--- from caller c on, the book's lists of states are those of the calls' meanings
+-- from caller `c` on, the book's lists of states are those that the meanings `mss` of the calls make
 abbrev pub HasStates : Lists → ℕ → List (List CallMeaning) → Type 0
 HasStates lists c mss = (i : ℕ) → list_at lists.callers (c + i) ≡ list_at (map state_lists mss) i
 
@@ -57,7 +57,7 @@ own_list lists c ms mss has k below =
     ∙ made_at (λ i. entries_of_state i ms) 0 16 k below ∙ ap (λ i. entries_of_state i ms) q
 
 module _ (lists : Lists) (settings : ℕ → Setting) where
-  -- the list of each state of one caller is lawful
+  -- the list of each state of a caller is lawful
   one_caller : (caller c : ℕ) (calls : List Call) (ms : List CallMeaning) → CallerMeans lists (settings c) calls ms →
       (k : ℕ) →
       LawfulStateList (cpu_list lists) caller k (list_at (state_lists ms) k)
@@ -72,7 +72,7 @@ module _ (lists : Lists) (settings : ℕ → Setting) where
         subst P (sym (made_beyond (λ i. entries_of_state i ms) 0 16 k le)) (none_lawful (cpu_list lists) caller k))
   ]
 
-  -- the list of each state of all callers is lawful; c is the number of the first caller
+  -- the list of each state of each caller is lawful; c is the number of the first caller
   all_callers : (caller c : ℕ) (callers : List (List Call)) (mss : List (List CallMeaning)) →
       EachCaller (λ c calls ms. CallerMeans lists (settings c) calls ms) c callers mss → (i k : ℕ) →
       LawfulStateList (cpu_list lists) caller k (list_at (list_at (map state_lists mss) i) k)

@@ -8,18 +8,18 @@ use Rattle.key_names.specs.Lanes.Book.{Book, lists_of, list_at, StatePlace, reke
 use Rattle.key_names.specs.Transcripts.SeenLine.{SeenLine}
 use Rattle.key_names.specs.Callers.Meaning.{CallMeaning}
 use Rattle.key_names.specs.Texts.ScriptGrammar.{Script}
-use Rattle.key_names.specs.Transcripts.IsTranscript.{MarksStand, IsTranscriptBy, state_lists, start_setting, script_calls}
+use Rattle.key_names.specs.Transcripts.IsTranscript.{MarksConform, IsTranscriptBy, state_lists, start_setting, script_calls}
 use Rattle.key_names.specs.Transcripts.TranscriptBook.{TranscriptIsLawful}
 use Rattle.key_names.proofs.Transcripts.TranscriptBooks.{states_lawful}
 use Rattle.key_names.proofs.Transcripts.TakenMarks.{one_mark}
 use Rattle.key_names.proofs.Transcripts.CallTakes.{all_takes, callers_within, all_calls_marks, all_marks_within}
 use Rattle.key_names.proofs.Transcripts.TakenOnce.{one_entry}
 
--- a place of a lane has at most one mark in all calls
-pub one_call_mark : (lane : LaneId) (p : ℕ) (script : Script) (t : List (List SeenLine)) → MarksStand script t →
+-- all calls together have at most one mark of a place
+pub one_call_mark : (lane : LaneId) (p : ℕ) (script : Script) (t : List (List SeenLine)) → MarksConform script t →
     all_calls_marks lane p (script_calls script t) ≤ 1
-one_call_mark lane p script t stand =
-    omega (arith, all_marks_within lane p script.callers t, one_mark lane p t (stand.lanes lane))
+one_call_mark lane p script t conform =
+    omega (arith, all_marks_within lane p script.callers t, one_mark lane p t (conform.lanes lane))
 
 one_taker : (script : Script) (t : List (List SeenLine)) (book : Book) (ms : List (List CallMeaning)) →
     IsTranscriptBy script t book ms →

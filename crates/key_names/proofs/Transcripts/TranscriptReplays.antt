@@ -13,7 +13,7 @@ use Rattle.key_names.specs.Keys.LiveMaterial.{StateBytes, state_bytes_start, sta
 use Rattle.key_names.specs.Keys.KeyInUse.{state_value_step}
 use Rattle.key_names.specs.Lanes.Book.{Lists, lists_of}
 use Rattle.key_names.specs.Callers.Calls.{Setting, Call, alone, vread_call, unbound, ending, BoundAct}
-use Rattle.key_names.specs.Callers.Deeds.{Deed, deeds_of}
+use Rattle.key_names.specs.Callers.Effects.{Effect, effects_of}
 use Rattle.key_names.specs.Callers.Forms.{Looked}
 use Rattle.key_names.specs.Transcripts.SeenLine.{SeenLine}
 use Rattle.key_names.specs.Kernel.VgetrandomState.{VgetrandomState, wiped_state}
@@ -25,11 +25,11 @@ use Rattle.key_names.specs.Transcripts.StatesReplayed.{state_number, caller_end,
 use Rattle.key_names.proofs.Vgetrandom.CallsKeep.{match_cases, some_bytes}
 use Rattle.key_names.proofs.Transcripts.TranscriptStates.{set_here, set_other, length_set}
 use Rattle.key_names.proofs.Transcripts.TranscriptBooks.{HasStates, all_states, later_states, own_list}
-use Rattle.key_names.proofs.Transcripts.GoodSteps.{good_behind}
+use Rattle.key_names.proofs.Transcripts.GoodSteps.{good_after}
 use Rattle.key_names.proofs.Transcripts.KeyVisits.{AllThere, all_there}
 use Rattle.key_names.proofs.Vgetrandom.StatesReplay as replay
 
--- the key in the replay of all bytes is the key in the replay of keys alone
+-- a replay of keys and batches gives the same key as a replay of keys alone
 pub bytes_key : (lists : Lists) (b : StateBytes) (es : List VEntry) →
     (fold (state_bytes_step lists) b es).key ≡ fold (state_value_step lists) b.key es
 bytes_key lists b [] = refl
@@ -45,7 +45,7 @@ module _ (lists : Lists) (caller k : ℕ) (below : k < 16) where
   abbrev Holds : Both → VgetrandomState → Type 0
   Holds = replay.Holds lists caller k
 
-  -- this state after a call
+  -- after a call, state k matches the replay of the state's entries
   pub record Leaves (x : Both) (m : CallMeaning) : Type 0 where
     pub length_is : length m.after.states ≡ 16
     pub holds : Holds (after x (if m.before.current == k then m.entries else [])) (state_number k m.after)
@@ -102,13 +102,13 @@ module _ (lists : Lists) (caller k : ℕ) (below : k < 16) where
       same_holds x m len h means.entries (ap (λ (s : CallerState). s.states) means.after)
 
   vgetrandom_holds : (x : Both) (n flags : ℕ) (acts : List BoundAct) (m : CallMeaning) →
-      length m.before.states ≡ 16 → Holds x (state_number k m.before) → AllThere lists m.own.deeds →
-      NeverFall (looks_of m.own.deeds) → ByVgetrandom n flags acts m → Leaves x m
+      length m.before.states ≡ 16 → Holds x (state_number k m.before) → AllThere lists m.own.effects →
+      NeverFall (looks_of m.own.effects) → ByVgetrandom n flags acts m → Leaves x m
   vgetrandom_holds x n flags acts m len h there rising by = set_state x m by.outcome.state len h
       (ap (λ (s : CallerState). s.states) by.after)
       (λ same. let P : List VEntry → Type 0 = λ es. Holds (after x es) by.outcome.state in
       subst P (sym by.entries) (replay.call_holds lists caller k n flags x (current_state m.before) by.steps by.outcome
-      (good_behind lists m.before.setting by.steps m.own.deeds there rising by.shows) by.is_call
+      (good_after lists m.before.setting by.steps m.own.effects there rising by.shows) by.is_call
       (current_holds x m same h)))
 
   pub and_left : (a b : Bool) → (a && b) ≡ true → a ≡ true
@@ -123,8 +123,8 @@ module _ (lists : Lists) (caller k : ℕ) (below : k < 16) where
   not_true true h = cc
   not_true false h = refl
 
-  -- a copy that the batch alone served leaves the state that its list replays to
-  local_holds : (x : Both) (n : ℕ) (rest : List Deed) (m : CallMeaning) → 1 ≤ n → length m.before.states ≡ 16 →
+  -- a copy that the batch alone served leaves the state that the replay of the state's list gives
+  local_holds : (x : Both) (n : ℕ) (rest : List Effect) (m : CallMeaning) → 1 ≤ n → length m.before.states ≡ 16 →
       Holds x (state_number k m.before) → ByLocalCopy n rest m → Leaves x m
   local_holds x n rest m some len h by =
       let s : VgetrandomState = current_state m.before in
@@ -137,9 +137,9 @@ module _ (lists : Lists) (caller k : ℕ) (below : k < 16) where
       some_bytes n (not_true (n == 0) (and_left (not (n == 0)) _ (and_right (length acts == 0) _ tries)))
 
   vread_holds : (x : Both) (n flags : ℕ) (acts : List BoundAct) (m : CallMeaning) → length m.before.states ≡ 16 →
-      Holds x (state_number k m.before) → AllThere lists m.own.deeds → VreadMeans n flags acts m → Leaves x m
+      Holds x (state_number k m.before) → AllThere lists m.own.effects → VreadMeans n flags acts m → Leaves x m
   vread_holds x n flags acts m len h there means =
-      match_cases (Looked (LocalOrCall n flags acts m) m.own.deeds) (ByVgetrandom n flags acts m) (Leaves x m)
+      match_cases (Looked (LocalOrCall n flags acts m) m.own.effects) (ByVgetrandom n flags acts m) (Leaves x m)
       (tries_local n flags acts)
       (λ tries looked. match_cases (ByLocalCopy n looked.1 m) (ByVgetrandom n flags acts m) (Leaves x m)
       (serves_locally (published_by looked.0) (current_state m.before) n)
@@ -148,38 +148,38 @@ module _ (lists : Lists) (caller k : ℕ) (below : k < 16) where
       (λ no by. vgetrandom_holds x n flags acts m len h there means.looks by)
       means.ways
 
-  pub there_in : (line : SeenLine) (m : LineMeaning) → deeds_of lists line.steps ≡ m.deeds → AllThere lists m.deeds
-  there_in line m is = let P : List Deed → Type 0 = λ ds. AllThere lists ds in subst P is (all_there lists line.steps)
+  pub there_in : (line : SeenLine) (m : LineMeaning) → effects_of lists line.steps ≡ m.effects → AllThere lists m.effects
+  there_in line m is = let P : List Effect → Type 0 = λ ds. AllThere lists ds in subst P is (all_there lists line.steps)
 
   pub call_leaves : (x : Both) (call : Call) (m : CallMeaning) → length m.before.states ≡ 16 →
       Holds x (state_number k m.before) →
-      EachOfCall (λ line m. deeds_of lists line.steps ≡ m.deeds) call m → Means call m → Leaves x m
-  call_leaves x (alone event line) m len h deeds means = alone_holds x event m len h means
-  call_leaves x (vread_call n flags line acts) m len h deeds means = vread_holds x n flags acts m len h
-      (there_in line m.own deeds.0) means
-  call_leaves x (unbound bound) m len h deeds means = same_holds x m len h means.entries
+      EachOfCall (λ line m. effects_of lists line.steps ≡ m.effects) call m → Means call m → Leaves x m
+  call_leaves x (alone event line) m len h effects means = alone_holds x event m len h means
+  call_leaves x (vread_call n flags line acts) m len h effects means = vread_holds x n flags acts m len h
+      (there_in line m.own effects.0) means
+  call_leaves x (unbound bound) m len h effects means = same_holds x m len h means.entries
       (ap (λ (s : CallerState). s.states) means.after)
-  call_leaves x (ending line) m len h deeds means = same_holds x m len h means.entries
+  call_leaves x (ending line) m len h effects means = same_holds x m len h means.entries
       (ap (λ (s : CallerState). s.states) means.after)
 
-  -- after any number of calls
+  -- after the first `j` calls, state `k` matches the replay of the state's entries
   calls_hold : (j : ℕ) (x : Both) (s : CallerState) (calls : List Call) (ms : List CallMeaning) →
       length s.states ≡ 16 → Holds x (state_number k s) →
-      EachLine (λ line m. deeds_of lists line.steps ≡ m.deeds) calls ms → CallsMean s calls ms →
+      EachLine (λ line m. effects_of lists line.steps ≡ m.effects) calls ms → CallsMean s calls ms →
       Holds (after x (entries_of_state k (take j ms))) (state_number k (caller_end s (take j ms)))
-  calls_hold zero x s calls ms len h deeds mean = h
-  calls_hold (suc j) x s calls [] len h deeds mean = h
-  calls_hold (suc j) x s [] (m ∷ ms) len h deeds mean = absurd mean
-  calls_hold (suc j) x s (call ∷ calls) (m ∷ ms) len h deeds mean =
+  calls_hold zero x s calls ms len h effects mean = h
+  calls_hold (suc j) x s calls [] len h effects mean = h
+  calls_hold (suc j) x s [] (m ∷ ms) len h effects mean = absurd mean
+  calls_hold (suc j) x s (call ∷ calls) (m ∷ ms) len h effects mean =
       let P : CallerState → Type 0 = λ v. Holds x (state_number k v) in
       let es : List VEntry = if m.before.current == k then m.entries else [] in
       let leaves : Leaves x m = call_leaves x call m (ap (λ (v : CallerState). length v.states) mean.0 ∙ len)
-      (subst P (sym mean.0) h) deeds.0 mean.1 in
+      (subst P (sym mean.0) h) effects.0 mean.1 in
       let Q : Both → Type 0 = λ y. Holds y (state_number k (caller_end m.after (take j ms))) in
       subst Q (sym (fold-append (replay.step lists caller k) x es (entries_of_state k (take j ms))))
-      (calls_hold j (after x es) m.after calls ms leaves.length_is leaves.holds deeds.1 mean.2)
+      (calls_hold j (after x es) m.after calls ms leaves.length_is leaves.holds effects.1 mean.2)
 
-  -- the names and bytes that the walk carries are those of the replay
+  -- the names and bytes with which the replay begins
   abbrev pub start : Both
   start = record { named = state_start; bytes = state_bytes_start }
 
@@ -217,7 +217,7 @@ module _ (lists : Lists) (caller k : ℕ) (below : k < 16) where
       (state_number k (caller_end (caller_start setting) (take j ms)))
   state_replayed setting calls ms j means =
       replayed (entries_of_state k (take j ms)) _
-      (calls_hold j start (caller_start setting) calls ms refl (start_holds setting) means.deeds means.follows)
+      (calls_hold j start (caller_start setting) calls ms refl (start_holds setting) means.effects means.follows)
 
 each_replayed : (lists : Lists) (settings : ℕ → Setting) (c : ℕ) (callers : List (List Call))
     (mss : List (List CallMeaning)) → HasStates lists c mss →

@@ -1,4 +1,5 @@
--- In a lawful transcript the list of each vgetrandom state is lawful.
+-- In a lawful transcript, the entries that the calls of a caller append to a vgetrandom state's list make a lawful
+-- list.
 use Rattle.std.proofs.Common.{◌≡◌, ℕ, zero, suc, ◌<◌, Bool, true, false, List, [], ◌∷◌, refl, sym, subst, ap, ◌∙◌, arith, Some, length, replicate}
 use Rattle.std.specs.Prelude.{◌==◌, ◌&&◌, not, if◌then◌else◌, slice_get, slice_set, unwrap_or}
 use Rattle.std.specs.List.{fold, AllByRecursion}
@@ -9,7 +10,7 @@ use Rattle.key_names.specs.declared.events.Event.TheVariants.{Drop}
 use Rattle.key_names.specs.Lanes.StateList.{NamedState, anything, state_start, state_step, TakesRead, LawfulStateList}
 use Rattle.key_names.specs.Lanes.Book.{Lists, cpu_list}
 use Rattle.key_names.specs.Callers.Calls.{Setting, Call, alone, vread_call, unbound, ending, BoundAct}
-use Rattle.key_names.specs.Callers.Deeds.{Deed, deeds_of}
+use Rattle.key_names.specs.Callers.Effects.{Effect, effects_of}
 use Rattle.key_names.specs.Callers.Forms.{Looked}
 use Rattle.key_names.specs.Transcripts.SeenLine.{SeenLine}
 use Rattle.key_names.specs.Kernel.VgetrandomState.{VgetrandomState, wiped_state}
@@ -23,7 +24,7 @@ use Rattle.key_names.proofs.Lists.Each.{each_append}
 use Rattle.key_names.proofs.Vgetrandom.KeyReads.{copy_names, call_names}
 use Rattle.key_names.proofs.Transcripts.KeyVisits.{AllThere, all_there, key_reads}
 
--- an element that was set is found at its place, and the other elements stay
+-- after `x` is set as element `i` of a list, element `i` is `x`
 pub set_here : {A : Type 0} (xs : List A) (i : ℕ) (x : A) → i < length xs → slice_get (slice_set xs i x) i ≡ Some x
 set_here [] i x lt = absurd (omega arith)
 set_here (y ∷ ys) zero x lt = refl
@@ -49,14 +50,15 @@ module _ (lists : Lists) (caller k : ℕ) (below : k < 16) where
   abbrev Reads : List VEntry → Type 0
   Reads es = AllByRecursion (TakesRead (cpu_list lists)) es
 
-  -- this state after a call. If it is the current one, the call's entries keep its list lawful; else nothing changes
+  -- after a call, state k is settled. If state k was the current one, the call's entries keep its list in order;
+  -- otherwise its list gets no entry
   record Leaves (t : NamedState) (m : CallMeaning) : Type 0 where
     length_is : length m.after.states ≡ 16
     keeps : Keeps caller k (λ u. Settled u (state_at m.after k)) t
         (if m.before.current == k then m.entries else [])
     reads : Reads m.entries
 
-  -- the states do not change
+  -- the lists stay in order if a call changes no state
   same_states : (t : NamedState) (m : CallMeaning) → length m.before.states ≡ 16 → Settled t (state_at m.before k) →
       m.entries ≡ [] → m.after.states ≡ m.before.states → Leaves t m
   same_states t m len h none same = record {
@@ -78,7 +80,8 @@ module _ (lists : Lists) (caller k : ℕ) (below : k < 16) where
           (λ u. Settled u (state_at m.after k)) t es in subst P (sym none) empty
       go false = empty
 
-  -- the current state is replaced, and the call appends some entries to its list
+  -- if a call replaces the current state, and the call's entries keep the list of that state in order, then the lists
+  -- stay in order
   set_state : (t : NamedState) (m : CallMeaning) (x : VgetrandomState) → length m.before.states ≡ 16 →
       Settled t (state_at m.before k) →
       m.after.states ≡ slice_set m.before.states m.before.current x →
@@ -126,7 +129,7 @@ module _ (lists : Lists) (caller k : ℕ) (below : k < 16) where
 
   vgetrandom_leaves : (t : NamedState) (n flags : ℕ) (acts : List BoundAct) (m : CallMeaning) →
       length m.before.states ≡ 16 →
-      Settled t (state_at m.before k) → AllThere lists m.own.deeds → ByVgetrandom n flags acts m → Leaves t m
+      Settled t (state_at m.before k) → AllThere lists m.own.effects → ByVgetrandom n flags acts m → Leaves t m
   vgetrandom_leaves t n flags acts m len h there by = set_state t m by.outcome.state len h
       (ap (λ (s : CallerState). s.states) by.after)
       (λ same. let P : List VEntry → Type 0 = λ es. Keeps caller k (λ u. Settled u by.outcome.state)
@@ -134,13 +137,13 @@ module _ (lists : Lists) (caller k : ℕ) (below : k < 16) where
       subst P (sym by.entries) (call_keeps caller k n flags t (current_state m.before)
       by.steps by.outcome by.is_call (settled_current t m same h)))
       (subst Reads (sym by.entries) (call_names (cpu_list lists) n flags (current_state m.before) by.steps by.outcome
-      (key_reads lists m.before.setting by.steps m.own.deeds there by.shows) by.is_call))
+      (key_reads lists m.before.setting by.steps m.own.effects there by.shows) by.is_call))
 
   and_right : (a b : Bool) → (a && b) ≡ true → b ≡ true
   and_right true b h = h
   and_right false b h = cc
 
-  local_leaves : (t : NamedState) (n look : ℕ) (rest : List Deed) (m : CallMeaning) → length m.before.states ≡ 16 →
+  local_leaves : (t : NamedState) (n look : ℕ) (rest : List Effect) (m : CallMeaning) → length m.before.states ≡ 16 →
       Settled t (state_at m.before k) → serves_locally (published_by look) (current_state m.before) n ≡ true →
       ByLocalCopy n rest m → Leaves t m
   local_leaves t n look rest m len h serves by =
@@ -161,9 +164,9 @@ module _ (lists : Lists) (caller k : ℕ) (below : k < 16) where
       copied s settled is = rw is (local_keeps caller k t s n is settled)
 
   vread_leaves : (t : NamedState) (n flags : ℕ) (acts : List BoundAct) (m : CallMeaning) → length m.before.states ≡ 16 →
-      Settled t (state_at m.before k) → AllThere lists m.own.deeds → VreadMeans n flags acts m → Leaves t m
+      Settled t (state_at m.before k) → AllThere lists m.own.effects → VreadMeans n flags acts m → Leaves t m
   vread_leaves t n flags acts m len h there means =
-      match_cases (Looked (LocalOrCall n flags acts m) m.own.deeds) (ByVgetrandom n flags acts m) (Leaves t m)
+      match_cases (Looked (LocalOrCall n flags acts m) m.own.effects) (ByVgetrandom n flags acts m) (Leaves t m)
       (tries_local n flags acts)
       (λ tries looked. match_cases (ByLocalCopy n looked.1 m) (ByVgetrandom n flags acts m) (Leaves t m)
       (serves_locally (published_by looked.0) (current_state m.before) n)
@@ -172,21 +175,21 @@ module _ (lists : Lists) (caller k : ℕ) (below : k < 16) where
       (λ no by. vgetrandom_leaves t n flags acts m len h there by)
       means.ways
 
-  there_in : (line : SeenLine) (m : LineMeaning) → deeds_of lists line.steps ≡ m.deeds → AllThere lists m.deeds
-  there_in line m is = let P : List Deed → Type 0 = λ ds. AllThere lists ds in subst P is (all_there lists line.steps)
+  there_in : (line : SeenLine) (m : LineMeaning) → effects_of lists line.steps ≡ m.effects → AllThere lists m.effects
+  there_in line m is = let P : List Effect → Type 0 = λ ds. AllThere lists ds in subst P is (all_there lists line.steps)
 
   call_leaves : (t : NamedState) (call : Call) (m : CallMeaning) → length m.before.states ≡ 16 →
       Settled t (state_at m.before k) →
-      EachOfCall (λ line m. deeds_of lists line.steps ≡ m.deeds) call m → Means call m → Leaves t m
-  call_leaves t (alone event line) m len h deeds means = alone_leaves t event m len h means
-  call_leaves t (vread_call n flags line acts) m len h deeds means = vread_leaves t n flags acts m len h
-      (there_in line m.own deeds.0) means
-  call_leaves t (unbound bound) m len h deeds means = same_states t m len h means.entries
+      EachOfCall (λ line m. effects_of lists line.steps ≡ m.effects) call m → Means call m → Leaves t m
+  call_leaves t (alone event line) m len h effects means = alone_leaves t event m len h means
+  call_leaves t (vread_call n flags line acts) m len h effects means = vread_leaves t n flags acts m len h
+      (there_in line m.own effects.0) means
+  call_leaves t (unbound bound) m len h effects means = same_states t m len h means.entries
       (ap (λ (s : CallerState). s.states) means.after)
-  call_leaves t (ending line) m len h deeds means = same_states t m len h means.entries
+  call_leaves t (ending line) m len h effects means = same_states t m len h means.entries
       (ap (λ (s : CallerState). s.states) means.after)
 
-  -- the entries that some calls append to the list of this state
+  -- the entries that some calls append to the list of state k keep the list in order, and take reads of 32 bytes
   record CallsLeave (t : NamedState) (es : List VEntry) : Type 0 where
     keeps : Keeps caller k (λ u. u.expected ≡ anything) t es
     reads : Reads es
@@ -197,18 +200,18 @@ module _ (lists : Lists) (caller k : ℕ) (below : k < 16) where
 
   calls_leave : (t : NamedState) (s : CallerState) (calls : List Call) (ms : List CallMeaning) →
       length s.states ≡ 16 → Settled t (state_at s k) →
-      EachLine (λ line m. deeds_of lists line.steps ≡ m.deeds) calls ms → CallsMean s calls ms →
+      EachLine (λ line m. effects_of lists line.steps ≡ m.effects) calls ms → CallsMean s calls ms →
       CallsLeave t (entries_of_state k ms)
-  calls_leave t s [] [] len h deeds mean = record { keeps = record { lawful = tt; after = h.expects }; reads = tt }
-  calls_leave t s [] (m ∷ ms) len h deeds mean = absurd mean
-  calls_leave t s (call ∷ calls) [] len h deeds mean = absurd mean
-  calls_leave t s (call ∷ calls) (m ∷ ms) len h deeds mean =
+  calls_leave t s [] [] len h effects mean = record { keeps = record { lawful = tt; after = h.expects }; reads = tt }
+  calls_leave t s [] (m ∷ ms) len h effects mean = absurd mean
+  calls_leave t s (call ∷ calls) [] len h effects mean = absurd mean
+  calls_leave t s (call ∷ calls) (m ∷ ms) len h effects mean =
       let P : CallerState → Type 0 = λ x. Settled t (state_at x k) in
       let es : List VEntry = if m.before.current == k then m.entries else [] in
       let leaves : Leaves t m = call_leaves t call m (ap (λ (x : CallerState). length x.states) mean.0 ∙ len)
-      (subst P (sym mean.0) h) deeds.0 mean.1 in
+      (subst P (sym mean.0) h) effects.0 mean.1 in
       let rest : CallsLeave (fold (state_step caller k) t es) (entries_of_state k ms) =
-      calls_leave (fold (state_step caller k) t es) m.after calls ms leaves.length_is leaves.keeps.after deeds.1 mean.2
+      calls_leave (fold (state_step caller k) t es) m.after calls ms leaves.length_is leaves.keeps.after effects.1 mean.2
       in
       record {
         keeps = keeps_append caller k (λ u. u.expected ≡ anything) t es (entries_of_state k ms)
@@ -233,7 +236,7 @@ module _ (lists : Lists) (caller k : ℕ) (below : k < 16) where
       CallerMeans lists setting calls ms →
       LawfulStateList (cpu_list lists) caller k (entries_of_state k ms)
   caller_keeps setting calls ms means =
-      let m = calls_leave state_start (caller_start setting) calls ms refl (start_settled setting) means.deeds
+      let m = calls_leave state_start (caller_start setting) calls ms refl (start_settled setting) means.effects
       means.follows in
       lawful_list (cpu_list lists) caller k (entries_of_state k ms)
       (record { comes = m.keeps.lawful; ends = m.keeps.after }) m.reads

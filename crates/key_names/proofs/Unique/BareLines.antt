@@ -1,4 +1,4 @@
--- Calls and orders of lines without their answers and data.
+-- Answers and data do not change the calls, marks, orders and settings that lines make. A bare line has neither.
 use Rattle.std.proofs.Common.{◌≡◌, ℕ, zero, suc, Bool, true, false, Option, Some, None, List, [], ◌∷◌, ◌++◌, length, map, refl, sym, ap, ◌∙◌}
 use Rattle.std.specs.Prelude.{◌==◌, take, drop, if◌then◌else◌}
 use Rattle.std.specs.List.{fold, flat_map}
@@ -13,7 +13,7 @@ use Rattle.key_names.specs.Lanes.Book.{list_at}
 use Rattle.key_names.specs.Callers.Calls.{Setting, Call, alone, vread_call, unbound, ending, BoundAct, has_vread, calls_from}
 use Rattle.key_names.specs.Callers.Calls.{all_calls, setting_after_call, ForkPoint, with_call_before, fork_point}
 use Rattle.key_names.specs.Callers.Calls.{Parent, parent_here, parent_from, setting_of, inherited_setting, first_settings}
-use Rattle.key_names.specs.Callers.History.{through_visit, steps_at_point, cut_behind_rekey, call_steps, calls_steps}
+use Rattle.key_names.specs.Callers.History.{through_visit, steps_at_point, cut_after_rekey, call_steps, calls_steps}
 use Rattle.key_names.specs.Callers.History.{inherited_steps, ancestors_steps, orders_from, caller_orders}
 use Rattle.key_names.specs.Transcripts.IsTranscript.{MarkBy, line_marks, all_marks, start_setting}
 use Rattle.key_names.specs.Transcripts.SeenLine.{SeenLine}
@@ -61,7 +61,7 @@ bare_all [] t = refl
 bare_all (es ∷ callers) [] = λ i. bare_calls [] es [] i ∷ bare_all callers [] i
 bare_all (es ∷ callers) (lines ∷ t) = λ i. bare_calls [] es lines i ∷ bare_all callers t i
 
--- Their marks
+-- The marks of bare lines
 
 lines_marks : (lines : List SeenLine) → flat_map line_marks (map bare lines) ≡ flat_map line_marks lines
 lines_marks [] = refl
@@ -71,7 +71,7 @@ pub bare_marks : (t : List (List SeenLine)) → all_marks (map (map bare) t) ≡
 bare_marks [] = refl
 bare_marks (lines ∷ t) = λ i. lines_marks lines i ++ bare_marks t i
 
--- Their steps
+-- The steps of bare calls
 
 bare_at_point : (acts : List BoundAct) (p : Point) → steps_at_point (map bare_act acts) p ≡ steps_at_point acts p
 bare_at_point [] p = refl
@@ -81,7 +81,7 @@ bare_at_point (b ∷ acts) p =
 pub bare_steps : (c : Call) → call_steps (bare_call c) ≡ call_steps c
 bare_steps (alone event line) = refl
 bare_steps (vread_call n flags line acts) =
-    let cut : List Step × List Step = cut_behind_rekey (drop 2 line.steps) in
+    let cut : List Step × List Step = cut_after_rekey (drop 2 line.steps) in
     λ i. take 2 line.steps ++ bare_at_point acts Start i ++ bare_at_point acts Written i ++ cut.0 ++ bare_at_point acts Serve i
     ++ bare_at_point acts End i ++ cut.1
 bare_steps (unbound bound) = refl
@@ -91,7 +91,7 @@ pub bare_calls_steps : (cs : List Call) → calls_steps (map bare_call cs) ≡ c
 bare_calls_steps [] = refl
 bare_calls_steps (c ∷ cs) = λ i. bare_steps c i ++ bare_calls_steps cs i
 
--- Forks among them
+-- Forks among bare calls
 
 abbrev bare_fork : ForkPoint → ForkPoint
 bare_fork fork = record { before = map bare_call fork.before; line = bare fork.line }
@@ -135,7 +135,7 @@ parents_alike c p (cs ∷ callers) =
     (λ i. parent_here p (forks_alike c cs i) (parents_alike c (suc p) callers i))
     ∙ here_bare p (fork_point c cs) (parent_from c (suc p) callers)
 
--- Their orders
+-- The orders of bare calls
 
 inherited_alike : (ancestors : List (List Step)) (o : Option Parent) →
     inherited_steps ancestors (bare_parent o) ≡ inherited_steps ancestors o
@@ -170,7 +170,7 @@ bare_orders callers =
     (ancestors_alike callers (length callers))
     ∙ orders_alike (ancestors_steps callers (length callers)) callers
 
--- Their settings
+-- The settings of bare calls
 
 one_setting : (set : Setting) (c : Call) → setting_after_call set (bare_call c) ≡ setting_after_call set c
 one_setting set (alone event line) = refl

@@ -1,4 +1,4 @@
--- Answers and data do not matter for the book and the meanings that a transcript's steps make.
+-- The book and the meanings that a transcript's steps make do not depend on its answers and data.
 use Rattle.std.proofs.Common.{◌≡◌, ℕ, suc, Bool, true, false, List, [], ◌∷◌, length, map, refl, sym, subst, ap, ◌∙◌}
 use Rattle.std.specs.Prelude.{◌==◌, ◌&&◌, ◌||◌, not, MatchBool}
 use Rattle.std.specs.List.{AllByRecursion}
@@ -10,7 +10,7 @@ use Rattle.key_names.specs.declared.events.Word.TheVariants.{End as EndWord}
 use Rattle.key_names.specs.declared.point.Point.{Point}
 use Rattle.key_names.specs.Lanes.Book.{Lists, lists_of}
 use Rattle.key_names.specs.Callers.Calls.{Setting, Call, alone, vread_call, unbound, ending, BoundAct}
-use Rattle.key_names.specs.Callers.Deeds.{Deed, deeds_of}
+use Rattle.key_names.specs.Callers.Effects.{Effect, effects_of}
 use Rattle.key_names.specs.Kernel.Flags.{is_bad}
 use Rattle.key_names.specs.Callers.History.{caller_orders, stamps_of}
 use Rattle.key_names.specs.Transcripts.SeenLine.{SeenLine}
@@ -23,7 +23,7 @@ use Rattle.key_names.specs.Callers.Meaning.{ActMeans, ActsMean, unused_line, ByV
 use Rattle.key_names.specs.Callers.Meaning.{VreadMeans, Means}
 use Rattle.key_names.specs.Kernel.BatchCopy.{serves_locally}
 use Rattle.key_names.specs.Transcripts.IsTranscript.{LineIs, LinesFit, EachCaller, script_calls, MarkBy, all_marks, lane_marks}
-use Rattle.key_names.specs.Transcripts.IsTranscript.{PlacesStand, Rises, VisitsAre, CallsMean, EachAct, EachOfCall, EachLine}
+use Rattle.key_names.specs.Transcripts.IsTranscript.{PlacesConform, Rises, VisitsAre, CallsMean, EachAct, EachOfCall, EachLine}
 use Rattle.key_names.specs.Transcripts.IsTranscript.{CallerMeans, start_setting}
 use Rattle.key_names.specs.Transcripts.SameSteps.{bare, SameSteps, StepsMakeTheBook}
 use Rattle.key_names.proofs.Lists.Each.{each_weaker}
@@ -153,7 +153,7 @@ module _ (n flags : ℕ) (acts others : List BoundAct) (e : map bare_act acts �
         (λ w. (w.0, w.1, w.2, local w.0 w.1 w.3)) by_call r.ways;
   }
     where
-      local : (look : ℕ) (rest : List Deed) → LocalOrCall n flags acts m look rest → LocalOrCall n flags others m look rest
+      local : (look : ℕ) (rest : List Effect) → LocalOrCall n flags acts m look rest → LocalOrCall n flags others m look rest
       local look rest w =
           let b : Bool = serves_locally (published_by look) (current_state m.before) n in
           both_ways b b refl (λ c. c) by_call w
@@ -231,15 +231,15 @@ module _ (P : SeenLine → LineMeaning → Type 0)
 -- Transcripts
 
 module _ (lists : Lists) where
-  deeds_same : (l k : SeenLine) (m : LineMeaning) → bare l ≡ bare k → deeds_of lists l.steps ≡ m.deeds →
-      deeds_of lists k.steps ≡ m.deeds
-  deeds_same l k m e is = sym (ap (λ (x : SeenLine). deeds_of lists x.steps) e) ∙ is
+  effects_same : (l k : SeenLine) (m : LineMeaning) → bare l ≡ bare k → effects_of lists l.steps ≡ m.effects →
+      effects_of lists k.steps ≡ m.effects
+  effects_same l k m e is = sym (ap (λ (x : SeenLine). effects_of lists x.steps) e) ∙ is
 
   caller_means : (set : Setting) (cs ds : List Call) (ms : List CallMeaning) → map bare_call cs ≡ map bare_call ds →
       CallerMeans lists set cs ms → CallerMeans lists set ds ms
   caller_means set cs ds ms e h = record {
     follows = calls_mean (caller_start set) cs ds ms e h.follows;
-    deeds = each_line (λ line m. deeds_of lists line.steps ≡ m.deeds) deeds_same cs ds ms e h.deeds;
+    effects = each_line (λ line m. effects_of lists line.steps ≡ m.effects) effects_same cs ds ms e h.effects;
   }
 
   module _ (first second : ℕ → Setting) (sets : (c : ℕ) → first c ≡ second c) where
@@ -267,7 +267,7 @@ steps_make_the_book script t u same made = (
     meanings = made.meanings;
     lines = has_lines 0 script.callers t u same made.lines;
     marks = record {
-      lanes = λ lane. subst (λ (ms : List MarkBy). PlacesStand (lane_marks lane ms)) marks (made.marks.lanes lane);
+      lanes = λ lane. subst (λ (ms : List MarkBy). PlacesConform (lane_marks lane ms)) marks (made.marks.lanes lane);
       callers = subst (λ (orders : List (List Step)). AllByRecursion (λ order. Rises (stamps_of order)) orders) orders
           made.marks.callers;
     };

@@ -1,4 +1,5 @@
--- A vread's attempts with the same steps in two books go alike, whatever the values of the keys.
+-- A vread that has the same steps in two books reads its keys from the same visits in both, though the values of the
+-- keys may differ.
 use Rattle.std.proofs.Common.{◌≡◌, ℕ, ◌≤◌, Bool, true, false, List, [], ◌∷◌, ◌++◌, ◌⊎◌, inl, inr, refl, sym, subst, ap}
 use Rattle.std.proofs.Common.{◌∙◌, arith, Some, Option}
 use Rattle.std.specs.Prelude.{◌==◌, ◌&&◌, MatchBool}
@@ -7,18 +8,18 @@ use Rattle.key_names.specs.declared.names.Who.{Who}
 use Rattle.key_names.specs.declared.entries.Taken.TheVariants.{User}
 use Rattle.key_names.specs.Lanes.Book.{Book, lists_of}
 use Rattle.key_names.specs.Callers.Calls.{Setting}
-use Rattle.key_names.specs.Callers.Deeds.{BaseVisit, Deed, CpuVisit, looked, at_base, at_cpu}
+use Rattle.key_names.specs.Callers.Effects.{BaseVisit, Effect, CpuVisit, looked, at_base, at_cpu}
 use Rattle.key_names.specs.Callers.Forms.{SysForm, ReadForm, Waited, WaitedInVain}
 use Rattle.key_names.specs.Callers.Answers.{served_bytes, was_interrupted}
 use Rattle.key_names.specs.Kernel.Vgetrandom.{CpuPlace, SystemAnswer, read, HostStep, publishes, system_call}
-use Rattle.key_names.specs.Callers.VreadSteps.{published_by, last_place, errno_of, answer_with, answer_behind, Shows}
+use Rattle.key_names.specs.Callers.VreadSteps.{published_by, last_place, errno_of, answer_with, answer_after, Shows}
 use Rattle.key_names.specs.Callers.VreadSteps.{PointReached, points_of, looks_of}
 use Rattle.std.proofs.lemmas.Bool.{eqb-true}
 use Rattle.key_names.proofs.Transcripts.KeyVisits.{answers_done}
-use Rattle.key_names.proofs.Unique.TwoBooks.{SameCpu, SameSteps, AllTold, same_at, told_at, same_looks}
-use Rattle.key_names.proofs.Unique.UniqueForms.{told_system}
+use Rattle.key_names.proofs.Unique.TwoBooks.{SameCpu, SameSteps, AllInferred, same_at, inferred_at, same_looks}
+use Rattle.key_names.proofs.Unique.UniqueForms.{inferred_system}
 
--- a choice between two facts, made alike in both
+-- if a choice goes the same way in both books, what follows from each side follows from the choice
 pub match_both : (A B A' B' C : Type 0) (b b' : Bool) → b ≡ b' → ((b ≡ true) → A → A' → C) → ((b ≡ false) → B → B' →
     C) →
     MatchBool b A B → MatchBool b' A' B' → C
@@ -28,11 +29,11 @@ match_both A B A' B' C true false p f g x y = cc
 match_both A B A' B' C false true p f g x y = cc
 
 -- each look found the core ready
-abbrev pub AllReady : List Deed → Type 0
+abbrev pub AllReady : List Effect → Type 0
 AllReady ds = AllByRecursion (λ g. 1 ≤ g) (looks_of ds)
 
-pub ready_at : {ds xs : List Deed} → ds ≡ xs → AllReady ds → AllReady xs
-ready_at {ds = ds} {xs = xs} p ready = let P : List Deed → Type 0 = λ x. AllReady x in subst P p ready
+pub ready_at : {ds xs : List Effect} → ds ≡ xs → AllReady ds → AllReady xs
+ready_at {ds = ds} {xs = xs} p ready = let P : List Effect → Type 0 = λ x. AllReady x in subst P p ready
 
 pub not_zero : (g : ℕ) → 1 ≤ g → (g == 0) ≡ false
 not_zero g some = go (g == 0) refl
@@ -41,22 +42,22 @@ not_zero g some = go (g == 0) refl
     go true is = let zero_is : g ≡ 0 = eqb-true g 0 is in absurd (omega arith)
     go false is = is
 
--- a system call that reads a key from a CPU, and one that first refills the CPU
-record PlainKey (call : List Deed) : Type 0 where
+-- `PlainKey` is a system call that reads a key from a CPU without a refill; `RefilledKey` is one with a refill
+record PlainKey (call : List Effect) : Type 0 where
   g : ℕ
   look : ℕ
   cpu : CpuVisit
   is : call ≡ looked g ∷ looked look ∷ at_cpu cpu ∷ []
 
-record RefilledKey (call : List Deed) : Type 0 where
+record RefilledKey (call : List Effect) : Type 0 where
   g : ℕ
   look : ℕ
   base : BaseVisit
   cpu : CpuVisit
   is : call ≡ looked g ∷ looked look ∷ at_base base ∷ at_cpu cpu ∷ []
 
--- a system call for a new key that found the core ready is one of these two
-key_read : (set : Setting) (call more : List Deed) → SysForm set 32 0 call → AllReady (call ++ more) →
+-- a system call for a new key is a PlainKey or a RefilledKey, if each of its looks found the core ready
+key_read : (set : Setting) (call more : List Effect) → SysForm set 32 0 call → AllReady (call ++ more) →
     PlainKey call ⊎ RefilledKey call
 key_read set call more form ready =
     let r : AllReady (looked form.0 ∷ (form.1 ++ more)) = ready_at (ap (λ ds. ds ++ more) form.2) ready in
@@ -70,64 +71,64 @@ key_read set call more form ready =
       g = form.0;
       look = f.look;
       cpu = f.cpu;
-      is = form.2 ∙ ap (λ ds. looked form.0 ∷ ds) f.deeds_are;
+      is = form.2 ∙ ap (λ ds. looked form.0 ∷ ds) f.effects_are;
     })
     go (inr (inr f)) some = inr (record {
       g = form.0;
       look = f.look;
       base = f.base;
       cpu = f.cpu;
-      is = form.2 ∙ ap (λ ds. looked form.0 ∷ ds) f.deeds_are;
+      is = form.2 ∙ ap (λ ds. looked form.0 ∷ ds) f.effects_are;
     })
 
 abbrev visit_of : CpuVisit → Option CpuPlace
 visit_of cpu = Some (record { cpu = cpu.cpu; place = cpu.place })
 
--- a system call for a new key ends at its visit of the CPU
-record Ends (front : List Deed) (cpu : CpuVisit) : Type 0 where
+-- the system call was not interrupted, and its last effect is the visit of the CPU that serves the key
+record Ends (front : List Effect) (cpu : CpuVisit) : Type 0 where
   calm : was_interrupted front ≡ false
   serves : served_bytes front ≡ cpu.serves
   at : last_place front ≡ visit_of cpu
 
-answers : (call front : List Deed) (cpu : CpuVisit) → call ≡ front → Ends front cpu →
-    answer_behind 0 call ≡ read cpu.serves (visit_of cpu)
+answers : (call front : List Effect) (cpu : CpuVisit) → call ≡ front → Ends front cpu →
+    answer_after 0 call ≡ read cpu.serves (visit_of cpu)
 answers call front cpu p ends =
-    ap (answer_behind 0) p ∙ ap (λ a. answer_with (errno_of a) front) (answers_done front ends.calm)
+    ap (answer_after 0) p ∙ ap (λ a. answer_with (errno_of a) front) (answers_done front ends.calm)
     ∙ ap (λ bytes. read bytes (last_place front)) ends.serves ∙ ap (λ v. read cpu.serves v) ends.at
 
 module _ (book book' : Book) (who : Who) (set : Setting) where
   abbrev H : Type 0
   H = lists_of book ≡ lists_of book'
 
-  abbrev Same : List Deed → List Deed → Type 0
+  abbrev Same : List Effect → List Effect → Type 0
   Same = SameSteps book book' who
 
-  abbrev Told : List Deed → List Deed → Type 0
-  Told = AllTold book book' who
+  abbrev Inferred : List Effect → List Effect → Type 0
+  Inferred = AllInferred book book' who
 
-  -- the same steps have the same looks
-  same_ready : (ds ds' : List Deed) → Same ds ds' → AllReady ds → AllReady ds'
+  -- if the looks of some steps found the core ready in one book, they did so in the other too
+  same_ready : (ds ds' : List Effect) → Same ds ds' → AllReady ds → AllReady ds'
   same_ready ds ds' same ready = let P : List ℕ → Type 0 = λ gs. AllByRecursion (λ g. 1 ≤ g) gs in
       subst P (same_looks book book' who ds ds' same) ready
 
-  -- two calls at the same steps end at one step, and both read the same visit
-  record SameRead (call call' more more' : List Deed) : Type 0 where
+  -- two system calls that begin at the same step end at the same step, and read the same visit
+  record SameRead (call call' more more' : List Effect) : Type 0 where
     key : List ℕ
     key' : List ℕ
     visit : Option CpuPlace
-    is : answer_behind 0 call ≡ read key visit
-    is' : answer_behind 0 call' ≡ read key' visit
+    is : answer_after 0 call ≡ read key visit
+    is' : answer_after 0 call' ≡ read key' visit
     equal : H → key ≡ key'
     same_call : Same call call'
     same : Same more more'
     ready : AllReady more
-    told : Told call call' → Told more more' → Told (call ++ more) (call' ++ more')
+    inferred : Inferred call call' → Inferred more more' → Inferred (call ++ more) (call' ++ more')
 
-  ended : (call call' more more' front front' : List Deed) (cpu cpu' : CpuVisit) → call ≡ front → call' ≡ front' →
+  ended : (call call' more more' front front' : List Effect) (cpu cpu' : CpuVisit) → call ≡ front → call' ≡ front' →
       Ends front cpu → Ends front' cpu' → SameCpu book book' who cpu cpu' → Same front front' → Same more more' →
-      AllReady more → (Told front front' → Told more more' → Told (front ++ more) (front' ++ more')) →
+      AllReady more → (Inferred front front' → Inferred more more' → Inferred (front ++ more) (front' ++ more')) →
       SameRead call call' more more'
-  ended call call' more more' front front' cpu cpu' p q ends ends' same fronts mores ready told = record {
+  ended call call' more more' front front' cpu cpu' p q ends ends' same fronts mores ready inferred = record {
     key = cpu.serves;
     key' = cpu'.serves;
     visit = visit_of cpu;
@@ -139,11 +140,11 @@ module _ (book book' : Book) (who : Who) (set : Setting) where
     same_call = same_at book book' who (sym p) (sym q) fronts;
     same = mores;
     ready = ready;
-    told = λ t u. told_at book book' who (ap (λ ds. ds ++ more) p) (ap (λ ds. ds ++ more') q)
-        (told (told_at book book' who (sym p) (sym q) t) u);
+    inferred = λ t u. inferred_at book book' who (ap (λ ds. ds ++ more) p) (ap (λ ds. ds ++ more') q)
+        (inferred (inferred_at book book' who (sym p) (sym q) t) u);
   }
 
-  read_alike : (call call' more more' : List Deed) → PlainKey call ⊎ RefilledKey call →
+  read_alike : (call call' more more' : List Effect) → PlainKey call ⊎ RefilledKey call →
       PlainKey call' ⊎ RefilledKey call' →
       Same (call ++ more) (call' ++ more') → AllReady (call ++ more) → SameRead call call' more more'
   read_alike call call' more more' (inl k) (inl k') same ready =
@@ -163,8 +164,9 @@ module _ (book book' : Book) (who : Who) (set : Setting) where
       (record { calm = refl; serves = refl; at = refl }) s.1.1.1.0 (s.0, (s.1.0, (s.1.1.0, (s.1.1.1.0, tt)))) s.1.1.1.1
       r.1.1 (λ t u. (tt, (tt, (t.1.1.0, (t.1.1.1.0, u)))))
 
-  -- the steps of a line that a call has still to go through, in both books; V holds for the points still to come
-  pub record Here (V : List PointReached → Type 0) (steps steps' : List HostStep) (ds ds' : List Deed) : Type 0 where
+  -- the rest of a vread in both books: the host's steps and the effects that are left. V holds for the points that are
+  -- left
+  pub record Here (V : List PointReached → Type 0) (steps steps' : List HostStep) (ds ds' : List Effect) : Type 0 where
     pub shows : Shows set steps ds
     pub shows' : Shows set steps' ds'
     pub same : Same ds ds'
@@ -172,30 +174,30 @@ module _ (book book' : Book) (who : Who) (set : Setting) where
     pub points : V (points_of steps)
     pub points' : V (points_of steps')
 
-  -- at a later point, each of the two books has these steps left, with the deeds that are left there
-  pub record Further (V : List PointReached → Type 0) (steps steps' : List HostStep) (ds ds' : List Deed) : Type 0 where
-    pub deeds : List Deed
-    pub deeds' : List Deed
-    pub here : Here V steps steps' deeds deeds'
-    pub told : Told deeds deeds' → Told ds ds'
+  -- a later moment of the vread, at which these steps are left in the two books
+  pub record Further (V : List PointReached → Type 0) (steps steps' : List HostStep) (ds ds' : List Effect) : Type 0 where
+    pub effects : List Effect
+    pub effects' : List Effect
+    pub here : Here V steps steps' effects effects'
+    pub inferred : Inferred effects effects' → Inferred ds ds'
 
-  pub here_at : (V : List PointReached → Type 0) (steps steps' xs xs' : List HostStep) (ds ds' : List Deed) →
+  pub here_at : (V : List PointReached → Type 0) (steps steps' xs xs' : List HostStep) (ds ds' : List Effect) →
       steps ≡ xs →
       steps' ≡ xs' → Here V steps steps' ds ds' → Here V xs xs' ds ds'
   here_at V steps steps' xs xs' ds ds' p q here =
       let P : List HostStep → Type 0 = λ x. Here V x steps' ds ds' in
       let Q : List HostStep → Type 0 = λ y. Here V xs y ds ds' in subst Q q (subst P p here)
 
-  -- a look publishes the same generation in both
-  pub at_look : (V : List PointReached → Type 0) (g g' : ℕ) (steps steps' : List HostStep) (ds ds' : List Deed) →
+  -- a look publishes the same generation in both books
+  pub at_look : (V : List PointReached → Type 0) (g g' : ℕ) (steps steps' : List HostStep) (ds ds' : List Effect) →
       Here V (publishes g ∷ steps) (publishes g' ∷ steps') ds ds' → (g ≡ g') × Further V steps steps' ds ds'
   at_look V g g' steps steps' ds ds' here =
       let s = same_at book book' who here.shows.2 here.shows'.2 here.same in
       let r = ready_at here.shows.2 here.ready in (
         here.shows.3.0 ∙ ap published_by s.0 ∙ sym here.shows'.3.0,
         record {
-          deeds = here.shows.1;
-          deeds' = here.shows'.1;
+          effects = here.shows.1;
+          effects' = here.shows'.1;
           here = record {
             shows = here.shows.3.1;
             shows' = here.shows'.3.1;
@@ -204,13 +206,13 @@ module _ (book book' : Book) (who : Who) (set : Setting) where
             points = here.points;
             points' = here.points';
           };
-          told = λ t. told_at book book' who here.shows.2 here.shows'.2 (tt, t);
+          inferred = λ t. inferred_at book book' who here.shows.2 here.shows'.2 (tt, t);
         },
       )
 
-  -- a system call for a new key reads the same visit in both
+  -- a system call for a new key reads the same visit in both books
   pub record Keys (V : List PointReached → Type 0) (answer answer' : SystemAnswer) (steps steps' : List HostStep)
-      (ds ds' : List Deed) : Type 0 where
+      (ds ds' : List Effect) : Type 0 where
     pub key : List ℕ
     pub key' : List ℕ
     pub visit : Option CpuPlace
@@ -220,13 +222,13 @@ module _ (book book' : Book) (who : Who) (set : Setting) where
     pub further : Further V steps steps' ds ds'
 
   pub at_key : (V : List PointReached → Type 0) (answer answer' : SystemAnswer) (steps steps' : List HostStep)
-      (ds ds' : List Deed) →
+      (ds ds' : List Effect) →
       Here V (system_call 32 0 answer ∷ steps) (system_call 32 0 answer' ∷ steps') ds ds' →
       Keys V answer answer' steps steps' ds ds'
   at_key V answer answer' steps steps' ds ds' here =
       let c = here.shows in let c' = here.shows' in
-      let same = same_at book book' who c.deeds_are c'.deeds_are here.same in
-      let ready = ready_at c.deeds_are here.ready in
+      let same = same_at book book' who c.effects_are c'.effects_are here.same in
+      let ready = ready_at c.effects_are here.ready in
       let ready' = same_ready (c.call ++ c.rest) (c'.call ++ c'.rest) same ready in
       let r = read_alike c.call c'.call c.rest c'.rest (key_read set c.call c.rest c.form ready)
       (key_read set c'.call c'.rest c'.form ready') same ready in
@@ -238,8 +240,8 @@ module _ (book book' : Book) (who : Who) (set : Setting) where
         is' = c'.answers ∙ r.is';
         equal = r.equal;
         further = record {
-          deeds = c.rest;
-          deeds' = c'.rest;
+          effects = c.rest;
+          effects' = c'.rest;
           here = record {
             shows = c.goes_on;
             shows' = c'.goes_on;
@@ -248,7 +250,7 @@ module _ (book book' : Book) (who : Who) (set : Setting) where
             points = here.points;
             points' = here.points';
           };
-          told = λ t. told_at book book' who c.deeds_are c'.deeds_are
-              (r.told (told_system book book' who set 32 0 c.call c'.call c.form c'.form r.same_call) t);
+          inferred = λ t. inferred_at book book' who c.effects_are c'.effects_are
+              (r.inferred (inferred_system book book' who set 32 0 c.call c'.call c.form c'.form r.same_call) t);
         };
       }

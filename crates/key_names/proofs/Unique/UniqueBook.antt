@@ -1,16 +1,16 @@
--- The steps of a transcript make one book, so at most one clause is the first that fails.
+-- The steps of a transcript make at most one book, and at most one clause is the first that fails.
 use Rattle.std.proofs.Common.{◌≡◌, ◌<◌, ◌≤◌, List, inl, inr, refl, sym, subst, ap, ◌∙◌, arith}
 use Rattle.key_names.specs.Lanes.Book.{Book, lists_of}
 use Rattle.key_names.specs.Transcripts.SeenLine.{SeenLine}
 use Rattle.key_names.specs.Texts.ScriptGrammar.{Script}
-use Rattle.key_names.specs.Transcripts.IsTranscript.{HasLines, MarksStand, all_marks, start_setting, script_calls, MadeBook}
-use Rattle.key_names.specs.Transcripts.IsTranscript.{AnswersStand, DataStand, SeenStands, IsTranscript, Clause, lines_clause}
+use Rattle.key_names.specs.Transcripts.IsTranscript.{HasLines, MarksConform, all_marks, start_setting, script_calls, MadeBook}
+use Rattle.key_names.specs.Transcripts.IsTranscript.{AnswersConform, DataConform, SeenConforms, IsTranscript, Clause, lines_clause}
 use Rattle.key_names.specs.Transcripts.IsTranscript.{marks_clause, forms_clause, answers_clause, data_clause, looks_clause}
 use Rattle.key_names.specs.Transcripts.IsTranscript.{clause_number, FirstFails}
 use Rattle.key_names.specs.Transcripts.TranscriptBook.{BookIsUnique, FirstFailIsUnique}
 use Rattle.key_names.proofs.Transcripts.TranscriptBooks.{lt_or_le}
 use Rattle.key_names.proofs.Unique.UniqueLines.{all_same, callers_alike}
-use Rattle.key_names.proofs.Unique.UniqueLanes.{marks_told, same_book}
+use Rattle.key_names.proofs.Unique.UniqueLanes.{marks_inferred, same_book}
 
 pub book_is_unique : BookIsUnique
 book_is_unique script t one other =
@@ -18,30 +18,30 @@ book_is_unique script t one other =
     let settings = start_setting (script_calls script t) in
     let alike = callers_alike one.book other.book f.lanes g.lanes f.samples g.samples settings 0 script.callers t
     one.meanings other.meanings one.lines
-    (all_same one.book other.book f.lanes g.lanes f.samples g.samples t f.visits.stand g.visits.stand)
+    (all_same one.book other.book f.lanes g.lanes f.samples g.samples t f.visits.conform g.visits.conform)
     f.callers g.callers in
     let book : one.book ≡ other.book = same_book one.book other.book (all_marks t) one.marks.lanes f.visits g.visits
-    (f.cpus ∙ sym g.cpus) (marks_told one.book other.book t alike.told) (f.states ∙ alike.states ∙ sym g.states) in
+    (f.cpus ∙ sym g.cpus) (marks_inferred one.book other.book t alike.inferred) (f.states ∙ alike.states ∙ sym g.states) in
     (book, alike.equal (ap lists_of book))
 
 module _ (script : Script) (t : List (List SeenLine)) where
-  -- a clause holds; the last three are about the book that the steps make
+  -- the clause holds. For the last three clauses, this includes that the steps make a book
   abbrev Passes : Clause → Type 0
   Passes lines_clause = HasLines script t
-  Passes marks_clause = MarksStand script t
+  Passes marks_clause = MarksConform script t
   Passes forms_clause = MadeBook script t
-  Passes answers_clause = (made : MadeBook script t) × AnswersStand script t made.meanings
-  Passes data_clause = (made : MadeBook script t) × DataStand script t made.meanings
-  Passes looks_clause = (made : MadeBook script t) × SeenStands script t (lists_of made.book)
+  Passes answers_clause = (made : MadeBook script t) × AnswersConform script t made.meanings
+  Passes data_clause = (made : MadeBook script t) × DataConform script t made.meanings
+  Passes looks_clause = (made : MadeBook script t) × SeenConforms script t (lists_of made.book)
 
   fails : (c : Clause) → FirstFails script t c → Passes c → ⊥
   fails lines_clause f p = f p
   fails marks_clause f p = f.1 p
   fails forms_clause f p = f.2 p
-  fails answers_clause f p = f.1 (subst (AnswersStand script t) (book_is_unique script t p.0 f.0).1 p.1)
-  fails data_clause f p = f.2 (subst (DataStand script t) (book_is_unique script t p.0 f.0).1 p.1)
+  fails answers_clause f p = f.1 (subst (AnswersConform script t) (book_is_unique script t p.0 f.0).1 p.1)
+  fails data_clause f p = f.2 (subst (DataConform script t) (book_is_unique script t p.0 f.0).1 p.1)
   fails looks_clause f p =
-      let P : Book → Type 0 = λ book. SeenStands script t (lists_of book) in
+      let P : Book → Type 0 = λ book. SeenConforms script t (lists_of book) in
       f.3 (subst P (book_is_unique script t p.0 f.0).0 p.1)
 
   first_number : (c : Clause) → 2 ≤ clause_number c
@@ -52,7 +52,7 @@ module _ (script : Script) (t : List (List SeenLine)) where
   first_number data_clause = omega arith
   first_number looks_clause = omega arith
 
-  -- the clauses before the first that fails hold
+  -- each clause before the first that fails holds
   passes : (d c : Clause) → clause_number c < clause_number d → FirstFails script t d → Passes c
   passes lines_clause c lt f = let least : 2 ≤ clause_number c = first_number c in absurd (omega arith)
   passes marks_clause lines_clause lt f = f.0

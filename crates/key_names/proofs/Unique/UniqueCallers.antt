@@ -1,4 +1,5 @@
--- A caller's state in two books: its vgetrandom states answer alike.
+-- A caller's states in two books are alike: the settings are the same, and each vgetrandom state has the same
+-- generation, position and in-use mark.
 use Rattle.std.proofs.Common.{◌≡◌, ℕ, zero, suc, List, [], ◌∷◌, refl, sym, subst, ap}
 use Rattle.std.specs.Prelude.{⊤, slice_get, slice_set, unwrap_or}
 use Rattle.key_names.specs.declared.events.Event.{Event}

@@ -1,4 +1,5 @@
--- vgetrandom calls with the same steps in two books go alike.
+-- vgetrandom calls with the same steps in two books have the same points, entries and endings. Only bytes of keys may
+-- differ.
 use Rattle.std.proofs.Common.{◌≡◌, ℕ, zero, suc, ◌≤◌, Bool, true, false, List, [], ◌∷◌, ◌++◌, refl, sym, subst, ap, ◌∙◌}
 use Rattle.std.proofs.Common.{arith, append-nil}
 use Rattle.std.specs.Prelude.{◌==◌}
@@ -8,7 +9,7 @@ use Rattle.key_names.specs.declared.point.Point.{Point}
 use Rattle.key_names.specs.declared.point.Point.TheVariants.{Start, Written, Serve as ServePoint, End}
 use Rattle.key_names.specs.Lanes.Book.{Book, lists_of}
 use Rattle.key_names.specs.Callers.Calls.{Setting, BoundAct}
-use Rattle.key_names.specs.Callers.Deeds.{Deed}
+use Rattle.key_names.specs.Callers.Effects.{Effect}
 use Rattle.key_names.specs.Kernel.Flags.{is_bad}
 use Rattle.key_names.specs.Callers.Forms.{SysForm}
 use Rattle.key_names.specs.Kernel.VgetrandomState.{VgetrandomState}
@@ -17,15 +18,15 @@ use Rattle.key_names.specs.Kernel.Vgetrandom.{not_keyed, Attempt, IsAttempt, no_
 use Rattle.key_names.specs.Kernel.Vgetrandom.{ByBatch, ByNothing, AfterAttempt, AttemptAndRest, AfterBoth, state_after_call}
 use Rattle.key_names.specs.Kernel.Vgetrandom.{SecondAttempt, FirstAttempt, FromPublished, FromLook, IsCall}
 use Rattle.key_names.specs.Kernel.Points.{number_of}
-use Rattle.key_names.specs.Callers.VreadSteps.{published_by, answer_behind, Shows, PointReached, points_of}
-use Rattle.key_names.specs.Callers.VreadSteps.{before_start, from_start, is_wiped, WipesStand, looks_of, NeverFall}
-use Rattle.key_names.proofs.Unique.TwoBooks.{SameSteps, AllTold, same_at, told_at, told_nothing, same_deeds}
-use Rattle.key_names.proofs.Unique.UniqueForms.{told_system}
-use Rattle.key_names.proofs.Unique.UniqueStates.{SameState, SameOutcome, same_marked, outcomes_at, outcome_same_behind}
+use Rattle.key_names.specs.Callers.VreadSteps.{published_by, answer_after, Shows, PointReached, points_of}
+use Rattle.key_names.specs.Callers.VreadSteps.{before_start, from_start, is_wiped, WipesConform, looks_of, NeverFall}
+use Rattle.key_names.proofs.Unique.TwoBooks.{SameSteps, AllInferred, same_at, inferred_at, inferred_nothing, same_effects}
+use Rattle.key_names.proofs.Unique.UniqueForms.{inferred_system}
+use Rattle.key_names.proofs.Unique.UniqueStates.{SameState, SameOutcome, same_marked, outcomes_at, outcome_same_after}
 use Rattle.key_names.proofs.Unique.UniqueAttempts.{match_both, AllReady, Here, here_at}
 use Rattle.key_names.proofs.Unique.UniqueTries.{reached, attempt_alike}
 
--- no look is below the first
+-- if the looks never fall, and the first look found the core ready, then all looks found it ready
 pub all_ready : (g : ℕ) (gs : List ℕ) → 1 ≤ g → NeverFall (g ∷ gs) → AllByRecursion (λ g. 1 ≤ g) gs
 all_ready g [] some fall = tt
 all_ready g (next ∷ gs) some fall =
@@ -35,49 +36,49 @@ module _ (book book' : Book) (who : Who) (set : Setting) where
   abbrev H : Type 0
   H = lists_of book ≡ lists_of book'
 
-  -- calls that went alike
-  pub record CallAlike (steps steps' : List HostStep) (ds ds' : List Deed) (o o' : Outcome) : Type 0 where
-    pub told : AllTold book book' who ds ds'
+  -- two calls that went alike, one in each book
+  pub record CallAlike (steps steps' : List HostStep) (ds ds' : List Effect) (o o' : Outcome) : Type 0 where
+    pub inferred : AllInferred book book' who ds ds'
     pub outcome : SameOutcome H o o'
     pub points : points_of steps ≡ points_of steps'
 
   abbrev GoAlike : (List PointReached → Type 0) → (List HostStep → Outcome → Type 0) → (List HostStep → Outcome →
       Type 0) →
       Type 0
-  GoAlike V F F' = (steps steps' : List HostStep) (o o' : Outcome) (ds ds' : List Deed) → F steps o → F' steps' o' →
+  GoAlike V F F' = (steps steps' : List HostStep) (o o' : Outcome) (ds ds' : List Effect) → F steps o → F' steps' o' →
       Here book book' who set V steps steps' ds ds' → CallAlike steps steps' ds ds' o o'
 
-  shows_at : (steps xs : List HostStep) (ds : List Deed) → steps ≡ xs → Shows set steps ds → Shows set xs ds
+  shows_at : (steps xs : List HostStep) (ds : List Effect) → steps ≡ xs → Shows set steps ds → Shows set xs ds
   shows_at steps xs ds p shows = let P : List HostStep → Type 0 = λ x. Shows set x ds in subst P p shows
 
-  -- all remaining deeds are those of a system call
-  record Left (n flags : ℕ) (answer : SystemAnswer) (ds : List Deed) : Type 0 where
+  -- the effects that are left are those of one system call, which gives this answer
+  record Left (n flags : ℕ) (answer : SystemAnswer) (ds : List Effect) : Type 0 where
     form : SysForm set n flags ds
-    answers : answer ≡ answer_behind flags ds
+    answers : answer ≡ answer_after flags ds
 
-  left_call : (n flags : ℕ) (answer : SystemAnswer) (ds : List Deed) → Shows set (system_call n flags answer ∷ []) ds →
+  left_call : (n flags : ℕ) (answer : SystemAnswer) (ds : List Effect) → Shows set (system_call n flags answer ∷ []) ds →
       Left n flags answer ds
   left_call n flags answer ds shows =
       let p : shows.call ≡ ds = sym (append-nil shows.call) ∙ ap (λ x. shows.call ++ x) (sym shows.goes_on)
-      ∙ sym shows.deeds_are in
-      let P : List Deed → Type 0 = λ x. SysForm set n flags x in
-      record { form = subst P p shows.form; answers = shows.answers ∙ ap (λ x. answer_behind flags x) p }
+      ∙ sym shows.effects_are in
+      let P : List Effect → Type 0 = λ x. SysForm set n flags x in
+      record { form = subst P p shows.form; answers = shows.answers ∙ ap (λ x. answer_after flags x) p }
 
   system_alike : (n flags : ℕ) (s s' : VgetrandomState) → SameState H s s' →
-      (steps steps' : List HostStep) (o o' : Outcome) (ds ds' : List Deed) →
+      (steps steps' : List HostStep) (o o' : Outcome) (ds ds' : List Effect) →
       BySystem n flags s steps o → BySystem n flags s' steps' o' → Shows set steps ds → Shows set steps' ds' →
       SameSteps book book' who ds ds' → CallAlike steps steps' ds ds' o o'
-  system_alike n flags s s' same steps steps' o o' ds ds' by by' shows shows' behind =
+  system_alike n flags s s' same steps steps' o o' ds ds' by by' shows shows' following =
       let l = left_call n flags by.answer ds (shows_at steps _ ds by.steps_are shows) in
       let l' = left_call n flags by'.answer ds' (shows_at steps' _ ds' by'.steps_are shows') in
       record {
-        told = told_system book book' who set n flags ds ds' l.form l'.form behind;
+        inferred = inferred_system book book' who set n flags ds ds' l.form l'.form following;
         outcome = outcomes_at H o o' _ _ by.outcome_is by'.outcome_is (record {
           entries = refl;
           state = same;
           equal = λ h i. record {
             ending =
-                by_system ((l.answers ∙ ap (answer_behind flags) (same_deeds book book' who ds ds' behind h)
+                by_system ((l.answers ∙ ap (answer_after flags) (same_effects book book' who ds ds' following h)
                 ∙ sym l'.answers) i);
             state = same.equal h i;
             entries = [];
@@ -89,7 +90,7 @@ module _ (book book' : Book) (who : Who) (set : Setting) where
   batch_alike : (V : List PointReached → Type 0) (out out' : List ℕ) → (H → out ≡ out') → (s s' : VgetrandomState) →
       SameState H s s' → GoAlike V (ByBatch out s) (ByBatch out' s')
   batch_alike V out out' outs s s' same steps steps' o o' ds ds' by by' here = record {
-    told = told_nothing book book' who ds ds' (shows_at steps [] ds by.steps_are here.shows)
+    inferred = inferred_nothing book book' who ds ds' (shows_at steps [] ds by.steps_are here.shows)
         (shows_at steps' [] ds' by'.steps_are here.shows') here.same;
     outcome = outcomes_at H o o' _ _ by.outcome_is by'.outcome_is (record {
       entries = refl;
@@ -99,7 +100,7 @@ module _ (book book' : Book) (who : Who) (set : Setting) where
     points = ap points_of by.steps_are ∙ sym (ap points_of by'.steps_are);
   }
 
-  -- an attempt and the rest of the call
+  -- an attempt and the rest of its call go alike in both books
   tried_alike : (W V : List PointReached → Type 0) (wipes : Point → Bool) →
       ((wiped : Bool) (points : List PointReached) → W (reached Start wiped ∷ points) →
       (wiped ≡ wipes Start) × V points) →
@@ -115,19 +116,19 @@ module _ (book book' : Book) (who : Who) (set : Setting) where
       (here_at book book' who set W _ _ _ _ ds ds' t.steps_are t'.steps_are here) in
       let E : AttemptEnd → Type 0 = λ e. AfterAttempt n flags Outdated e t'.attempt t'.rest t'.outcome_after in
       let N : ℕ → Type 0 = λ x. Outdated x t'.attempt.state t'.rest t'.outcome_after in
-      let rest = go t.attempt.end r.further.deeds r.further.deeds' t.goes_on (subst E (sym r.attempt.end) t'.goes_on)
+      let rest = go t.attempt.end r.further.effects r.further.effects' t.goes_on (subst E (sym r.attempt.end) t'.goes_on)
       r.further.here r.attempt.state (λ h. ap (λ (a : Attempt). a.out) (r.attempt.equal h))
       (λ by. subst N (sym r.attempt.next_block) by) in
       record {
-        told = r.further.told rest.told;
+        inferred = r.further.inferred rest.inferred;
         outcome = outcomes_at H o o' _ _ t.outcome_is t'.outcome_is
-            (outcome_same_behind H t.attempt.entries t'.attempt.entries r.attempt.entries t.outcome_after
+            (outcome_same_after H t.attempt.entries t'.attempt.entries r.attempt.entries t.outcome_after
             t'.outcome_after
             rest.outcome);
         points = ap points_of t.steps_are ∙ r.points rest.points ∙ sym (ap points_of t'.steps_are);
       }
     where
-      go : (end : AttemptEnd) (more more' : List Deed) →
+      go : (end : AttemptEnd) (more more' : List Effect) →
           AfterAttempt n flags Outdated end t.attempt t.rest t.outcome_after →
           AfterAttempt n flags Outdated end t'.attempt t'.rest t'.outcome_after →
           Here book book' who set V t.rest t'.rest more more' → SameState H t.attempt.state t'.attempt.state →
@@ -148,7 +149,7 @@ module _ (book book' : Book) (who : Who) (set : Setting) where
           more more' by by' h.shows h.shows' h.same
 
   module _ (acts : List BoundAct) where
-    -- the facts about the points of the first attempt, and of the second
+    -- how WipesConform limits the points that are left, in the first attempt and in the second
     abbrev InFirst : List PointReached → Type 0
     InFirst points = AllByRecursion (λ r. r.wiped ≡ is_wiped acts r.point) (before_start points)
         × AllByRecursion (λ r. r.wiped ≡ false) (from_start points)
@@ -174,19 +175,19 @@ module _ (book book' : Book) (who : Who) (set : Setting) where
         ds ds' by by' here.shows here.shows' here.same)
 
     first_alike : (n flags : ℕ) (s s' : VgetrandomState) → SameState H s s' →
-        GoAlike (WipesStand acts) (FirstAttempt n flags s) (FirstAttempt n flags s')
+        GoAlike (WipesConform acts) (FirstAttempt n flags s) (FirstAttempt n flags s')
     first_alike n flags =
-        tried_alike (WipesStand acts) InFirst (is_wiped acts)
+        tried_alike (WipesConform acts) InFirst (is_wiped acts)
         (λ wiped points known. (known.first.0, (known.first.1, known.second)))
         first_goes_on n flags 0 (SecondAttempt n flags) (second_alike n flags)
 
     nothing_alike : (s s' : VgetrandomState) → SameState H s s' →
-        (steps steps' : List HostStep) (o o' : Outcome) (ds ds' : List Deed) →
+        (steps steps' : List HostStep) (o o' : Outcome) (ds ds' : List Effect) →
         ByNothing s steps o → ByNothing s' steps' o' → Shows set steps ds → Shows set steps' ds' →
         SameSteps book book' who ds ds' → CallAlike steps steps' ds ds' o o'
-    nothing_alike s s' same steps steps' o o' ds ds' by by' shows shows' behind = record {
-      told = told_nothing book book' who ds ds' (shows_at steps [] ds by.steps_are shows)
-          (shows_at steps' [] ds' by'.steps_are shows') behind;
+    nothing_alike s s' same steps steps' o o' ds ds' by by' shows shows' following = record {
+      inferred = inferred_nothing book book' who ds ds' (shows_at steps [] ds by.steps_are shows)
+          (shows_at steps' [] ds' by'.steps_are shows') following;
       outcome = outcomes_at H o o' _ _ by.outcome_is by'.outcome_is (record {
         entries = refl;
         state = same;
@@ -197,50 +198,50 @@ module _ (book book' : Book) (who : Who) (set : Setting) where
 
     -- the rest of a call after its first look goes alike in both books
     published_alike : (n flags published : ℕ) (s s' : VgetrandomState) → SameState H s s' →
-        (steps steps' : List HostStep) (o o' : Outcome) (ds ds' : List Deed) →
+        (steps steps' : List HostStep) (o o' : Outcome) (ds ds' : List Effect) →
         FromPublished n flags s published steps o → FromPublished n flags s' published steps' o' →
         Shows set steps ds → Shows set steps' ds' → SameSteps book book' who ds ds' →
-        ((published == 0) ≡ false → AllReady ds) → WipesStand acts (points_of steps) →
-        WipesStand acts (points_of steps') →
+        ((published == 0) ≡ false → AllReady ds) → WipesConform acts (points_of steps) →
+        WipesConform acts (points_of steps') →
         CallAlike steps steps' ds ds' o o'
-    published_alike n flags published s s' same steps steps' o o' ds ds' f f' shows shows' behind ready wipes wipes' =
+    published_alike n flags published s s' same steps steps' o o' ds ds' f f' shows shows' following ready wipes wipes' =
         match_both (BySystem n flags s steps o) _ (BySystem n flags s' steps' o') _ (CallAlike steps steps' ds ds' o o')
         (published == 0) (published == 0) refl
-        (λ is x y. system_alike n flags s s' same steps steps' o o' ds ds' x y shows shows' behind)
+        (λ is x y. system_alike n flags s s' same steps steps' o o' ds ds' x y shows shows' following)
         (λ known. match_both (ByNothing s steps o) _ (ByNothing s' steps' o') _ (CallAlike steps steps' ds ds' o o')
         (n == 0) (n == 0) refl
-        (λ is x y. nothing_alike s s' same steps steps' o o' ds ds' x y shows shows' behind)
+        (λ is x y. nothing_alike s s' same steps steps' o o' ds ds' x y shows shows' following)
         (λ is. match_both (BySystem n flags s steps o) (FirstAttempt n flags (record s { in_use = true }) steps o)
         (BySystem n flags s' steps' o') (FirstAttempt n flags (record s' { in_use = true }) steps' o')
         (CallAlike steps steps' ds ds' o o') s.in_use s'.in_use same.in_use
-        (λ is x y. system_alike n flags s s' same steps steps' o o' ds ds' x y shows shows' behind)
+        (λ is x y. system_alike n flags s s' same steps steps' o o' ds ds' x y shows shows' following)
         (λ is x y. first_alike n flags (record s { in_use = true }) (record s' { in_use = true })
         (same_marked H true s s' same) steps steps' o o' ds ds' x y
         (record {
           shows = shows;
           shows' = shows';
-          same = behind;
+          same = following;
           ready = ready known;
           points = wipes;
           points' = wipes';
         }))))
         f f'
 
-    -- calls with the same steps, on states that answer alike, go alike
+    -- calls with the same steps go alike on states that are alike
     pub call_alike : (n flags : ℕ) (s s' : VgetrandomState) → SameState H s s' →
-        (steps steps' : List HostStep) (o o' : Outcome) (ds ds' : List Deed) →
+        (steps steps' : List HostStep) (o o' : Outcome) (ds ds' : List Effect) →
         IsCall n flags s steps o → IsCall n flags s' steps' o' → Shows set steps ds → Shows set steps' ds' →
         SameSteps book book' who ds ds' → NeverFall (looks_of ds) →
-        WipesStand acts (points_of steps) → WipesStand acts (points_of steps') → CallAlike steps steps' ds ds' o o'
-    call_alike n flags s s' same steps steps' o o' ds ds' is is' shows shows' behind fall wipes wipes' =
+        WipesConform acts (points_of steps) → WipesConform acts (points_of steps') → CallAlike steps steps' ds ds' o o'
+    call_alike n flags s s' same steps steps' o o' ds ds' is is' shows shows' following fall wipes wipes' =
         match_both (BySystem n flags s steps o) (FromLook n flags s steps o) (BySystem n flags s' steps' o')
         (FromLook n flags s' steps' o') (CallAlike steps steps' ds ds' o o') (is_bad flags) (is_bad flags) refl
-        (λ bad x y. system_alike n flags s s' same steps steps' o o' ds ds' x y shows shows' behind)
+        (λ bad x y. system_alike n flags s s' same steps steps' o o' ds ds' x y shows shows' following)
         (λ good x y. looked_alike x y (shows_at steps _ ds x.steps_are shows)
         (shows_at steps' _ ds' y.steps_are shows'))
         is is'
       where
-        known : (g published : ℕ) (more : List Deed) → published ≡ published_by g → NeverFall (g ∷ looks_of more) →
+        known : (g published : ℕ) (more : List Effect) → published ≡ published_by g → NeverFall (g ∷ looks_of more) →
             (published == 0) ≡ false → AllReady more
         known zero published more p fall not = let no : (published == 0) ≡ true = ap (λ x. x == 0) p in cc
         known (suc g) published more p fall not = all_ready (suc g) (looks_of more) (omega arith) fall
@@ -249,17 +250,17 @@ module _ (book book' : Book) (who : Who) (set : Setting) where
             Shows set (publishes x.published ∷ x.rest) ds → Shows set (publishes y.published ∷ y.rest) ds' →
             CallAlike steps steps' ds ds' o o'
         looked_alike x y look look' =
-            let b = same_at book book' who look.2 look'.2 behind in
+            let b = same_at book book' who look.2 look'.2 following in
             let p : x.published ≡ y.published = look.3.0 ∙ ap published_by b.0 ∙ sym look'.3.0 in
             let P : ℕ → Type 0 = λ g. FromPublished n flags s' g y.rest o' in
-            let F : List Deed → Type 0 = λ x. NeverFall (looks_of x) in
-            let W : List PointReached → Type 0 = λ x. WipesStand acts x in
+            let F : List Effect → Type 0 = λ x. NeverFall (looks_of x) in
+            let W : List PointReached → Type 0 = λ x. WipesConform acts x in
             let r = published_alike n flags x.published s s' same x.rest y.rest o o' look.1 look'.1 x.goes_on
             (subst P (sym p) y.goes_on) look.3.1 look'.3.1 b.1
             (known look.0 x.published look.1 look.3.0 (subst F look.2 fall))
             (subst W (ap points_of x.steps_are) wipes) (subst W (ap points_of y.steps_are) wipes') in
             record {
-              told = told_at book book' who look.2 look'.2 (tt, r.told);
+              inferred = inferred_at book book' who look.2 look'.2 (tt, r.inferred);
               outcome = r.outcome;
               points = ap points_of x.steps_are ∙ r.points ∙ sym (ap points_of y.steps_are);
             }

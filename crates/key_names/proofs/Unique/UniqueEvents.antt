@@ -1,4 +1,4 @@
--- The deeds of an event by itself in two books: its form determines the entry of each visit.
+-- If an event is a call by itself, its form determines the entry of each of its visits, from earlier entries.
 use Rattle.std.proofs.Common.{◌≡◌, ℕ, zero, suc, List, [], ◌∷◌, ◌⊎◌, refl, sym, subst, ap, ◌∙◌, Some, None, take, ◌≤◌}
 use Rattle.std.proofs.Common.{Bool, true, inl, inr, arith, Option}
 use Rattle.std.specs.Prelude.{◌==◌, map}
@@ -18,7 +18,7 @@ use Rattle.key_names.specs.Kernel.FastPool.{fast_after, dump_bytes, dump_bits}
 use Rattle.key_names.specs.Lanes.Book.{Book, Visit, lists_of, entries_of, list_at, cpu_list}
 use Rattle.key_names.specs.Lanes.Samples.{LawfulSamples, visits_of, IsDump, fast_before}
 use Rattle.key_names.specs.Callers.Calls.{Setting}
-use Rattle.key_names.specs.Callers.Deeds.{Deed, PoolVisit, CpuVisit}
+use Rattle.key_names.specs.Callers.Effects.{Effect, PoolVisit, CpuVisit}
 use Rattle.key_names.specs.Callers.Forms.{Rooted, BaseOnly, ReadForm, Stalled, DumpForm, IrqForm, IntForm, ReseedForm}
 use Rattle.key_names.specs.Callers.Forms.{device_entry, VmforkForm, Form, EndForm, Cross, DrawForm, CpuReadForm, CreditForm}
 use Rattle.key_names.specs.Callers.Forms.{BatchForm, RefilledBatch}
@@ -26,10 +26,10 @@ use Rattle.key_names.specs.declared.entries.PoolEntry.{PoolEntry}
 use Rattle.key_names.specs.Lanes.PoolList.{Crossing, crossing, ready, early, none}
 use Rattle.key_names.specs.Kernel.Batches.{must_fill}
 use Rattle.key_names.specs.Lanes.CpuList.{CpuState, CpuFits}
-use Rattle.key_names.proofs.Unique.TwoBooks.{SamePool, SameCpu, SameSteps, AllTold, Tells, through, told_nothing, told_match}
-use Rattle.key_names.proofs.Unique.TwoBooks.{told_looked, told_either}
-use Rattle.key_names.proofs.Unique.UniqueForms.{told_rooted, told_same_rooted, told_base_only, told_pool_only, told_cpu_only}
-use Rattle.key_names.proofs.Unique.UniqueForms.{told_rooted_or_not, told_read, told_system}
+use Rattle.key_names.proofs.Unique.TwoBooks.{SamePool, SameCpu, SameSteps, AllInferred, Tells, through, inferred_nothing, inferred_match}
+use Rattle.key_names.proofs.Unique.TwoBooks.{inferred_looked, inferred_either}
+use Rattle.key_names.proofs.Unique.UniqueForms.{inferred_rooted, inferred_same_rooted, inferred_base_only, inferred_pool_only, inferred_cpu_only}
+use Rattle.key_names.proofs.Unique.UniqueForms.{inferred_rooted_or_not, inferred_read, inferred_system}
 
 pub entries_at : (cpus : List (List (Visit CpuEntry))) (c : ℕ) →
     entries_of (list_at cpus c) ≡ list_at (map entries_of cpus) c
@@ -37,64 +37,64 @@ entries_at [] c = refl
 entries_at (visits ∷ cpus) zero = refl
 entries_at (visits ∷ cpus) (suc c) = entries_at cpus c
 
--- a CPU's fast pool before a place depends only on its entries
+-- a CPU's fast pool before a place depends only on the entries of the CPU's list
 fast_is : (book : Book) (c k : ℕ) → fast_before (visits_of book c) k ≡ fast_after (take k (cpu_list (lists_of book) c))
 fast_is book c k = ap (λ es. fast_after (take k es)) (entries_at book.cpus c)
 
 module _ (book book' : Book) (who : Who) (samples : LawfulSamples book) (samples' : LawfulSamples book') where
-  abbrev Same : List Deed → List Deed → Type 0
+  abbrev Same : List Effect → List Effect → Type 0
   Same = SameSteps book book' who
 
-  abbrev Told : List Deed → List Deed → Type 0
-  Told = AllTold book book' who
+  abbrev Inferred : List Effect → List Effect → Type 0
+  Inferred = AllInferred book book' who
 
-  abbrev Tell : (List Deed → Type 0) → (List Deed → Type 0) → Type 0
+  abbrev Tell : (List Effect → Type 0) → (List Effect → Type 0) → Type 0
   Tell = Tells book book' who
 
-  -- the pool determines the bound that a credit crossed
-  told_cross : (set : Setting) (c c' : Crossing) → ((lists_of book).pool ≡ (lists_of book').pool → c ≡ c') →
+  -- the pool's list determines the threshold that a credit crossed
+  inferred_cross : (set : Setting) (c c' : Crossing) → ((lists_of book).pool ≡ (lists_of book').pool → c ≡ c') →
       Tell (Cross set c) (Cross set c')
-  told_cross set none none alike ds ds' f f' same = told_nothing book book' who ds ds' f f' same
-  told_cross set none ready alike ds ds' f f' same = through book book' who f f'.deeds_are (λ s. absurd s) same
-  told_cross set none early alike ds ds' f (inl f') same = through book book' who f f'.deeds_are (λ s. absurd s) same
-  told_cross set none early alike ds ds' f (inr f') same = through book book' who f f'.deeds_are (λ s. absurd s) same
-  told_cross set ready none alike ds ds' f f' same = through book book' who f.deeds_are f' (λ s. absurd s) same
-  told_cross set ready ready alike ds ds' f f' same = told_same_rooted book book' who set
+  inferred_cross set none none alike ds ds' f f' same = inferred_nothing book book' who ds ds' f f' same
+  inferred_cross set none ready alike ds ds' f f' same = through book book' who f f'.effects_are (λ s. absurd s) same
+  inferred_cross set none early alike ds ds' f (inl f') same = through book book' who f f'.effects_are (λ s. absurd s) same
+  inferred_cross set none early alike ds ds' f (inr f') same = through book book' who f f'.effects_are (λ s. absurd s) same
+  inferred_cross set ready none alike ds ds' f f' same = through book book' who f.effects_are f' (λ s. absurd s) same
+  inferred_cross set ready ready alike ds ds' f f' same = inferred_same_rooted book book' who set
       (λ r. Reseeded r set.now) ds ds' f f' same
-  told_cross set ready early alike ds ds' f (inl f') same =
-      told_rooted book book' who set (λ r. Reseeded r set.now) (λ r. Early (Some r))
+  inferred_cross set ready early alike ds ds' f (inl f') same =
+      inferred_rooted book book' who set (λ r. Reseeded r set.now) (λ r. Early (Some r))
       (λ pool r. let not_both : ready ≡ early = alike pool in cc) ds ds' f f' same
-  told_cross set ready early alike ds ds' f (inr f') same = through book book' who f.deeds_are f'.deeds_are
+  inferred_cross set ready early alike ds ds' f (inr f') same = through book book' who f.effects_are f'.effects_are
       (λ s. absurd s.0) same
-  told_cross set early none alike ds ds' (inl f) f' same = through book book' who f.deeds_are f' (λ s. absurd s) same
-  told_cross set early none alike ds ds' (inr f) f' same = through book book' who f.deeds_are f' (λ s. absurd s) same
-  told_cross set early ready alike ds ds' (inl f) f' same =
-      told_rooted book book' who set (λ r. Early (Some r)) (λ r. Reseeded r set.now)
+  inferred_cross set early none alike ds ds' (inl f) f' same = through book book' who f.effects_are f' (λ s. absurd s) same
+  inferred_cross set early none alike ds ds' (inr f) f' same = through book book' who f.effects_are f' (λ s. absurd s) same
+  inferred_cross set early ready alike ds ds' (inl f) f' same =
+      inferred_rooted book book' who set (λ r. Early (Some r)) (λ r. Reseeded r set.now)
       (λ pool r. let not_both : early ≡ ready = alike pool in cc) ds ds' f f' same
-  told_cross set early ready alike ds ds' (inr f) f' same = through book book' who f.deeds_are f'.deeds_are
+  inferred_cross set early ready alike ds ds' (inr f) f' same = through book book' who f.effects_are f'.effects_are
       (λ s. absurd s.0) same
-  told_cross set early early alike ds ds' f f' same =
-      told_rooted_or_not book book' who set (λ r. Early (Some r)) (Early None) ds ds' f f' same
+  inferred_cross set early early alike ds ds' f f' same =
+      inferred_rooted_or_not book book' who set (λ r. Early (Some r)) (Early None) ds ds' f f' same
 
-  -- a credit's form determines its entries, if the CPUs' lists determine the entry that credits
-  told_credit : (set : Setting) (e e' : PoolEntry) (ds ds' : List Deed) (f : CreditForm set e ds)
+  -- a credit's form determines the entries of its visits, if the CPUs' lists determine the entry that credits
+  inferred_credit : (set : Setting) (e e' : PoolEntry) (ds ds' : List Effect) (f : CreditForm set e ds)
       (f' : CreditForm set e' ds') →
       (SamePool book book' who f.pool f'.pool → (lists_of book).cpus ≡ (lists_of book').cpus → e ≡ e') →
-      Same ds ds' → Told ds ds'
-  told_credit set e e' ds ds' f f' alike same =
-      through book book' who f.deeds_are f'.deeds_are
+      Same ds ds' → Inferred ds ds'
+  inferred_credit set e e' ds ds' f f' alike same =
+      through book book' who f.effects_are f'.effects_are
       (λ s. (
         λ cpus. f.credits ∙ alike s.0 cpus ∙ sym f'.credits,
-        told_cross set (crossing f.pool.before.bits f.pool.after.bits) (crossing f'.pool.before.bits f'.pool.after.bits)
+        inferred_cross set (crossing f.pool.before.bits f.pool.after.bits) (crossing f'.pool.before.bits f'.pool.after.bits)
             (λ pool. ap (λ (v : PoolVisit). crossing v.before.bits v.after.bits) (s.0.equal pool))
             f.rest f'.rest f.crosses f'.crosses s.1,
       ))
       same
 
-  told_same_credit : (set : Setting) (e : PoolEntry) → Tell (CreditForm set e) (CreditForm set e)
-  told_same_credit set e ds ds' f f' same = told_credit set e e ds ds' f f' (λ s cpus. refl) same
+  inferred_same_credit : (set : Setting) (e : PoolEntry) → Tell (CreditForm set e) (CreditForm set e)
+  inferred_same_credit set e ds ds' f f' same = inferred_credit set e e ds ds' f f' (λ s cpus. refl) same
 
-  -- an integer: the CPU's list before it determines whether it fills its batch
+  -- the earlier entries of the CPU's list determine whether an integer fills its batch
   filled_is : (s s' : CpuState) (e e' : CpuEntry) (look width : ℕ) (filled filled' : Bool) →
       e ≡ Int look None width filled → e' ≡ Int look None width filled' → CpuFits s e → CpuFits s' e' →
       s.fills ≡ s'.fills → e ≡ e'
@@ -106,9 +106,9 @@ module _ (book book' : Book) (who : Who) (samples : LawfulSamples book) (samples
       let c : filled ≡ filled' = a ∙ ap (λ (f : ℕ → Option _). must_fill look width (f width)) same ∙ sym b in
       p ∙ ap (λ x. Int look None width x) c ∙ sym q
 
-  told_batch : (set : Setting) (width : ℕ) → Tell (BatchForm set width) (BatchForm set width)
-  told_batch set width ds ds' f f' same =
-      through book book' who f.deeds_are f'.deeds_are
+  inferred_batch : (set : Setting) (width : ℕ) → Tell (BatchForm set width) (BatchForm set width)
+  inferred_batch set width ds ds' f f' same =
+      through book book' who f.effects_are f'.effects_are
       (λ s. (
         tt,
         (
@@ -121,9 +121,9 @@ module _ (book book' : Book) (who : Who) (samples : LawfulSamples book) (samples
       ))
       same
 
-  told_refilled_batch : (set : Setting) (width : ℕ) → Tell (RefilledBatch set width) (RefilledBatch set width)
-  told_refilled_batch set width ds ds' f f' same =
-      through book book' who f.deeds_are f'.deeds_are
+  inferred_refilled_batch : (set : Setting) (width : ℕ) → Tell (RefilledBatch set width) (RefilledBatch set width)
+  inferred_refilled_batch set width ds ds' f f' same =
+      through book book' who f.effects_are f'.effects_are
       (λ s. (
         tt,
         (
@@ -137,40 +137,40 @@ module _ (book book' : Book) (who : Who) (samples : LawfulSamples book) (samples
       ))
       same
 
-  told_some_batch : (set : Setting) (width : ℕ) →
+  inferred_some_batch : (set : Setting) (width : ℕ) →
       Tell (λ ds. BatchForm set width ds ⊎ RefilledBatch set width ds)
       (λ ds. BatchForm set width ds ⊎ RefilledBatch set width ds)
-  told_some_batch set width =
-      told_either book book' who (BatchForm set width) (RefilledBatch set width) (BatchForm set width)
+  inferred_some_batch set width =
+      inferred_either book book' who (BatchForm set width) (RefilledBatch set width) (BatchForm set width)
       (RefilledBatch set width)
-      (told_batch set width)
-      (λ ds ds' f f' same. through book book' who f.deeds_are f'.deeds_are (λ s. absurd s.1.0) same)
-      (λ ds ds' f f' same. through book book' who f.deeds_are f'.deeds_are (λ s. absurd s.1.0) same)
-      (told_refilled_batch set width)
+      (inferred_batch set width)
+      (λ ds ds' f f' same. through book book' who f.effects_are f'.effects_are (λ s. absurd s.1.0) same)
+      (λ ds ds' f f' same. through book book' who f.effects_are f'.effects_are (λ s. absurd s.1.0) same)
+      (inferred_refilled_batch set width)
 
   not_both : (g : ℕ) → g ≡ 0 → 1 ≤ g → ⊥
   not_both g is some = omega arith
 
-  told_int : (set : Setting) (width g : ℕ) → Tell (IntForm set width g) (IntForm set width g)
-  told_int set width g ds ds' (inl f) (inl f') same =
-      told_read book book' who set (Kernel width) g ds ds' (read_form ds f.1) (read_form ds' f'.1) same
+  inferred_int : (set : Setting) (width g : ℕ) → Tell (IntForm set width g) (IntForm set width g)
+  inferred_int set width g ds ds' (inl f) (inl f') same =
+      inferred_read book book' who set (Kernel width) g ds ds' (read_form ds f.1) (read_form ds' f'.1) same
     where
-      read_form : (ds : List Deed) → DrawForm set (Kernel width) ds ⊎ CpuReadForm set (Kernel width) ds →
+      read_form : (ds : List Effect) → DrawForm set (Kernel width) ds ⊎ CpuReadForm set (Kernel width) ds →
           ReadForm set (Kernel width) g ds
       read_form ds (inl d) = inl (f.0, d)
       read_form ds (inr c) = inr c
-  told_int set width g ds ds' (inl f) (inr f') same = absurd (not_both g f.0 f'.0)
-  told_int set width g ds ds' (inr f) (inl f') same = absurd (not_both g f'.0 f.0)
-  told_int set width g ds ds' (inr f) (inr f') same = told_some_batch set width ds ds' f.1 f'.1 same
+  inferred_int set width g ds ds' (inl f) (inr f') same = absurd (not_both g f.0 f'.0)
+  inferred_int set width g ds ds' (inr f) (inl f') same = absurd (not_both g f'.0 f.0)
+  inferred_int set width g ds ds' (inr f) (inr f') same = inferred_some_batch set width ds ds' f.1 f'.1 same
 
-  told_reseed : (set : Setting) (g : ℕ) → Tell (ReseedForm set g) (ReseedForm set g)
-  told_reseed set g ds ds' (inl f) (inl f') same = told_nothing book book' who ds ds' f.1 f'.1 same
-  told_reseed set g ds ds' (inl f) (inr f') same = absurd (not_both g f.0 f'.0)
-  told_reseed set g ds ds' (inr f) (inl f') same = absurd (not_both g f'.0 f.0)
-  told_reseed set g ds ds' (inr f) (inr f') same = told_same_rooted book book' who set
+  inferred_reseed : (set : Setting) (g : ℕ) → Tell (ReseedForm set g) (ReseedForm set g)
+  inferred_reseed set g ds ds' (inl f) (inl f') same = inferred_nothing book book' who ds ds' f.1 f'.1 same
+  inferred_reseed set g ds ds' (inl f) (inr f') same = absurd (not_both g f.0 f'.0)
+  inferred_reseed set g ds ds' (inr f) (inl f') same = absurd (not_both g f'.0 f.0)
+  inferred_reseed set g ds ds' (inr f) (inr f') same = inferred_same_rooted book book' who set
       (λ r. Reseeded r set.now) ds ds' f.1 f'.1 same
 
-  -- the fast pools of both books are the same at the same place if the CPUs' lists are
+  -- if the CPUs' lists are the same in both books, so are the fast pools at each place
   same_fast : (c c' k k' : ℕ) → (lists_of book).cpus ≡ (lists_of book').cpus → c ≡ c' → k ≡ k' →
       fast_before (visits_of book c) k ≡ fast_before (visits_of book' c') k'
   same_fast c c' k k' cpus p q =
@@ -199,97 +199,97 @@ module _ (book book' : Book) (who : Who) (samples : LawfulSamples book) (samples
       ap (λ x. Mix x bits) (a.0 ∙ ap dump_bytes fast ∙ sym b.0)
       ∙ ap (λ x. Mix text' x) (a.1 ∙ ap dump_bits fast ∙ sym b.1)
 
-  told_dump : (set : Setting) → Tell (DumpForm set) (DumpForm set)
-  told_dump set ds ds' f f' same =
-      through book book' who f.deeds_are f'.deeds_are
+  inferred_dump : (set : Setting) → Tell (DumpForm set) (DumpForm set)
+  inferred_dump set ds ds' f f' same =
+      through book book' who f.effects_are f'.effects_are
       (λ s. (
         λ fills. f.dumps ∙ sym f'.dumps,
-        told_credit set (Mix f.text f.bits) (Mix f'.text f'.bits) f.rest f'.rest f.mixes f'.mixes
+        inferred_credit set (Mix f.text f.bits) (Mix f'.text f'.bits) f.rest f'.rest f.mixes f'.mixes
             (λ same_pool cpus. same_mix set f.text f'.text f.bits f'.bits set.now set.now f.dump f'.dump f.mixes.pool
             f'.mixes.pool s.0 same_pool f.dumps f'.dumps f.mixes.credits f'.mixes.credits cpus) s.1,
       ))
       same
 
-  told_irq : (set : Setting) (v1 v2 : ℕ) → Tell (IrqForm set v1 v2) (IrqForm set v1 v2)
-  told_irq set v1 v2 ds ds' f f' same =
-      through book book' who f.deeds_are f'.deeds_are
+  inferred_irq : (set : Setting) (v1 v2 : ℕ) → Tell (IrqForm set v1 v2) (IrqForm set v1 v2)
+  inferred_irq set v1 v2 ds ds' f f' same =
+      through book book' who f.effects_are f'.effects_are
       (λ s. (
         λ fills. f.samples ∙ sym f'.samples,
-        told_either book book' who (λ ds. ds ≡ []) (DumpForm set) (λ ds. ds ≡ []) (DumpForm set)
-            (told_nothing book book' who)
-            (λ ds ds' p d same. through book book' who p d.deeds_are (λ s. absurd s) same)
-            (λ ds ds' d p same. through book book' who d.deeds_are p (λ s. absurd s) same)
-            (told_dump set) f.rest f'.rest f.dumps f'.dumps s.1,
+        inferred_either book book' who (λ ds. ds ≡ []) (DumpForm set) (λ ds. ds ≡ []) (DumpForm set)
+            (inferred_nothing book book' who)
+            (λ ds ds' p d same. through book book' who p d.effects_are (λ s. absurd s) same)
+            (λ ds ds' d p same. through book book' who d.effects_are p (λ s. absurd s) same)
+            (inferred_dump set) f.rest f'.rest f.dumps f'.dumps s.1,
       ))
       same
 
-  told_stalled : (child : ℕ) → Tell (Stalled child) (Stalled child)
-  told_stalled child ds ds' f f' same =
-      through book book' who f.deeds_are f'.deeds_are
+  inferred_stalled : (child : ℕ) → Tell (Stalled child) (Stalled child)
+  inferred_stalled child ds ds' f f' same =
+      through book book' who f.effects_are f'.effects_are
       (λ s. (
         λ pool generations. f.forks ∙ sym f'.forks,
         (λ pool generations. f.stalls ∙ sym f'.stalls, (λ pool generations. f.unstalls ∙ sym f'.unstalls, tt)),
       ))
       same
 
-  told_fork : (child : ℕ) →
+  inferred_fork : (child : ℕ) →
       Tell (λ ds. BaseOnly (Forked child) ds ⊎ Stalled child ds) (λ ds. BaseOnly (Forked child) ds ⊎ Stalled child ds)
-  told_fork child =
-      told_either book book' who (BaseOnly (Forked child)) (Stalled child) (BaseOnly (Forked child)) (Stalled child)
-      (told_base_only book book' who (Forked child))
-      (λ ds ds' f f' same. through book book' who f.deeds_are f'.deeds_are (λ s. absurd s.1) same)
-      (λ ds ds' f f' same. through book book' who f.deeds_are f'.deeds_are (λ s. absurd s.1) same)
-      (told_stalled child)
+  inferred_fork child =
+      inferred_either book book' who (BaseOnly (Forked child)) (Stalled child) (BaseOnly (Forked child)) (Stalled child)
+      (inferred_base_only book book' who (Forked child))
+      (λ ds ds' f f' same. through book book' who f.effects_are f'.effects_are (λ s. absurd s.1) same)
+      (λ ds ds' f f' same. through book book' who f.effects_are f'.effects_are (λ s. absurd s.1) same)
+      (inferred_stalled child)
 
-  told_tick : (set : Setting) → Tell (Form set Tick) (Form set Tick)
-  told_tick set =
-      told_either book book' who (BaseOnly (Ticked set.now None)) (Rooted set (λ r. Ticked set.now (Some r)))
+  inferred_tick : (set : Setting) → Tell (Form set Tick) (Form set Tick)
+  inferred_tick set =
+      inferred_either book book' who (BaseOnly (Ticked set.now None)) (Rooted set (λ r. Ticked set.now (Some r)))
       (BaseOnly (Ticked set.now None)) (Rooted set (λ r. Ticked set.now (Some r)))
-      (told_base_only book book' who (Ticked set.now None))
-      (λ ds ds' f f' same. through book book' who f.deeds_are f'.deeds_are (λ s. absurd s.0) same)
-      (λ ds ds' f f' same. through book book' who f.deeds_are f'.deeds_are (λ s. absurd s.0) same)
-      (told_same_rooted book book' who set (λ r. Ticked set.now (Some r)))
+      (inferred_base_only book book' who (Ticked set.now None))
+      (λ ds ds' f f' same. through book book' who f.effects_are f'.effects_are (λ s. absurd s.0) same)
+      (λ ds ds' f f' same. through book book' who f.effects_are f'.effects_are (λ s. absurd s.0) same)
+      (inferred_same_rooted book book' who set (λ r. Ticked set.now (Some r)))
 
-  told_vmfork : (set : Setting) (word : ℕ) (text : List ℕ) → Tell (VmforkForm set word text) (VmforkForm set word text)
-  told_vmfork set word text ds ds' f f' same =
-      through book book' who f.deeds_are f'.deeds_are
+  inferred_vmfork : (set : Setting) (word : ℕ) (text : List ℕ) → Tell (VmforkForm set word text) (VmforkForm set word text)
+  inferred_vmfork set word text ds ds' f f' same =
+      through book book' who f.effects_are f'.effects_are
       (λ s. (
         λ cpus. f.mixes ∙ sym f'.mixes,
-        told_looked book book' who (ReseedForm set) (told_reseed set) f.rest f'.rest f.reseeds f'.reseeds s.1,
+        inferred_looked book book' who (ReseedForm set) (inferred_reseed set) f.rest f'.rest f.reseeds f'.reseeds s.1,
       ))
       same
 
-  -- an event by itself determines the entry of each of its visits
-  pub told_event : (set : Setting) (event : Event) → Tell (Form set event) (Form set event)
-  told_event set (Write text) = told_pool_only book book' who (Mix text 0)
-  told_event set (Device word text) = told_pool_only book book' who (device_entry word text)
-  told_event set Bits = told_pool_only book book' who ReadBits
-  told_event set (Add text bits) = told_same_credit set (Mix text bits)
-  told_event set (Credit bits) = told_same_credit set (Mix [] bits)
-  told_event set (Input word kind code value) =
-      told_same_credit set (InputSample word kind code value set.now)
-  told_event set (Kread len) =
-      told_match book book' who (len == 0) _ _ (told_nothing book book' who)
-      (told_looked book book' who (ReadForm set (Kernel len)) (told_read book book' who set (Kernel len)))
-  told_event set (Uread len) =
-      told_match book book' who (len == 0) _ _ (told_nothing book book' who)
-      (told_looked book book' who (ReadForm set (User len)) (told_read book book' who set (User len)))
-  told_event set (Read len flags) = told_system book book' who set len flags
-  told_event set (Dread len flag) = told_system book book' who set len flag
-  told_event set Int8 = told_looked book book' who (IntForm set 1) (told_int set 1)
-  told_event set Int16 = told_looked book book' who (IntForm set 2) (told_int set 2)
-  told_event set Int32 = told_looked book book' who (IntForm set 4) (told_int set 4)
-  told_event set Int64 = told_looked book book' who (IntForm set 8) (told_int set 8)
-  told_event set Reseed = told_looked book book' who (ReseedForm set) (told_reseed set)
-  told_event set Tick = told_tick set
-  told_event set (Fork child) = told_fork child
-  told_event set (Prepare cpu) = told_cpu_only book book' who cpu Prepared
-  told_event set (Online cpu) = told_cpu_only book book' who cpu Onlined
-  told_event set (Vmfork word text) = told_vmfork set word text
-  told_event set (Irq v1 v2) = told_irq set v1 v2
-  told_event set (Vread len flags) = λ ds ds' f f' same. absurd f
-  told_event set (Inside point act) = λ ds ds' f f' same. absurd f
-  told_event set _ = told_nothing book book' who
+  -- if an event is a call by itself, its form determines the entry of each of its visits
+  pub inferred_event : (set : Setting) (event : Event) → Tell (Form set event) (Form set event)
+  inferred_event set (Write text) = inferred_pool_only book book' who (Mix text 0)
+  inferred_event set (Device word text) = inferred_pool_only book book' who (device_entry word text)
+  inferred_event set Bits = inferred_pool_only book book' who ReadBits
+  inferred_event set (Add text bits) = inferred_same_credit set (Mix text bits)
+  inferred_event set (Credit bits) = inferred_same_credit set (Mix [] bits)
+  inferred_event set (Input word kind code value) =
+      inferred_same_credit set (InputSample word kind code value set.now)
+  inferred_event set (Kread len) =
+      inferred_match book book' who (len == 0) _ _ (inferred_nothing book book' who)
+      (inferred_looked book book' who (ReadForm set (Kernel len)) (inferred_read book book' who set (Kernel len)))
+  inferred_event set (Uread len) =
+      inferred_match book book' who (len == 0) _ _ (inferred_nothing book book' who)
+      (inferred_looked book book' who (ReadForm set (User len)) (inferred_read book book' who set (User len)))
+  inferred_event set (Read len flags) = inferred_system book book' who set len flags
+  inferred_event set (Dread len flag) = inferred_system book book' who set len flag
+  inferred_event set Int8 = inferred_looked book book' who (IntForm set 1) (inferred_int set 1)
+  inferred_event set Int16 = inferred_looked book book' who (IntForm set 2) (inferred_int set 2)
+  inferred_event set Int32 = inferred_looked book book' who (IntForm set 4) (inferred_int set 4)
+  inferred_event set Int64 = inferred_looked book book' who (IntForm set 8) (inferred_int set 8)
+  inferred_event set Reseed = inferred_looked book book' who (ReseedForm set) (inferred_reseed set)
+  inferred_event set Tick = inferred_tick set
+  inferred_event set (Fork child) = inferred_fork child
+  inferred_event set (Prepare cpu) = inferred_cpu_only book book' who cpu Prepared
+  inferred_event set (Online cpu) = inferred_cpu_only book book' who cpu Onlined
+  inferred_event set (Vmfork word text) = inferred_vmfork set word text
+  inferred_event set (Irq v1 v2) = inferred_irq set v1 v2
+  inferred_event set (Vread len flags) = λ ds ds' f f' same. absurd f
+  inferred_event set (Inside point act) = λ ds ds' f f' same. absurd f
+  inferred_event set _ = inferred_nothing book book' who
 
-  pub told_end : Tell EndForm EndForm
-  told_end = told_base_only book book' who End
+  pub inferred_end : Tell EndForm EndForm
+  inferred_end = inferred_base_only book book' who End

@@ -1,4 +1,4 @@
--- Two books with the same marks have the same lanes, if each entry is determined by those before it.
+-- Two books with the same marks have the same lanes, if each entry is determined by the entries before it.
 use Rattle.std.proofs.Common.{◌≡◌, ℕ, suc, ◌<◌, List, [], ◌∷◌, refl, sym, subst, ap, ◌∙◌, arith, Some, Option, length}
 use Rattle.std.proofs.Common.{take}
 use Rattle.std.specs.Prelude.{slice_get, option_and_then, option_map, unwrap_or}
@@ -17,17 +17,17 @@ use Rattle.key_names.specs.Kernel.Batches.{fills_after}
 use Rattle.key_names.specs.Lanes.CpuList.{CpuState, cpu_key_after, cpu_key_in_use, cpu_step, cpu_start, cpu_after}
 use Rattle.key_names.specs.Lanes.Book.{Book, Visit, Lists, lists_of, entries_of, list_at, cpu_list}
 use Rattle.key_names.specs.Transcripts.SeenLine.{SeenLine}
-use Rattle.key_names.specs.Callers.Deeds.{Deed, at_pool, at_base, at_cpu, deed_or, deed_at, deeds_of, pool_visit, base_visit}
-use Rattle.key_names.specs.Callers.Deeds.{cpu_visit}
-use Rattle.key_names.specs.Transcripts.IsTranscript.{MarkBy, marks_from, line_marks, all_marks, lane_marks, PlacesStand, stamped}
+use Rattle.key_names.specs.Callers.Effects.{Effect, at_pool, at_base, at_cpu, effect_or, effect_at, effects_of, pool_visit, base_visit}
+use Rattle.key_names.specs.Callers.Effects.{cpu_visit}
+use Rattle.key_names.specs.Transcripts.IsTranscript.{MarkBy, marks_from, line_marks, all_marks, lane_marks, PlacesConform, stamped}
 use Rattle.key_names.specs.Transcripts.IsTranscript.{stamped_at, VisitsAre}
 use Rattle.key_names.proofs.Lists.Each.{each_append, each_weaker, each_both}
-use Rattle.key_names.proofs.Unique.TwoBooks.{Told, AllTold}
+use Rattle.key_names.proofs.Unique.TwoBooks.{Inferred, AllInferred}
 use Rattle.key_names.proofs.Unique.UniqueEvents.{entries_at}
 use Rattle.key_names.proofs.Unique.UniqueMarks.{one_entry}
 use Rattle.key_names.proofs.Transcripts.LaneCounts.{every_place, lane_length, lane_counts}
 
--- two lists of one length are equal if, at each place, equal elements before it imply equal elements there
+-- two lists of the same length are equal if, at each place, equal elements before the place imply equal elements there
 pub same_lists : {E : Type 0} (xs ys : List E) → length xs ≡ length ys →
     ((i : ℕ) (x y : E) → i < length xs → slice_get xs i ≡ Some x → slice_get ys i ≡ Some y → take i xs ≡ take i ys →
     x ≡ y) →
@@ -42,7 +42,7 @@ same_lists {E = E} (x ∷ xs) (y ∷ ys) long each =
     (ap (λ z. z ∷ take i xs) here ∙ ap (λ zs. y ∷ zs) same)) in
     ap (λ z. z ∷ xs) here ∙ ap (λ zs. y ∷ zs) rest
 
--- two lists of lists are equal if they have one length, and the lists at each place are equal
+-- two lists of lists are equal if they have the same length, and the lists at each place are equal
 same_rows : {E : Type 0} (xss yss : List (List E)) → length xss ≡ length yss →
     ((i : ℕ) → list_at xss i ≡ list_at yss i) → xss ≡ yss
 same_rows [] [] long each = refl
@@ -60,7 +60,7 @@ fills_alone base base' c (e ∷ es) s s' place key fills =
     (λ i. cpu_key_after c (place i) e (key i))
     (λ i. fills_after (place i) e (cpu_key_in_use e (key i)) (fills i))
 
--- whether entries are the same does not depend on their maker
+-- any maker will do here: whether two entries are the same does not depend on the maker
 abbrev nobody : Who
 nobody = record { caller = 0; event = 0; step = 0 }
 
@@ -71,35 +71,35 @@ module _ (book book' : Book) where
   abbrev l' : Lists
   l' = lists_of book'
 
-  -- the entries at a place are determined
-  abbrev pub PlaceTold : LaneId → ℕ → Type 0
-  PlaceTold lane place = Told book book' nobody (deed_at l lane place) (deed_at l' lane place)
+  -- the entries at a place are equal in both books, if the entries that determine them are equal
+  abbrev pub PlaceInferred : LaneId → ℕ → Type 0
+  PlaceInferred lane place = Inferred book book' nobody (effect_at l lane place) (effect_at l' lane place)
 
-  steps_told : (who : Who) (c n i : ℕ) (steps : List Step) →
-      AllTold book book' who (deeds_of l steps) (deeds_of l' steps) →
-      AllByRecursion (λ by. PlaceTold by.mark.lane by.mark.place) (marks_from c n i steps)
-  steps_told who c n i [] told = tt
-  steps_told who c n i (Look g ∷ steps) told = steps_told who c n (suc i) steps told.1
-  steps_told who c n i (Marked mark ∷ steps) told = (told.0, steps_told who c n (suc i) steps told.1)
+  steps_inferred : (who : Who) (c n i : ℕ) (steps : List Step) →
+      AllInferred book book' who (effects_of l steps) (effects_of l' steps) →
+      AllByRecursion (λ by. PlaceInferred by.mark.lane by.mark.place) (marks_from c n i steps)
+  steps_inferred who c n i [] inferred = tt
+  steps_inferred who c n i (Look g ∷ steps) inferred = steps_inferred who c n (suc i) steps inferred.1
+  steps_inferred who c n i (Marked mark ∷ steps) inferred = (inferred.0, steps_inferred who c n (suc i) steps inferred.1)
 
-  lines_told : (lines : List SeenLine) →
-      AllByRecursion (λ line. AllTold book book' nobody (deeds_of l line.steps) (deeds_of l' line.steps)) lines →
-      AllByRecursion (λ by. PlaceTold by.mark.lane by.mark.place) (flat_map line_marks lines)
-  lines_told [] told = tt
-  lines_told (line ∷ lines) told =
-      each_append (λ (by : MarkBy). PlaceTold by.mark.lane by.mark.place) (line_marks line) (flat_map line_marks lines)
-      (steps_told nobody line.caller line.event 0 line.steps told.0) (lines_told lines told.1)
+  lines_inferred : (lines : List SeenLine) →
+      AllByRecursion (λ line. AllInferred book book' nobody (effects_of l line.steps) (effects_of l' line.steps)) lines →
+      AllByRecursion (λ by. PlaceInferred by.mark.lane by.mark.place) (flat_map line_marks lines)
+  lines_inferred [] inferred = tt
+  lines_inferred (line ∷ lines) inferred =
+      each_append (λ (by : MarkBy). PlaceInferred by.mark.lane by.mark.place) (line_marks line) (flat_map line_marks lines)
+      (steps_inferred nobody line.caller line.event 0 line.steps inferred.0) (lines_inferred lines inferred.1)
 
-  pub marks_told : (t : List (List SeenLine)) →
+  pub marks_inferred : (t : List (List SeenLine)) →
       AllByRecursion (λ lines. AllByRecursion
-      (λ line. AllTold book book' nobody (deeds_of l line.steps) (deeds_of l' line.steps)) lines) t →
-      AllByRecursion (λ by. PlaceTold by.mark.lane by.mark.place) (all_marks t)
-  marks_told [] told = tt
-  marks_told (lines ∷ t) told =
-      each_append (λ (by : MarkBy). PlaceTold by.mark.lane by.mark.place) (flat_map line_marks lines) (all_marks t)
-      (lines_told lines told.0) (marks_told t told.1)
+      (λ line. AllInferred book book' nobody (effects_of l line.steps) (effects_of l' line.steps)) lines) t →
+      AllByRecursion (λ by. PlaceInferred by.mark.lane by.mark.place) (all_marks t)
+  marks_inferred [] inferred = tt
+  marks_inferred (lines ∷ t) inferred =
+      each_append (λ (by : MarkBy). PlaceInferred by.mark.lane by.mark.place) (flat_map line_marks lines) (all_marks t)
+      (lines_inferred lines inferred.0) (marks_inferred t inferred.1)
 
--- two lists of visits are equal if they have one length, the same marks and the same entries
+-- two lists of visits are equal if they have the same length, the same marks and the same entries
 visits_same : {E : Type 0} (xs ys : List (Visit E)) → length xs ≡ length ys →
     ((i : ℕ) → i < length xs → stamped xs i ≡ stamped ys i) → entries_of xs ≡ entries_of ys → xs ≡ ys
 visits_same {E = E} xs ys long marks entries = same_lists xs ys long one
@@ -121,9 +121,9 @@ visits_same {E = E} xs ys long marks entries = same_lists xs ys long one
         (slice_get-map entry ys i ∙ ap (λ o. option_map entry o) q) entries in
         λ j. record { stamp = (mark j).0; who = (mark j).1; entry = e j }
 
-module _ (book book' : Book) (marks : List MarkBy) (places : (lane : LaneId) → PlacesStand (lane_marks lane marks))
+module _ (book book' : Book) (marks : List MarkBy) (places : (lane : LaneId) → PlacesConform (lane_marks lane marks))
     (visits : VisitsAre book marks) (visits' : VisitsAre book' marks) (cpus : length book.cpus ≡ length book'.cpus)
-    (told : AllByRecursion (λ by. PlaceTold book book' by.mark.lane by.mark.place) marks) where
+    (inferred : AllByRecursion (λ by. PlaceInferred book book' by.mark.lane by.mark.place) marks) where
   abbrev m : Lists
   m = lists_of book
 
@@ -133,10 +133,10 @@ module _ (book book' : Book) (marks : List MarkBy) (places : (lane : LaneId) →
   lengths : (lane : LaneId) → lane_length book lane ≡ lane_length book' lane
   lengths lane = sym (lane_counts book marks places visits lane) ∙ lane_counts book' marks places visits' lane
 
-  place_told : (lane : LaneId) (i : ℕ) → i < lane_length book lane → PlaceTold book book' lane i
-  place_told lane i lt =
+  place_inferred : (lane : LaneId) (i : ℕ) → i < lane_length book lane → PlaceInferred book book' lane i
+  place_inferred lane i lt =
       let count = lane_counts book marks places visits lane in
-      every_place (PlaceTold book book') lane marks (places lane) told i (omega arith)
+      every_place (PlaceInferred book book') lane marks (places lane) inferred i (omega arith)
 
   entries_long : {E : Type 0} (visits : List (Visit E)) → length (entries_of visits) ≡ length visits
   entries_long {E = E} visits = let entry : Visit E → E = λ visit. visit.entry in length-map visits entry
@@ -144,20 +144,20 @@ module _ (book book' : Book) (marks : List MarkBy) (places : (lane : LaneId) →
   cpu_long : (b : Book) (c : ℕ) → length (cpu_list (lists_of b) c) ≡ length (list_at b.cpus c)
   cpu_long b c = ap (λ es. length es) (sym (entries_at b.cpus c)) ∙ entries_long (list_at b.cpus c)
 
-  -- a fact about the deeds at a place holds for the deeds of the entries there
-  told_there : {E : Type 0} (d d' : E → Deed) (o o' : Option E) (e e' : E) → o ≡ Some e → o' ≡ Some e' →
-      Told book book' nobody (deed_or d o) (deed_or d' o') → Told book book' nobody (d e) (d' e')
-  told_there {E = E} d d' o o' e e' p q t =
-      let P : Option E → Type 0 = λ x. Told book book' nobody (deed_or d x) (deed_or d' o') in
-      let Q : Option E → Type 0 = λ y. Told book book' nobody (d e) (deed_or d' y) in
+  -- if Inferred holds for the effects found at a place, it holds for the effects of the entries there
+  inferred_there : {E : Type 0} (d d' : E → Effect) (o o' : Option E) (e e' : E) → o ≡ Some e → o' ≡ Some e' →
+      Inferred book book' nobody (effect_or d o) (effect_or d' o') → Inferred book book' nobody (d e) (d' e')
+  inferred_there {E = E} d d' o o' e e' p q t =
+      let P : Option E → Type 0 = λ x. Inferred book book' nobody (effect_or d x) (effect_or d' o') in
+      let Q : Option E → Type 0 = λ y. Inferred book book' nobody (d e) (effect_or d' y) in
       subst Q q (subst P p t)
 
   cpu_same : (c : ℕ) → cpu_list m c ≡ cpu_list m' c
   cpu_same c =
       let long = cpu_long book c in
       same_lists (cpu_list m c) (cpu_list m' c) (long ∙ lengths (CpuLane c) ∙ sym (cpu_long book' c))
-      (λ i x y lt p q same. told_there (λ e. at_cpu (cpu_visit m c i e)) (λ e. at_cpu (cpu_visit m' c i e))
-      (slice_get (cpu_list m c) i) (slice_get (cpu_list m' c) i) x y p q (place_told (CpuLane c) i (omega arith))
+      (λ i x y lt p q same. inferred_there (λ e. at_cpu (cpu_visit m c i e)) (λ e. at_cpu (cpu_visit m' c i e))
+      (slice_get (cpu_list m c) i) (slice_get (cpu_list m' c) i) x y p q (place_inferred (CpuLane c) i (omega arith))
       (fills_alone m.base m'.base c (take i (cpu_list m c)) cpu_start cpu_start refl refl refl
       ∙ ap (λ es. (cpu_after m'.base c es).fills) same))
 
@@ -172,24 +172,24 @@ module _ (book book' : Book) (marks : List MarkBy) (places : (lane : LaneId) →
   pool_same =
       let long = entries_long book.pool in
       same_lists m.pool m'.pool (long ∙ lengths PoolLane ∙ sym (entries_long book'.pool))
-      (λ i x y lt p q same. told_there (λ e. at_pool (pool_visit m i e)) (λ e. at_pool (pool_visit m' i e))
-      (slice_get m.pool i) (slice_get m'.pool i) x y p q (place_told PoolLane i (omega arith)) cpus_same)
+      (λ i x y lt p q same. inferred_there (λ e. at_pool (pool_visit m i e)) (λ e. at_pool (pool_visit m' i e))
+      (slice_get m.pool i) (slice_get m'.pool i) x y p q (place_inferred PoolLane i (omega arith)) cpus_same)
 
   base_same : m.base ≡ m'.base
   base_same =
       let long = entries_long book.base in
       same_lists m.base m'.base (long ∙ lengths BaseLane ∙ sym (entries_long book'.base))
-      (λ i x y lt p q same. told_there (λ e. at_base (base_visit m i e)) (λ e. at_base (base_visit m' i e))
-      (slice_get m.base i) (slice_get m'.base i) x y p q (place_told BaseLane i (omega arith)) pool_same
+      (λ i x y lt p q same. inferred_there (λ e. at_base (base_visit m i e)) (λ e. at_base (base_visit m' i e))
+      (slice_get m.base i) (slice_get m'.base i) x y p q (place_inferred BaseLane i (omega arith)) pool_same
       (ap (λ es. (base_after es).generation) same))
 
-  -- both books have the same mark at each place
+  -- at each place, both books have the same stamp and maker
   same_stamps : (lane : LaneId) (i : ℕ) → i < lane_length book lane → stamped_at book lane i ≡ stamped_at book' lane i
   same_stamps lane i lt =
       let count = lane_counts book marks places visits lane in
       every_place (λ lane i. stamped_at book lane i ≡ stamped_at book' lane i) lane marks (places lane)
       (each_weaker _ _ marks (λ (by : MarkBy) both. both.0
-      ∙ sym both.1) (each_both _ _ marks visits.stand visits'.stand)) i
+      ∙ sym both.1) (each_both _ _ marks visits.conform visits'.conform)) i
       (omega arith)
 
   -- if the lists of states are the same, both books are the same

@@ -1,4 +1,4 @@
--- The lines of a transcript are the lines of its calls, so facts about calls hold for all lines.
+-- The calls of a transcript have exactly its lines, so a fact about the lines of all calls is one about all lines.
 use Rattle.std.proofs.Common.{◌≡◌, ℕ, suc, Bool, true, false, List, [], ◌∷◌, ◌++◌, ◌⊎◌, inl, inr, refl, sym, subst, ap}
 use Rattle.std.proofs.Common.{◌∙◌, Some}
 use Rattle.std.specs.Prelude.{map, if◌then◌else◌}
@@ -14,7 +14,7 @@ use Rattle.key_names.specs.Transcripts.IsTranscript.{LinesFit, EachCaller, Calle
 use Rattle.key_names.specs.Transcripts.IsTranscript.{state_lists}
 use Rattle.key_names.proofs.Lists.Each.{each_append, each_parts}
 use Rattle.key_names.proofs.Unique.UniqueCallers.{caller_itself}
-use Rattle.key_names.proofs.Unique.UniqueMeanings.{OfCall, LineSame, LineTold}
+use Rattle.key_names.proofs.Unique.UniqueMeanings.{OfCall, LineSame, LineInferred}
 use Rattle.key_names.proofs.Unique.UniqueRuns.{calls_alike}
 use Rattle.key_names.proofs.Unique.UniqueMarks.{same_steps}
 
@@ -22,7 +22,8 @@ module _ (P Q : SeenLine → Type 0) where
   abbrev Waiting : (SeenLine → Type 0) → List BoundAct → Type 0
   Waiting R waiting = AllByRecursion (λ bound. R bound.line) waiting
 
-  -- a fact about each line holds for each line of the calls, and the other way round
+  -- the calls have exactly these waiting acts and lines. If P holds for all of these, P holds for the lines of the
+  -- calls. If Q holds for the lines of the calls, Q holds for all of these
   pub record Covers (waiting : List BoundAct) (lines : List SeenLine) (calls : List Call) : Type 0 where
     pub to_calls : Waiting P waiting → AllByRecursion P lines → AllByRecursion (OfCall P) calls
     pub to_lines : AllByRecursion (OfCall Q) calls → Waiting Q waiting × AllByRecursion Q lines
@@ -88,33 +89,33 @@ module _ (book book' : Book) (lawful : LawfulLanes (lists_of book)) (lawful' : L
   abbrev Same : SeenLine → Type 0
   Same = LineSame book book' samples samples'
 
-  abbrev pub Told : SeenLine → Type 0
-  Told = LineTold book book' samples samples'
+  abbrev pub Inferred : SeenLine → Type 0
+  Inferred = LineInferred book book' samples samples'
 
-  -- a mark is the visit at its place
-  abbrev pub Stands : Book → MarkBy → Type 0
-  Stands b m = stamped_at b m.mark.lane m.mark.place ≡ Some (m.mark.stamp, m.who)
+  -- the visit at the place of a mark has the mark's stamp and maker
+  abbrev pub Conforms : Book → MarkBy → Type 0
+  Conforms b m = stamped_at b m.mark.lane m.mark.place ≡ Some (m.mark.stamp, m.who)
 
-  lines_same : (lines : List SeenLine) → AllByRecursion (Stands book) (flat_map line_marks lines) →
-      AllByRecursion (Stands book') (flat_map line_marks lines) → AllByRecursion Same lines
-  lines_same [] stand stand' = tt
-  lines_same (line ∷ lines) stand stand' =
-      let p = each_parts (Stands book) (line_marks line) (flat_map line_marks lines) stand in
-      let p' = each_parts (Stands book') (line_marks line) (flat_map line_marks lines) stand' in
+  lines_same : (lines : List SeenLine) → AllByRecursion (Conforms book) (flat_map line_marks lines) →
+      AllByRecursion (Conforms book') (flat_map line_marks lines) → AllByRecursion Same lines
+  lines_same [] conform conform' = tt
+  lines_same (line ∷ lines) conform conform' =
+      let p = each_parts (Conforms book) (line_marks line) (flat_map line_marks lines) conform in
+      let p' = each_parts (Conforms book') (line_marks line) (flat_map line_marks lines) conform' in
       (same_steps book book' lawful lawful' line.caller line.event 0 line.steps p.0 p'.0, lines_same lines p.1 p'.1)
 
-  -- the marks of all lines are the marks of the same visits
-  pub all_same : (t : List (List SeenLine)) → AllByRecursion (Stands book) (all_marks t) →
-      AllByRecursion (Stands book') (all_marks t) → AllByRecursion (λ lines. AllByRecursion Same lines) t
-  all_same [] stand stand' = tt
-  all_same (lines ∷ t) stand stand' =
-      let p = each_parts (Stands book) (flat_map line_marks lines) (all_marks t) stand in
-      let p' = each_parts (Stands book') (flat_map line_marks lines) (all_marks t) stand' in
+  -- SameSteps holds for the effects of each line, if the marks of all lines are visits of both books
+  pub all_same : (t : List (List SeenLine)) → AllByRecursion (Conforms book) (all_marks t) →
+      AllByRecursion (Conforms book') (all_marks t) → AllByRecursion (λ lines. AllByRecursion Same lines) t
+  all_same [] conform conform' = tt
+  all_same (lines ∷ t) conform conform' =
+      let p = each_parts (Conforms book) (flat_map line_marks lines) (all_marks t) conform in
+      let p' = each_parts (Conforms book') (flat_map line_marks lines) (all_marks t) conform' in
       (lines_same lines p.0 p'.0, all_same t p.1 p'.1)
 
-  -- the calls of all callers went alike in both books
+  -- the calls of all callers are alike in both books
   pub record AllAlike (t : List (List SeenLine)) (mss mss' : List (List CallMeaning)) : Type 0 where
-    pub told : AllByRecursion (λ lines. AllByRecursion Told lines) t
+    pub inferred : AllByRecursion (λ lines. AllByRecursion Inferred lines) t
     pub states : map state_lists mss ≡ map state_lists mss'
     pub equal : lists_of book ≡ lists_of book' → mss ≡ mss'
 
@@ -125,7 +126,7 @@ module _ (book book' : Book) (lawful : LawfulLanes (lists_of book)) (lawful' : L
       EachCaller (λ c calls ms. CallerMeans (lists_of book) (settings c) calls ms) c (all_calls callers t) mss →
       EachCaller (λ c calls ms. CallerMeans (lists_of book') (settings c) calls ms) c (all_calls callers t) mss' →
       AllAlike t mss mss'
-  callers_alike settings c [] [] [] [] fit same m m' = record { told = tt; states = refl; equal = λ h. refl }
+  callers_alike settings c [] [] [] [] fit same m m' = record { inferred = tt; states = refl; equal = λ h. refl }
   callers_alike settings c [] [] [] (ms' ∷ mss') fit same m m' = absurd m'
   callers_alike settings c [] [] (ms ∷ mss) mss' fit same m m' = absurd m
   callers_alike settings c [] (lines ∷ t) mss mss' fit same m m' = absurd fit
@@ -133,15 +134,15 @@ module _ (book book' : Book) (lawful : LawfulLanes (lists_of book)) (lawful' : L
   callers_alike settings c (events ∷ callers) (lines ∷ t) [] mss' fit same m m' = absurd m
   callers_alike settings c (events ∷ callers) (lines ∷ t) (ms ∷ mss) [] fit same m m' = absurd m'
   callers_alike settings c (events ∷ callers) (lines ∷ t) (ms ∷ mss) (ms' ∷ mss') fit same m m' =
-      let cover = calls_cover Same Told c events lines fit.0 in
+      let cover = calls_cover Same Inferred c events lines fit.0 in
       let start = caller_start (settings c) in
       let here = calls_alike book book' samples samples' start start (calls_of events lines) ms ms'
-      (caller_itself (lists_of book ≡ lists_of book') start) (cover.to_calls tt same.0) m.0.deeds m'.0.deeds m.0.follows
+      (caller_itself (lists_of book ≡ lists_of book') start) (cover.to_calls tt same.0) m.0.effects m'.0.effects m.0.follows
       m'.0.follows in
       let rest = callers_alike settings (suc c) callers t mss mss' fit.1 same.1 m.1 m'.1 in
       let states : state_lists ms ≡ state_lists ms' = λ i. map (λ k. here.entries k i) (range_with_len 0 16) in
       record {
-        told = ((cover.to_lines here.told).1, rest.told);
+        inferred = ((cover.to_lines here.inferred).1, rest.inferred);
         states = ap (λ x. x ∷ map state_lists mss) states ∙ ap (λ xs. state_lists ms' ∷ xs) rest.states;
         equal = λ h. ap (λ x. x ∷ mss) (here.equal h) ∙ ap (λ xs. ms' ∷ xs) (rest.equal h);
       }

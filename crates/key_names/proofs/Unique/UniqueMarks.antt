@@ -1,4 +1,4 @@
--- The visits at the place of a mark, in two books with the same marks.
+-- In two books with the same marks, the steps of a line have matching visits: same place, same maker.
 use Rattle.std.proofs.Common.{take, ◌≡◌, ℕ, suc, List, [], ◌∷◌, refl, sym, subst, ap, ◌∙◌, Some, None, Option}
 use Rattle.std.specs.Prelude.{slice_get, option_and_then, option_map, unwrap_or}
 use Rattle.std.specs.List.{AllByRecursion}
@@ -13,14 +13,14 @@ use Rattle.key_names.specs.Lanes.BaseList.{BaseMayCome, base_step, base_start}
 use Rattle.key_names.specs.Lanes.CpuList.{cpu_after, CpuFits, CpuMayCome, cpu_step, cpu_start}
 use Rattle.key_names.specs.Lanes.Book.{Book, Visit, Lists, lists_of, entries_of, list_at, cpu_list, LawfulLanes}
 use Rattle.key_names.specs.Lanes.Samples.{SameEvent}
-use Rattle.key_names.specs.Callers.Deeds.{Deed, at_pool, at_base, at_cpu, deed_or, deed_at, deeds_of, pool_visit, base_visit}
-use Rattle.key_names.specs.Callers.Deeds.{cpu_visit}
+use Rattle.key_names.specs.Callers.Effects.{Effect, at_pool, at_base, at_cpu, effect_or, effect_at, effects_of, pool_visit, base_visit}
+use Rattle.key_names.specs.Callers.Effects.{cpu_visit}
 use Rattle.key_names.specs.Transcripts.IsTranscript.{MarkBy, marks_from, stamped, stamped_at}
 use Rattle.key_names.proofs.Lists.Growing.{may_at}
 use Rattle.key_names.proofs.Unique.TwoBooks.{SamePool, SameBase, SameCpu, SameStep, SameSteps}
 use Rattle.key_names.proofs.Unique.UniqueEvents.{entries_at}
 
--- the visit at a place, with its maker
+-- the visit at a place was made by `who`
 pub record Found {E : Type 0} (visits : List (Visit E)) (place : ℕ) (who : Who) : Type 0 where
   pub visit : Visit E
   pub is : slice_get visits place ≡ Some visit
@@ -66,21 +66,21 @@ module _ (book book' : Book) (lawful : LawfulLanes (lists_of book)) (lawful' : L
   abbrev by : ℕ → Who
   by i = record { caller = c; event = n; step = i }
 
-  -- a visit that was found is of this event
+  -- the visit that was found was made by this event
   made_by : {E : Type 0} (visits : List (Visit E)) (i place : ℕ) (f : Found visits place (by i)) →
       SameEvent f.visit.who who
   made_by visits i place f = (ap (λ (w : Who). w.caller) f.made, ap (λ (w : Who). w.event) f.made)
 
-  -- two entries that match as deeds of one step also match as the deeds at their places
-  deeds_there : {E : Type 0} (d d' : E → Deed) (o o' : Option E) (e e' : E) → o ≡ Some e → o' ≡ Some e' →
-      SameStep book book' who (d e) (d' e') → SameStep book book' who (deed_or d o) (deed_or d' o')
-  deeds_there {E = E} d d' o o' e e' p q same =
-      let P : Option E → Type 0 = λ x. SameStep book book' who (deed_or d x) (deed_or d' o') in
-      let Q : Option E → Type 0 = λ y. SameStep book book' who (d e) (deed_or d' y) in
+  -- if the effects of two entries are those of one step, so are the effects found at the places of these entries
+  effects_there : {E : Type 0} (d d' : E → Effect) (o o' : Option E) (e e' : E) → o ≡ Some e → o' ≡ Some e' →
+      SameStep book book' who (d e) (d' e') → SameStep book book' who (effect_or d o) (effect_or d' o')
+  effects_there {E = E} d d' o o' e e' p q same =
+      let P : Option E → Type 0 = λ x. SameStep book book' who (effect_or d x) (effect_or d' o') in
+      let Q : Option E → Type 0 = λ y. SameStep book book' who (d e) (effect_or d' y) in
       subst P (sym p) (subst Q (sym q) same)
 
   same_pool : (i place : ℕ) → Found book.pool place (by i) → Found book'.pool place (by i) →
-      SameStep book book' who (deed_at l PoolLane place) (deed_at l' PoolLane place)
+      SameStep book book' who (effect_at l PoolLane place) (effect_at l' PoolLane place)
   same_pool i place f f' =
       let e = f.visit.entry in let e' = f'.visit.entry in
       let p = entry_of book.pool place (by i) f in let p' = entry_of book'.pool place (by i) f' in
@@ -93,11 +93,11 @@ module _ (book book' : Book) (lawful : LawfulLanes (lists_of book)) (lawful' : L
         mixes' = λ text bits is.
             record { visit = f'.visit; is = f'.is; event = made_by book'.pool i place f'; mixes = is };
       } in
-      deeds_there (λ x. at_pool (pool_visit l place x)) (λ x. at_pool (pool_visit l' place x)) (slice_get l.pool place)
+      effects_there (λ x. at_pool (pool_visit l place x)) (λ x. at_pool (pool_visit l' place x)) (slice_get l.pool place)
       (slice_get l'.pool place) e e' p p' same
 
   same_base : (i place : ℕ) → Found book.base place (by i) → Found book'.base place (by i) →
-      SameStep book book' who (deed_at l BaseLane place) (deed_at l' BaseLane place)
+      SameStep book book' who (effect_at l BaseLane place) (effect_at l' BaseLane place)
   same_base i place f f' =
       let e = f.visit.entry in let e' = f'.visit.entry in
       let p = entry_of book.base place (by i) f in let p' = entry_of book'.base place (by i) f' in
@@ -108,7 +108,7 @@ module _ (book book' : Book) (lawful : LawfulLanes (lists_of book)) (lawful' : L
         fits = (may_at (BaseMayCome l.pool) base_step base_start l.base place e lawful.forward.base p).fits;
         fits' = (may_at (BaseMayCome l'.pool) base_step base_start l'.base place e' lawful'.forward.base p').fits;
       } in
-      deeds_there (λ x. at_base (base_visit l place x)) (λ x. at_base (base_visit l' place x)) (slice_get l.base place)
+      effects_there (λ x. at_base (base_visit l place x)) (λ x. at_base (base_visit l' place x)) (slice_get l.base place)
       (slice_get l'.base place) e e' p p' same
 
   cpu_entry : (b : Book) (cpu place i : ℕ) (f : Found (list_at b.cpus cpu) place (by i)) →
@@ -126,7 +126,7 @@ module _ (book book' : Book) (lawful : LawfulLanes (lists_of book)) (lawful' : L
 
   same_cpu : (i cpu place : ℕ) → Found (list_at book.cpus cpu) place (by i) →
       Found (list_at book'.cpus cpu) place (by i) →
-      SameStep book book' who (deed_at l (CpuLane cpu) place) (deed_at l' (CpuLane cpu) place)
+      SameStep book book' who (effect_at l (CpuLane cpu) place) (effect_at l' (CpuLane cpu) place)
   same_cpu i cpu place f f' =
       let e = f.visit.entry in let e' = f'.visit.entry in
       let p = cpu_entry book cpu place i f in let p' = cpu_entry book' cpu place i f' in
@@ -142,15 +142,15 @@ module _ (book book' : Book) (lawful : LawfulLanes (lists_of book)) (lawful' : L
         dumps' = λ is.
             record { visit = f'.visit; is = f'.is; event = made_by (list_at book'.cpus cpu) i place f'; dumps = is };
       } in
-      deeds_there (λ x. at_cpu (cpu_visit l cpu place x)) (λ x. at_cpu (cpu_visit l' cpu place x))
+      effects_there (λ x. at_cpu (cpu_visit l cpu place x)) (λ x. at_cpu (cpu_visit l' cpu place x))
       (slice_get (cpu_list l cpu) place) (slice_get (cpu_list l' cpu) place) e e' p p' same
 
-  abbrev Stands : Book → MarkBy → Type 0
-  Stands b m = stamped_at b m.mark.lane m.mark.place ≡ Some (m.mark.stamp, m.who)
+  abbrev Conforms : Book → MarkBy → Type 0
+  Conforms b m = stamped_at b m.mark.lane m.mark.place ≡ Some (m.mark.stamp, m.who)
 
   same_mark : (i stamp : ℕ) (lane : LaneId) (place : ℕ) → stamped_at book lane place ≡ Some (stamp, by i) →
       stamped_at book' lane place ≡ Some (stamp, by i) →
-      SameStep book book' who (deed_at l lane place) (deed_at l' lane place)
+      SameStep book book' who (effect_at l lane place) (effect_at l' lane place)
   same_mark i stamp PoolLane place at at' =
       same_pool i place (found book.pool place stamp (by i) at) (found book'.pool place stamp (by i) at')
   same_mark i stamp BaseLane place at at' =
@@ -159,11 +159,11 @@ module _ (book book' : Book) (lawful : LawfulLanes (lists_of book)) (lawful' : L
       same_cpu i cpu place (found (list_at book.cpus cpu) place stamp (by i) at)
       (found (list_at book'.cpus cpu) place stamp (by i) at')
 
-  -- the steps of a line have the same visits in both books
-  pub same_steps : (i : ℕ) (steps : List Step) → AllByRecursion (Stands book) (marks_from c n i steps) →
-      AllByRecursion (Stands book') (marks_from c n i steps) →
-      SameSteps book book' who (deeds_of l steps) (deeds_of l' steps)
-  same_steps i [] stand stand' = tt
-  same_steps i (Look g ∷ steps) stand stand' = (refl, same_steps (suc i) steps stand stand')
-  same_steps i (Marked mark ∷ steps) stand stand' =
-      (same_mark i mark.stamp mark.lane mark.place stand.0 stand'.0, same_steps (suc i) steps stand.1 stand'.1)
+  -- SameSteps holds for the effects of a line, if the line's marks are visits of both books
+  pub same_steps : (i : ℕ) (steps : List Step) → AllByRecursion (Conforms book) (marks_from c n i steps) →
+      AllByRecursion (Conforms book') (marks_from c n i steps) →
+      SameSteps book book' who (effects_of l steps) (effects_of l' steps)
+  same_steps i [] conform conform' = tt
+  same_steps i (Look g ∷ steps) conform conform' = (refl, same_steps (suc i) steps conform conform')
+  same_steps i (Marked mark ∷ steps) conform conform' =
+      (same_mark i mark.stamp mark.lane mark.place conform.0 conform'.0, same_steps (suc i) steps conform.1 conform'.1)

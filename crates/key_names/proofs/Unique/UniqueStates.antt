@@ -1,12 +1,12 @@
--- Two vgetrandom states that answer alike: they differ at most in the bytes of key and batch, and are equal if H holds.
--- After a call they answer alike again.
+-- Two vgetrandom states are alike if they differ at most in the bytes of key and batch. If H holds, alike states are
+-- equal. The same use of both leaves them alike.
 use Rattle.std.proofs.Common.{◌≡◌, ℕ, ◌+◌, Bool, true, false, List, ◌++◌, refl, sym, subst, ap, ◌∙◌}
 use Rattle.std.specs.Prelude.{if◌then◌else◌}
 use Rattle.key_names.specs.declared.entries.VEntry.{VEntry}
 use Rattle.key_names.specs.Kernel.VgetrandomState.{VgetrandomState, wiped_state, state_left}
 use Rattle.key_names.specs.Kernel.BatchCopy.{has_left, whole_blocks, new_batch_bytes, state_of_same_batch, state_of_new_batch}
 use Rattle.key_names.specs.Kernel.BatchCopy.{state_after_copy, block_after_copy, copy_entries}
-use Rattle.key_names.specs.Kernel.Vgetrandom.{Attempt, attempt_behind, Outcome, outcome_behind}
+use Rattle.key_names.specs.Kernel.Vgetrandom.{Attempt, prefix_attempt, Outcome, prefix_outcome}
 
 module _ (H : Type 0) where
   pub record SameState (s s' : VgetrandomState) : Type 0 where
@@ -51,7 +51,7 @@ module _ (H : Type 0) where
         ∙ ap (λ k. record s' { key = k; pos = 96 }) (keys h);
   }
 
-  -- if a choice goes the same way in both, the chosen states answer alike
+  -- if two choices go the same way between states that are alike, the chosen states are alike
   same_if : (b b' : Bool) → b ≡ b' → (x y x' y' : VgetrandomState) → SameState x x' → SameState y y' →
       SameState (if b then x else y) (if b' then x' else y')
   same_if true true p x y x' y' here there = here
@@ -59,7 +59,7 @@ module _ (H : Type 0) where
   same_if true false p x y x' y' here there = cc
   same_if false true p x y x' y' here there = cc
 
-  -- the entries and the next block of a copy depend only on the position
+  -- the entries and the next block of a copy are the same for states that are alike
   pub same_entries : (c n : ℕ) (s s' : VgetrandomState) → SameState s s' → copy_entries s c n ≡ copy_entries s' c n
   same_entries c n s s' same = ap (λ p. copy_entries (record wiped_state { pos = p }) c n) same.pos
 
@@ -99,14 +99,14 @@ module _ (H : Type 0) where
       let Q : Attempt → Type 0 = λ y. SameAttempt b y in
       subst P (sym p) (subst Q (sym q) same)
 
-  pub same_behind : (es es' : List VEntry) → es ≡ es' → (a a' : Attempt) → SameAttempt a a' →
-      SameAttempt (attempt_behind es a) (attempt_behind es' a')
-  same_behind es es' p a a' same = record {
+  pub same_after : (es es' : List VEntry) → es ≡ es' → (a a' : Attempt) → SameAttempt a a' →
+      SameAttempt (prefix_attempt es a) (prefix_attempt es' a')
+  same_after es es' p a a' same = record {
     end = same.end;
     next_block = same.next_block;
     entries = ap (λ x. x ++ a.entries) p ∙ ap (λ x. es' ++ x) same.entries;
     state = same.state;
-    equal = λ h. ap (λ x. attempt_behind x a) p ∙ ap (λ x. attempt_behind es' x) (same.equal h);
+    equal = λ h. ap (λ x. prefix_attempt x a) p ∙ ap (λ x. prefix_attempt es' x) (same.equal h);
   }
 
   -- two calls that ended alike
@@ -121,10 +121,10 @@ module _ (H : Type 0) where
       let Q : Outcome → Type 0 = λ y. SameOutcome b y in
       subst P (sym p) (subst Q (sym q) same)
 
-  pub outcome_same_behind : (es es' : List VEntry) → es ≡ es' → (o o' : Outcome) → SameOutcome o o' →
-      SameOutcome (outcome_behind es o) (outcome_behind es' o')
-  outcome_same_behind es es' p o o' same = record {
+  pub outcome_same_after : (es es' : List VEntry) → es ≡ es' → (o o' : Outcome) → SameOutcome o o' →
+      SameOutcome (prefix_outcome es o) (prefix_outcome es' o')
+  outcome_same_after es es' p o o' same = record {
     entries = ap (λ x. x ++ o.entries) p ∙ ap (λ x. es' ++ x) same.entries;
     state = same.state;
-    equal = λ h. ap (λ x. outcome_behind x o) p ∙ ap (λ x. outcome_behind es' x) (same.equal h);
+    equal = λ h. ap (λ x. prefix_outcome x o) p ∙ ap (λ x. prefix_outcome es' x) (same.equal h);
   }

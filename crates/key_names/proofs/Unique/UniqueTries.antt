@@ -1,4 +1,4 @@
--- A vread's attempts in two books go alike from each of their points on.
+-- The attempts of a vread in two books go alike, from each of their points on.
 use Rattle.std.proofs.Common.{◌≡◌, ℕ, Bool, false, List, [], ◌∷◌, ◌++◌, refl, sym, subst, ap, ◌∙◌, Option}
 use Rattle.std.specs.Prelude.{◌==◌, if◌then◌else◌}
 use Rattle.key_names.specs.declared.names.Who.{Who}
@@ -6,7 +6,7 @@ use Rattle.key_names.specs.declared.point.Point.{Point}
 use Rattle.key_names.specs.declared.point.Point.TheVariants.{Start, Written, Serve as ServePoint, End}
 use Rattle.key_names.specs.Lanes.Book.{Book, lists_of}
 use Rattle.key_names.specs.Callers.Calls.{Setting}
-use Rattle.key_names.specs.Callers.Deeds.{Deed}
+use Rattle.key_names.specs.Callers.Effects.{Effect}
 use Rattle.key_names.specs.Kernel.VgetrandomState.{VgetrandomState, state_left}
 use Rattle.key_names.specs.Kernel.BatchCopy.{copy_bytes, state_after_copy, block_after_copy, copy_entries}
 use Rattle.key_names.specs.Kernel.Vgetrandom.{CpuPlace, SystemAnswer, HostStep, holds, outdated, Attempt, wipe_entry}
@@ -15,14 +15,14 @@ use Rattle.key_names.specs.Kernel.Vgetrandom.{FromStart, IsAttempt}
 use Rattle.key_names.specs.Kernel.Points.{number_of}
 use Rattle.key_names.specs.Callers.VreadSteps.{PointReached, points_of}
 use Rattle.key_names.proofs.Unique.UniqueStates.{SameState, SameAttempt, same_left, same_generation, same_keyed, same_entries}
-use Rattle.key_names.proofs.Unique.UniqueStates.{same_block, same_copy, same_behind, attempts_at}
+use Rattle.key_names.proofs.Unique.UniqueStates.{same_block, same_copy, same_after, attempts_at}
 use Rattle.key_names.proofs.Unique.UniqueAttempts.{match_both, Here, Further, here_at, at_look, at_key}
 
 abbrev pub reached : Point → Bool → PointReached
 reached point wiped = record { point = point; wiped = wiped }
 
--- W holds for an attempt's points from its start on, and V for its points after the start; both imply at which points
--- the host wiped. More steps of the host may follow the attempt
+-- W holds for an attempt's points from Start on, and V for the points after Start. W and V both determine where the
+-- host wiped. `more` has the host's steps after the attempt
 module _ (book book' : Book) (who : Who) (set : Setting) (W V : List PointReached → Type 0) (wipes : Point → Bool)
     (starts : (wiped : Bool) (points : List PointReached) → W (reached Start wiped ∷ points) →
     (wiped ≡ wipes Start) × V points)
@@ -32,15 +32,15 @@ module _ (book book' : Book) (who : Who) (set : Setting) (W V : List PointReache
   abbrev H : Type 0
   H = lists_of book ≡ lists_of book'
 
-  pub record Alike (steps steps' : List HostStep) (ds ds' : List Deed) (a a' : Attempt) : Type 0 where
+  pub record Alike (steps steps' : List HostStep) (ds ds' : List Effect) (a a' : Attempt) : Type 0 where
     pub further : Further book book' who set V more more' ds ds'
     pub attempt : SameAttempt H a a'
     pub points : points_of more ≡ points_of more' → points_of (steps ++ more) ≡ points_of (steps' ++ more')
 
-  -- if F and F' hold for two attempts with the same steps, the attempts go alike; U holds for their points
+  -- two attempts for which F and F' hold go alike, if they have the same steps and U holds for their points
   abbrev pub GoAlike : (List PointReached → Type 0) → (List HostStep → Attempt → Type 0) →
       (List HostStep → Attempt → Type 0) → Type 0
-  GoAlike U F F' = (steps steps' : List HostStep) (a a' : Attempt) (ds ds' : List Deed) → F steps a → F' steps' a' →
+  GoAlike U F F' = (steps steps' : List HostStep) (a a' : Attempt) (ds ds' : List Effect) → F steps a → F' steps' a' →
       Here book book' who set U (steps ++ more) (steps' ++ more') ds ds' → Alike steps steps' ds ds' a a'
 
   point_alike : (U : List PointReached → Type 0) (point : Point) →
@@ -62,7 +62,7 @@ module _ (book book' : Book) (who : Who) (set : Setting) (W V : List PointReache
       record {
         further = r.further;
         attempt = attempts_at H a a' _ _ at.attempt_is at'.attempt_is
-            (same_behind H (wipe_entry at.wiped) (wipe_entry at'.wiped)
+            (same_after H (wipe_entry at.wiped) (wipe_entry at'.wiped)
             (ap wipe_entry w) at.attempt_after at'.attempt_after
             r.attempt);
         points = λ q. ap (λ x. points_of (x ++ more)) at.steps_are
@@ -111,7 +111,7 @@ module _ (book book' : Book) (who : Who) (set : Setting) (W V : List PointReache
       record {
         further = r.further;
         attempt = attempts_at H a a' _ _ f.attempt_is f'.attempt_is
-            (same_behind H (copy_entries s c n) (copy_entries s' c n) (same_entries H c n s s' same)
+            (same_after H (copy_entries s c n) (copy_entries s' c n) (same_entries H c n s s' same)
             f.attempt_after f'.attempt_after r.attempt);
         points = r.points;
       }
@@ -130,7 +130,7 @@ module _ (book book' : Book) (who : Who) (set : Setting) (W V : List PointReache
       record {
         further = r.further;
         attempt = attempts_at H a a' _ _ k.attempt_is k'.attempt_is
-            (same_behind H (rekey_entry visit) (rekey_entry visit) refl k.attempt_after k'.attempt_after r.attempt);
+            (same_after H (rekey_entry visit) (rekey_entry visit) refl k.attempt_after k'.attempt_after r.attempt);
         points = r.points;
       }
 
@@ -142,15 +142,15 @@ module _ (book book' : Book) (who : Who) (set : Setting) (W V : List PointReache
       let k = at_key book book' who set V w.answer w'.answer (w.rest ++ more) (w'.rest ++ more') ds ds' h in
       let A : SystemAnswer → Type 0 = λ x. AfterKeyRead n c x s w.rest a in
       let B : SystemAnswer → Type 0 = λ x. AfterKeyRead n c x s' w'.rest a' in
-      let r = keyed_alike n c k.key k.key' k.visit k.equal s s' same w.rest w'.rest a a' k.further.deeds
-      k.further.deeds'
+      let r = keyed_alike n c k.key k.key' k.visit k.equal s s' same w.rest w'.rest a a' k.further.effects
+      k.further.effects'
       (subst A k.is w.goes_on) (subst B k.is' w'.goes_on) k.further.here in
       record {
         further = record {
-          deeds = r.further.deeds;
-          deeds' = r.further.deeds';
+          effects = r.further.effects;
+          effects' = r.further.effects';
           here = r.further.here;
-          told = λ t. k.further.told (r.further.told t);
+          inferred = λ t. k.further.inferred (r.further.inferred t);
         };
         attempt = r.attempt;
         points = λ q. ap (λ x. points_of (x ++ more)) w.steps_are ∙ r.points q
@@ -173,7 +173,7 @@ module _ (book book' : Book) (who : Who) (set : Setting) (W V : List PointReache
       (written_alike n c) steps steps' a a' ds ds' x y here)
       f f'
 
-  -- attempts with the same steps, on states that answer alike, go alike
+  -- attempts with the same steps go alike on states that are alike
   pub attempt_alike : (n c : ℕ) (s s' : VgetrandomState) → SameState H s s' →
       GoAlike W (IsAttempt n c s) (IsAttempt n c s')
   attempt_alike n c s s' same steps steps' a a' ds ds' is is' here =
@@ -183,14 +183,14 @@ module _ (book book' : Book) (who : Who) (set : Setting) (W V : List PointReache
       (is'.rest ++ more') ds ds' h in
       let A : ℕ → Type 0 = λ g. AtPoint Start (FromStart n c g) s' is'.rest a' in
       let r = point_alike W Start starts (FromStart n c is.published) (FromStart n c is.published) s s' same
-      (start_alike n c is.published) is.rest is'.rest a a' look.1.deeds look.1.deeds' is.goes_on
+      (start_alike n c is.published) is.rest is'.rest a a' look.1.effects look.1.effects' is.goes_on
       (subst A (sym look.0) is'.goes_on) look.1.here in
       record {
         further = record {
-          deeds = r.further.deeds;
-          deeds' = r.further.deeds';
+          effects = r.further.effects;
+          effects' = r.further.effects';
           here = r.further.here;
-          told = λ t. look.1.told (r.further.told t);
+          inferred = λ t. look.1.inferred (r.further.inferred t);
         };
         attempt = r.attempt;
         points = λ q. ap (λ x. points_of (x ++ more)) is.steps_are ∙ r.points q

@@ -1,4 +1,4 @@
--- The uses of a lawful base list are disjoint, and the keys that it replaced are not live.
+-- In a lawful list of the base, no byte is used twice, and no replaced key is live at the end.
 use Rattle.std.proofs.Common.{◌≡◌, ℕ, suc, ◌+◌, ◌≤◌, ◌<◌, true, false, List, [], ◌∷◌, ◌⊎◌, inl, inr, refl, sym, subst, ap, ◌∙◌, arith, Some, None, Option}
 use Rattle.std.specs.Prelude.{is_some, option_and_then}
 use Rattle.key_names.specs.declared.names.LaneId.TheVariants.{Pool as PoolLane, Base as BaseLane, Cpu as CpuLane}
@@ -9,17 +9,17 @@ use Rattle.key_names.specs.declared.entries.BaseEntry.TheVariants.{Early, Reseed
 use Rattle.key_names.specs.declared.entries.PoolEntry.{PoolEntry}
 use Rattle.key_names.specs.Keys.Uses.{Use, kept, use_of, IsUsed, Disjoint, read_uses, base_uses_at}
 use Rattle.key_names.specs.Keys.LiveMaterial.{BaseReplaces}
-use Rattle.key_names.specs.Lanes.BaseList.{BaseState, BaseMayCome, RootStands, base_step, base_start, base_erases, base_key_in_use, base_key_after, root_or, root_of, roots_after, refill_of, refill_at, LawfulBase}
+use Rattle.key_names.specs.Lanes.BaseList.{BaseState, BaseMayCome, RootConforms, base_step, base_start, base_erases, base_key_in_use, base_key_after, root_or, root_of, roots_after, refill_of, refill_at, LawfulBase}
 use Rattle.key_names.proofs.Uses.UseLists.{Disjoint-two, named_uses_cases, named_uses_disjoint, read_disjoint, read_within, choice_cases}
-use Rattle.key_names.proofs.Uses.Walks.{StepFacts, Walk, walk, lawful_and_told}
+use Rattle.key_names.proofs.Uses.Walks.{StepFacts, Walk, walk, lawful_and_inferred}
 
--- a name that was made before this place, with roots below this number
+-- the name was made before `place`, or it is a root with a number below `roots`
 abbrev pub IsOld : ℕ → ℕ → KeyName → Type 0
 IsOld place roots (Root r) = r < roots
 IsOld place roots (Base i) = i < place
 IsOld place roots _ = ⊥
 
--- a name that only entries from this place on can use; refill gives the refill at each place
+-- only entries from this place on can use the name; `refill` gives the refill at each place
 abbrev pub IsLater : (ℕ → Option (ℕ × ℕ)) → ℕ → ℕ → KeyName → Type 0
 IsLater refill place roots (Root r) = roots ≤ r
 IsLater refill place roots (Base i) = place ≤ i
@@ -69,12 +69,12 @@ in_use_cases e key k = go (root_of e) refl
     go None is h = inl (is, h)
     go (Some r) is h = inr (r, is, cc)
 
-roots_rise : (pool : List PoolEntry) (s : BaseState) (o : Option ℕ) → RootStands pool s o →
+roots_rise : (pool : List PoolEntry) (s : BaseState) (o : Option ℕ) → RootConforms pool s o →
     s.roots ≤ roots_after o s.roots
 roots_rise pool s None h = omega arith
 roots_rise pool s (Some r) h = omega arith
 
--- the uses of an entry
+-- the uses of an entry do not overlap, and they are of the key in use or of the call key of the entry's place
 record EntryUses (s : BaseState) (e : BaseEntry) : Type 0 where
   disjoint : Disjoint (base_uses_at s e)
   within : (k : KeyName) (q : ℕ) → IsUsed (base_uses_at s e) k q →
@@ -121,19 +121,19 @@ entry_uses s Interrupt = none_used s Interrupt refl
 entry_uses s Stall = none_used s Stall refl
 entry_uses s Unstall = none_used s Unstall refl
 
--- the key in use at each moment is old
+-- the base's key in a state has an old name
 abbrev pub KeyIsOld : BaseState → Type 0
 KeyIsOld s = (k : KeyName) → s.key ≡ Some k → IsOld s.place s.roots k
 
--- the key in use at an entry is old, or a root that is new
+-- the key in use at an entry is the key before it, which is old, or a root, which is new
 record InUse (refill : ℕ → Option (ℕ × ℕ)) (s : BaseState) (e : BaseEntry) : Type 0 where
   rise : s.roots ≤ roots_after (root_of e) s.roots
   old : (k : KeyName) → base_key_in_use e s.key ≡ Some k → IsOld s.place (roots_after (root_of e) s.roots) k
   may_use : (k : KeyName) → base_key_in_use e s.key ≡ Some k → (s.key ≡ Some k) ⊎ IsLater refill s.place s.roots k
 
 in_use : (refill : ℕ → Option (ℕ × ℕ)) (pool : List PoolEntry) (s : BaseState) (e : BaseEntry) →
-    RootStands pool s (root_of e) → KeyIsOld s → InUse refill s e
-in_use refill pool s e stands old = record {
+    RootConforms pool s (root_of e) → KeyIsOld s → InUse refill s e
+in_use refill pool s e conforms old = record {
   rise = rise;
   old = λ k h. elim (in_use_cases e s.key k h) [
     | inl a ↦ old_up s.place s.roots _ k rise (old k a.1)
@@ -144,18 +144,18 @@ in_use refill pool s e stands old = record {
   may_use = λ k h. elim (in_use_cases e s.key k h) [
     | inl a ↦ inl a.1
     | inr b ↦ inr (let P : KeyName → Type 0 = λ x. IsLater refill s.place s.roots x in
-        subst P b.2 (named_stands b.0 b.1))
+        subst P b.2 (named_conforms b.0 b.1))
   ];
 }
   where
     rise : s.roots ≤ roots_after (root_of e) s.roots
-    rise = roots_rise pool s (root_of e) stands
+    rise = roots_rise pool s (root_of e) conforms
 
-    named_stands : (r : ℕ) → root_of e ≡ Some r → s.roots ≤ r
-    named_stands r is = let W : Option ℕ → Type 0 = λ o. RootStands pool s o in
-        let R : RootStands pool s (Some r) = subst W is stands in R.0
+    named_conforms : (r : ℕ) → root_of e ≡ Some r → s.roots ≤ r
+    named_conforms r is = let W : Option ℕ → Type 0 = λ o. RootConforms pool s o in
+        let R : RootConforms pool s (Some r) = subst W is conforms in R.0
 
--- the key after an entry is named by its place if the entry erases, and else is the key in use
+-- the key after an entry: if the entry erases, this key is named by the place, and otherwise it is the key in use
 pub after_cases : (i : ℕ) (e : BaseEntry) (key : Option KeyName) (k : KeyName) → base_key_after i e key ≡ Some k →
     ((base_erases e ≡ true) × (Base i ≡ k)) ⊎ ((base_erases e ≡ false) × (base_key_in_use e key ≡ Some k))
 after_cases i e key k h = elim (choice_cases (base_erases e) (Some (Base i)) (base_key_in_use e key) (Some k) h)
@@ -168,11 +168,11 @@ old_after refill s e used k h = elim (after_cases s.place e s.key k h) [
   | inr b ↦ old_more s.place (roots_after (root_of e) s.roots) _ k (omega arith) (used.old k b.1)
 ]
 
--- the bytes that may be used from a state on
+-- the bytes that entries after this state may use
 abbrev pub MayUse : (ℕ → Option (ℕ × ℕ)) → BaseState → KeyName → ℕ → Type 0
 MayUse refill s k q = (s.key ≡ Some k) ⊎ IsLater refill s.place s.roots k
 
--- the keys that the base may have from a state on
+-- the keys that the base may have now or later
 abbrev pub MayHold : (ℕ → Option (ℕ × ℕ)) → BaseState → KeyName → Type 0
 MayHold refill s k = MayUse refill s k 0
 
@@ -205,48 +205,48 @@ now_not_later refill s e used k q erases now (inl h) = elim (after_cases s.place
   | inr b ↦ (let p = b.0 in cc)
 ]
 
--- a named root is not old
-root_not_old : (pool : List PoolEntry) (s : BaseState) (o : Option ℕ) (r : ℕ) (k : KeyName) → RootStands pool s o →
+-- a root that an entry names is not old before the entry
+root_not_old : (pool : List PoolEntry) (s : BaseState) (o : Option ℕ) (r : ℕ) (k : KeyName) → RootConforms pool s o →
     o ≡ Some r →
     Root r ≡ k → IsOld s.place s.roots k → ⊥
-root_not_old pool s None r k stands is e old = cc
-root_not_old pool s (Some t) r k stands is e old =
+root_not_old pool s None r k conforms is e old = cc
+root_not_old pool s (Some t) r k conforms is e old =
     let P : KeyName → Type 0 = λ x. IsOld s.place s.roots x in
     let m : r < s.roots = subst P (sym e) old in
-    let same : t ≡ r = cc in let le = stands.0 in omega arith
+    let same : t ≡ r = cc in let le = conforms.0 in omega arith
 
 some_of : (o : Option ℕ) → is_some o ≡ true → (r : ℕ) × (o ≡ Some r)
 some_of None h = cc
 some_of (Some r) h = (r, refl)
 
--- a key that a root replaces is not used after it
+-- no byte of a key is used after a root replaced the key
 replaced_not_later : (refill : ℕ → Option (ℕ × ℕ)) (pool : List PoolEntry) (s : BaseState) (e : BaseEntry) →
-    RootStands pool s (root_of e) →
+    RootConforms pool s (root_of e) →
     InUse refill s e → KeyIsOld s → (k : KeyName) (q : ℕ) → is_some (root_of e) ≡ true → s.key ≡ Some k →
     MayUse refill (base_step s e) k q → ⊥
-replaced_not_later refill pool s e stands used old k q named is (inr later) =
+replaced_not_later refill pool s e conforms used old k q named is (inr later) =
     old_not_later refill s.place (roots_after (root_of e) s.roots) k
     (old_up s.place s.roots _ k used.rise (old k is)) later
-replaced_not_later refill pool s e stands used old k q named is (inl h) = elim (after_cases s.place e s.key k h) [
+replaced_not_later refill pool s e conforms used old k q named is (inl h) = elim (after_cases s.place e s.key k h) [
   | inl a ↦ (let P : KeyName → Type 0 = λ x. IsOld s.place s.roots x in
       let m : s.place < s.place = subst P (sym a.1) (old k is) in omega arith)
   | inr b ↦ elim (in_use_cases e s.key k b.1) [
     | inl c ↦ (let t = some_of (root_of e) named in let p = c.0 in let r = t.1 in cc)
-    | inr d ↦ root_not_old pool s (root_of e) d.0 k stands d.1 d.2 (old k is)
+    | inr d ↦ root_not_old pool s (root_of e) d.0 k conforms d.1 d.2 (old k is)
   ]
 ]
 
--- an entry that may come, together with the refill at its place
-abbrev MayComeTold : List PoolEntry → (ℕ → Option (ℕ × ℕ)) → BaseState → BaseEntry → Type 0
-MayComeTold pool refill s e = BaseMayCome pool s e × (refill s.place ≡ refill_of e)
+-- the entry may come, and at its place `refill` gives the refill that the entry names
+abbrev MayComeInferred : List PoolEntry → (ℕ → Option (ℕ × ℕ)) → BaseState → BaseEntry → Type 0
+MayComeInferred pool refill s e = BaseMayCome pool s e × (refill s.place ≡ refill_of e)
 
 abbrev BaseFacts : List PoolEntry → (ℕ → Option (ℕ × ℕ)) → BaseState → BaseEntry → Type 0
 BaseFacts pool refill s e =
-    StepFacts (MayComeTold pool refill) base_step base_uses_at BaseReplaces KeyIsOld (MayUse refill) (MayHold refill)
+    StepFacts (MayComeInferred pool refill) base_step base_uses_at BaseReplaces KeyIsOld (MayUse refill) (MayHold refill)
     s e
 
 base_facts : (pool : List PoolEntry) (refill : ℕ → Option (ℕ × ℕ)) (s : BaseState) (e : BaseEntry) →
-    MayComeTold pool refill s e → KeyIsOld s → BaseFacts pool refill s e
+    MayComeInferred pool refill s e → KeyIsOld s → BaseFacts pool refill s e
 base_facts pool refill s e may old = record {
   disjoint = now.disjoint;
   within = λ k q h. elim ((now.within k q h).1) [
@@ -271,18 +271,18 @@ base_facts pool refill s e may old = record {
     used : InUse refill s e
     used = in_use refill pool s e may.0.root old
 
--- the walk over the base's whole list
+-- a walk (`Walk`) over the whole list of the base
 abbrev pub BaseWalk : List PoolEntry → List BaseEntry → Type 0
 BaseWalk pool base =
-    Walk (MayComeTold pool (refill_at base)) base_step base_uses_at BaseReplaces KeyIsOld (MayUse (refill_at base))
+    Walk (MayComeInferred pool (refill_at base)) base_step base_uses_at BaseReplaces KeyIsOld (MayUse (refill_at base))
     (MayHold (refill_at base)) base_start base
 
 pub base_walk : (pool : List PoolEntry) (base : List BaseEntry) → LawfulBase pool base → BaseWalk pool base
 base_walk pool base lawful =
-    walk (MayComeTold pool (refill_at base)) base_step base_uses_at BaseReplaces KeyIsOld (MayUse (refill_at base))
+    walk (MayComeInferred pool (refill_at base)) base_step base_uses_at BaseReplaces KeyIsOld (MayUse (refill_at base))
     (MayHold (refill_at base))
     (base_facts pool (refill_at base)) base_start base
-    (lawful_and_told (BaseMayCome pool) base_step (λ s. s.place) (λ s e. refl) (refill_at base)
+    (lawful_and_inferred (BaseMayCome pool) base_step (λ s. s.place) (λ s e. refl) (refill_at base)
     refill_of base_start base
     (λ j e is. let p : 0 + j ≡ j = omega arith in ap (refill_at base) p ∙ ap (option_and_then refill_of) is) lawful)
     (λ k h. let p = h in cc)

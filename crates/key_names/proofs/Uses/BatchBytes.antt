@@ -1,4 +1,4 @@
--- The served bytes of a batch are 0 along a lawful list.
+-- In lawful lists the served bytes of each batch are 0.
 use Rattle.std.proofs.Common.{◌≡◌, ℕ, zero, suc, ◌+◌, ◌*◌, Bool, true, false, List, [], ◌∷◌, ◌++◌, refl, sym, subst, ap, ◌∙◌, arith, Some, None, Option, take, drop, replicate}
 use Rattle.std.specs.Prelude.{◌==◌, if◌then◌else◌}
 use Rattle.std.specs.List.{fold}
@@ -36,7 +36,7 @@ pub zeros_more : (from len : ℕ) (bytes : List ℕ) → StartsZero from bytes �
     StartsZero (from + len) (with_zeros from len bytes)
 zeros_more from len bytes h = rw h (zeros_both from len (drop (from + len) bytes))
 
--- the law of a batch
+-- the served bytes of a batch are 0, and so are all bytes of a batch without a fill
 pub record BatchOk (w : ℕ) (o : Option Fill) (bytes : List ℕ) : Type 0 where
   pub served : StartsZero (batch_pos w o) bytes
   pub dead : o ≡ None → bytes ≡ replicate 96 0
@@ -92,7 +92,7 @@ cpu_batch_step w s (Dump now) used bytes fits ok = ok
 cpu_batch_step w s Prepare used bytes fits ok = record { served = refl; dead = λ e. refl }
 cpu_batch_step w s Online used bytes fits ok = ok
 
--- the law of a CPU's batches holds along a lawful list
+-- a lawful list of a CPU keeps BatchOk for the batch of width w
 pub cpu_batches_ok : (lists : Lists) (c w : ℕ) (s : CpuBytes) (es : List CpuEntry) →
     LawfulFrom (CpuMayCome lists.base c) (cpu_step lists.base c) s.named es → BatchOk w (s.named.fills w) (s.batch w) →
     BatchOk w ((fold (cpu_step lists.base c) s.named es).fills w) ((fold (cpu_bytes_step lists c) s es).batch w)
@@ -101,7 +101,7 @@ cpu_batches_ok lists c w s (e ∷ es) lawful ok =
     cpu_batches_ok lists c w (cpu_bytes_step lists c s e) es lawful.1
     (cpu_batch_step w s.named e (cpu_value_in_use lists e s.value) (s.batch w) lawful.0.fits ok)
 
--- the served bytes of a state's batch are 0, unless a rekey or blocks need a refill
+-- the served bytes of a state's batch are 0, unless a rekey or blocks still need a refill
 abbrev pub StateOk : NamedState → List ℕ → Type 0
 StateOk s bytes = s.expected ≡ anything → StartsZero s.pos bytes
 

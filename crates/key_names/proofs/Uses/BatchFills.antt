@@ -1,4 +1,4 @@
--- The fills of batches, and the bytes that their integers use.
+-- Which bytes of keys the batches of a CPU hold, and which bytes their integers use.
 use Rattle.std.proofs.Common.{◌≡◌, ℕ, suc, ◌+◌, ◌*◌, ◌≤◌, ◌<◌, false, [], ◌∷◌, ◌⊎◌, inl, inr, refl, sym, ap, ◌∙◌, arith, Some, None, Option}
 use Rattle.std.specs.Prelude.{◌==◌, if◌then◌else◌}
 use Rattle.std.proofs.lemmas.Bool.{eqb-true}
@@ -8,7 +8,7 @@ use Rattle.key_names.specs.Keys.Uses.{kept, served, use_of, IsUsed, Disjoint, ba
 use Rattle.key_names.specs.Kernel.Batches.{Fill, one_more_served}
 use Rattle.key_names.proofs.Uses.UseLists.{UsesByte, one_use, one_use_disjoint, choice_cases}
 
--- the byte belongs to a batch that was filled with the key, and is not yet served
+-- byte q of the key is in a batch that was filled with the key, and the byte was not served yet
 pub record InBatch (fills : ℕ → Option Fill) (key : KeyName) (q : ℕ) : Type 0 where
   pub width : ℕ
   pub fill : Fill
@@ -16,7 +16,7 @@ pub record InBatch (fills : ℕ → Option Fill) (key : KeyName) (q : ℕ) : Typ
   pub key_is : fill.key ≡ Some key
   pub unserved : 32 + width * fill.count ≤ q
 
--- a key with which a batch was filled
+-- the batch of width w was filled with this key
 pub record Filled (fills : ℕ → Option Fill) (w : ℕ) (key : KeyName) : Type 0 where
   pub fill : Fill
   pub is : fills w ≡ Some fill
@@ -25,11 +25,11 @@ pub record Filled (fills : ℕ → Option Fill) (w : ℕ) (key : KeyName) : Type
 pub in_batch : (fills : ℕ → Option Fill) (k : KeyName) (q : ℕ) → (b : InBatch fills k q) → Filled fills b.width k
 in_batch fills k q b = record { fill = b.fill; is = b.is; key_is = b.key_is }
 
--- without a fill no batch was filled with a key
+-- if no batch has a fill, none was filled with a key
 pub none_filled : (w : ℕ) (k : KeyName) → Filled (λ w. None) w k → ⊥
 none_filled w k f = let e = f.is in cc
 
--- the batches after a fill
+-- the fills after the batch of this width was filled
 abbrev pub filled_after : ℕ → ℕ → ℕ → Option KeyName → (ℕ → Option Fill) → ℕ → Option Fill
 filled_after place width look used fills w =
     if w == width then Some (record { key = used; place = place; count = 1; look = look }) else fills w
@@ -49,11 +49,11 @@ filled_cases place width look used fills w f is =
       | inr b ↦ inr b.1
     ]
 
--- the batches after one more integer
+-- the fills after the batch of this width served one more integer
 abbrev pub served_after : ℕ → (ℕ → Option Fill) → ℕ → Option Fill
 served_after width fills w = if w == width then one_more_served (fills w) else fills w
 
--- the fill f as it was before an integer of this width was served; a fill of another width has not changed
+-- the fill of width w before one more integer of `width` was served, if the fill is f afterwards
 pub record Before (width : ℕ) (fills : ℕ → Option Fill) (w : ℕ) (f : Fill) : Type 0 where
   pub fill : Fill
   pub is : fills w ≡ Some fill
@@ -85,7 +85,7 @@ pub filled_before : (width : ℕ) (fills : ℕ → Option Fill) (w : ℕ) (k : K
 filled_before width fills w k f = let m = before_serving width fills w f.fill f.is in
     record { fill = m.fill; is = m.is; key_is = m.same_key ∙ f.key_is }
 
--- the bytes that an integer of a batch uses
+-- byte q is one of those that the next integer of a batch uses
 pub record Serves (fills : ℕ → Option Fill) (width : ℕ) (k : KeyName) (q : ℕ) : Type 0 where
   pub fill : Fill
   pub is : fills width ≡ Some fill
@@ -110,7 +110,7 @@ batch_disjoint width (Some fill) = one_use_disjoint served fill.key _ _
 pub same_fill : (fills : ℕ → Option Fill) (w : ℕ) (f g : Fill) → fills w ≡ Some f → fills w ≡ Some g → f.count ≡ g.count
 same_fill fills w f g p q = ap (λ o. option_map_or (λ (x : Fill). x.count) o 0) (sym p ∙ q)
 
--- an integer that fills its batch uses bytes of the key in use, up to its own bytes
+-- an integer that fills its batch uses no byte after its own, and only bytes of the key in use
 pub fill_within : (key : KeyName) (width : ℕ) (k : KeyName) (q : ℕ) →
     IsUsed (use_of kept key 0 32 ∷ use_of served key 32 width ∷ []) k q →
     (key ≡ k) × (q < 32 + width)

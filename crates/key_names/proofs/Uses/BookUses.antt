@@ -1,4 +1,5 @@
--- The uses of a lawful book are disjoint, and the book is erased.
+-- A lawful book uses no byte twice, and it is erased. Each holder (the base, a CPU, a vgetrandom state) has its own
+-- names, so the lists can be taken one by one.
 use Rattle.std.proofs.Common.{◌≡◌, ℕ, zero, suc, ◌+◌, ◌-◌, ◌*◌, ◌≤◌, ◌<◌, List, [], ◌∷◌, ◌++◌, inl, inr, refl, sym, subst, ap, ◌∙◌, arith, Some, None, Option, length, take, replicate}
 use Rattle.std.specs.Option.{option_map_or}
 use Rattle.key_names.specs.declared.names.LaneId.TheVariants.{Pool as PoolLane, Base as BaseLane, Cpu as CpuLane}
@@ -26,13 +27,13 @@ use Rattle.key_names.proofs.Uses.CpuNames as cpu_names
 use Rattle.key_names.proofs.Uses.CpuUses as cpu_side
 use Rattle.key_names.proofs.Uses.StateUses as state_side
 
--- a name that only this holder's entries can use
+-- only entries of this holder can use the name
 abbrev pub Own : Lists → KeyHolder → KeyName → Type 0
 Own lists base_key k = base_side.IsLater (refill_at lists.base) 0 0 k
 Own lists (cpu_key c) k = cpu_names.IsLater lists.base c (taken_at (cpu_list lists c)) 0 k
 Own lists (state_key caller state) k = state_side.IsLater caller state (rekey_at (state_list lists caller state)) 0 0 k
 
--- two CPUs have no name in common
+-- no name belongs to two CPUs
 cpus_apart : (lists : Lists) (c d : ℕ) (k : KeyName) → Own lists (cpu_key c) k → Own lists (cpu_key d) k → c ≡ d
 cpus_apart lists c d (Root r) a b = absurd a
 cpus_apart lists c d (Base i) a b = absurd a
@@ -42,7 +43,7 @@ cpus_apart lists c d (Call BaseLane i) a b = ap (λ o. option_map_or (λ p. p.0)
 cpus_apart lists c d (Call (CpuLane x) i) a b = sym a.0 ∙ b.0
 cpus_apart lists c d (Vdso x v n) a b = absurd a
 
--- the base and a CPU have no name in common
+-- no name belongs to the base and a CPU
 base_cpu_apart : (lists : Lists) (c : ℕ) (k : KeyName) → Own lists base_key k → Own lists (cpu_key c) k → ⊥
 base_cpu_apart lists c (Root r) a b = b
 base_cpu_apart lists c (Base i) a b = b
@@ -59,7 +60,7 @@ base_state_apart lists caller state k a (inl v) =
 base_state_apart lists caller state k a (inr t) =
     let P : KeyName → Type 0 = λ x. Own lists base_key x in subst P (sym t.is) a
 
--- a read that an entry of a state takes is one of 32 bytes
+-- each read that an entry of a state takes as a key has 32 bytes
 taken_read : (cpus : ℕ → List CpuEntry) (caller state : ℕ) (s : NamedState) (es : List VEntry) (n cpu place : ℕ) →
     LawfulFrom (StateMayCome cpus) (state_step caller state) s es → rekey_at es n ≡ Some (cpu, place) →
     taken_at (cpus cpu) place ≡ Some (User 32)
@@ -95,7 +96,7 @@ used_by lists k q h = elim (IsUsed-append_cases (base_uses lists ++ uses_below (
           (state_key m.0 n.0, n.1))
     ]
 
--- the holder of the key that a batch was filled with
+-- the holder whose key a batch was filled with
 abbrev pub owner : BatchHolder → KeyHolder
 owner (cpu_batch c width) = cpu_key c
 owner (state_batch caller state) = state_key caller state
@@ -124,7 +125,8 @@ fill_byte fills width span k q is h = go (fills width) refl is
         (record { width = width; fill = fill; is = at; key_is = m.key_is; unserved = m.above }, refl)
 
 module _ (lists : Lists) (lanes : ForwardLawful lists) (states : LawfulStates lists) where
-  -- a read of 32 bytes is not long, so the CPU uses no key that a state takes
+  -- no name belongs to a CPU and a vgetrandom state: a state takes a read of 32 bytes, and a CPU uses the call key only
+  -- of a longer read
   cpu_state_apart : (c caller state : ℕ) (k : KeyName) → Own lists (cpu_key c) k →
       Own lists (state_key caller state) k → ⊥
   cpu_state_apart c caller state k a (inl v) =
@@ -160,7 +162,7 @@ module _ (lists : Lists) (lanes : ForwardLawful lists) (states : LawfulStates li
       let same : a ≡ b = states.one_taker a b (t.cpu, t.cpu_place) t.taken taken in
       ap (λ (x : StatePlace). state_key x.caller x.state) same
 
-  -- no two holders have a name in common
+  -- no name belongs to two holders
   pub own_once : (a b : KeyHolder) (k : KeyName) → Own lists a k → Own lists b k → a ≡ b
   own_once base_key base_key k a b = refl
   own_once base_key (cpu_key d) k a b = absurd (base_cpu_apart lists d k a b)
@@ -185,7 +187,7 @@ module _ (lists : Lists) (lanes : ForwardLawful lists) (states : LawfulStates li
       ap (λ (x : StatePlace). x.place) (states.one_taker a b read p q))
       (states.states caller state)
 
-  -- at the start of a list only later names may be used
+  -- each holder uses no byte twice, and uses only its own names
   pub own_uses : (h : KeyHolder) → Part (Own lists h) (uses_of lists h)
   own_uses base_key = record {
     disjoint = base_walk.disjoint;
@@ -246,7 +248,7 @@ module _ (lists : Lists) (lanes : ForwardLawful lists) (states : LawfulStates li
             cpu_state_apart n.number m.number (m.own).number k n.own (m.own).own)
       ])
 
-  -- the key of a holder at the end, and the keys that its entries replaced
+  -- the names of a holder's live key and of its replaced keys belong to the holder, and no replaced key is live
   record HeldOk (h : KeyHolder) : Type 0 where
     live : (k : KeyName) → live_key lists h ≡ Some k → Own lists h k
     replaced : (k : KeyName) → WasReplaced lists h k → Own lists h k
@@ -282,7 +284,8 @@ module _ (lists : Lists) (lanes : ForwardLawful lists) (states : LawfulStates li
       let m = named_byte s.batch_key (64 * s.batch_from + s.pos) (96 - s.pos) span k q is h in
       record { key_is = m.key_is; from = m.above; below = (let a = m.above in let b = m.below in omega arith) }
 
-  -- a live byte has one of the holder's own names, and the holder did not use it
+  -- if a byte is in the rest of a batch, its key's name belongs to the batch's holder, and the holder did not use the
+  -- byte
   record RestOk (a : BatchHolder) (k : KeyName) (q : ℕ) : Type 0 where
     own : Own lists (owner a) k
     unused : IsUsed (uses_of lists (owner a)) k q → ⊥

@@ -1,4 +1,4 @@
--- The names that a CPU's keys have had, and those that only later entries can use.
+-- Which names a CPU has used before a place (old), and which only its later entries can use (later).
 use Rattle.std.proofs.Common.{◌≡◌, ℕ, suc, ◌≤◌, ◌<◌, true, false, List, ◌⊎◌, inl, inr, refl, sym, subst, ap, ◌∙◌, arith, Some, None, Option}
 use Rattle.std.specs.Option.{option_map_or}
 use Rattle.key_names.specs.declared.names.LaneId.TheVariants.{Pool as PoolLane, Base as BaseLane, Cpu as CpuLane}
@@ -9,11 +9,11 @@ use Rattle.key_names.specs.declared.entries.BaseEntry.{BaseEntry}
 use Rattle.key_names.specs.declared.entries.CpuEntry.{CpuEntry}
 use Rattle.key_names.specs.declared.entries.CpuEntry.TheVariants.{Read, Int, Irq, Dump, Prepare, Online}
 use Rattle.key_names.specs.Lanes.BaseList.{refill_at}
-use Rattle.key_names.specs.Lanes.CpuList.{RefillNames, RefillStands, cpu_key_in_use, cpu_key_after, cpu_erases, base_refill_of}
+use Rattle.key_names.specs.Lanes.CpuList.{RefillNames, RefillConforms, cpu_key_in_use, cpu_key_after, cpu_erases, base_refill_of}
 use Rattle.key_names.proofs.Uses.UseLists.{IsLong, choice_cases}
 
 module _ (base : List BaseEntry) (c : ℕ) (taken : ℕ → Option Taken) where
-  -- the base's refill b was made for place k of this CPU
+  -- refill b of the base handed over a key for place k of this CPU
   pub record MadeFor (b k : ℕ) : Type 0 where
     pub is : refill_at base b ≡ Some (c, k)
 
@@ -64,7 +64,7 @@ module _ (base : List BaseEntry) (c : ℕ) (taken : ℕ → Option Taken) where
   pub old_not_next : (place : ℕ) (key : KeyName) → IsOld place key → IsLater (suc place) key → ⊥
   old_not_next place key old later = old_not_later place key old (later_less place key later)
 
-  -- the place's own name becomes the key
+  -- only entries from this place on can use the name of the key that this place keeps
   pub own_later : (place : ℕ) (k : KeyName) → Cpu c place ≡ k → IsLater place k
   own_later place k e = let P : KeyName → Type 0 = λ x. IsLater place x in subst P e (refl, omega arith)
 
@@ -78,11 +78,11 @@ module _ (base : List BaseEntry) (c : ℕ) (taken : ℕ → Option Taken) where
 
   pub refill_named : (place look : ℕ) (o : Option ℕ) → RefillNames base c place look o →
       (b : ℕ) → o ≡ Some b → MadeFor b place
-  refill_named place look None stands b e = cc
-  refill_named place look (Some d) stands b e =
-      record { is = let p : d ≡ b = cc in ap (refill_at base) (sym p) ∙ stands.0 }
+  refill_named place look None conforms b e = cc
+  refill_named place look (Some d) conforms b e =
+      record { is = let p : d ≡ b = cc in ap (refill_at base) (sym p) ∙ conforms.0 }
 
-  pub made_for : (place : ℕ) (e : CpuEntry) → RefillStands base c place e → (b : ℕ) → base_refill_of e ≡ Some b →
+  pub made_for : (place : ℕ) (e : CpuEntry) → RefillConforms base c place e → (b : ℕ) → base_refill_of e ≡ Some b →
       MadeFor b place
   made_for place (Read look refill taken) m b is = refill_named place look refill m b is
   made_for place (Int look refill width filled) m b is = refill_named place look refill m b is
@@ -91,11 +91,11 @@ module _ (base : List BaseEntry) (c : ℕ) (taken : ℕ → Option Taken) where
   made_for place Prepare m b is = cc
   made_for place Online m b is = cc
 
-  -- the key that a refill brings is new at this place
+  -- only entries from this place on can use the name of the key that a refill hands over for this place
   pub call_later : (place b : ℕ) (k : KeyName) → MadeFor b place → Call BaseLane b ≡ k → IsLater place k
   call_later place b k made e = let P : KeyName → Type 0 = λ x. IsLater place x in subst P e (place, made, omega arith)
 
-  -- the key after an entry is named by its place if the entry erases, and else is the key in use
+  -- the key after an entry: if the entry erases, this key is named by the place, and otherwise it is the key in use
   pub after_cases : (i : ℕ) (e : CpuEntry) (key : Option KeyName) (k : KeyName) → cpu_key_after c i e key ≡ Some k →
       ((cpu_erases e ≡ true) × (Cpu c i ≡ k)) ⊎ ((cpu_erases e ≡ false) × (cpu_key_in_use e key ≡ Some k))
   after_cases i e key k h = elim (choice_cases (cpu_erases e) (Some (Cpu c i)) (cpu_key_in_use e key) (Some k) h)

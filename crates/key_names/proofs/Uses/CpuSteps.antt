@@ -1,4 +1,4 @@
--- The uses of each entry of a CPU's list, and the bytes that may be used after it.
+-- Each entry of a CPU's list uses only bytes that may be used before it, and none that may be used after it (`StepOk`).
 use Rattle.std.proofs.Common.{◌≡◌, ℕ, suc, ◌+◌, ◌*◌, ◌≤◌, ◌<◌, Bool, true, false, List, [], ◌∷◌, ◌⊎◌, inl, inr, refl, sym, subst, ap, ◌∙◌, arith, Some, None, Option}
 use Rattle.std.specs.Prelude.{◌==◌}
 use Rattle.std.proofs.lemmas.Bool.{eq-eqb}
@@ -12,7 +12,7 @@ use Rattle.key_names.specs.declared.entries.CpuEntry.TheVariants.{Read, Int, Irq
 use Rattle.key_names.specs.declared.entries.Taken.{Taken}
 use Rattle.key_names.specs.Keys.Uses.{Use, kept, served, use_of, IsUsed, Disjoint, read_uses, batch_uses, cpu_uses_at}
 use Rattle.key_names.specs.Kernel.Batches.{Fill, fills_after}
-use Rattle.key_names.specs.Lanes.CpuList.{CpuState, RefillStands, cpu_key_in_use, cpu_key_after, call_or, taken_of}
+use Rattle.key_names.specs.Lanes.CpuList.{CpuState, RefillConforms, cpu_key_in_use, cpu_key_after, call_or, taken_of}
 use Rattle.key_names.proofs.Uses.UseLists.{Disjoint-two, named_uses_cases, named_uses_disjoint, IsLong, read_disjoint, read_within}
 use Rattle.key_names.proofs.Uses.BatchFills.{InBatch, Filled, in_batch, none_filled, filled_after, filled_cases, served_after, Before, before_serving, filled_before, Serves, serves, batch_disjoint, same_fill, fill_within}
 use Rattle.key_names.proofs.Uses.CpuNames as names
@@ -27,7 +27,7 @@ module _ (base : List BaseEntry) (c : ℕ) (taken : ℕ → Option Taken) where
   abbrev pub IsLater : ℕ → KeyName → Type 0
   IsLater = names.IsLater base c taken
 
-  -- the lemmas on names, of this CPU
+  -- the lemmas of CpuNames for this CPU
   old_more : (place : ℕ) (key : KeyName) → IsOld place key → IsOld (suc place) key
   old_more = names.old_more base c taken
 
@@ -52,19 +52,19 @@ module _ (base : List BaseEntry) (c : ℕ) (taken : ℕ → Option Taken) where
   call_later : (place b : ℕ) (k : KeyName) → MadeFor b place → Call BaseLane b ≡ k → IsLater place k
   call_later = names.call_later base c taken
 
-  -- all keys of a CPU at a moment are old, and all are different
+  -- the key of the CPU and the keys of its fills have old names, and no two of these names are the same
   pub record KeysApart (place : ℕ) (key : Option KeyName) (fills : ℕ → Option Fill) : Type 0 where
     pub key_old : (k : KeyName) → key ≡ Some k → IsOld place k
     pub fill_old : (w : ℕ) (k : KeyName) → Filled fills w k → IsOld place k
     pub key_apart : (w : ℕ) (k : KeyName) → key ≡ Some k → Filled fills w k → ⊥
     pub fills_apart : (v w : ℕ) (k : KeyName) → Filled fills v k → Filled fills w k → v ≡ w
 
-  -- the bytes that may be used from a state on
+  -- the bytes that entries from this place on may use
   abbrev pub MayUse : ℕ → Option KeyName → (ℕ → Option Fill) → KeyName → ℕ → Type 0
   MayUse place key fills k q = (key ≡ Some k) ⊎ InBatch fills k q ⊎ IsLater place k
 
-  -- the key in use at an entry: it is old at the next place, is not this place's own, and
-  -- differs from the batches' keys
+  -- the name of the key in use at an entry is old for the next place. It is neither this place's name nor the name of a
+  -- fill's key
   pub record InUse (place : ℕ) (key used : Option KeyName) (fills : ℕ → Option Fill) : Type 0 where
     pub old : (k : KeyName) → used ≡ Some k → IsOld (suc place) k
     pub not_own : (k : KeyName) → used ≡ Some k → Cpu c place ≡ k → ⊥
@@ -88,7 +88,7 @@ module _ (base : List BaseEntry) (c : ℕ) (taken : ℕ → Option Taken) where
     may = λ k h. inr (call_later place b k (made b refl) cc);
   }
 
-  -- a byte that may be used after an entry may be used before it, and the keys of CPU and batches stay different
+  -- an entry uses only bytes that may be used before it and not after it, and keeps KeysApart
   pub record StepOk (place : ℕ) (key : Option KeyName) (fills : ℕ → Option Fill)
       (now : List Use) (key' : Option KeyName) (fills' : ℕ → Option Fill) : Type 0 where
     pub disjoint : Disjoint now
@@ -97,7 +97,7 @@ module _ (base : List BaseEntry) (c : ℕ) (taken : ℕ → Option Taken) where
     pub apart : (k : KeyName) (q : ℕ) → IsUsed now k q → MayUse (suc place) key' fills' k q → ⊥
     pub keys : KeysApart (suc place) key' fills'
 
-  -- the entry uses no bytes, and the key in use stays
+  -- StepOk holds for an entry without uses, after which the key in use is the CPU's key
   idle_step : (place : ℕ) (key used : Option KeyName) (fills : ℕ → Option Fill) →
       KeysApart place key fills → InUse place key used fills → StepOk place key fills [] used fills
   idle_step place key used fills ok u = record {
@@ -117,7 +117,7 @@ module _ (base : List BaseEntry) (c : ℕ) (taken : ℕ → Option Taken) where
     };
   }
 
-  -- the batches are used up, and the key stays
+  -- StepOk holds for an entry that prepares the CPU: the fills are gone, and the key stays
   prepare_step : (place : ℕ) (key : Option KeyName) (fills : ℕ → Option Fill) →
       KeysApart place key fills → StepOk place key fills [] key (λ w. None)
   prepare_step place key fills ok = record {
@@ -141,7 +141,7 @@ module _ (base : List BaseEntry) (c : ℕ) (taken : ℕ → Option Taken) where
   abbrev IsOfRead : ℕ → Option KeyName → KeyName → Type 0
   IsOfRead place used k = (used ≡ Some k) ⊎ ((Call (CpuLane c) place ≡ k) × IsLong (taken place))
 
-  -- an erasure of the key in use: the place's own name becomes the key's, and the batches stay
+  -- StepOk holds for an entry that erases the key in use. The next key is named by this place, and the fills stay
   erase_step : (place : ℕ) (key used : Option KeyName) (fills : ℕ → Option Fill) (now : List Use) →
       Disjoint now → ((k : KeyName) (q : ℕ) → IsUsed now k q → IsOfRead place used k) →
       KeysApart place key fills → InUse place key used fills →
@@ -310,12 +310,12 @@ module _ (base : List BaseEntry) (c : ℕ) (taken : ℕ → Option Taken) where
       ]
 
   -- StepOk holds for each entry of a CPU's list
-  pub entry_step : (rekeys : ℕ → Bool) (s : CpuState) (e : CpuEntry) → RefillStands base c s.place e →
+  pub entry_step : (rekeys : ℕ → Bool) (s : CpuState) (e : CpuEntry) → RefillConforms base c s.place e →
       taken s.place ≡ taken_of e →
       KeysApart s.place s.key s.fills →
       StepOk s.place s.key s.fills (cpu_uses_at c rekeys s e)
       (cpu_key_after c s.place e s.key) (fills_after s.place e (cpu_key_in_use e s.key) s.fills)
-  entry_step rekeys s (Read look refill t) m told ok =
+  entry_step rekeys s (Read look refill t) m inferred ok =
       erase_step s.place s.key (call_or refill s.key) s.fills _
       (named_uses_disjoint (call_or refill s.key) (λ key. read_uses (rekeys s.place) key (Call (CpuLane c) s.place) t)
       (λ key. read_disjoint (rekeys s.place) key (Call (CpuLane c) s.place) t))
@@ -323,10 +323,10 @@ module _ (base : List BaseEntry) (c : ℕ) (taken : ℕ → Option Taken) where
       (λ key. read_uses (rekeys s.place) key (Call (CpuLane c) s.place) t) k q h in
       elim (read_within (rekeys s.place) n.0 (Call (CpuLane c) s.place) t k q n.2) [
         | inl a ↦ inl (n.1 ∙ ap Some a)
-        | inr b ↦ inr (b.0, (let P : Option Taken → Type 0 = λ o. IsLong o in subst P (sym told) b.1))
+        | inr b ↦ inr (b.0, (let P : Option Taken → Type 0 = λ o. IsLong o in subst P (sym inferred) b.1))
       ])
       ok (in_use s.place s.key s.fills refill (names.made_for base c taken s.place (Read look refill t) m) ok)
-  entry_step rekeys s (Int look refill width true) m told ok =
+  entry_step rekeys s (Int look refill width true) m inferred ok =
       fill_step s.place s.key (call_or refill s.key) s.fills _ width look
       (named_uses_disjoint (call_or refill s.key) (λ key. use_of kept key 0 32 ∷ use_of served key 32 width ∷ [])
       (λ key. Disjoint-two (use_of kept key 0 32) (use_of served key 32 width) (omega arith)))
@@ -334,16 +334,16 @@ module _ (base : List BaseEntry) (c : ℕ) (taken : ℕ → Option Taken) where
       (λ key. use_of kept key 0 32 ∷ use_of served key 32 width ∷ []) k q h in
       let w = fill_within n.0 width k q n.2 in (n.1 ∙ ap Some w.0, w.1))
       ok (in_use s.place s.key s.fills refill (names.made_for base c taken s.place (Int look refill width true) m) ok)
-  entry_step rekeys s (Int look refill width false) m told ok =
+  entry_step rekeys s (Int look refill width false) m inferred ok =
       serve_step s.place s.key (call_or refill s.key) s.fills width ok
       (in_use s.place s.key s.fills refill (names.made_for base c taken s.place (Int look refill width false) m) ok)
-  entry_step rekeys s (Irq v1 v2 now) m told ok =
+  entry_step rekeys s (Irq v1 v2 now) m inferred ok =
       idle_step s.place s.key s.key s.fills ok
       (in_use s.place s.key s.fills None (names.made_for base c taken s.place (Irq v1 v2 now) m) ok)
-  entry_step rekeys s (Dump now) m told ok =
+  entry_step rekeys s (Dump now) m inferred ok =
       idle_step s.place s.key s.key s.fills ok
       (in_use s.place s.key s.fills None (names.made_for base c taken s.place (Dump now) m) ok)
-  entry_step rekeys s Prepare m told ok = prepare_step s.place s.key s.fills ok
-  entry_step rekeys s Online m told ok =
+  entry_step rekeys s Prepare m inferred ok = prepare_step s.place s.key s.fills ok
+  entry_step rekeys s Online m inferred ok =
       idle_step s.place s.key s.key s.fills ok
       (in_use s.place s.key s.fills None (names.made_for base c taken s.place Online m) ok)

@@ -1,4 +1,4 @@
--- The uses of a lawful CPU list are disjoint, and the keys that it replaced are not live.
+-- In a lawful list of a CPU, no byte is used twice, and no replaced key is live at the end.
 use Rattle.std.proofs.Common.{◌≡◌, ℕ, suc, ◌+◌, Bool, true, List, ◌⊎◌, inl, inr, refl, ap, ◌∙◌, arith, Some, None, Option}
 use Rattle.std.specs.Prelude.{option_and_then, is_some}
 use Rattle.key_names.specs.declared.names.KeyName.{KeyName}
@@ -12,10 +12,10 @@ use Rattle.key_names.specs.Lanes.CpuList.{CpuState, CpuMayCome, cpu_step, cpu_st
 use Rattle.key_names.proofs.Uses.BatchFills.{none_filled}
 use Rattle.key_names.proofs.Uses.CpuNames as names
 use Rattle.key_names.proofs.Uses.CpuSteps as steps
-use Rattle.key_names.proofs.Uses.Walks.{StepFacts, Walk, walk, lawful_and_told}
+use Rattle.key_names.proofs.Uses.Walks.{StepFacts, Walk, walk, lawful_and_inferred}
 
 module _ (base : List BaseEntry) (c : ℕ) (taken : ℕ → Option Taken) where
-  -- the keys that the CPU may have from a state on
+  -- the keys that the CPU may have now or later
   abbrev pub MayHold : CpuState → KeyName → Type 0
   MayHold s k = (s.key ≡ Some k) ⊎ names.IsLater base c taken s.place k
 
@@ -25,8 +25,8 @@ module _ (base : List BaseEntry) (c : ℕ) (taken : ℕ → Option Taken) where
   abbrev pub Apart : CpuState → Type 0
   Apart s = steps.KeysApart base c taken s.place s.key s.fills
 
-  abbrev pub MayComeTold : CpuState → CpuEntry → Type 0
-  MayComeTold s e = CpuMayCome base c s e × (taken s.place ≡ taken_of e)
+  abbrev pub MayComeInferred : CpuState → CpuEntry → Type 0
+  MayComeInferred s e = CpuMayCome base c s e × (taken s.place ≡ taken_of e)
 
   -- the key that a refill replaces is never the key in use at that refill
   replaced_not_used : (place : ℕ) (key : Option KeyName) (o : Option ℕ) →
@@ -37,10 +37,10 @@ module _ (base : List BaseEntry) (c : ℕ) (taken : ℕ → Option Taken) where
       names.old_not_later base c taken place k old (names.call_later base c taken place b k (made b refl) cc)
 
   abbrev pub CpuFacts : (ℕ → Bool) → CpuState → CpuEntry → Type 0
-  CpuFacts rekeys s e = StepFacts MayComeTold (cpu_step base c) (cpu_uses_at c rekeys)
+  CpuFacts rekeys s e = StepFacts MayComeInferred (cpu_step base c) (cpu_uses_at c rekeys)
       CpuReplaces Apart MayUseIn MayHold s e
 
-  cpu_facts : (rekeys : ℕ → Bool) (s : CpuState) (e : CpuEntry) → MayComeTold s e → Apart s → CpuFacts rekeys s e
+  cpu_facts : (rekeys : ℕ → Bool) (s : CpuState) (e : CpuEntry) → MayComeInferred s e → Apart s → CpuFacts rekeys s e
   cpu_facts rekeys s e may ok = record {
     disjoint = now.disjoint;
     within = now.within;
@@ -89,21 +89,21 @@ module _ (base : List BaseEntry) (c : ℕ) (taken : ℕ → Option Taken) where
     fills_apart = λ v w k f g. absurd (none_filled v k f);
   }
 
--- the walk over a CPU's whole list
+-- a walk (`Walk`) over the whole list of a CPU
 abbrev pub CpuWalk : List BaseEntry → ℕ → (ℕ → Bool) → List CpuEntry → Type 0
 CpuWalk base c rekeys es =
-    Walk (MayComeTold base c (taken_at es)) (cpu_step base c) (cpu_uses_at c rekeys) CpuReplaces
+    Walk (MayComeInferred base c (taken_at es)) (cpu_step base c) (cpu_uses_at c rekeys) CpuReplaces
     (Apart base c (taken_at es))
     (MayUseIn base c (taken_at es)) (MayHold base c (taken_at es)) cpu_start es
 
 pub cpu_walk : (base : List BaseEntry) (c : ℕ) (rekeys : ℕ → Bool) (es : List CpuEntry) → LawfulCpu base c es →
     CpuWalk base c rekeys es
 cpu_walk base c rekeys es lawful =
-    walk (MayComeTold base c (taken_at es)) (cpu_step base c) (cpu_uses_at c rekeys) CpuReplaces
+    walk (MayComeInferred base c (taken_at es)) (cpu_step base c) (cpu_uses_at c rekeys) CpuReplaces
     (Apart base c (taken_at es))
     (MayUseIn base c (taken_at es)) (MayHold base c (taken_at es))
     (cpu_facts base c (taken_at es) rekeys) cpu_start es
-    (lawful_and_told (CpuMayCome base c) (cpu_step base c) (λ s. s.place) (λ s e. refl)
+    (lawful_and_inferred (CpuMayCome base c) (cpu_step base c) (λ s. s.place) (λ s e. refl)
     (taken_at es) taken_of cpu_start es
     (λ j e is. let p : 0 + j ≡ j = omega arith in ap (taken_at es) p ∙ ap (option_and_then taken_of) is) lawful)
     (keys_at_start base c (taken_at es))

@@ -1,4 +1,4 @@
--- The uses of a lawful list of a vgetrandom state are disjoint, and the keys that it replaced are not live.
+-- In a lawful list of a vgetrandom state, no byte is used twice, and no replaced key is live at the end.
 use Rattle.std.proofs.Common.{◌≡◌, ℕ, suc, ◌+◌, ◌*◌, ◌≤◌, ◌<◌, List, ◌⊎◌, inl, inr, refl, sym, subst, ap, ◌∙◌, arith, Some, None, Option}
 use Rattle.std.specs.Prelude.{option_and_then}
 use Rattle.key_names.specs.declared.names.LaneId.TheVariants.{Cpu as CpuLane}
@@ -11,9 +11,10 @@ use Rattle.key_names.specs.Keys.Uses.{kept, served, state_uses_at}
 use Rattle.key_names.specs.Keys.LiveMaterial.{StateReplaces}
 use Rattle.key_names.specs.Lanes.StateList.{Expected, anything, new_key, refill_from, NamedState, state_start, state_step, refill_key, MayStart, MayRefill, StateMayCome, LawfulStateList, rekey_of, rekey_at}
 use Rattle.key_names.proofs.Uses.UseLists.{one_use, one_use_disjoint}
-use Rattle.key_names.proofs.Uses.Walks.{StepFacts, Walk, walk, lawful_and_told}
+use Rattle.key_names.proofs.Uses.Walks.{StepFacts, Walk, walk, lawful_and_inferred}
 
--- if a refill from block n comes next, the unused bytes of the key in use are those from 64 n on
+-- byte q of the key is unused. If a refill from block n must come next, the bytes from 64 n on are unused; otherwise
+-- all bytes are
 abbrev pub IsUnused : Expected → ℕ → Type 0
 IsUnused anything q = Unit {0}
 IsUnused new_key q = Unit {0}
@@ -29,9 +30,9 @@ may_refill_unused anything from q h le = tt
 may_refill_unused new_key from q h le = tt
 may_refill_unused (refill_from n) from q h le = let P : ℕ → Type 0 = λ x. 64 * x ≤ q in subst P h le
 
--- rekeys gives the read that each entry takes
+-- `rekeys` gives the read that the entry at each place takes as a key
 module _ (caller state : ℕ) (rekeys : ℕ → Option (ℕ × ℕ)) where
-  -- a key that an entry from a place on takes
+  -- the name of a key that an entry from this place on takes
   pub record TakenFrom (place : ℕ) (k : KeyName) : Type 0 where
     pub at : ℕ
     pub above : place ≤ at
@@ -40,31 +41,32 @@ module _ (caller state : ℕ) (rekeys : ℕ → Option (ℕ × ℕ)) where
     pub taken : rekeys at ≡ Some (cpu, cpu_place)
     pub is : Call (CpuLane cpu) cpu_place ≡ k
 
-  -- a key that a refill with this number or a later one keeps
+  -- the name of a key that a refill with this number or a later one keeps
   pub record KeptFrom (refills : ℕ) (k : KeyName) : Type 0 where
     pub number : ℕ
     pub above : refills ≤ number
     pub is : Vdso caller state number ≡ k
 
-  -- a name that only entries from a place on can use
+  -- only entries from this place on can use the name
   abbrev pub IsLater : ℕ → ℕ → KeyName → Type 0
   IsLater place refills k = KeptFrom refills k ⊎ TakenFrom place k
 
-  -- the byte belongs to the batch, and is not yet served
+  -- byte q of the key is in the batch, and the byte was not served yet
   pub record InBatch (s : NamedState) (k : KeyName) (q : ℕ) : Type 0 where
     pub key_is : s.batch_key ≡ Some k
     pub from : 64 * s.batch_from + s.pos ≤ q
     pub below : q < 64 * s.batch_from + 96
 
-  -- the bytes that may be used from a state on
+  -- the bytes that entries after this state may use
   abbrev pub MayUse : NamedState → KeyName → ℕ → Type 0
   MayUse s k q = ((s.key ≡ Some k) × IsUnused s.expected q) ⊎ InBatch s k q ⊎ IsLater s.place s.refills k
 
-  -- the keys that the state may have from a state on
+  -- the keys that the vgetrandom state may have now or later
   abbrev pub MayHold : NamedState → KeyName → Type 0
   MayHold s k = (s.key ≡ Some k) ⊎ IsLater s.place s.refills k
 
-  -- the keys of a state are not those of later entries, and the batch has another key
+  -- IsLater holds neither for the name of the state's key nor for the name of the batch's key, and these two names
+  -- differ
   pub record KeysApart (s : NamedState) : Type 0 where
     pub key : (k : KeyName) → s.key ≡ Some k → IsLater s.place s.refills k → ⊥
     pub batch : (k : KeyName) → s.batch_key ≡ Some k → IsLater s.place s.refills k → ⊥
@@ -86,22 +88,23 @@ module _ (caller state : ℕ) (rekeys : ℕ → Option (ℕ × ℕ)) where
   later_next : (s : NamedState) (k : KeyName) → IsLater (suc s.place) s.refills k → IsLater s.place s.refills k
   later_next s k l = later_less s.place s.refills s.refills k (omega arith) l
 
-  -- the key that a rekey takes here belongs to the entries from here on, and so does the key that a refill keeps
+  -- only entries from this place on can use the name of the read that a rekey takes, or the name of the key that a
+  -- refill keeps
   taken_here : (s : NamedState) (cpu cpu_place : ℕ) (k : KeyName) → rekeys s.place ≡ Some (cpu, cpu_place) →
       Call (CpuLane cpu) cpu_place ≡ k →
       IsLater s.place s.refills k
-  taken_here s cpu cpu_place k told is =
-      inr (record { at = s.place; above = omega arith; cpu = cpu; cpu_place = cpu_place; taken = told; is = is })
+  taken_here s cpu cpu_place k inferred is =
+      inr (record { at = s.place; above = omega arith; cpu = cpu; cpu_place = cpu_place; taken = inferred; is = is })
 
   kept_here : (s : NamedState) (k : KeyName) → Vdso caller state s.refills ≡ k → IsLater s.place s.refills k
   kept_here s k is = inl (record { number = s.refills; above = omega arith; is = is })
 
-  abbrev pub MayComeTold : (ℕ → List CpuEntry) → NamedState → VEntry → Type 0
-  MayComeTold cpu_list s e = StateMayCome cpu_list s e × (rekeys s.place ≡ rekey_of e)
+  abbrev pub MayComeInferred : (ℕ → List CpuEntry) → NamedState → VEntry → Type 0
+  MayComeInferred cpu_list s e = StateMayCome cpu_list s e × (rekeys s.place ≡ rekey_of e)
 
   abbrev pub StateFacts : (ℕ → List CpuEntry) → NamedState → VEntry → Type 0
   StateFacts cpu_list s e =
-      StepFacts (MayComeTold cpu_list) (state_step caller state)
+      StepFacts (MayComeInferred cpu_list) (state_step caller state)
       state_uses_at StateReplaces KeysApart MayUse MayHold s e
 
   -- no two entries take the same read
@@ -111,35 +114,35 @@ module _ (caller state : ℕ) (rekeys : ℕ → Option (ℕ × ℕ)) where
   taken_once : OneTaker → (place cpu cpu_place : ℕ) (k : KeyName) → rekeys place ≡ Some (cpu, cpu_place) →
       Call (CpuLane cpu) cpu_place ≡ k →
       TakenFrom (suc place) k → ⊥
-  taken_once one place cpu cpu_place k told is t =
+  taken_once one place cpu cpu_place k inferred is t =
       let e : Call (CpuLane t.cpu) t.cpu_place ≡ Call (CpuLane cpu) cpu_place = t.is ∙ sym is in
       let c : t.cpu ≡ cpu = cc in let p : t.cpu_place ≡ cpu_place = cc in
       let r : rekeys t.at ≡ Some (cpu, cpu_place) = t.taken ∙ ap (λ x. Some (x, t.cpu_place)) c
       ∙ ap (λ x. Some (cpu, x)) p in
-      let same : t.at ≡ place = one t.at place (cpu, cpu_place) r told in let le = t.above in omega arith
+      let same : t.at ≡ place = one t.at place (cpu, cpu_place) r inferred in let le = t.above in omega arith
 
   rekey_facts : (cpu_list : ℕ → List CpuEntry) (s : NamedState) (cpu cpu_place : ℕ) → OneTaker →
       rekeys s.place ≡ Some (cpu, cpu_place) → KeysApart s → s.expected ≡ anything →
       StateFacts cpu_list s (Rekey cpu cpu_place)
-  rekey_facts cpu_list s cpu cpu_place one told ok any = record {
+  rekey_facts cpu_list s cpu cpu_place one inferred ok any = record {
     disjoint = tt;
     within = λ k q h. absurd h;
     before = λ k q h. elim h [
-      | inl e ↦ inr (inr (taken_here s cpu cpu_place k told (let p = e.0 in cc)))
+      | inl e ↦ inr (inr (taken_here s cpu cpu_place k inferred (let p = e.0 in cc)))
       | inr (inl b) ↦ (let p = b.key_is in cc)
       | inr (inr l) ↦ inr (inr (later_next s k l))
     ];
     apart = λ k q h later. h;
-    held_before = λ k h. elim h [ inl e ↦ inr (taken_here s cpu cpu_place k told cc) | inr l ↦ inr (later_next s k l) ];
+    held_before = λ k h. elim h [ inl e ↦ inr (taken_here s cpu cpu_place k inferred cc) | inr l ↦ inr (later_next s k l) ];
     replaced = λ k h. inl h;
     gone = λ k h later. elim later [
-      | inl e ↦ ok.key k h (taken_here s cpu cpu_place k told cc)
+      | inl e ↦ ok.key k h (taken_here s cpu cpu_place k inferred cc)
       | inr l ↦ ok.key k h (later_next s k l)
     ];
     holds = record {
       key = λ k e later. elim later [
         | inl v ↦ (let p = v.is in cc)
-        | inr t ↦ taken_once one s.place cpu cpu_place k told (cc) t
+        | inr t ↦ taken_once one s.place cpu cpu_place k inferred (cc) t
       ];
       batch = λ k e later. cc;
       apart = λ k e f. cc;
@@ -191,32 +194,32 @@ module _ (caller state : ℕ) (rekeys : ℕ → Option (ℕ × ℕ)) where
       | inl e ↦ inr (inr (kept_here s k (refill_cases s.refills s.key k e.0)))
       | inr (inl b) ↦ (let from' = b.from in let le : 64 * from ≤ q = omega arith in
           inl (b.key_is, may_refill_unused s.expected from q may le))
-      | inr (inr l) ↦ inr (inr (behind k l))
+      | inr (inr l) ↦ inr (inr (following k l))
     ];
     apart = λ k q h later. let m = one_use kept s.key (64 * from + 96) 32 k q h in elim later [
       | inl e ↦ ok.key k m.key_is (kept_here s k (refill_cases s.refills s.key k e.0))
       | inr (inl b) ↦ (let from' = m.above in let below = b.below in omega arith)
-      | inr (inr l) ↦ ok.key k m.key_is (behind k l)
+      | inr (inr l) ↦ ok.key k m.key_is (following k l)
     ];
     held_before = λ k h. elim h
-        [ inl e ↦ inr (kept_here s k (refill_cases s.refills s.key k e)) | inr l ↦ inr (behind k l) ];
+        [ inl e ↦ inr (kept_here s k (refill_cases s.refills s.key k e)) | inr l ↦ inr (following k l) ];
     replaced = λ k h. inl h;
     gone = λ k h later. elim later [
       | inl e ↦ ok.key k h (kept_here s k (refill_cases s.refills s.key k e))
-      | inr l ↦ ok.key k h (behind k l)
+      | inr l ↦ ok.key k h (following k l)
     ];
     holds = record {
       key = λ k e later. let p : Vdso caller state s.refills ≡ k = refill_cases s.refills s.key k e in elim later [
         | inl v ↦ (let same : v.number ≡ s.refills = (let r = v.is in cc) in let le = v.above in omega arith)
         | inr t ↦ (let r = t.is in cc)
       ];
-      batch = λ k e l. ok.key k e (behind k l);
+      batch = λ k e l. ok.key k e (following k l);
       apart = λ k e f. ok.key k f (kept_here s k (refill_cases s.refills s.key k e));
     };
   }
     where
-      behind : (k : KeyName) → IsLater (suc s.place) (suc s.refills) k → IsLater s.place s.refills k
-      behind k l = later_less s.place s.refills (suc s.refills) k (omega arith) l
+      following : (k : KeyName) → IsLater (suc s.place) (suc s.refills) k → IsLater s.place s.refills k
+      following k l = later_less s.place s.refills (suc s.refills) k (omega arith) l
 
   serve_facts : (cpu_list : ℕ → List CpuEntry) (s : NamedState) (pos len : ℕ) → pos ≡ s.pos → pos + len ≤ 96 →
       KeysApart s →
@@ -264,7 +267,7 @@ module _ (caller state : ℕ) (rekeys : ℕ → Option (ℕ × ℕ)) where
   }
 
   state_facts : (cpu_list : ℕ → List CpuEntry) → OneTaker → (s : NamedState) (e : VEntry) →
-      MayComeTold cpu_list s e → KeysApart s →
+      MayComeInferred cpu_list s e → KeysApart s →
       StateFacts cpu_list s e
   state_facts cpu_list one s (Rekey cpu cpu_place) may ok = rekey_facts cpu_list s cpu cpu_place one may.1 ok may.0.0
   state_facts cpu_list one s (Blocks from count) may ok = blocks_facts cpu_list s from count may.0.0 ok
@@ -279,10 +282,10 @@ module _ (caller state : ℕ) (rekeys : ℕ → Option (ℕ × ℕ)) where
     apart = λ k e f. (let p = e in cc);
   }
 
--- the walk over a state's whole list
+-- a walk (`Walk`) over the whole list of a state
 abbrev pub StateWalk : (ℕ → List CpuEntry) → ℕ → ℕ → List VEntry → Type 0
 StateWalk cpu_list caller state es =
-    Walk (MayComeTold caller state (rekey_at es) cpu_list) (state_step caller state) state_uses_at StateReplaces
+    Walk (MayComeInferred caller state (rekey_at es) cpu_list) (state_step caller state) state_uses_at StateReplaces
     (KeysApart caller state (rekey_at es)) (MayUse caller state (rekey_at es)) (MayHold caller state (rekey_at es))
     state_start es
 
@@ -290,10 +293,10 @@ pub state_walk : (cpu_list : ℕ → List CpuEntry) (caller state : ℕ) (es : L
     OneTaker caller state (rekey_at es) →
     LawfulStateList cpu_list caller state es → StateWalk cpu_list caller state es
 state_walk cpu_list caller state es one lawful =
-    walk (MayComeTold caller state (rekey_at es) cpu_list) (state_step caller state) state_uses_at StateReplaces
+    walk (MayComeInferred caller state (rekey_at es) cpu_list) (state_step caller state) state_uses_at StateReplaces
     (KeysApart caller state (rekey_at es)) (MayUse caller state (rekey_at es)) (MayHold caller state (rekey_at es))
     (state_facts caller state (rekey_at es) cpu_list one) state_start es
-    (lawful_and_told (StateMayCome cpu_list) (state_step caller state) (λ s. s.place) place_next
+    (lawful_and_inferred (StateMayCome cpu_list) (state_step caller state) (λ s. s.place) place_next
     (rekey_at es) rekey_of state_start es
     (λ j e is. let p : 0 + j ≡ j = omega arith in ap (rekey_at es) p ∙ ap (option_and_then rekey_of) is) lawful.comes)
     (keys_at_start caller state (rekey_at es))

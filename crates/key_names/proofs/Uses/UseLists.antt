@@ -1,4 +1,4 @@
--- Uses in joined lists, and uses of keys that may have no name.
+-- Lemmas about lists of uses: joined lists, lists by number, and uses of keys that may have no name.
 use Rattle.std.proofs.Common.{◌≡◌, ℕ, zero, suc, ◌+◌, ◌≤◌, ◌<◌, Bool, true, false, List, [], ◌∷◌, ◌++◌, ◌⊎◌, inl, inr, refl, ap, arith, Some, None, Option, nat_lt}
 use Rattle.std.specs.Prelude.{if◌then◌else◌}
 use Rattle.std.specs.List.{flat_map, range_with_len}
@@ -43,7 +43,7 @@ disjoint_parts (u ∷ us) vs d =
       ];
     }
 
--- two disjoint lists are disjoint together if no byte is in both
+-- two disjoint lists, joined, are disjoint if no byte is in both
 pub Disjoint-append : (us vs : List Use) → Disjoint us → Disjoint vs →
     ((key : KeyName) (q : ℕ) → IsUsed us key q → IsUsed vs key q → ⊥) → Disjoint (us ++ vs)
 Disjoint-append [] vs a b apart = b
@@ -90,7 +90,7 @@ pub named_uses_cases : (o : Option KeyName) (f : KeyName → List Use) (k : KeyN
 named_uses_cases None f k q h = absurd h
 named_uses_cases (Some key) f k q h = (key, refl, h)
 
--- a byte of one use
+-- byte q of key k is in a use of `len` bytes from `from` on
 pub record UsesByte (o : Option KeyName) (from len : ℕ) (k : KeyName) (q : ℕ) : Type 0 where
   pub key_is : o ≡ Some k
   pub above : from ≤ q
@@ -108,7 +108,7 @@ pub one_use_disjoint : (purpose : Purpose) (o : Option KeyName) (from len : ℕ)
 one_use_disjoint purpose None from len = tt
 one_use_disjoint purpose (Some key) from len = Disjoint-one (use_of purpose key from len)
 
--- the read is for a user and longer than 32 bytes, so a key of its own serves it
+-- the read is for a user and longer than 32 bytes, so a call key serves it
 abbrev pub IsLong : Option Taken → Type 0
 IsLong None = ⊥
 IsLong (Some (User n)) = 32 < n
@@ -152,18 +152,18 @@ read_within rekeys key call (User n) k q (inr h) = go (nat_lt 32 n) refl h
     ]
     go false is h = inl (one rekeys h)
 
--- a value that a choice gave is that of one of its sides
+-- the value of a choice is that of one of its sides
 pub choice_cases : {A : Type 0} (b : Bool) (x y z : A) → (if b then x else y) ≡ z →
     ((b ≡ true) × (x ≡ z)) ⊎ ((b ≡ false) × (y ≡ z))
 choice_cases true x y z e = inl (refl, e)
 choice_cases false x y z e = inr (refl, e)
 
--- uses that are disjoint, and only of these names
+-- the uses are disjoint, and only of names for which Own holds
 pub record Part (Own : KeyName → Type 0) (us : List Use) : Type 0 where
   pub disjoint : Disjoint us
   pub within : (k : KeyName) (q : ℕ) → IsUsed us k q → Own k
 
--- a name of one of the parts from a number on
+-- the name belongs to one of the parts from this number on
 pub record OwnFrom (Own : ℕ → KeyName → Type 0) (from : ℕ) (k : KeyName) : Type 0 where
   pub number : ℕ
   pub above : from ≤ number
@@ -188,7 +188,7 @@ parts_from Own f one part from (suc count) =
       ];
     }
 
--- if no two parts have a name in common, all together are disjoint
+-- if no name belongs to two parts, all parts together are disjoint
 pub parts_below : (Own : ℕ → KeyName → Type 0) (f : ℕ → List Use) →
     ((m n : ℕ) (k : KeyName) → Own m k → Own n k → m ≡ n) →
     ((n : ℕ) → Part (Own n) (f n)) → (count : ℕ) → Part (OwnFrom Own 0) (uses_below count f)
@@ -202,7 +202,7 @@ used_from f from (suc count) k q h =
     elim (IsUsed-append_cases (f from) (flat_map f (range_with_len (from + 1) count)) k q h)
     [ inl a ↦ (from, a) | inr b ↦ used_from f (from + 1) count k q b ]
 
--- a byte in the uses of all numbers is a byte in the uses of some number
+-- if a byte is in the uses of all numbers together, it is in the uses of some number
 pub used_below : (f : ℕ → List Use) (count : ℕ) (k : KeyName) (q : ℕ) → IsUsed (uses_below count f) k q →
     (n : ℕ) × IsUsed (f n) k q
 used_below f count k q h = used_from f 0 count k q h

@@ -1,4 +1,5 @@
--- The walk over a list, for each law about uses: facts about each entry hold for the whole list.
+-- If StepFacts holds for each entry, then Walk holds for a lawful list: no byte is used twice, and no replaced key is
+-- live at the end. The laws about uses follow from such a walk over the base's list, each CPU's and each state's.
 use Rattle.std.proofs.Common.{◌≡◌, ℕ, suc, ◌+◌, List, [], ◌∷◌, inl, inr, ap, ◌∙◌, arith, Some, refl}
 use Rattle.std.specs.Prelude.{slice_get}
 use Rattle.std.specs.List.{fold}
@@ -7,13 +8,13 @@ use Rattle.key_names.specs.Lanes.LawfulList.{LawfulFrom, SomeFrom}
 use Rattle.key_names.specs.Keys.Uses.{Use, IsUsed, Disjoint, uses_from}
 use Rattle.key_names.proofs.Uses.UseLists.{IsUsed-append_cases, Disjoint-append}
 
--- MayUse relates a state to the bytes that may still be used, and MayHold to the keys that it may still have.
--- Holds is true in every state
+-- `MayUse` gives the bytes that entries after a state may use. `MayHold` gives the keys that may be live now or later.
+-- `Holds` is a fact that is true in each state
 module _ {S E : Type 0} (May : S → E → Type 0) (step : S → E → S) (uses_at : S → E → List Use)
     (Replaces : KeyName → S → E → Type 0) (Holds : S → Type 0) (MayUse : S → KeyName → ℕ → Type 0)
     (MayHold : S → KeyName → Type 0) where
-  -- an entry uses only bytes that may be used before it and not after it, and the keys that it replaces
-  -- may not be used after it
+  -- an entry uses only bytes that may be used before it and not after it, and the keys that it replaces are not live
+  -- after it
   pub record StepFacts (s : S) (e : E) : Type 0 where
     pub disjoint : Disjoint (uses_at s e)
     pub within : (k : KeyName) (q : ℕ) → IsUsed (uses_at s e) k q → MayUse s k q
@@ -24,7 +25,7 @@ module _ {S E : Type 0} (May : S → E → Type 0) (step : S → E → S) (uses_
     pub gone : (k : KeyName) → Replaces k s e → MayHold (step s e) k → ⊥
     pub holds : Holds (step s e)
 
-  -- a list uses only bytes that may be used before it and not after it, and the keys that it replaces may not be used
+  -- a list uses only bytes that may be used before it and not after it, and the keys that it replaces are not live
   -- after it
   pub record Walk (s : S) (es : List E) : Type 0 where
     pub disjoint : Disjoint (uses_from uses_at step s es)
@@ -67,16 +68,16 @@ module _ {S E : Type 0} (May : S → E → Type 0) (step : S → E → S) (uses_
       let now : StepFacts s e = facts s e lawful.0 holds in
       join s e es now (walk facts (step s e) es lawful.1 now.holds)
 
--- if a fact is given for each place, a lawful list is lawful together with that fact
-pub lawful_and_told : {S E A : Type 0} (May : S → E → Type 0) (step : S → E → S) (place : S → ℕ) →
+-- if `at place ≡ of e` holds for the entry e at each place, then a lawful list is lawful with this condition added
+pub lawful_and_inferred : {S E A : Type 0} (May : S → E → Type 0) (step : S → E → S) (place : S → ℕ) →
     ((s : S) (e : E) → place (step s e) ≡ suc (place s)) → (at : ℕ → A) (of : E → A) (s : S) (es : List E) →
     ((j : ℕ) (e : E) → slice_get es j ≡ Some e → at (place s + j) ≡ of e) → LawfulFrom May step s es →
     LawfulFrom (λ s e. May s e × (at (place s) ≡ of e)) step s es
-lawful_and_told May step place next at of s [] told lawful = tt
-lawful_and_told May step place next at of s (e ∷ es) told lawful = (
-  (lawful.0, (let p : place s ≡ place s + 0 = omega arith in ap at p ∙ told 0 e refl)),
-  lawful_and_told May step place next at of (step s e) es
+lawful_and_inferred May step place next at of s [] inferred lawful = tt
+lawful_and_inferred May step place next at of s (e ∷ es) inferred lawful = (
+  (lawful.0, (let p : place s ≡ place s + 0 = omega arith in ap at p ∙ inferred 0 e refl)),
+  lawful_and_inferred May step place next at of (step s e) es
       (λ j x is. let n : place (step s e) ≡ suc (place s) = next s e in
       let p : place (step s e) + j ≡ place s + suc j = omega arith in
-      ap at p ∙ told (suc j) x is) lawful.1,
+      ap at p ∙ inferred (suc j) x is) lawful.1,
 )

@@ -1,4 +1,4 @@
--- A lawful book with every kind of list, its uses, and its live keys and batches.
+-- An example of a lawful book with every kind of list, its uses, and its live keys and batches.
 use Rattle.std.proofs.Common.{◌≡◌, ℕ, zero, suc, true, false, [], ◌∷◌, inl, inr, refl, sym, ap, ◌∙◌, arith, Some, None, replicate}
 use Rattle.key_names.specs.declared.names.LaneId.TheVariants.{Base as BaseLane, Cpu as CpuLane}
 use Rattle.key_names.specs.declared.names.KeyName.TheVariants.{Root, Base, Cpu, Call, Vdso}
@@ -18,7 +18,7 @@ use Rattle.key_names.specs.Lanes.Book.{Lists, cpu_list, state_list, LawfulBook, 
 use Rattle.key_names.specs.Keys.Uses.{kept, served, use_of, uses}
 use Rattle.key_names.specs.Keys.LiveMaterial.{base_key, cpu_key, state_key, cpu_batch, state_batch, live_key, live_rest, named_span}
 
--- one reseed, a CPU that fills a batch and reads a key for a vgetrandom state, and 140 bytes from that state
+-- a book with one reseed. A CPU fills a batch and reads a key for a vgetrandom state, which serves 140 bytes
 abbrev book : Lists
 book = record {
   pool = Mix [] 256 ∷ Extract (replicate 32 0) 0 ∷ [];

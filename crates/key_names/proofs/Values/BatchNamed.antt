@@ -1,4 +1,5 @@
--- A copy out of a vgetrandom state serves the bytes of its entries' served spans, by names.
+-- A copy out of a vgetrandom state serves the bytes of the named spans that its entries serve. A vgetrandom call that
+-- its batch ended serves the bytes of the spans that its last entries serve.
 use Rattle.std.proofs.Common.{◌≡◌, ℕ, zero, suc, ◌+◌, ◌-◌, ◌*◌, min, ◌≤◌, Bool, true, false, List, [], ◌∷◌, ◌++◌, inl, inr, refl, sym, subst, ap, ◌∙◌, arith, Some, None, Option, take, drop, append-nil, append_assoc}
 use Rattle.std.specs.Prelude.{if◌then◌else◌}
 use Rattle.std.specs.List.{fold}
@@ -26,7 +27,7 @@ use Rattle.key_names.specs.declared.point.Point.TheVariants.{Start, Written, Ser
 use Rattle.key_names.specs.Kernel.Flags.{is_bad}
 use Rattle.key_names.specs.Kernel.VgetrandomState.{wiped_state, state_left}
 use Rattle.key_names.specs.Kernel.BatchCopy.{state_after_copy, block_after_copy, state_of_same_batch, state_of_new_batch}
-use Rattle.key_names.specs.Kernel.Vgetrandom.{SystemAnswer, read, failed, HostStep, publishes, system_call, AttemptEnd, holds, outdated, not_keyed, Attempt, attempt_behind, wipe_entry, AtPoint, AfterKeyRead, FromEnd, FromServe, FromWritten, FromStart, IsAttempt, Ending, no_bytes, by_batch, by_system, Outcome, outcome_behind, BySystem, ByNothing, AfterAttempt, AttemptAndRest, AfterBoth, state_after_call, SecondAttempt, FirstAttempt, FromLook, IsCall}
+use Rattle.key_names.specs.Kernel.Vgetrandom.{SystemAnswer, read, failed, HostStep, publishes, system_call, AttemptEnd, holds, outdated, not_keyed, Attempt, prefix_attempt, wipe_entry, AtPoint, AfterKeyRead, FromEnd, FromServe, FromWritten, FromStart, IsAttempt, Ending, no_bytes, by_batch, by_system, Outcome, prefix_outcome, BySystem, ByNothing, AfterAttempt, AttemptAndRest, AfterBoth, state_after_call, SecondAttempt, FirstAttempt, FromLook, IsCall}
 use Rattle.key_names.proofs.Vgetrandom.CallsKeep.{match_cases, some_bytes}
 use Rattle.key_names.proofs.Vgetrandom.StatesReplay.{Good, good_append, KeyIs}
 use Rattle.key_names.proofs.Standards.Keystreams.{keystream-add, take-keystream}
@@ -56,14 +57,15 @@ module _ (lists : Lists) (caller k : ℕ) where
   abbrev pub entry_uses : NamedState → List VEntry → List Use
   entry_uses t es = uses_from state_uses_at (state_step caller k) t es
 
-  -- the names match the keys and the batch of the state
+  -- the value of the name of the state's key is the key, and the rest of the batch is keystream of the batch's named
+  -- key
   pub record NamesTell (x : Both) : Type 0 where
     pub key : (name : KeyName) → x.named.key ≡ Some name → value_of lists name ≡ x.bytes.key
     pub rest : (name : KeyName) → x.named.batch_key ≡ Some name →
         drop x.named.pos x.bytes.batch
         ≡ keystream (value_of lists name) (64 * x.named.batch_from + x.named.pos) (96 - x.named.pos)
 
-  -- a use of a named key serves the bytes of its span
+  -- a served use of a named key has the bytes of its span
   one_served : (o : Option KeyName) (name : KeyName) (from len : ℕ) → o ≡ Some name →
       served_in lists (named_use served o from len) ≡ keystream (value_of lists name) from len
   one_served o name from len is =
@@ -74,7 +76,7 @@ module _ (lists : Lists) (caller k : ℕ) where
   none_kept None from len = refl
   none_kept (Some name) from len = refl
 
-  -- the entry for some bytes of a batch with a named key serves those bytes of the key's keystream
+  -- the entry for serving some bytes of the batch serves those bytes of the named key's keystream
   serve_named : (t : NamedState) (name : KeyName) (pos n : ℕ) → t.batch_key ≡ Some name →
       served_in lists (entry_uses t (serve_entry pos n))
       ≡ keystream (value_of lists name) (64 * t.batch_from + pos) n
@@ -83,7 +85,7 @@ module _ (lists : Lists) (caller k : ℕ) where
       ap (served_in lists) (append-nil (named_use served t.batch_key (64 * t.batch_from + pos) (suc n)))
       ∙ one_served t.batch_key name (64 * t.batch_from + pos) (suc n) is
 
-  -- after a refill from a named key, the entries serve the front of the new batch
+  -- after a refill from a named key, the entries serve the first bytes of the new batch
   new_named : (t : NamedState) (name : KeyName) (at r : ℕ) → t.key ≡ Some name →
       served_in lists (entry_uses t (Refill at ∷ serve_entry 0 r)) ≡ keystream (value_of lists name) (64 * at) r
   new_named t name at r is =
@@ -111,7 +113,7 @@ module _ (lists : Lists) (caller k : ℕ) where
       (new_named u name (c + suc m) r is ∙ ap (λ f. keystream (value_of lists name) f r) at)
       ∙ sym (keystream-add (value_of lists name) (64 * c) (64 * suc m) r)
 
-  -- a copy out of a state with named keys serves the bytes of its entries' served spans
+  -- a copy out of a state with named keys serves the bytes of the spans that its entries serve
   pub copy_named : (x : Both) (s : VgetrandomState) (c n : ℕ) → 1 ≤ n → replay.Holds lists caller k x s →
       1 ≤ s.generation → NamesTell x →
       copy_bytes s c n ≡ served_in lists (entry_uses x.named (copy_entries s c n))
@@ -123,7 +125,7 @@ module _ (lists : Lists) (caller k : ℕ) where
       left : ℕ
       left = bytes_left s
 
-      -- the front of the batch's rest is what its entry serves
+      -- the first bytes of the batch's rest are those that the entry for them serves
       front : (len : ℕ) → len ≤ 96 - s.pos →
           take len (drop s.pos s.batch) ≡ served_in lists (entry_uses x.named (serve_entry s.pos len))
       front zero le = refl
@@ -163,15 +165,15 @@ module _ (lists : Lists) (caller k : ℕ) where
           let u : Both = after x xs in
           let v = replay.serve_after lists caller k x s.pos (bytes_left s) h.pos in
           let split : n - bytes_left s ≡ 64 * whole_blocks s n + new_batch_bytes s n = omega arith in
-          let behind : NamedState = fold (state_step caller k) x.named xs in
-          let same : behind.key ≡ x.named.key = serve_keeps x.named s.pos (bytes_left s) in
+          let following : NamedState = fold (state_step caller k) x.named xs in
+          let same : following.key ≡ x.named.key = serve_keeps x.named s.pos (bytes_left s) in
           ap (λ i. take i (drop s.pos s.batch) ++ keystream s.key (64 * c) (n - bytes_left s)) all
           ∙ ap (λ zs. zs ++ keystream s.key (64 * c) (n - bytes_left s)) (front (bytes_left s) fits)
           ∙ ap (λ zs. served_in lists (entry_uses x.named xs) ++ zs)
           (ap (λ w. keystream w (64 * c) (n - bytes_left s)) value
           ∙ ap (keystream (value_of lists key.0) (64 * c)) split
-          ∙ sym (refill_named behind key.0 c (whole_blocks s n) (new_batch_bytes s n) (same ∙ key.1)))
-          ∙ sym (served_append lists (entry_uses x.named xs) (entry_uses behind ys))
+          ∙ sym (refill_named following key.0 c (whole_blocks s n) (new_batch_bytes s n) (same ∙ key.1)))
+          ∙ sym (served_append lists (entry_uses x.named xs) (entry_uses following ys))
           ∙ ap (served_in lists) (sym (uses_append state_uses_at (state_step caller k) x.named xs ys))
         where
           serve_keeps : (t : NamedState) (pos len : ℕ) →
@@ -183,17 +185,17 @@ module _ (lists : Lists) (caller k : ℕ) where
   named_is x [] = refl
   named_is x (e ∷ es) = named_is (replay.step lists caller k x e) es
 
-  -- the names match the state after each front of some entries
+  -- the names match the state after each prefix of the entries
   abbrev pub Fronts : Both → List VEntry → Type 0
   Fronts x es = (pre post : List VEntry) → es ≡ pre ++ post → NamesTell (after x pre)
 
-  pub fronts_behind : (x : Both) (xs ys : List VEntry) → Fronts x (xs ++ ys) → Fronts (after x xs) ys
-  fronts_behind x xs ys fronts pre post is =
+  pub fronts_after : (x : Both) (xs ys : List VEntry) → Fronts x (xs ++ ys) → Fronts (after x xs) ys
+  fronts_after x xs ys fronts pre post is =
       let P : Both → Type 0 = λ y. NamesTell y in
       subst P (fold-append (replay.step lists caller k) x xs pre)
       (fronts (xs ++ pre) post (ap (λ zs. xs ++ zs) is ∙ sym (append_assoc xs pre post)))
 
-  -- the bytes of some entries, by names
+  -- the bytes of the named spans that these entries serve
   abbrev pub bytes_of : Both → List VEntry → List ℕ
   bytes_of x es = served_in lists (entry_uses x.named es)
 
@@ -203,16 +205,16 @@ module _ (lists : Lists) (caller k : ℕ) where
       ∙ served_append lists (entry_uses x.named xs) (entry_uses (fold (state_step caller k) x.named xs) ys)
       ∙ ap (λ t. bytes_of x xs ++ served_in lists (entry_uses t ys)) (sym (named_is x xs))
 
-  -- if the names match at each front, an attempt that ended with `holds` copied the bytes that its entries serve
+  -- an attempt that held copied the bytes that its entries serve, if the names match after each prefix
   abbrev pub AttemptNamed : Both → Attempt → Type 0
   AttemptNamed x attempt = Fronts x attempt.entries → attempt.end ≡ holds → attempt.out ≡ bytes_of x attempt.entries
 
-  behind_named : (x : Both) (es : List VEntry) (attempt later : Attempt) →
+  after_named : (x : Both) (es : List VEntry) (attempt later : Attempt) →
       attempt ≡ record later { entries = es ++ later.entries } → bytes_of x es ≡ [] →
       AttemptNamed (after x es) later → AttemptNamed x attempt
-  behind_named x es attempt later is none h =
+  after_named x es attempt later is none h =
       let P : Attempt → Type 0 = λ a. AttemptNamed x a in
-      subst P (sym is) (λ fronts held. h (fronts_behind x es later.entries fronts) held
+      subst P (sym is) (λ fronts held. h (fronts_after x es later.entries fronts) held
       ∙ ap (λ zs. zs ++ bytes_of (after x es) later.entries) (sym none)
       ∙ sym (bytes_append x es later.entries))
 
@@ -229,9 +231,9 @@ module _ (lists : Lists) (caller k : ℕ) where
       rest_good = subst (λ (xs : List HostStep). Good lists xs) at.steps_are good
 
       go : (b : Bool) → GoesOn (state_left b s) at.rest at.attempt_after →
-          attempt ≡ attempt_behind (wipe_entry b) at.attempt_after → AttemptNamed x attempt
-      go false g is = behind_named x [] attempt at.attempt_after is refl (on x s at.rest at.attempt_after rest_good g h)
-      go true g is = behind_named x (Wipe ∷ []) attempt at.attempt_after is refl
+          attempt ≡ prefix_attempt (wipe_entry b) at.attempt_after → AttemptNamed x attempt
+      go false g is = after_named x [] attempt at.attempt_after is refl (on x s at.rest at.attempt_after rest_good g h)
+      go true g is = after_named x (Wipe ∷ []) attempt at.attempt_after is refl
           (on (replay.step lists caller k x Wipe) wiped_state at.rest at.attempt_after rest_good g (wiped_before x))
 
   copy_generation : (s : VgetrandomState) (c n : ℕ) → (state_after_copy s c n).generation ≡ s.generation
@@ -266,7 +268,7 @@ module _ (lists : Lists) (caller k : ℕ) where
 
       go : (b : Bool) →
           FromEnd (copy_bytes s c n) (block_after_copy s c n) (state_left b s') at.rest at.attempt_after →
-          from.attempt_after ≡ attempt_behind (wipe_entry b) at.attempt_after →
+          from.attempt_after ≡ prefix_attempt (wipe_entry b) at.attempt_after →
           attempt.out ≡ bytes_of x attempt.entries
       go true e is =
           let end : attempt.end ≡ (if 0 == e.published then holds else outdated) =
@@ -310,7 +312,7 @@ module _ (lists : Lists) (caller k : ℕ) where
           AfterKeyRead n c answer s from.rest attempt → AttemptNamed x attempt
       go (read key None) is g keyed = absurd is
       go (read key (Some at)) is g keyed =
-          behind_named x (Rekey at.cpu at.place ∷ []) attempt keyed.attempt_after keyed.attempt_is refl
+          after_named x (Rekey at.cpu at.place ∷ []) attempt keyed.attempt_after keyed.attempt_is refl
           (serve_point_named n c some (replay.step lists caller k x (Rekey at.cpu at.place))
           (record s { key = key; pos = 96 }) from.rest keyed.attempt_after g keyed.goes_on (record {
             batch = h.batch;
@@ -344,14 +346,14 @@ module _ (lists : Lists) (caller k : ℕ) where
       is.rest attempt (λ u r rest later good f b. start_named n c is.published some u r rest later good f b)
       is.goes_on g.1 h
 
-  -- the last of some entries serve these bytes
+  -- these entries end with some that serve the bytes `out`
   pub record LastServes (x : Both) (es : List VEntry) (out : List ℕ) : Type 0 where
     pub earlier : List VEntry
     pub last : List VEntry
     pub entries_are : es ≡ earlier ++ last
     pub bytes_are : out ≡ bytes_of (after x earlier) last
 
-  -- if the names match at each front, a call that its batch ended served the bytes of its last entries
+  -- a call that its batch ended served the bytes that its last entries serve, if the names match after each prefix
   abbrev pub OutcomeNamed : Both → Outcome → Type 0
   OutcomeNamed x outcome = Fronts x outcome.entries → (out : List ℕ) → outcome.ending ≡ by_batch out →
       LastServes x outcome.entries out
@@ -366,7 +368,8 @@ module _ (lists : Lists) (caller k : ℕ) where
   system_named n flags x s steps outcome by fronts out ends =
       let e : by_system by.answer ≡ by_batch out = sym (ap (λ (o : Outcome). o.ending) by.outcome_is) ∙ ends in cc
 
-  -- an attempt for which Tried holds, and the rest of the call, are named if each of them is
+  -- OutcomeNamed holds for an attempt and the rest of its call, if AttemptNamed holds for the attempt and OutcomeNamed
+  -- for the rest
   pub rest_named : (n flags : ℕ) (Outdated : ℕ → VgetrandomState → List HostStep → Outcome → Type 0)
       (Tried : List HostStep → Attempt → Type 0) (x : Both) (steps : List HostStep) (outcome : Outcome) →
       ((tried : List HostStep) (attempt : Attempt) → Good lists tried → Tried tried attempt → AttemptNamed x attempt) →
@@ -386,7 +389,7 @@ module _ (lists : Lists) (caller k : ℕ) where
 
       go : (end : AttemptEnd) → r.attempt.end ≡ end →
           AfterAttempt n flags Outdated end r.attempt r.rest r.outcome_after →
-          OutcomeNamed x (outcome_behind r.attempt.entries r.outcome_after)
+          OutcomeNamed x (prefix_outcome r.attempt.entries r.outcome_after)
       go holds held by fronts out ends =
           let none : r.outcome_after.entries ≡ [] = ap (λ (o : Outcome). o.entries) by.outcome_is in
           let all : r.attempt.entries ++ r.outcome_after.entries ≡ r.attempt.entries =
@@ -405,7 +408,7 @@ module _ (lists : Lists) (caller k : ℕ) where
           let m : LastServes u r.outcome_after.entries out =
           goes_on u r.attempt.next_block r.attempt.state r.rest r.outcome_after split.1 by
           (leaves r.tried r.attempt split.0 r.tries held)
-          (fronts_behind x r.attempt.entries r.outcome_after.entries fronts) out ends in
+          (fronts_after x r.attempt.entries r.outcome_after.entries fronts) out ends in
           record {
             earlier = r.attempt.entries ++ m.earlier;
             last = m.last;
@@ -417,7 +420,7 @@ module _ (lists : Lists) (caller k : ℕ) where
       go not_keyed held by fronts out ends =
           let m : LastServes u r.outcome_after.entries out =
           system_named n flags u (state_after_call r.attempt.state) r.rest r.outcome_after by
-          (fronts_behind x r.attempt.entries r.outcome_after.entries fronts) out ends in
+          (fronts_after x r.attempt.entries r.outcome_after.entries fronts) out ends in
           record {
             earlier = r.attempt.entries ++ m.earlier;
             last = m.last;
@@ -451,10 +454,9 @@ module _ (lists : Lists) (caller k : ℕ) where
   nothing_named x s steps outcome by fronts out ends =
       let e : no_bytes ≡ by_batch out = sym (ap (λ (o : Outcome). o.ending) by.outcome_is) ∙ ends in cc
 
-  -- OutcomeNamed holds for a vgetrandom call on a state that matches the replay of its list, if the call's steps are
-  -- good
+  -- OutcomeNamed holds for a vgetrandom call with good steps, if its state matches the replay of the state's list
   pub call_named : (n flags : ℕ) (x : Both) (s : VgetrandomState) (steps : List HostStep) (outcome : Outcome) →
-      replay.GoodBehind lists caller k steps → IsCall n flags s steps outcome → replay.Holds lists caller k x s →
+      replay.GoodAfter lists caller k steps → IsCall n flags s steps outcome → replay.Holds lists caller k x s →
       OutcomeNamed x outcome
   call_named n flags x s steps outcome good is h =
       match_cases (BySystem n flags s steps outcome) (FromLook n flags s steps outcome) (OutcomeNamed x outcome)

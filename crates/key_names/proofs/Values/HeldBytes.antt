@@ -1,4 +1,4 @@
--- The keys and the rests of batches in a lawful book's replay are those of their names.
+-- In a lawful book, each held key has the value of its name, and the rest of each batch is keystream of its named key.
 use Rattle.std.proofs.Common.{◌≡◌, ℕ, zero, suc, ◌+◌, ◌-◌, ◌*◌, Bool, true, false, List, [], ◌∷◌, ◌++◌, refl, sym, subst, ap, ◌∙◌, arith, Some, None, Option, length, take, drop, replicate}
 use Rattle.std.specs.Prelude.{◌==◌, slice_get, if◌then◌else◌}
 use Rattle.std.specs.List.{fold}
@@ -25,7 +25,7 @@ use Rattle.key_names.specs.Lanes.LawfulList.{LawfulFrom}
 use Rattle.key_names.specs.declared.entries.BaseEntry.{BaseEntry}
 use Rattle.key_names.specs.Lanes.Book.{Lists, cpu_list, state_list, ForwardLawful, LawfulStates}
 
--- keystream without its first n bytes is keystream from n bytes later on
+-- a keystream without its first n bytes is the keystream from n bytes later on
 keystream-drop : (key : List ℕ) (from n len : ℕ) → drop n (keystream key from len) ≡ keystream key (from + n) (len - n)
 keystream-drop key from zero len = let p : from ≡ from + 0 = omega arith in let q : len ≡ len - 0 = omega arith in
     ap (λ f. keystream key f len) p ∙ ap (keystream key (from + 0)) q
@@ -44,7 +44,7 @@ drop_both zero n rest = let p : zero + n ≡ n = omega arith in ap (λ i. drop i
 drop_both (suc m) n rest = let p : suc m + n ≡ suc (m + n) = omega arith in
     ap (λ i. drop i (0 ∷ (replicate m 0 ++ replicate n 0 ++ rest))) p ∙ drop_both m n rest
 
--- the rest of a new batch is keystream of the key, after the bytes that were served
+-- the rest of a new batch, of which w bytes were served, is keystream of the key
 new_rest : (at n w : ℕ) (key used : List ℕ) → n ≡ w → key ≡ used →
     drop n (with_zeros 0 w (keystream used at 96)) ≡ keystream key (at + n) (96 - n)
 new_rest at n w key used same is =
@@ -53,7 +53,7 @@ new_rest at n w key used same is =
     ∙ keystream-drop used at (0 + w) 96 ∙ ap (λ i. keystream used (at + i) (96 - i)) q
     ∙ ap (λ k. keystream k (at + n) (96 - n)) (sym is)
 
--- after more bytes were served, the rest of a batch is still the key's keystream from there on
+-- the rest of a batch is still keystream of the key after n more bytes were served
 less_rest : (at pos n : ℕ) (key bytes : List ℕ) → StartsZero pos bytes →
     drop pos bytes ≡ keystream key (at + pos) (96 - pos) →
     drop (pos + n) (with_zeros pos n bytes) ≡ keystream key (at + (pos + n)) (96 - (pos + n))
@@ -65,10 +65,10 @@ less_rest at pos n key bytes zeros is =
     ∙ sym (drop-drop n pos bytes) ∙ ap (drop n) is ∙ keystream-drop key (at + pos) n (96 - pos)
     ∙ ap (λ f. keystream key f ((96 - pos) - n)) p ∙ ap (keystream key (at + (pos + n))) q
 
--- the entry after a front has the front's length as its place
-pub entry_behind : {A : Type 0} (xs front : List A) (e : A) (rest : List A) → xs ≡ (front ++ e ∷ []) ++ rest →
+-- the place of the entry after a prefix is the length of the prefix
+pub entry_after : {A : Type 0} (xs front : List A) (e : A) (rest : List A) → xs ≡ (front ++ e ∷ []) ++ rest →
     slice_get xs (length front) ≡ Some e
-entry_behind {A = A} xs front e rest is = ap (λ ys. slice_get ys (length front)) is ∙ go front
+entry_after {A = A} xs front e rest is = ap (λ ys. slice_get ys (length front)) is ∙ go front
   where
     go : (front : List A) → slice_get ((front ++ e ∷ []) ++ rest) (length front) ≡ Some e
     go [] = refl
@@ -83,7 +83,7 @@ front_of {A = A} xs front e rest is = ap (take (length front)) is ∙ go front
     go (x ∷ front) = ap (λ ys. x ∷ ys) (go front)
 
 module _ (lists : Lists) where
-  -- the rest of a CPU's batch comes from the key of its fill
+  -- the rest of a CPU's batch is keystream of the key named by its fill
   abbrev RestNamed : ℕ → Option Fill → List ℕ → Type 0
   RestNamed w o bytes = (f : Fill) (k : KeyName) → o ≡ Some f → f.key ≡ Some k →
       drop (w * f.count) bytes ≡ keystream (value_of lists k) (32 + w * f.count) (96 - w * f.count)
@@ -176,7 +176,7 @@ module _ (lists : Lists) where
       (every_front (λ es. FrontNamed c w es) (cpu_list lists c) [] (cpu_list lists c) refl (λ f k is key. cc)
       (front_named_more c w lawful) (length (cpu_list lists c)))
 
-  -- the rest of a state's batch comes from the key of its refill
+  -- the rest of a state's batch is keystream of the key named by its refill
   abbrev pub StateRest : NamedState → StateBytes → Type 0
   StateRest s b = (k : KeyName) → s.batch_key ≡ Some k →
       drop s.pos b.batch ≡ keystream (value_of lists k) (64 * s.batch_from + s.pos) (96 - s.pos)
@@ -223,7 +223,7 @@ module _ (lists : Lists) where
       let may : StateMayCome (cpu_list lists) (state_after caller state front) e =
       (let P : List VEntry → Type 0 = λ xs. StateMayCome (cpu_list lists) (state_after caller state xs) e in
       subst P front_is (may_at (StateMayCome (cpu_list lists)) (state_step caller state) state_start es
-      (length front) e lawful.comes (entry_behind es front e rest is))) in
+      (length front) e lawful.comes (entry_after es front e rest is))) in
       let ok : StateOk (state_after caller state front) (fold (state_bytes_step lists) state_bytes_start front).batch =
       state_batches_ok lists (cpu_list lists) caller state state_start state_bytes_start front front_lawful
       (λ any. refl) in
@@ -249,7 +249,7 @@ module _ (lists : Lists) where
       (state_list lists caller state) refl (λ k is. cc)
       (state_front_more caller state lawful) (length (state_list lists caller state)))
 
-  -- the bytes of a named span are those of its key
+  -- the bytes of a named span are keystream of the key with that name
   span_bytes : (o : Option KeyName) (from len : ℕ) (span : Span) (bytes : List ℕ) → named_span o from len ≡ Some span →
       ((k : KeyName) → o ≡ Some k → bytes ≡ keystream (value_of lists k) from len) →
       bytes ≡ keystream (value_of lists span.key) span.from span.len

@@ -1,4 +1,4 @@
--- The value of the key that a list's entries leave is the value of the key's name.
+-- After each entry of its list, the key of the base or of a CPU has the value of its name.
 use Rattle.std.proofs.Common.{◌≡◌, ℕ, zero, suc, ◌+◌, false, List, [], ◌∷◌, ◌++◌, inl, inr, refl, sym, subst, ap, ◌∙◌, arith, Some, None, Option, length, take, append_assoc}
 use Rattle.std.specs.Prelude.{slice_get, option_and_then}
 use Rattle.std.specs.List.{fold}
@@ -17,7 +17,7 @@ use Rattle.key_names.specs.Keys.KeyInUse.{zero_key, value_of, root_value_or, bas
 use Rattle.key_names.proofs.Uses.BaseUses.{in_use_cases, after_cases}
 use Rattle.key_names.proofs.Uses.CpuNames.{after_cases as cpu_after_cases}
 
--- the name of the key in use at an entry of the base, and of a CPU
+-- the name of the key in use at an entry of the base; below, the name of the key in use at an entry of a CPU
 abbrev pub base_key_at : Lists → ℕ → Option KeyName
 base_key_at lists i =
     option_and_then (λ e. base_key_in_use e (base_after (take i lists.base)).key) (slice_get lists.base i)
@@ -27,7 +27,7 @@ cpu_key_at lists c k =
     option_and_then (λ e. cpu_key_in_use e (cpu_after lists.base c (take k (cpu_list lists c))).key)
     (slice_get (cpu_list lists c) k)
 
--- if each entry keeps a fact, the fact holds for each front of a list
+-- if each entry keeps a fact true, then the fact holds for each prefix of a list
 pub every_front : {A : Type 0} (P : List A → Type 0) (xs front rest : List A) → xs ≡ front ++ rest → P front →
     ((front : List A) (e : A) (rest : List A) → xs ≡ (front ++ e ∷ []) ++ rest → P front → P (front ++ e ∷ [])) →
     (j : ℕ) → P (front ++ take j rest)
@@ -38,7 +38,7 @@ every_front P xs front (e ∷ rest) is now more (suc j) =
     let q : (front ++ e ∷ []) ++ take j rest ≡ front ++ (e ∷ take j rest) = append_assoc front (e ∷ []) (take j rest) in
     subst P q (every_front P xs (front ++ e ∷ []) rest (is ∙ sym p) (more front e rest (is ∙ sym p) now) more j)
 
--- the place after a list is its length
+-- the place after a list is the place before the list plus the list's length
 pub place_after : {S E : Type 0} (place : S → ℕ) (step : S → E → S) → ((s : S) (e : E) → place (step s e) ≡ suc (place s)) →
     (s : S) (xs : List E) → place (fold step s xs) ≡ place s + length xs
 place_after place step next s [] = omega arith
@@ -52,12 +52,12 @@ take_front : {A : Type 0} (xs : List A) (e : A) (ys : List A) →
 take_front [] e ys = refl
 take_front (x ∷ xs) e ys = ap (λ zs. x ∷ zs) (take_front xs e ys)
 
--- the value of the base's key after a front of its list is that of its name
+-- the base's key after a prefix of the list has the value of its name
 abbrev pub BaseNamed : Lists → List BaseEntry → Type 0
 BaseNamed lists front = (k : KeyName) → (base_after front).key ≡ Some k →
     value_of lists k ≡ base_value_after lists.pool front
 
--- the value of the base's key in use at an entry is that of its name
+-- the key in use at an entry of the base has the value of its name
 base_in_use_named : (lists : Lists) (front : List BaseEntry) (e : BaseEntry) → BaseNamed lists front →
     (k : KeyName) → base_key_in_use e (base_after front).key ≡ Some k →
     value_of lists k ≡ base_value_in_use lists.pool e (base_value_after lists.pool front)
@@ -94,7 +94,7 @@ pub base_named : (lists : Lists) (j : ℕ) → BaseNamed lists (take j lists.bas
 base_named lists j =
     every_front (BaseNamed lists) lists.base [] lists.base refl (λ k h. cc) (base_named_more lists) j
 
--- the value of a CPU's key after a front of its list is that of its name
+-- a CPU's key after a prefix of the list has the value of its name
 abbrev pub CpuNamed : Lists → ℕ → List CpuEntry → Type 0
 CpuNamed lists c front = (k : KeyName) → (cpu_after lists.base c front).key ≡ Some k →
     value_of lists k ≡ cpu_value_after lists front
@@ -133,7 +133,7 @@ pub cpu_named : (lists : Lists) (c j : ℕ) → CpuNamed lists c (take j (cpu_li
 cpu_named lists c j =
     every_front (CpuNamed lists c) (cpu_list lists c) [] (cpu_list lists c) refl (λ k h. cc) (cpu_named_more lists c) j
 
--- the value of the key in use at a place is that of its name
+-- the key in use at a place of the base has the value of its name
 pub base_key_named : (lists : Lists) (i : ℕ) (k : KeyName) → base_key_at lists i ≡ Some k →
     value_of lists k ≡ base_used_at lists.pool lists.base i
 base_key_named lists i k h = go (slice_get lists.base i) refl h

@@ -1,4 +1,5 @@
--- The lines of a transcript print by no entry twice, so no byte is printed twice.
+-- In a lawful book, a list that has no entry twice uses no byte twice. So lines that print by different entries print
+-- different bytes of keys.
 use Rattle.std.proofs.Common.{◌≡◌, ℕ, zero, suc, ◌+◌, ◌≤◌, true, List, [], ◌∷◌, ◌++◌, inl, inr, refl, sym, subst, ap, arith, take}
 use Rattle.std.specs.Prelude.{◌==◌, ◌&&◌, slice_get}
 use Rattle.std.specs.List.{fold}
@@ -17,7 +18,7 @@ use Rattle.key_names.proofs.Uses.UseLists.{IsUsed-append_cases, Disjoint-append,
 use Rattle.key_names.proofs.Uses.BookUses.{own_once, own_uses, uses_of}
 use Rattle.key_names.proofs.Transcripts.TakenMarks.{hit, lane_takes}
 
--- the uses of the entry at a place are part of the uses of the whole list, and share no byte with the other parts
+-- the uses of the entry at a place are among those of the whole list, and share no byte with the uses of other places
 module _ {S E : Type 0} (uses_at : S → E → List Use) (step : S → E → S) where
   abbrev at_place : S → List E → ℕ → List Use
   at_place s es i = uses_or (uses_at (fold step s (take i es))) (slice_get es i)
@@ -56,7 +57,7 @@ is_same (at_lane lane place) (at_state caller state there) = 0
 is_same (at_state caller state place) (at_lane lane there) = 0
 is_same (at_state caller state place) (at_state c k i) = hit (c == caller && (k == state && i == place))
 
--- the number of times that an entry is in a list
+-- how often an entry is in a list of entries
 abbrev pub times : Origin → List Origin → ℕ
 times o [] = 0
 times o (x ∷ xs) = is_same o x + times o xs
@@ -98,7 +99,7 @@ module _ (lists : Lists) (lanes : ForwardLawful lists) (states : LawfulStates li
       ((own_uses lists lanes states (holder o)).within k q (of_holder o k q h))
       ((own_uses lists lanes states (holder x)).within k q (of_holder x k q m))
 
-  -- if two entries use one byte, they are the same entry
+  -- two entries that use the same byte are the same entry
   meet : (o x : Origin) (k : KeyName) (q : ℕ) → IsUsed (origin_uses lists o) k q →
       IsUsed (origin_uses lists x) k q → is_same o x ≡ 1
   meet (at_lane PoolLane place) x k q h m = absurd h
@@ -143,7 +144,7 @@ module _ (lists : Lists) (lanes : ForwardLawful lists) (states : LawfulStates li
   meet (at_state c s i) (at_lane (CpuLane d) j) k q h m =
       let e = one_holder (at_state c s i) (at_lane (CpuLane d) j) k q h m in cc
 
-  -- if an entry uses a byte that a list uses, the list contains the entry
+  -- if an entry and a list of entries use the same byte, then the list contains the entry
   found : (o : Origin) (xs : List Origin) (k : KeyName) (q : ℕ) → IsUsed (origin_uses lists o) k q →
       IsUsed (origins_uses lists xs) k q → 1 ≤ times o xs
   found o [] k q h m = absurd m
@@ -152,7 +153,7 @@ module _ (lists : Lists) (lanes : ForwardLawful lists) (states : LawfulStates li
     | inr there ↦ (let rest = found o xs k q h there in omega arith)
   ]
 
-  -- if no entry is twice in a list, its uses are disjoint
+  -- if a list contains no entry twice, its uses are disjoint
   pub once_disjoint : (xs : List Origin) → ((o : Origin) → times o xs ≤ 1) → Disjoint (origins_uses lists xs)
   once_disjoint [] once = tt
   once_disjoint (x ∷ xs) once =

@@ -1,4 +1,5 @@
--- The lines of a transcript print by each entry at most once: its mark is in one line, or it belongs to one call.
+-- The lines of a transcript print by each entry at most once. The entry of a lane has its mark in one line, and the
+-- entry of a vgetrandom state belongs to one call.
 use Rattle.std.proofs.Common.{◌≡◌, ℕ, zero, suc, ◌+◌, ◌<◌, ◌≤◌, Bool, true, false, List, [], ◌∷◌, ◌++◌, inl, inr, refl, ap, arith, length}
 use Rattle.std.specs.Prelude.{◌==◌, ◌&&◌, map, if◌then◌else◌}
 use Rattle.std.specs.List.{flat_map, range_with_len}
@@ -19,7 +20,7 @@ use Rattle.key_names.proofs.Transcripts.CallTakes.{acts_marks, call_marks, calls
 use Rattle.key_names.proofs.Transcripts.TranscriptBooks.{lt_or_le}
 use Rattle.key_names.proofs.Values.PrintedOnce.{is_same, times, times_append}
 
--- lines print by an entry of a lane no more often than they have marks of its place
+-- lines print by the entry of a lane at most as often as the lines have the mark of the entry's place
 module _ (lane : LaneId) (p : ℕ) (lists : Lists) where
   abbrev here : Origin
   here = at_lane lane p
@@ -104,7 +105,7 @@ module _ (lane : LaneId) (p : ℕ) (lists : Lists) where
         callers_times (suc c) callers mss oss print.1,
       )
 
--- a number that is 0 or 1, and 1 only if P holds
+-- the number is 0 or 1, and if it is 1, P holds
 pub record Once (n : ℕ) (P : Type 0) : Type 0 where
   pub most : n ≤ 1
   pub only : 1 ≤ n → P
@@ -125,7 +126,7 @@ once_or n a b P Q R is first second left right both = elim (lt_or_le 0 a) [
   }
 ]
 
--- an entry of a state belongs to one call
+-- lines print by an entry of a vgetrandom state at most once, since the entry belongs to one call
 module _ (c k i : ℕ) (lists : Lists) where
   abbrev this : Origin
   this = at_state c k i
@@ -202,7 +203,7 @@ module _ (c k i : ℕ) (lists : Lists) where
       (times_append this os (flat_map (λ os. os) oss)) (line_once own line.steps os print.0.by)
       (lines_once (no_entries own) lines oss print.1) (λ a. a) (λ a. absurd (none a)) (λ a b. none b)
 
-  -- the entries of a state after one more call
+  -- the entries that a call appends to the list of state k
   abbrev own_entries : CallMeaning → List VEntry
   own_entries m = if m.before.current == k then m.entries else []
 
@@ -264,7 +265,7 @@ module _ (c k i : ℕ) (lists : Lists) where
       (calls_once d [] calls ms os print.0) (callers_once (suc d) callers mss oss print.1)
       (λ e. let same = e.0 in omega arith) (λ le. omega arith) (λ e le. let same = e.0 in omega arith)
 
--- if the calls have each mark at most once, each entry that they print by is used at most once
+-- if the calls have each mark at most once, the calls print by each entry at most once
 pub printed_once : (lists : Lists) (callers : List (List Call)) (mss : List (List CallMeaning))
     (oss : List (List (List (List Origin)))) →
     ((lane : LaneId) (p : ℕ) → all_calls_marks lane p callers ≤ 1) → CallersPrint lists 0 callers mss oss →

@@ -1,4 +1,4 @@
--- The visits of lawful lanes serve the bytes of their served spans, by names.
+-- In lawful lanes, each visit serves the bytes of the named spans that its entry serves.
 use Rattle.std.proofs.Common.{◌≡◌, ℕ, zero, suc, ◌+◌, ◌*◌, ◌≤◌, Bool, true, false, List, [], ◌∷◌, ◌++◌, inl, inr, refl, sym, subst, ap, ◌∙◌, arith, Some, None, Option, take, nat_lt, append-nil}
 use Rattle.std.specs.Prelude.{slice_get, option_and_then, if◌then◌else◌}
 use Rattle.std.specs.List.{fold}
@@ -13,7 +13,7 @@ use Rattle.key_names.specs.Kernel.Keystream.{keystream}
 use Rattle.key_names.specs.Keys.KeyInUse.{value_of, taken_bytes, base_used_at, base_value_at, base_value_after, base_value_in_use}
 use Rattle.key_names.specs.Lanes.Book.{Lists}
 use Rattle.key_names.specs.Lanes.BaseList.{BaseState, Phase, empty, early, base_after, base_step, base_start, base_key_in_use, BaseFits, BaseMayCome, LawfulBase}
-use Rattle.key_names.specs.Callers.Deeds.{base_visit}
+use Rattle.key_names.specs.Callers.Effects.{base_visit}
 use Rattle.key_names.specs.Keys.Uses.{read_uses, use_of, kept, served, named_uses}
 use Rattle.key_names.specs.Keys.ServedNamed.{served_in, base_place_uses}
 use Rattle.key_names.specs.Transcripts.StatesReplayed.{HasName}
@@ -30,13 +30,13 @@ use Rattle.key_names.specs.Kernel.Batches.{Fill, one_more_served}
 use Rattle.key_names.specs.Lanes.CpuList.{CpuState, CpuMayCome, LawfulCpu, ReadFits, IntFits, cpu_start, cpu_step, cpu_after, cpu_key_in_use, call_or, generation_or}
 use Rattle.key_names.specs.Keys.KeyInUse.{cpu_used_at, cpu_value_at, cpu_value_after, cpu_value_in_use}
 use Rattle.key_names.specs.Lanes.Book.{cpu_list}
-use Rattle.key_names.specs.Callers.Deeds.{cpu_visit, int_of}
+use Rattle.key_names.specs.Callers.Effects.{cpu_visit, int_of}
 use Rattle.key_names.specs.Keys.Uses.{is_rekeyed, batch_uses, named_use}
 use Rattle.key_names.specs.Keys.ServedNamed.{cpu_place_uses, LawfulServesNamed}
 use Rattle.key_names.proofs.Values.Named.{cpu_key_at, cpu_key_named, every_front}
-use Rattle.key_names.proofs.Values.HeldBytes.{entry_behind, front_of}
+use Rattle.key_names.proofs.Values.HeldBytes.{entry_after, front_of}
 
--- the bytes that a read serves, by names
+-- a read serves the bytes of its named spans
 module _ (lists : Lists) (key call : KeyName) (used : List ℕ) (is : value_of lists key ≡ used)
     (next : value_of lists call ≡ keystream used 32 32) where
   user_named : (n : ℕ) (b : Bool) →
@@ -53,7 +53,7 @@ module _ (lists : Lists) (key call : KeyName) (used : List ℕ) (is : value_of l
       ap (λ v. keystream v 32 n) (sym is) ∙ sym (append-nil (keystream (value_of lists key) 32 n))
   read_named false (User n) none = user_named n (nat_lt 32 n)
 
--- the place in the state before an entry is the entry's number
+-- the state before an entry has the entry's number as its place
 pub place_at : {S E : Type 0} (place : S → ℕ) (step : S → E → S) → ((s : S) (e : E) → place (step s e) ≡ suc (place s)) →
     (s : S) (xs : List E) (i : ℕ) (e : E) → slice_get xs i ≡ Some e → place (fold step s (take i xs)) ≡ place s + i
 place_at place step next s [] i e is = cc
@@ -129,7 +129,7 @@ module _ (lists : Lists) (lawful : LawfulBase lists.pool lists.base) where
       read_named lists key.0 (Call BaseLane s.place) used value next false taken refl
       ∙ ap (λ o. served_in lists (named_uses o (λ key. read_uses false key (Call BaseLane s.place) taken))) (sym key.1)
 
-  -- each visit of the base serves the bytes of its served spans, by names
+  -- each visit of the base serves the bytes of the named spans that its entry serves
   pub base_visit_named : (i : ℕ) (e : BaseEntry) → slice_get lists.base i ≡ Some e →
       (base_visit lists i e).serves ≡ served_in lists (base_place_uses lists i e)
   base_visit_named i (Draw o taken) is = drawn i o taken is
@@ -150,13 +150,13 @@ module _ (lists : Lists) (lawful : LawfulBase lists.pool lists.base) where
   base_visit_named i Stall is = refl
   base_visit_named i Unstall is = refl
 
--- a fill's key is the key in use at its place
+-- each fill is of the key in use at its place, which has a name
 module _ (lists : Lists) (c : ℕ) where
   record FillOk (f : Fill) : Type 0 where
     used_key : cpu_key_at lists c f.place ≡ f.key
     keyed : HasName f.key
 
-  -- a CPU with a generation has a key, and each fill is of the key in use at its place
+  -- a CPU with a generation above 0 has a key, and each fill is of the key in use at its place
   record CpuOk (s : CpuState) : Type 0 where
     keyed : 1 ≤ s.generation → HasName s.key
     fills : (w : ℕ) (f : Fill) → s.fills w ≡ Some f → FillOk f
@@ -251,7 +251,7 @@ module _ (lists : Lists) (c : ℕ) where
     front_ok_more front e rest is ok =
         let k : ℕ = length front in
         let s : CpuState = cpu_after lists.base c front in
-        let there : slice_get es k ≡ Some e = entry_behind es front e rest is in
+        let there : slice_get es k ≡ Some e = entry_after es front e rest is in
         let front_is : take k es ≡ front = front_of es front e rest is in
         let may : CpuMayCome lists.base c s e =
         (let P : List CpuEntry → Type 0 = λ xs. CpuMayCome lists.base c (cpu_after lists.base c xs) e in
@@ -316,7 +316,8 @@ module _ (lists : Lists) (c : ℕ) where
         ∙ sym (append-nil (keystream (value_of lists key) (32 + width * f.count) width))
         ∙ ap (λ o. served_in lists (named_use served o (32 + width * f.count) width)) (sym good.keyed.1)
 
-    -- each visit of a CPU serves the bytes of its served spans, by names
+    -- each visit of a CPU serves the bytes of the named spans that its entry serves, unless a state takes the visit as
+    -- a key
     pub cpu_visit_named : (k : ℕ) (e : CpuEntry) → slice_get es k ≡ Some e → is_rekeyed lists c k ≡ false →
         (cpu_visit lists c k e).serves ≡ served_in lists (cpu_place_uses lists c k e)
     cpu_visit_named k (Read look refill taken) is none = read_visit k look refill taken is none

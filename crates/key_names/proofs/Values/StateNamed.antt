@@ -1,4 +1,4 @@
--- The value of the key that a vgetrandom state's entries leave is the value of the key's name.
+-- After each entry of its list, the key of a vgetrandom state has the value of its name.
 use Rattle.std.proofs.Common.{◌≡◌, ℕ, suc, ◌+◌, List, [], ◌∷◌, ◌++◌, refl, sym, ap, ◌∙◌, arith, Some, None, Option, take}
 use Rattle.std.specs.List.{fold}
 use Rattle.std.proofs.lemmas.List.Sums.{fold-append}
@@ -12,7 +12,7 @@ use Rattle.key_names.specs.Lanes.Book.{Lists, state_list}
 use Rattle.key_names.specs.Keys.KeyInUse.{zero_key, value_of, cpu_call_value, refill_value, refill_value_from, state_value_step, state_value_after}
 use Rattle.key_names.proofs.Values.Named.{every_front}
 
--- the number of refills
+-- how many of the entries are refills
 refills_in : List VEntry → ℕ
 refills_in [] = 0
 refills_in (Rekey cpu place ∷ es) = refills_in es
@@ -35,7 +35,7 @@ module _ (lists : Lists) (caller state : ℕ) where
   refills_after s (Serve pos len ∷ es) = refills_after (state_step caller state s (Serve pos len)) es
   refills_after s (Wipe ∷ es) = refills_after (state_step caller state s Wipe) es
 
-  -- a refill right after a front keeps the value that the key after the front gives
+  -- the value of a refill's key is made from the value of the key before it
   refill_value_at : (v : List ℕ) (front : List VEntry) (from : ℕ) (rest : List VEntry) →
       refill_value_from lists v (refills_in front) ((front ++ Refill from ∷ []) ++ rest) ≡ refill_value
       (fold (state_value_step lists) v front) from
@@ -48,7 +48,7 @@ module _ (lists : Lists) (caller state : ℕ) where
   refill_value_at v (Serve pos len ∷ front) from rest = refill_value_at v front from rest
   refill_value_at v (Wipe ∷ front) from rest = refill_value_at zero_key front from rest
 
-  -- the value of the key after a front of the list is that of its name
+  -- the key after a prefix of the list has the value of its name
   abbrev pub StateNamed : List VEntry → Type 0
   StateNamed front = (k : KeyName) → (state_after caller state front).key ≡ Some k →
       value_of lists k ≡ state_value_after lists front

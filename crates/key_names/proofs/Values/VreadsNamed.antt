@@ -1,4 +1,4 @@
--- If the batch ended a vread, the vread shows the bytes of the spans that its last attempt serves, by names.
+-- A vread that its batch served shows the bytes of the named spans that the entries of its last attempt serve.
 use Rattle.std.proofs.Common.{◌≡◌, ℕ, zero, suc, ◌<◌, ◌≤◌, Bool, true, false, List, [], ◌∷◌, ◌++◌, refl, sym, subst, ap, ◌∙◌, arith, length, take, append_assoc}
 use Rattle.std.specs.Prelude.{◌==◌, not, ⊤, if◌then◌else◌}
 use Rattle.std.specs.List.{fold}
@@ -8,7 +8,7 @@ use Rattle.std.proofs.lemmas.List.Sums.{fold-append}
 use Rattle.key_names.specs.declared.entries.VEntry.{VEntry}
 use Rattle.key_names.specs.Lanes.Book.{Lists, cpu_list, state_list}
 use Rattle.key_names.specs.Callers.Calls.{Setting, Call, alone, vread_call, unbound, ending, BoundAct}
-use Rattle.key_names.specs.Callers.Deeds.{Deed, deeds_of}
+use Rattle.key_names.specs.Callers.Effects.{Effect, effects_of}
 use Rattle.key_names.specs.Callers.Forms.{Looked}
 use Rattle.key_names.specs.Lanes.StateList.{NamedState, state_start, state_after, LawfulStateList}
 use Rattle.key_names.specs.Keys.LiveMaterial.{StateBytes, state_bytes_start, state_bytes_step}
@@ -34,7 +34,7 @@ use Rattle.key_names.proofs.Vgetrandom.VreadEnds as spec
 use Rattle.key_names.proofs.Transcripts.TranscriptBooks.{HasStates, later_states, own_list}
 use Rattle.key_names.proofs.Vgetrandom.CallsKeep.{match_cases, some_bytes}
 use Rattle.key_names.proofs.Values.HeldBytes.{StateFront, state_front_more}
-use Rattle.key_names.proofs.Transcripts.GoodSteps.{good_behind}
+use Rattle.key_names.proofs.Transcripts.GoodSteps.{good_after}
 use Rattle.key_names.proofs.Transcripts.KeyVisits.{AllThere}
 use Rattle.key_names.proofs.Values.Named.{every_front}
 use Rattle.key_names.proofs.Values.StateNamed.{StateNamed, state_named}
@@ -52,7 +52,7 @@ module _ (lists : Lists) (caller k : ℕ) (below : k < 16) where
   abbrev Holds : Both → VgetrandomState → Type 0
   Holds = replay.Holds lists caller k
 
-  -- how a vread ended: without bytes, with the bytes that its last entries serve, or with a system call's answer
+  -- how a vread ended: it shows no data, the bytes that its last entries serve, or the answer of a system call
   pub data VreadEnds (n flags : ℕ) (acts : List BoundAct) (x : Both) (m : CallMeaning) : Type 0 where
     showed_none : m.own.shown ≡ no_data → VreadEnds n flags acts x m
     showed_batch : (out : List ℕ) → m.own.shown ≡ bytes_or_none out → batch.LastServes lists caller k x m.entries out →
@@ -61,7 +61,7 @@ module _ (lists : Lists) (caller k : ℕ) (below : k < 16) where
         VreadEnds n flags acts x m
 
   vgetrandom_ends : (x : Both) (n flags : ℕ) (acts : List BoundAct) (m : CallMeaning) →
-      Holds x (current_state m.before) → AllThere lists m.own.deeds → NeverFall (looks_of m.own.deeds) →
+      Holds x (current_state m.before) → AllThere lists m.own.effects → NeverFall (looks_of m.own.effects) →
       batch.Fronts lists caller k x m.entries → ByVgetrandom n flags acts m → VreadEnds n flags acts x m
   vgetrandom_ends x n flags acts m h there rising fronts by = go by.outcome.ending refl
     where
@@ -74,10 +74,10 @@ module _ (lists : Lists) (caller k : ℕ) (below : k < 16) where
           let P : List VEntry → Type 0 = λ es. batch.LastServes lists caller k x es out in
           showed_batch out (by.shown ∙ ap ending_shown is) (subst P (sym by.entries)
           (batch.call_named lists caller k n flags x (current_state m.before) by.steps by.outcome
-          (good_behind lists m.before.setting by.steps m.own.deeds there rising by.shows) by.is_call h own out is))
+          (good_after lists m.before.setting by.steps m.own.effects there rising by.shows) by.is_call h own out is))
       go (by_system answer) is = asked_system by answer is
 
-  local_ends : (x : Both) (n flags look : ℕ) (acts : List BoundAct) (rest : List Deed) (m : CallMeaning) → 1 ≤ n →
+  local_ends : (x : Both) (n flags look : ℕ) (acts : List BoundAct) (rest : List Effect) (m : CallMeaning) → 1 ≤ n →
       Holds x (current_state m.before) → batch.Fronts lists caller k x m.entries →
       serves_locally (published_by look) (current_state m.before) n ≡ true → ByLocalCopy n rest m →
       VreadEnds n flags acts x m
@@ -98,10 +98,10 @@ module _ (lists : Lists) (caller k : ℕ) (below : k < 16) where
       })
 
   vread_ends : (x : Both) (n flags : ℕ) (acts : List BoundAct) (m : CallMeaning) →
-      Holds x (current_state m.before) → AllThere lists m.own.deeds → batch.Fronts lists caller k x m.entries →
+      Holds x (current_state m.before) → AllThere lists m.own.effects → batch.Fronts lists caller k x m.entries →
       VreadMeans n flags acts m → VreadEnds n flags acts x m
   vread_ends x n flags acts m h there fronts means =
-      match_cases (Looked (LocalOrCall n flags acts m) m.own.deeds) (ByVgetrandom n flags acts m)
+      match_cases (Looked (LocalOrCall n flags acts m) m.own.effects) (ByVgetrandom n flags acts m)
       (VreadEnds n flags acts x m) (tries_local n flags acts)
       (λ tries looked. match_cases (ByLocalCopy n looked.1 m) (ByVgetrandom n flags acts m) (VreadEnds n flags acts x m)
       (serves_locally (published_by looked.0) (current_state m.before) n)
@@ -111,7 +111,7 @@ module _ (lists : Lists) (caller k : ℕ) (below : k < 16) where
       (λ no by. vgetrandom_ends x n flags acts m h there means.looks fronts by)
       means.ways
 
-  -- a vread of this state ends in one of these ways after these entries
+  -- VreadEnds holds for a vread of this state, after these entries
   abbrev pub CallEnds : Both → Call → CallMeaning → Type 0
   CallEnds x (alone event line) m = ⊤
   CallEnds x (vread_call n flags line acts) m = m.before.current ≡ k → VreadEnds n flags acts x m
@@ -139,36 +139,36 @@ module _ (lists : Lists) (caller k : ℕ) (below : k < 16) where
       fronts pre (post ++ ys) (ap (λ zs. zs ++ ys) is ∙ append_assoc pre post ys)
 
   call_ends : (x : Both) (call : Call) (m : CallMeaning) → Holds x (state_number k m.before) →
-      EachOfCall (λ line m. deeds_of lists line.steps ≡ m.deeds) call m → Means call m →
+      EachOfCall (λ line m. effects_of lists line.steps ≡ m.effects) call m → Means call m →
       batch.Fronts lists caller k x (own_entries m) → CallEnds x call m
-  call_ends x (alone event line) m h deeds means fronts = tt
-  call_ends x (vread_call n flags line acts) m h deeds means fronts = λ same.
+  call_ends x (alone event line) m h effects means fronts = tt
+  call_ends x (vread_call n flags line acts) m h effects means fronts = λ same.
       let P : List VEntry → Type 0 = λ es. batch.Fronts lists caller k x es in
       vread_ends x n flags acts m (walk.current_holds lists caller k below x m same h)
-      (walk.there_in lists caller k below line m.own deeds.0) (subst P (own_is m same) fronts) means
-  call_ends x (unbound bound) m h deeds means fronts = tt
-  call_ends x (ending line) m h deeds means fronts = tt
+      (walk.there_in lists caller k below line m.own effects.0) (subst P (own_is m same) fronts) means
+  call_ends x (unbound bound) m h effects means fronts = tt
+  call_ends x (ending line) m h effects means fronts = tt
 
   calls_end : (x : Both) (s : CallerState) (calls : List Call) (ms : List CallMeaning) →
       length s.states ≡ 16 → Holds x (state_number k s) →
-      EachLine (λ line m. deeds_of lists line.steps ≡ m.deeds) calls ms → CallsMean s calls ms →
+      EachLine (λ line m. effects_of lists line.steps ≡ m.effects) calls ms → CallsMean s calls ms →
       batch.Fronts lists caller k x (entries_of_state k ms) → EachEnds x calls ms
-  calls_end x s [] ms len h deeds mean fronts = tt
-  calls_end x s (call ∷ calls) [] len h deeds mean fronts = tt
-  calls_end x s (call ∷ calls) (m ∷ ms) len h deeds mean fronts =
+  calls_end x s [] ms len h effects mean fronts = tt
+  calls_end x s (call ∷ calls) [] len h effects mean fronts = tt
+  calls_end x s (call ∷ calls) (m ∷ ms) len h effects mean fronts =
       let P : CallerState → Type 0 = λ v. Holds x (state_number k v) in
       let before : Holds x (state_number k m.before) = subst P (sym mean.0) h in
       let leaves : walk.Leaves lists caller k below x m = walk.call_leaves lists caller k below x call m
-      (ap (λ (v : CallerState). length v.states) mean.0 ∙ len) before deeds.0 mean.1 in (
-        call_ends x call m before deeds.0 mean.1 (fronts_first x (own_entries m) (entries_of_state k ms) fronts),
-        calls_end (after x (own_entries m)) m.after calls ms leaves.length_is leaves.holds deeds.1 mean.2
-            (batch.fronts_behind lists caller k x (own_entries m) (entries_of_state k ms) fronts),
+      (ap (λ (v : CallerState). length v.states) mean.0 ∙ len) before effects.0 mean.1 in (
+        call_ends x call m before effects.0 mean.1 (fronts_first x (own_entries m) (entries_of_state k ms) fronts),
+        calls_end (after x (own_entries m)) m.after calls ms leaves.length_is leaves.holds effects.1 mean.2
+            (batch.fronts_after lists caller k x (own_entries m) (entries_of_state k ms) fronts),
       )
 
   abbrev start : Both
   start = record { named = state_start; bytes = state_bytes_start }
 
-  -- after each front of the state's list the names match the replay
+  -- the names match the replay after each prefix of the state's list
   pub front_tells : LawfulStateList (cpu_list lists) caller k (state_list lists caller k) → (pre post : List VEntry) →
       state_list lists caller k ≡ pre ++ post → batch.NamesTell lists caller k (after start pre)
   front_tells lawful pre post is =
@@ -181,7 +181,7 @@ module _ (lists : Lists) (caller k : ℕ) (below : k < 16) where
       (every_front R es [] es refl (λ name is. cc) (state_front_more lists caller k lawful) (length pre)) in
       let named = walk.named_is lists caller k below start pre in
       let bytes = walk.bytes_is lists caller k below start pre in
-      let told : batch.NamesTell lists caller k
+      let inferred : batch.NamesTell lists caller k
       (record { named = state_after caller k pre; bytes = fold (state_bytes_step lists) state_bytes_start pre }) =
       record {
         key = λ name at. names name at ∙ sym (walk.bytes_key lists state_bytes_start pre);
@@ -191,13 +191,13 @@ module _ (lists : Lists) (caller k : ℕ) (below : k < 16) where
       (record { named = t; bytes = fold (state_bytes_step lists) state_bytes_start pre }) in
       let Q : StateBytes → Type 0 = λ b. batch.NamesTell lists caller k
       (record { named = (after start pre).named; bytes = b }) in
-      subst Q (sym bytes) (subst P (sym named) told)
+      subst Q (sym bytes) (subst P (sym named) inferred)
 
   pub vreads_end : (setting : Setting) (calls : List Call) (ms : List CallMeaning) → CallerMeans lists setting calls ms →
       LawfulStateList (cpu_list lists) caller k (state_list lists caller k) →
       state_list lists caller k ≡ entries_of_state k ms → EachEnds start calls ms
   vreads_end setting calls ms means lawful is =
-      calls_end start (caller_start setting) calls ms refl (walk.start_holds lists caller k below setting) means.deeds
+      calls_end start (caller_start setting) calls ms refl (walk.start_holds lists caller k below setting) means.effects
       means.follows (λ pre post cut. front_tells lawful pre post (is ∙ cut))
 
   named_end : (n flags : ℕ) (acts : List BoundAct) (front : List VEntry) (m : CallMeaning) →
@@ -215,7 +215,7 @@ module _ (lists : Lists) (caller k : ℕ) (below : k < 16) where
   })
   named_end n flags acts front m (asked_system by answer is) = spec.asked_system by answer is
 
-  -- the vread at a place of the calls ends in one of these ways
+  -- VreadEnds holds for the vread at place j of the calls
   vread_at : (j : ℕ) (front : List VEntry) (calls : List Call) (ms : List CallMeaning) →
       EachEnds (after start front) calls ms → (n flags : ℕ) (line : SeenLine) (acts : List BoundAct)
       (m : CallMeaning) → m.before.current ≡ k → slice_get calls j ≡ Some (vread_call n flags line acts) →

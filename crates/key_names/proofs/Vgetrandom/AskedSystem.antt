@@ -1,15 +1,15 @@
--- If a system call ended a vread, the vread shows the bytes of its line's last visit.
+-- If a system call ended a vread, then the vread shows no data, or the bytes of its line's last visit.
 use Rattle.std.proofs.Common.{◌≡◌, ℕ, ◌⊎◌, inl, inr, true, List, [], ◌∷◌, ◌++◌, refl, sym, subst, ap, ◌∙◌, append_assoc, append-nil, Option, Some, None}
 use Rattle.std.specs.Prelude.{◌==◌}
 use Rattle.key_names.specs.declared.errno.Errno.{Errno}
 use Rattle.key_names.specs.Callers.Calls.{Setting}
 use Rattle.key_names.specs.Kernel.Flags.{is_bad}
-use Rattle.key_names.specs.Callers.Deeds.{Deed, looked}
+use Rattle.key_names.specs.Callers.Effects.{Effect, looked}
 use Rattle.key_names.specs.Callers.Answers.{served_bytes, system_answer}
 use Rattle.key_names.specs.Transcripts.SeenLine.{no_data, bytes_or_none}
 use Rattle.key_names.specs.Kernel.VgetrandomState.{VgetrandomState}
 use Rattle.key_names.specs.Kernel.Vgetrandom.{SystemAnswer, HostStep, publishes, system_call, at_point, AttemptEnd, holds, outdated, not_keyed, Attempt, by_system, IsAttempt, Outcome, BySystem, ByNothing, AfterAttempt, AttemptAndRest, AfterBoth, state_after_call, SecondAttempt, FirstAttempt, FromLook, IsCall}
-use Rattle.key_names.specs.Callers.VreadSteps.{last_place, answer_with, answer_behind, errno_of, Shows, system_line_shown}
+use Rattle.key_names.specs.Callers.VreadSteps.{last_place, answer_with, answer_after, errno_of, Shows, system_line_shown}
 use Rattle.key_names.proofs.Vgetrandom.CallsKeep.{match_cases}
 use Rattle.key_names.proofs.Vgetrandom.KeyTakes.{place_takes, answer_takes}
 
@@ -20,9 +20,9 @@ pub record EndsAsked (answer : SystemAnswer) (steps : List HostStep) : Type 0 wh
   flags : ℕ
   steps_are : steps ≡ before ++ system_call n flags answer ∷ []
 
-asked_behind : (answer : SystemAnswer) (front rest steps : List HostStep) → steps ≡ front ++ rest →
+asked_after : (answer : SystemAnswer) (front rest steps : List HostStep) → steps ≡ front ++ rest →
     EndsAsked answer rest → EndsAsked answer steps
-asked_behind answer front rest steps is asked = record {
+asked_after answer front rest steps is asked = record {
   before = front ++ asked.before;
   n = asked.n;
   flags = asked.flags;
@@ -49,7 +49,7 @@ module _ (answer : SystemAnswer) where
       after.ending ≡ by_system answer → Outdated from s rest after → EndsAsked answer rest) →
       outcome.ending ≡ by_system answer → AttemptAndRest n flags Outdated Tried steps outcome → EndsAsked answer steps
   tried_asked n flags Outdated Tried steps outcome goes_on is r =
-      asked_behind answer r.tried r.rest steps r.steps_are (go r.attempt.end r.goes_on)
+      asked_after answer r.tried r.rest steps r.steps_are (go r.attempt.end r.goes_on)
     where
       ends : r.outcome_after.ending ≡ by_system answer
       ends = sym (ap (λ (o : Outcome). o.ending) r.outcome_is) ∙ is
@@ -72,7 +72,7 @@ module _ (answer : SystemAnswer) where
   call_asked n flags s steps outcome ends is =
       match_cases (BySystem n flags s steps outcome) (FromLook n flags s steps outcome) (EndsAsked answer steps)
       (is_bad flags) (λ bad by. asked n flags s steps outcome ends by)
-      (λ good look. asked_behind answer (publishes look.published ∷ []) look.rest steps look.steps_are
+      (λ good look. asked_after answer (publishes look.published ∷ []) look.rest steps look.steps_are
       (match_cases (BySystem n flags s look.rest outcome) _ (EndsAsked answer look.rest) (look.published == 0)
       (λ unready by. asked n flags s look.rest outcome ends by)
       (λ is. match_cases (ByNothing s look.rest outcome) _ (EndsAsked answer look.rest) (n == 0)
@@ -84,59 +84,59 @@ module _ (answer : SystemAnswer) where
       look.goes_on))
       is
 
-  -- the deeds of that system call are the last of the line
-  record ShowsAsked (deeds : List Deed) : Type 0 where
-    before : List Deed
-    call : List Deed
+  -- the effects of the line end with those of the system call
+  record ShowsAsked (effects : List Effect) : Type 0 where
+    before : List Effect
+    call : List Effect
     flags : ℕ
-    deeds_are : deeds ≡ before ++ call
-    answers : answer ≡ answer_behind flags call
+    effects_are : effects ≡ before ++ call
+    answers : answer ≡ answer_after flags call
 
-  deeds_behind : (front rest deeds : List Deed) → deeds ≡ front ++ rest → ShowsAsked rest → ShowsAsked deeds
-  deeds_behind front rest deeds is shows = record {
+  effects_after : (front rest effects : List Effect) → effects ≡ front ++ rest → ShowsAsked rest → ShowsAsked effects
+  effects_after front rest effects is shows = record {
     before = front ++ shows.before;
     call = shows.call;
     flags = shows.flags;
-    deeds_are = is ∙ ap (λ xs. front ++ xs) shows.deeds_are ∙ sym (append_assoc front shows.before shows.call);
+    effects_are = is ∙ ap (λ xs. front ++ xs) shows.effects_are ∙ sym (append_assoc front shows.before shows.call);
     answers = shows.answers;
   }
 
-  shows_asked : (set : Setting) (before : List HostStep) (n flags : ℕ) (deeds : List Deed) →
-      Shows set (before ++ system_call n flags answer ∷ []) deeds → ShowsAsked deeds
-  shows_asked set [] n flags deeds shows = record {
+  shows_asked : (set : Setting) (before : List HostStep) (n flags : ℕ) (effects : List Effect) →
+      Shows set (before ++ system_call n flags answer ∷ []) effects → ShowsAsked effects
+  shows_asked set [] n flags effects shows = record {
     before = [];
     call = shows.call;
     flags = flags;
-    deeds_are = shows.deeds_are ∙ ap (λ xs. shows.call ++ xs) shows.goes_on ∙ append-nil shows.call;
+    effects_are = shows.effects_are ∙ ap (λ xs. shows.call ++ xs) shows.goes_on ∙ append-nil shows.call;
     answers = shows.answers;
   }
-  shows_asked set (publishes g ∷ before) n flags deeds shows =
-      deeds_behind (looked shows.0 ∷ []) shows.1 deeds shows.2 (shows_asked set before n flags shows.1 (shows.3).1)
-  shows_asked set (at_point point wiped ∷ before) n flags deeds shows = shows_asked set before n flags deeds shows
-  shows_asked set (system_call k f other ∷ before) n flags deeds shows =
-      deeds_behind shows.call shows.rest deeds shows.deeds_are
+  shows_asked set (publishes g ∷ before) n flags effects shows =
+      effects_after (looked shows.0 ∷ []) shows.1 effects shows.2 (shows_asked set before n flags shows.1 (shows.3).1)
+  shows_asked set (at_point point wiped ∷ before) n flags effects shows = shows_asked set before n flags effects shows
+  shows_asked set (system_call k f other ∷ before) n flags effects shows =
+      effects_after shows.call shows.rest effects shows.effects_are
       (shows_asked set before n flags shows.rest shows.goes_on)
 
-  -- the line then shows the bytes, if any, that its last visit serves, and the answer came from that visit
-  pub record AskedShown (deeds : List Deed) : Type 0 where
-    pub shown : system_line_shown answer ≡ bytes_or_none (served_bytes deeds)
-    pub place : (c p : ℕ) → place_takes c p (last_place deeds) ≡ answer_takes c p answer
+  -- the line shows what its last visit serves, and the answer of the system call is from that visit
+  pub record AskedShown (effects : List Effect) : Type 0 where
+    pub shown : system_line_shown answer ≡ bytes_or_none (served_bytes effects)
+    pub place : (c p : ℕ) → place_takes c p (last_place effects) ≡ answer_takes c p answer
 
-  last_served : (before : List Deed) (d : Deed) (ds : List Deed) →
+  last_served : (before : List Effect) (d : Effect) (ds : List Effect) →
       served_bytes (before ++ d ∷ ds) ≡ served_bytes (d ∷ ds)
   last_served [] d ds = refl
   last_served (x ∷ []) d ds = refl
   last_served (x ∷ y ∷ before) d ds = last_served (y ∷ before) d ds
 
-  last_visit : (before : List Deed) (d : Deed) (ds : List Deed) → last_place (before ++ d ∷ ds) ≡ last_place (d ∷ ds)
+  last_visit : (before : List Effect) (d : Effect) (ds : List Effect) → last_place (before ++ d ∷ ds) ≡ last_place (d ∷ ds)
   last_visit [] d ds = refl
   last_visit (x ∷ []) d ds = refl
   last_visit (x ∷ y ∷ before) d ds = last_visit (y ∷ before) d ds
 
-  abbrev pub ShowsOrNone : List Deed → Type 0
-  ShowsOrNone deeds = (system_line_shown answer ≡ no_data) ⊎ AskedShown deeds
+  abbrev pub ShowsOrNone : List Effect → Type 0
+  ShowsOrNone effects = (system_line_shown answer ≡ no_data) ⊎ AskedShown effects
 
-  answered : (before call : List Deed) (o : Option Errno) → answer ≡ answer_with o call →
+  answered : (before call : List Effect) (o : Option Errno) → answer ≡ answer_with o call →
       ShowsOrNone (before ++ call)
   answered before call (Some errno) is = inl (ap system_line_shown is)
   answered before [] None is = inl (ap system_line_shown is)
@@ -146,16 +146,16 @@ module _ (answer : SystemAnswer) where
   })
 
   -- if the host's last step was a system call, the line shows no data, or the bytes of its last visit
-  pub steps_shown : (set : Setting) (steps : List HostStep) (deeds : List Deed) → EndsAsked answer steps →
-      Shows set steps deeds → ShowsOrNone deeds
-  steps_shown set steps deeds e shows =
-      let P : List HostStep → Type 0 = λ xs. Shows set xs deeds in
-      let a = shows_asked set e.before e.n e.flags deeds (subst P e.steps_are shows) in
-      let Q : List Deed → Type 0 = λ ds. ShowsOrNone ds in
-      subst Q (sym a.deeds_are) (answered a.before a.call (errno_of (system_answer a.flags a.call)) a.answers)
+  pub steps_shown : (set : Setting) (steps : List HostStep) (effects : List Effect) → EndsAsked answer steps →
+      Shows set steps effects → ShowsOrNone effects
+  steps_shown set steps effects e shows =
+      let P : List HostStep → Type 0 = λ xs. Shows set xs effects in
+      let a = shows_asked set e.before e.n e.flags effects (subst P e.steps_are shows) in
+      let Q : List Effect → Type 0 = λ ds. ShowsOrNone ds in
+      subst Q (sym a.effects_are) (answered a.before a.call (errno_of (system_answer a.flags a.call)) a.answers)
 
   pub asked_shown : (set : Setting) (n flags : ℕ) (s : VgetrandomState) (steps : List HostStep) (outcome : Outcome)
-      (deeds : List Deed) → outcome.ending ≡ by_system answer → IsCall n flags s steps outcome →
-      Shows set steps deeds → ShowsOrNone deeds
-  asked_shown set n flags s steps outcome deeds ends is shows =
-      steps_shown set steps deeds (call_asked n flags s steps outcome ends is) shows
+      (effects : List Effect) → outcome.ending ≡ by_system answer → IsCall n flags s steps outcome →
+      Shows set steps effects → ShowsOrNone effects
+  asked_shown set n flags s steps outcome effects ends is shows =
+      steps_shown set steps effects (call_asked n flags s steps outcome ends is) shows

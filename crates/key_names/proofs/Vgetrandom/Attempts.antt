@@ -1,10 +1,10 @@
--- Attempts of vgetrandom, step by step.
+-- Which attempt some steps of the host make: one on a state whose key is current, and one that reads a key.
 use Rattle.std.proofs.Common.{◌≡◌, ℕ, Bool, true, false, Option, List, [], ◌∷◌, ◌++◌, refl, sym, subst}
 use Rattle.std.specs.Prelude.{◌==◌, MatchBool, if◌then◌else◌}
 use Rattle.key_names.specs.declared.point.Point.TheVariants.{Start, Written, Serve, End}
 use Rattle.key_names.specs.Kernel.VgetrandomState.{VgetrandomState, state_left}
 use Rattle.key_names.specs.Kernel.BatchCopy.{copy_bytes, state_after_copy, block_after_copy, copy_entries}
-use Rattle.key_names.specs.Kernel.Vgetrandom.{CpuPlace, read, HostStep, publishes, system_call, at_point, Attempt, holds, outdated, attempt_behind, wipe_entry, rekey_entry, AtPoint, FromServe, IsAttempt}
+use Rattle.key_names.specs.Kernel.Vgetrandom.{CpuPlace, read, HostStep, publishes, system_call, at_point, Attempt, holds, outdated, prefix_attempt, wipe_entry, rekey_entry, AtPoint, FromServe, IsAttempt}
 
 pub match_true : (A B : Type 0) (b : Bool) → b ≡ true → A → MatchBool b A B
 match_true A B b is a = subst (λ (x : Bool). MatchBool x A B) (sym is) a
@@ -27,7 +27,7 @@ serve_steps at_serve at_end end = at_point Serve at_serve ∷ at_point End at_en
 
 abbrev pub copy_attempt : ℕ → ℕ → ℕ → Bool → Bool → VgetrandomState → Attempt
 copy_attempt n c end at_serve at_end s =
-    attempt_behind (wipe_entry at_serve) (served_attempt n c end at_end (state_left at_serve s))
+    prefix_attempt (wipe_entry at_serve) (served_attempt n c end at_end (state_left at_serve s))
 
 pub from_serve : (n c end : ℕ) (at_end : Bool) (s : VgetrandomState) →
     FromServe n c s (at_point End at_end ∷ publishes end ∷ []) (served_attempt n c end at_end s)
@@ -55,7 +55,7 @@ serve_point n c end wiped at_end s = record {
   attempt_is = refl;
 }
 
--- the steps and the wipes of an attempt on a state whose key is current
+-- the steps of an attempt on a state whose key is current. The flags are true for the points that wipe the state
 abbrev pub current_steps : ℕ → Bool → Bool → Bool → ℕ → List HostStep
 current_steps published at_start at_serve at_end end =
     publishes published ∷ at_point Start at_start ∷ serve_steps at_serve at_end end
@@ -63,7 +63,7 @@ current_steps published at_start at_serve at_end end =
 pub current_attempt : (n c published end : ℕ) (at_start at_serve at_end : Bool) (s : VgetrandomState) →
     ((state_left at_start s).generation == published) ≡ true →
     IsAttempt n c s (current_steps published at_start at_serve at_end end)
-    (attempt_behind (wipe_entry at_start) (copy_attempt n c end at_serve at_end (state_left at_start s)))
+    (prefix_attempt (wipe_entry at_start) (copy_attempt n c end at_serve at_end (state_left at_start s)))
 current_attempt n c published end at_start at_serve at_end s current = record {
   published = published;
   rest = _;
@@ -83,7 +83,7 @@ abbrev pub keyed_state : ℕ → List ℕ → Bool → VgetrandomState → Vgetr
 keyed_state published key at_written s =
     record (state_left at_written (record s { generation = published })) { key = key; pos = 96 }
 
--- the steps and the wipes of an attempt that reads a key
+-- the steps of an attempt that reads a key. The flags are true for the points that wipe the state
 abbrev pub keyed_steps : ℕ → List ℕ → Option CpuPlace → Bool → Bool → Bool → Bool → ℕ → List HostStep
 keyed_steps published key visit at_start at_written at_serve at_end end =
     publishes published ∷ at_point Start at_start ∷ at_point Written at_written
@@ -93,7 +93,7 @@ pub keyed_attempt : (n c published end : ℕ) (key : List ℕ) (visit : Option C
     (at_start at_written at_serve at_end : Bool) (s : VgetrandomState) →
     ((state_left at_start s).generation == published) ≡ false →
     IsAttempt n c s (keyed_steps published key visit at_start at_written at_serve at_end end)
-    (attempt_behind (wipe_entry at_start) (attempt_behind (wipe_entry at_written) (attempt_behind (rekey_entry visit)
+    (prefix_attempt (wipe_entry at_start) (prefix_attempt (wipe_entry at_written) (prefix_attempt (rekey_entry visit)
     (copy_attempt n c end at_serve at_end (keyed_state published key at_written (state_left at_start s))))))
 keyed_attempt n c published end key visit at_start at_written at_serve at_end s other = record {
   published = published;

@@ -1,4 +1,5 @@
--- A vgetrandom call leaves the list of its state in order, whatever the host does.
+-- Whatever the host does, after a vgetrandom call the list of the state is in order, and the state's served bytes are
+-- 0.
 use Rattle.std.proofs.Common.{◌≡◌, ℕ, zero, suc, ◌+◌, ◌-◌, ◌≤◌, Bool, true, false, List, [], ◌∷◌, ◌++◌, inr, refl, sym}
 use Rattle.std.proofs.Common.{subst, ap, arith, Some, None, Option}
 use Rattle.std.specs.Prelude.{◌==◌, MatchBool, if◌then◌else◌}
@@ -21,13 +22,13 @@ use Rattle.key_names.specs.Kernel.Vgetrandom.{not_keyed, Attempt, wipe_entry, re
 use Rattle.key_names.specs.Kernel.Vgetrandom.{FromServe, Keyed, FromWritten, FromStart, IsAttempt, Outcome, BySystem}
 use Rattle.key_names.specs.Kernel.Vgetrandom.{ByNothing, AfterAttempt, AttemptAndRest, AfterBoth, state_after_call}
 use Rattle.key_names.specs.Kernel.Vgetrandom.{SecondAttempt, FirstAttempt, FromPublished, FromLook, IsCall}
-use Rattle.key_names.specs.Callers.StateCalls.{StateUse, by_call, by_copy, by_wipe, StateUseStands, state_after_use}
+use Rattle.key_names.specs.Callers.StateCalls.{StateUse, by_call, by_copy, by_wipe, StateUseConforms, state_after_use}
 use Rattle.key_names.specs.Callers.StateCalls.{entries_of_use, entries_of_uses, UsesLeaveLawfulLists}
 use Rattle.key_names.proofs.Uses.BatchBytes.{zeros_more}
 use Rattle.key_names.proofs.Vgetrandom.CopiesKeep.{Settled, Ready, ready, ready_start, may_start}
 use Rattle.key_names.proofs.Vgetrandom.CopiesKeep as copies
 
--- a conclusion that follows from either side of a choice follows from the choice
+-- what follows from both sides of a choice follows from the choice
 pub match_cases : (A B C : Type 0) (b : Bool) → ((b ≡ true) → A → C) → ((b ≡ false) → B → C) → MatchBool b A B → C
 match_cases A B C true f g h = f refl h
 match_cases A B C false f g h = g refl h
@@ -51,21 +52,21 @@ module _ (caller state : ℕ) where
       (es : List VEntry) → Keeps After t es → Keeps Also t es
   keeps_weaker = copies.keeps_weaker caller state
 
-  -- after the entries of an attempt, or of a call, the state is settled
+  -- the entries of an attempt, or of a call, keep the list in order, and afterwards the state is settled
   abbrev pub AttemptKeeps : NamedState → Attempt → Type 0
   AttemptKeeps t attempt = Keeps (λ u. Settled u attempt.state) t attempt.entries
 
   abbrev pub OutcomeKeeps : NamedState → Outcome → Type 0
   OutcomeKeeps t outcome = Keeps (λ u. Settled u outcome.state) t outcome.entries
 
-  behind_keeps : (t : NamedState) (es : List VEntry) (attempt after : Attempt) →
+  after_keeps : (t : NamedState) (es : List VEntry) (attempt after : Attempt) →
       attempt ≡ record after { entries = es ++ after.entries } →
       Keeps (λ u. AttemptKeeps u after) t es → AttemptKeeps t attempt
-  behind_keeps t es attempt after is h =
+  after_keeps t es attempt after is h =
       let P : Attempt → Type 0 = λ a. AttemptKeeps t a in
       subst P (sym is) (keeps_append (λ u. Settled u after.state) t es after.entries h)
 
-  -- if the steps after a point keep the list in order, so do the point and those steps; Before holds at the point
+  -- an attempt from a point on keeps the list in order, if its steps after the point do. `Before` holds at the point
   point_keeps : (Before : NamedState → VgetrandomState → Type 0) →
       ((t : NamedState) (s : VgetrandomState) → Before t s → MayStart t.expected) →
       ((t : NamedState) → Settled t wiped_state → Before t wiped_state) →
@@ -75,7 +76,7 @@ module _ (caller state : ℕ) where
       Before u r → AttemptKeeps u after) →
       AtPoint point GoesOn s steps attempt → Before t s → AttemptKeeps t attempt
   point_keeps Before may wiped_before point GoesOn t s steps attempt on at h =
-      behind_keeps t (wipe_entry at.wiped) attempt at.attempt_after at.attempt_is (go at.wiped at.goes_on)
+      after_keeps t (wipe_entry at.wiped) attempt at.attempt_after at.attempt_is (go at.wiped at.goes_on)
     where
       go : (b : Bool) → GoesOn (state_left b s) at.rest at.attempt_after →
           Keeps (λ u. AttemptKeeps u at.attempt_after) t (wipe_entry b)
@@ -109,7 +110,7 @@ module _ (caller state : ℕ) where
       (t : NamedState) (s : VgetrandomState) (steps : List HostStep) (attempt : Attempt) →
       FromServe n c s steps attempt → Ready t s → AttemptKeeps t attempt
   from_serve_keeps n c some t s steps attempt from h =
-      behind_keeps t (copy_entries s c n) attempt from.attempt_after from.attempt_is
+      after_keeps t (copy_entries s c n) attempt from.attempt_after from.attempt_is
       (keeps_weaker (λ u. Settled u (state_after_copy s c n)) (λ u. AttemptKeeps u from.attempt_after)
       (λ u settled. point_keeps Settled settled_start (λ v x. x) End
       (FromEnd (copy_bytes s c n) (block_after_copy s c n)) u (state_after_copy s c n) steps from.attempt_after
@@ -128,7 +129,7 @@ module _ (caller state : ℕ) where
       (t : NamedState) (s : VgetrandomState) (steps : List HostStep) (attempt : Attempt) →
       Keyed n c key visit s steps attempt → Settled t s → AttemptKeeps t attempt
   keyed_keeps n c key visit some t s steps attempt k h =
-      behind_keeps t (rekey_entry visit) attempt k.attempt_after k.attempt_is (go visit)
+      after_keeps t (rekey_entry visit) attempt k.attempt_after k.attempt_is (go visit)
     where
       serves : (u : NamedState) → MayStart u.expected → AttemptKeeps u k.attempt_after
       serves u may = serve_point_keeps n c some u (record s { key = key; pos = 96 }) steps k.attempt_after k.goes_on
@@ -184,7 +185,7 @@ module _ (caller state : ℕ) where
       point_keeps Settled settled_start (λ u x. x) Start (FromStart n c is.published) t s is.rest attempt
       (λ u r rest after g x. start_keeps n c is.published some u r rest after g x) is.goes_on h
 
-  -- an outcome without entries that leaves the state as it was keeps the list in order
+  -- a call that leaves no entries and does not change the state keeps the list in order
   none_keeps : (t : NamedState) (s : VgetrandomState) (outcome : Outcome) → outcome.entries ≡ [] →
       outcome.state ≡ s → Settled t s → OutcomeKeeps t outcome
   none_keeps t s outcome none same h =
@@ -203,7 +204,7 @@ module _ (caller state : ℕ) where
   settled_after : (t : NamedState) (s : VgetrandomState) → Settled t s → Settled t (state_after_call s)
   settled_after t s h = record { same_pos = h.same_pos; within = h.within; expects = h.expects; zeros = h.zeros }
 
-  -- an attempt and the rest of its call keep the list in order, if each of the two does
+  -- an attempt and the rest of its call together keep the list in order, if each of them does
   tried_keeps : (n flags : ℕ) (Outdated : ℕ → VgetrandomState → List HostStep → Outcome → Type 0)
       (Tried : List HostStep → Attempt → Type 0) →
       (t : NamedState) (steps : List HostStep) (outcome : Outcome) →
@@ -290,23 +291,23 @@ module _ (caller state : ℕ) where
       (serve_entry s.pos n)
       (copies.serve_keeps caller state t s n h.expects h.same_pos fits)
 
-  use_keeps : (t : NamedState) (s : VgetrandomState) (u : StateUse) → StateUseStands s u → Settled t s →
+  use_keeps : (t : NamedState) (s : VgetrandomState) (u : StateUse) → StateUseConforms s u → Settled t s →
       Keeps (λ v. Settled v (state_after_use s u)) t (entries_of_use s u)
-  use_keeps t s (by_call n flags steps outcome) stands h = call_keeps n flags t s steps outcome stands h
-  use_keeps t s (by_copy n) stands h = local_keeps t s n stands h
-  use_keeps t s by_wipe stands h = wipe_keeps t s h
+  use_keeps t s (by_call n flags steps outcome) conforms h = call_keeps n flags t s steps outcome conforms h
+  use_keeps t s (by_copy n) conforms h = local_keeps t s n conforms h
+  use_keeps t s by_wipe conforms h = wipe_keeps t s h
 
-  -- any uses one after another keep the list in order
+  -- any uses of the state, one after another, keep the list in order
   pub uses_keep : (t : NamedState) (s : VgetrandomState) (uses : List StateUse) →
-      LawfulFrom StateUseStands state_after_use s uses →
+      LawfulFrom StateUseConforms state_after_use s uses →
       Settled t s → Keeps (λ v. Settled v (fold state_after_use s uses)) t (entries_of_uses s uses)
-  uses_keep t s [] stands h = record { lawful = tt; after = h }
-  uses_keep t s (u ∷ uses) stands h =
+  uses_keep t s [] conforms h = record { lawful = tt; after = h }
+  uses_keep t s (u ∷ uses) conforms h =
       keeps_append (λ v. Settled v (fold state_after_use s (u ∷ uses))) t (entries_of_use s u)
       (entries_of_uses (state_after_use s u) uses)
       (keeps_weaker (λ v. Settled v (state_after_use s u))
       (λ v. Keeps (λ w. Settled w (fold state_after_use s (u ∷ uses))) v (entries_of_uses (state_after_use s u) uses))
-      (λ v x. uses_keep v (state_after_use s u) uses stands.1 x) t (entries_of_use s u) (use_keeps t s u stands.0 h))
+      (λ v x. uses_keep v (state_after_use s u) uses conforms.1 x) t (entries_of_use s u) (use_keeps t s u conforms.0 h))
 
 -- a list in order is lawful if its rekeys take reads of 32 bytes
 lawful_by_reads : (cpus : ℕ → List CpuEntry) (caller state : ℕ) (t : NamedState) (es : List VEntry) →
@@ -322,10 +323,10 @@ lawful_list cpus caller state es ordered reads =
     record { comes = lawful_by_reads cpus caller state state_start es ordered.comes reads; ends = ordered.ends }
 
 pub uses_leave_lawful_lists : UsesLeaveLawfulLists
-uses_leave_lawful_lists caller state uses stands =
+uses_leave_lawful_lists caller state uses conforms =
     let m : Keeps caller state (λ v. Settled v (fold state_after_use wiped_state uses)) state_start
     (entries_of_uses wiped_state uses) =
-    uses_keep caller state state_start wiped_state uses stands
+    uses_keep caller state state_start wiped_state uses conforms
     (record { same_pos = refl; within = omega arith; expects = refl; zeros = refl }) in
     let ordered : OrderedStateList caller state (entries_of_uses wiped_state uses) =
     record { comes = m.lawful; ends = (m.after).expects } in

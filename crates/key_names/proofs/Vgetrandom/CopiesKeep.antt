@@ -1,4 +1,4 @@
--- A copy out of a vgetrandom state keeps the state's list in order, and the served bytes 0.
+-- After a copy out of a vgetrandom state, the list of the state is in order, and the state's served bytes are 0.
 use Rattle.std.proofs.Common.{◌≡◌, ℕ, zero, suc, ◌+◌, ◌-◌, ◌*◌, drop, ◌≤◌, Bool, true, false, List, [], ◌++◌, ◌⊎◌, inl}
 use Rattle.std.proofs.Common.{inr, refl, sym, subst, arith}
 use Rattle.std.specs.Prelude.{nat_le, if◌then◌else◌}
@@ -24,14 +24,14 @@ copy_keeps_generation s c n = go (has_left s n)
     go true = refl
     go false = refl
 
--- the state matches the end of its list, and no entry is still missing
+-- the state matches its list: it has the same position, any entry may come next, and the served bytes are 0
 pub record Settled (t : NamedState) (s : VgetrandomState) : Type 0 where
   pub same_pos : t.pos ≡ s.pos
   pub within : s.pos ≤ 96
   pub expects : t.expected ≡ anything
   pub zeros : StartsZero s.pos s.batch
 
--- the state is settled, or a key was read that has no batch yet
+-- the state is settled, or its key was just read and the batch of that key is not made yet
 pub record Ready (t : NamedState) (s : VgetrandomState) : Type 0 where
   pub within : s.pos ≤ 96
   pub expects : ((t.expected ≡ anything) × (t.pos ≡ s.pos) × StartsZero s.pos s.batch)
@@ -55,7 +55,7 @@ module _ (caller state : ℕ) where
   abbrev step : NamedState → VEntry → NamedState
   step = state_step caller state
 
-  -- entries that may come one after another, and the state after them
+  -- these entries may come one after another, and `After` holds for the state after them
   pub record Keeps (After : NamedState → Type 0) (t : NamedState) (es : List VEntry) : Type 0 where
     pub lawful : LawfulFrom MayFollow (state_step caller state) t es
     pub after : After (fold (state_step caller state) t es)
@@ -72,7 +72,7 @@ module _ (caller state : ℕ) where
       Keeps After t es → Keeps Also t es
   keeps_weaker After Also weaker t es h = record { lawful = h.lawful; after = weaker _ h.after }
 
-  -- the entry for some bytes of the batch keeps the list in order
+  -- the entry for serving some bytes of the batch keeps the list in order
   pub serve_keeps : (t : NamedState) (s : VgetrandomState) (n : ℕ) → t.expected ≡ anything → t.pos ≡ s.pos →
       s.pos + n ≤ 96 →
       Keeps (λ u. (u.pos ≡ s.pos + n) × (u.expected ≡ anything)) t (serve_entry s.pos n)
@@ -112,7 +112,7 @@ module _ (caller state : ℕ) where
       fits : nat_le n (bytes_left s) ≡ true → s.pos + n ≤ 96
       fits is = let le : n ≤ 96 - s.pos = leb-true n (bytes_left s) is in let w = r.within in omega arith
 
-      -- with a new key the batch has no bytes left
+      -- this is the case without a new key, since a new key leaves the batch no bytes
       old : nat_le n (bytes_left s) ≡ true → (t.expected ≡ anything) × (t.pos ≡ s.pos) × StartsZero s.pos s.batch
       old is = elim r.expects [
         | inl batch ↦ batch

@@ -1,4 +1,5 @@
--- Each rekey of a vgetrandom call takes a read of 32 bytes, if the host's system calls for a key do.
+-- Each rekey of a vgetrandom call takes a user's read of 32 bytes, if each answer of the host to a system call for a
+-- key is such a read or an error.
 use Rattle.std.proofs.Common.{◌≡◌, ℕ, zero, suc, Bool, true, false, Some, None, List, [], ◌∷◌, ◌++◌, refl, sym, subst}
 use Rattle.std.specs.Prelude.{⊤, ◌==◌, if◌then◌else◌}
 use Rattle.std.specs.List.{AllByRecursion}
@@ -20,7 +21,7 @@ use Rattle.key_names.specs.Kernel.Vgetrandom.{state_after_call, AfterAttempt, At
 use Rattle.key_names.proofs.Lists.Each.{each_append}
 use Rattle.key_names.proofs.Vgetrandom.CallsKeep.{match_cases}
 
--- if a system call for a new key succeeded, its answer names the visit of a CPU that took 32 bytes
+-- a system call for a new key failed, or its answer names a CPU's visit that took 32 bytes for a user
 abbrev pub IsKeyRead : (ℕ → List CpuEntry) → SystemAnswer → Type 0
 IsKeyRead cpus (failed errno) = ⊤
 IsKeyRead cpus (read bytes None) = ⊥

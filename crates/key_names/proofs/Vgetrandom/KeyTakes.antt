@@ -1,4 +1,5 @@
--- A state's list takes a read as a key no more often than the steps of its calls have the read.
+-- A vgetrandom call takes a read, as keys and as its own answer together, at most as often as its steps contain the
+-- read.
 use Rattle.std.proofs.Common.{◌≡◌, ℕ, zero, suc, ◌+◌, ◌≤◌, Bool, true, false, cond, List, [], ◌∷◌, ◌++◌, refl, ap, ◌∙◌, arith, Some, None, Option}
 use Rattle.std.specs.Prelude.{◌==◌, ◌&&◌, if◌then◌else◌}
 use Rattle.key_names.specs.declared.entries.VEntry.{VEntry}
@@ -6,22 +7,22 @@ use Rattle.key_names.specs.declared.entries.VEntry.TheVariants.{Rekey, Blocks, R
 use Rattle.key_names.specs.declared.point.Point.{Point}
 use Rattle.key_names.specs.declared.point.Point.TheVariants.{Start, Written, Serve as ServePoint, End}
 use Rattle.key_names.specs.Callers.Calls.{Setting}
-use Rattle.key_names.specs.Callers.Deeds.{Deed, looked, at_pool, at_base, at_cpu, nothing_there}
+use Rattle.key_names.specs.Callers.Effects.{Effect, looked, at_pool, at_base, at_cpu, nothing_there}
 use Rattle.key_names.specs.Kernel.Flags.{is_bad}
 use Rattle.key_names.specs.Kernel.VgetrandomState.{VgetrandomState, state_left}
 use Rattle.key_names.specs.Kernel.BatchCopy.{has_left, bytes_left, whole_blocks, new_batch_bytes, copy_bytes, state_after_copy, block_after_copy, serve_entry, refill_entries, copy_entries}
 use Rattle.key_names.specs.Kernel.Vgetrandom.{CpuPlace, SystemAnswer, read, failed, HostStep, publishes, system_call, at_point, AttemptEnd, holds, outdated, not_keyed, Attempt, Ending, no_bytes, by_batch, by_system, wipe_entry, rekey_entry, AtPoint, FromEnd, FromServe, AfterKeyRead, FromWritten, FromStart, IsAttempt, Outcome, BySystem, ByNothing, AfterAttempt, AttemptAndRest, AfterBoth, state_after_call, SecondAttempt, FirstAttempt, FromPublished, FromLook, IsCall}
-use Rattle.key_names.specs.Callers.VreadSteps.{place_of, last_place, answer_with, answer_behind, errno_of, Shows}
+use Rattle.key_names.specs.Callers.VreadSteps.{place_of, last_place, answer_with, answer_after, errno_of, Shows}
 use Rattle.key_names.specs.declared.errno.Errno.{Errno}
 use Rattle.key_names.specs.Callers.Answers.{system_answer}
 use Rattle.key_names.proofs.Vgetrandom.CallsKeep.{match_cases}
 
--- c and p name a place of a CPU
+-- These functions count how often the read at place `p` of CPU `c` occurs.
 module _ (c p : ℕ) where
   abbrev pub is_here : ℕ → ℕ → ℕ
   is_here cpu place = cond (cpu == c && place == p) 1 0
 
-  -- the number of entries that take the read at this place
+  -- how many of the entries take the read as a key
   abbrev pub takes : List VEntry → ℕ
   takes [] = 0
   takes (Rekey cpu place ∷ es) = is_here cpu place + takes es
@@ -47,7 +48,7 @@ module _ (c p : ℕ) where
   answer_takes (failed errno) = 0
   answer_takes (read bytes visit) = place_takes visit
 
-  -- the number of system calls that read at this place
+  -- how many of the system calls are answered by the read
   abbrev pub step_takes : List HostStep → ℕ
   step_takes [] = 0
   step_takes (publishes g ∷ steps) = step_takes steps
@@ -90,14 +91,14 @@ module _ (c p : ℕ) where
           takes_append (serve_entry s.pos (bytes_left s))
           (refill_entries from (whole_blocks s n) (new_batch_bytes s n)) ∙ omega arith
 
-  -- the entries of an attempt take the read no more often than the attempt's steps have it
+  -- the entries of an attempt take the read at most as often as the attempt's steps contain it
   pub record Bounded (steps : List HostStep) (attempt : Attempt) : Type 0 where
     pub is : takes attempt.entries ≤ step_takes steps
 
-  behind_bounded : (steps rest : List HostStep) (es : List VEntry) (attempt after : Attempt) →
+  after_bounded : (steps rest : List HostStep) (es : List VEntry) (attempt after : Attempt) →
       attempt ≡ record after { entries = es ++ after.entries } →
       takes es + step_takes rest ≤ step_takes steps → Bounded rest after → Bounded steps attempt
-  behind_bounded steps rest es attempt after is le b = record {
+  after_bounded steps rest es attempt after is le b = record {
     is = (let e : takes attempt.entries ≡ takes (es ++ after.entries) = ap (λ (a : Attempt). takes a.entries) is in
         let s : takes (es ++ after.entries) ≡ takes es + takes after.entries = takes_append es after.entries in
         let h = b.is in omega arith);
@@ -110,14 +111,14 @@ module _ (c p : ℕ) where
   point_bounded point GoesOn s steps attempt on at =
       let none : takes (wipe_entry at.wiped) ≡ 0 = wipe_takes at.wiped in
       let same : step_takes steps ≡ step_takes at.rest = ap step_takes at.steps_are in
-      behind_bounded steps at.rest (wipe_entry at.wiped) attempt at.attempt_after at.attempt_is (omega arith)
+      after_bounded steps at.rest (wipe_entry at.wiped) attempt at.attempt_after at.attempt_is (omega arith)
       (on (state_left at.wiped s) at.rest at.attempt_after at.goes_on)
 
   pub serve_bounded : (n from : ℕ) (s : VgetrandomState) (steps : List HostStep) (attempt : Attempt) →
       FromServe n from s steps attempt → Bounded steps attempt
   serve_bounded n from s steps attempt f =
       let none : takes (copy_entries s from n) ≡ 0 = copy_takes s from n in
-      behind_bounded steps steps (copy_entries s from n) attempt f.attempt_after f.attempt_is (omega arith)
+      after_bounded steps steps (copy_entries s from n) attempt f.attempt_after f.attempt_is (omega arith)
       (point_bounded End (FromEnd (copy_bytes s from n) (block_after_copy s from n)) (state_after_copy s from n)
       steps f.attempt_after
       (λ r rest after e. record {
@@ -134,7 +135,7 @@ module _ (c p : ℕ) where
           step_takes steps ≡ answer_takes answer + step_takes w.rest → Bounded steps attempt
       go (read key visit) k same =
           let one : takes (rekey_entry visit) ≡ place_takes visit = rekey_takes visit in
-          behind_bounded steps w.rest (rekey_entry visit) attempt k.attempt_after k.attempt_is (omega arith)
+          after_bounded steps w.rest (rekey_entry visit) attempt k.attempt_after k.attempt_is (omega arith)
           (point_bounded ServePoint (FromServe n from) (record s { key = key; pos = 96 }) w.rest k.attempt_after
           (serve_bounded n from) k.goes_on)
       go (failed errno) k same = record {
@@ -160,13 +161,13 @@ module _ (c p : ℕ) where
       (start_bounded n from is.published) is.goes_on in
       record { is = (let h = b.is in omega arith) }
 
-  -- 1 if the answer of a call is from the read at this place, else 0
+  -- 1 if the read is the answer of the call, else 0
   abbrev pub ending_takes : Ending → ℕ
   ending_takes no_bytes = 0
   ending_takes (by_batch out) = 0
   ending_takes (by_system answer) = answer_takes answer
 
-  -- a call's entries and its answer together take the read at most as often as the call's steps
+  -- a call takes the read, as keys and as its own answer together, at most as often as its steps contain it
   pub record OutcomeBounded (steps : List HostStep) (outcome : Outcome) : Type 0 where
     pub is : takes outcome.entries + ending_takes outcome.ending ≤ step_takes steps
 
@@ -250,71 +251,71 @@ module _ (c p : ℕ) where
       record { is = (let h = b.is in omega arith) })
       is
 
-  -- the number of visits of this place among deeds
-  abbrev pub deed_takes : List Deed → ℕ
-  deed_takes [] = 0
-  deed_takes (looked g ∷ ds) = deed_takes ds
-  deed_takes (at_pool v ∷ ds) = deed_takes ds
-  deed_takes (at_base v ∷ ds) = deed_takes ds
-  deed_takes (at_cpu v ∷ ds) = is_here v.cpu v.place + deed_takes ds
-  deed_takes (nothing_there ∷ ds) = deed_takes ds
+  -- how many of the effects are the visit at this place
+  abbrev pub effect_takes : List Effect → ℕ
+  effect_takes [] = 0
+  effect_takes (looked g ∷ ds) = effect_takes ds
+  effect_takes (at_pool v ∷ ds) = effect_takes ds
+  effect_takes (at_base v ∷ ds) = effect_takes ds
+  effect_takes (at_cpu v ∷ ds) = is_here v.cpu v.place + effect_takes ds
+  effect_takes (nothing_there ∷ ds) = effect_takes ds
 
-  deed_append : (xs ys : List Deed) → deed_takes (xs ++ ys) ≡ deed_takes xs + deed_takes ys
-  deed_append [] ys = omega arith
-  deed_append (looked g ∷ xs) ys = deed_append xs ys
-  deed_append (at_pool v ∷ xs) ys = deed_append xs ys
-  deed_append (at_base v ∷ xs) ys = deed_append xs ys
-  deed_append (at_cpu v ∷ xs) ys = let rest : deed_takes (xs ++ ys) ≡ deed_takes xs + deed_takes ys =
-      deed_append xs ys in omega arith
-  deed_append (nothing_there ∷ xs) ys = deed_append xs ys
+  effect_append : (xs ys : List Effect) → effect_takes (xs ++ ys) ≡ effect_takes xs + effect_takes ys
+  effect_append [] ys = omega arith
+  effect_append (looked g ∷ xs) ys = effect_append xs ys
+  effect_append (at_pool v ∷ xs) ys = effect_append xs ys
+  effect_append (at_base v ∷ xs) ys = effect_append xs ys
+  effect_append (at_cpu v ∷ xs) ys = let rest : effect_takes (xs ++ ys) ≡ effect_takes xs + effect_takes ys =
+      effect_append xs ys in omega arith
+  effect_append (nothing_there ∷ xs) ys = effect_append xs ys
 
-  more_takes : (d : Deed) (ds : List Deed) → deed_takes ds ≤ deed_takes (d ∷ ds)
+  more_takes : (d : Effect) (ds : List Effect) → effect_takes ds ≤ effect_takes (d ∷ ds)
   more_takes (looked g) ds = omega arith
   more_takes (at_pool v) ds = omega arith
   more_takes (at_base v) ds = omega arith
   more_takes (at_cpu v) ds = omega arith
   more_takes nothing_there ds = omega arith
 
-  one_takes : (d : Deed) → place_takes (place_of d) ≤ deed_takes (d ∷ [])
+  one_takes : (d : Effect) → place_takes (place_of d) ≤ effect_takes (d ∷ [])
   one_takes (looked g) = omega arith
   one_takes (at_pool v) = omega arith
   one_takes (at_base v) = omega arith
   one_takes (at_cpu v) = omega arith
   one_takes nothing_there = omega arith
 
-  pub last_takes : (ds : List Deed) → place_takes (last_place ds) ≤ deed_takes ds
+  pub last_takes : (ds : List Effect) → place_takes (last_place ds) ≤ effect_takes ds
   last_takes [] = omega arith
   last_takes (d ∷ []) = one_takes d
-  last_takes (d ∷ e ∷ ds) = let rest : place_takes (last_place (e ∷ ds)) ≤ deed_takes (e ∷ ds) = last_takes (e ∷ ds) in
-      let more : deed_takes (e ∷ ds) ≤ deed_takes (d ∷ e ∷ ds) = more_takes d (e ∷ ds) in omega arith
+  last_takes (d ∷ e ∷ ds) = let rest : place_takes (last_place (e ∷ ds)) ≤ effect_takes (e ∷ ds) = last_takes (e ∷ ds) in
+      let more : effect_takes (e ∷ ds) ≤ effect_takes (d ∷ e ∷ ds) = more_takes d (e ∷ ds) in omega arith
 
-  answered_takes : (o : Option Errno) (ds : List Deed) → answer_takes (answer_with o ds) ≤ deed_takes ds
+  answered_takes : (o : Option Errno) (ds : List Effect) → answer_takes (answer_with o ds) ≤ effect_takes ds
   answered_takes None ds = last_takes ds
   answered_takes (Some errno) ds = omega arith
 
-  -- the steps that a line shows have the read no more often than its deeds
-  pub shown_takes : (set : Setting) (steps : List HostStep) (ds : List Deed) → Shows set steps ds →
-      step_takes steps ≤ deed_takes ds
+  -- a line's steps contain the read at most as often as its effects do
+  pub shown_takes : (set : Setting) (steps : List HostStep) (ds : List Effect) → Shows set steps ds →
+      step_takes steps ≤ effect_takes ds
   shown_takes set [] ds shows = omega arith
   shown_takes set (publishes g ∷ steps) ds shows =
-      let same : deed_takes ds ≡ deed_takes shows.1 = ap deed_takes shows.2 in
-      let rest : step_takes steps ≤ deed_takes shows.1 = shown_takes set steps shows.1 (shows.3).1 in omega arith
+      let same : effect_takes ds ≡ effect_takes shows.1 = ap effect_takes shows.2 in
+      let rest : step_takes steps ≤ effect_takes shows.1 = shown_takes set steps shows.1 (shows.3).1 in omega arith
   shown_takes set (at_point point wiped ∷ steps) ds shows = shown_takes set steps ds shows
   shown_takes set (system_call n flags answer ∷ steps) ds shows =
-      let same : deed_takes ds ≡ deed_takes (shows.call ++ shows.rest) = ap deed_takes shows.deeds_are in
-      let sum : deed_takes (shows.call ++ shows.rest) ≡ deed_takes shows.call + deed_takes shows.rest =
-      deed_append shows.call shows.rest in
-      let here : answer_takes answer ≡ answer_takes (answer_behind flags shows.call) = ap answer_takes shows.answers in
-      let one : answer_takes (answer_behind flags shows.call) ≤ deed_takes shows.call =
+      let same : effect_takes ds ≡ effect_takes (shows.call ++ shows.rest) = ap effect_takes shows.effects_are in
+      let sum : effect_takes (shows.call ++ shows.rest) ≡ effect_takes shows.call + effect_takes shows.rest =
+      effect_append shows.call shows.rest in
+      let here : answer_takes answer ≡ answer_takes (answer_after flags shows.call) = ap answer_takes shows.answers in
+      let one : answer_takes (answer_after flags shows.call) ≤ effect_takes shows.call =
       answered_takes (errno_of (system_answer flags shows.call)) shows.call in
-      let rest : step_takes steps ≤ deed_takes shows.rest = shown_takes set steps shows.rest shows.goes_on in
+      let rest : step_takes steps ≤ effect_takes shows.rest = shown_takes set steps shows.rest shows.goes_on in
       omega arith
 
-  -- a call's entries and its answer together take the read at most as often as the deeds of the call's line
+  -- a call takes the read, as keys and as its own answer together, at most as often as its line's effects contain it
   pub call_takes : (set : Setting) (n flags : ℕ) (s : VgetrandomState) (steps : List HostStep) (outcome : Outcome)
-      (ds : List Deed) →
+      (ds : List Effect) →
       IsCall n flags s steps outcome → Shows set steps ds →
-      takes outcome.entries + ending_takes outcome.ending ≤ deed_takes ds
+      takes outcome.entries + ending_takes outcome.ending ≤ effect_takes ds
   call_takes set n flags s steps outcome ds is shows =
       let b : OutcomeBounded steps outcome = call_bounded n flags s steps outcome is in
-      let a = b.is in let e : step_takes steps ≤ deed_takes ds = shown_takes set steps ds shows in omega arith
+      let a = b.is in let e : step_takes steps ≤ effect_takes ds = shown_takes set steps ds shows in omega arith

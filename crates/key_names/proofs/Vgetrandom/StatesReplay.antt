@@ -1,4 +1,5 @@
--- A vgetrandom state has the key, the batch and the position that a replay of its list gives.
+-- A vgetrandom state keeps the key, the batch and the position that a replay of its list gives, if each call's steps
+-- are good (`Good`).
 use Rattle.std.proofs.Common.{◌≡◌, ℕ, zero, suc, ◌+◌, ◌-◌, ◌*◌, ◌≤◌, Bool, true, false, List, [], ◌∷◌, ◌++◌, inl, inr, refl, sym, subst, ap, ◌∙◌, arith, Some, None, Option, take, drop, append-nil}
 use Rattle.std.specs.Prelude.{◌==◌, ⊤, if◌then◌else◌}
 use Rattle.std.specs.List.{fold}
@@ -25,7 +26,7 @@ use Rattle.key_names.specs.Kernel.BatchCopy.{bytes_left, whole_blocks, new_batch
 use Rattle.key_names.specs.Kernel.Vgetrandom.{SystemAnswer, read, failed, HostStep, publishes, system_call, at_point, AttemptEnd, holds, outdated, not_keyed, Attempt, wipe_entry, AtPoint, AfterKeyRead, FromEnd, FromServe, FromWritten, FromStart, IsAttempt, Outcome, BySystem, ByNothing, AfterAttempt, AttemptAndRest, AfterBoth, state_after_call, SecondAttempt, FirstAttempt, FromPublished, FromLook, IsCall}
 use Rattle.key_names.proofs.Vgetrandom.CallsKeep.{match_cases, some_bytes}
 
--- bytes of which none was set to 0 are unchanged
+-- setting no bytes to 0 changes nothing
 no_zeros : (pos : ℕ) (bytes : List ℕ) → bytes ≡ with_zeros pos 0 bytes
 no_zeros pos bytes =
     let p : pos ≡ pos + 0 = omega arith in
@@ -35,13 +36,13 @@ no_zeros pos bytes =
 has_name : (o p : Option KeyName) → p ≡ o → HasName o → HasName p
 has_name o p is h = (h.0, is ∙ h.1)
 
--- a system call for a new key read the key that the visit of a CPU handed over
+-- the answer of a system call for a new key is the key that a CPU's visit handed over
 abbrev pub KeyIs : Lists → SystemAnswer → Type 0
 KeyIs lists (failed errno) = ⊥
 KeyIs lists (read bytes None) = ⊥
 KeyIs lists (read bytes (Some at)) = bytes ≡ cpu_call_value lists at.cpu at.place
 
--- the published generations are not 0, and the keys are those that CPUs handed over
+-- the published generations are not 0, and each key that was read is one that a CPU's visit handed over
 abbrev pub Good : Lists → List HostStep → Type 0
 Good lists [] = ⊤
 Good lists (publishes g ∷ steps) = (1 ≤ g) × Good lists steps
@@ -55,7 +56,7 @@ good_append lists (at_point point wiped ∷ xs) ys h = good_append lists xs ys h
 good_append lists (system_call n flags answer ∷ xs) ys h = let m = good_append lists xs ys h.1 in ((h.0, m.0), m.1)
 
 module _ (lists : Lists) (caller k : ℕ) where
-  -- the names and the bytes of the state after entries
+  -- the names and the bytes of a state after some entries
   pub record Both : Type 0 where
     pub named : NamedState
     pub bytes : StateBytes
@@ -84,7 +85,7 @@ module _ (lists : Lists) (caller k : ℕ) where
   pub wiped_holds : (x : Both) → Holds (step x Wipe) wiped_state
   wiped_holds x = record { batch = refl; pos = refl; key = refl; named = λ some. absurd (omega arith) }
 
-  -- how an entry for some bytes of the batch changes the names and the bytes
+  -- how the entry for serving some bytes of the batch changes the names and the bytes
   pub record Served (x y : Both) (pos n : ℕ) : Type 0 where
     pub batch : y.bytes.batch ≡ with_zeros pos n x.bytes.batch
     pub key : y.bytes.key ≡ x.bytes.key
@@ -133,7 +134,7 @@ module _ (lists : Lists) (caller k : ℕ) where
       refilled u _ (c + suc m) r (serve_after (step u (Refill (c + suc m))) 0 r refl) in
       record { batch = h.batch; key = h.key; pos_is = h.pos_is; name = h.name; batch_name = h.batch_name }
 
-  -- a copy leaves the state that its entries replay to
+  -- a copy leaves the state that the replay of its entries gives
   pub copy_holds : (x : Both) (s : VgetrandomState) (c n : ℕ) → 1 ≤ n → Holds x s →
       Holds (after x (copy_entries s c n)) (state_after_copy s c n)
   copy_holds x s c n some h = go (has_left s n) refl
@@ -176,16 +177,16 @@ module _ (lists : Lists) (caller k : ℕ) where
                 (w.name name, inr (has_name u.named.key (after u es).named.batch_key w.batch_name name));
           } in m)
 
-  -- the state after an attempt, or after a call, is that of the replay
+  -- after an attempt, or after a call, the state is that of the replay
   abbrev pub AttemptHolds : Both → Attempt → Type 0
   AttemptHolds x attempt = Holds (after x attempt.entries) attempt.state
 
   abbrev pub OutcomeHolds : Both → Outcome → Type 0
   OutcomeHolds x outcome = Holds (after x outcome.entries) outcome.state
 
-  behind_holds : (x : Both) (es : List VEntry) (attempt later : Attempt) →
+  after_holds : (x : Both) (es : List VEntry) (attempt later : Attempt) →
       attempt ≡ record later { entries = es ++ later.entries } → AttemptHolds (after x es) later → AttemptHolds x attempt
-  behind_holds x es attempt later is h =
+  after_holds x es attempt later is h =
       let P : Attempt → Type 0 = λ a. AttemptHolds x a in
       let Q : Both → Type 0 = λ y. Holds y later.state in
       subst P (sym is) (subst Q (sym (fold-append step x es later.entries)) h)
@@ -197,7 +198,7 @@ module _ (lists : Lists) (caller k : ℕ) where
       GoesOn r rest later → Before u r → AttemptHolds u later) →
       AtPoint point GoesOn s steps attempt → Good lists steps → Before x s → AttemptHolds x attempt
   point_holds Before wiped_before point GoesOn x s steps attempt on at good h =
-      behind_holds x (wipe_entry at.wiped) attempt at.attempt_after at.attempt_is (go at.wiped at.goes_on)
+      after_holds x (wipe_entry at.wiped) attempt at.attempt_after at.attempt_is (go at.wiped at.goes_on)
     where
       rest_good : Good lists at.rest
       rest_good = subst (λ (xs : List HostStep). Good lists xs) at.steps_are good
@@ -215,7 +216,7 @@ module _ (lists : Lists) (caller k : ℕ) where
   pub from_serve_holds : (n c : ℕ) → 1 ≤ n → (x : Both) (s : VgetrandomState) (steps : List HostStep) (attempt : Attempt) →
       Good lists steps → FromServe n c s steps attempt → Holds x s → AttemptHolds x attempt
   from_serve_holds n c some x s steps attempt good from h =
-      behind_holds x (copy_entries s c n) attempt from.attempt_after from.attempt_is
+      after_holds x (copy_entries s c n) attempt from.attempt_after from.attempt_is
       (point_holds Holds wiped_holds End (FromEnd (copy_bytes s c n) (block_after_copy s c n))
       (after x (copy_entries s c n)) (state_after_copy s c n) steps from.attempt_after
       (λ u r rest later g e b. end_holds (copy_bytes s c n) (block_after_copy s c n) u r rest later e b)
@@ -239,7 +240,7 @@ module _ (lists : Lists) (caller k : ℕ) where
           AfterKeyRead n c answer s from.rest attempt → AttemptHolds x attempt
       go (read key None) is g keyed = absurd is
       go (read key (Some at)) is g keyed =
-          behind_holds x (Rekey at.cpu at.place ∷ []) attempt keyed.attempt_after keyed.attempt_is
+          after_holds x (Rekey at.cpu at.place ∷ []) attempt keyed.attempt_after keyed.attempt_is
           (serve_point_holds n c some (step x (Rekey at.cpu at.place)) (record s { key = key; pos = 96 }) from.rest
           keyed.attempt_after g keyed.goes_on (record {
             batch = h.batch;
@@ -318,7 +319,7 @@ module _ (lists : Lists) (caller k : ℕ) where
       (λ u d v rest later g by b. system_holds n flags u (state_after_call v) rest later by (called_holds u v b))
       good second h
 
-  -- a first attempt and the rest of its call leave the state of the replay, if the steps are good
+  -- a first attempt and the rest of its call leave the state that the replay gives, if the steps are good
   pub first_holds : (n flags : ℕ) → 1 ≤ n → (x : Both) (s : VgetrandomState) (steps : List HostStep)
       (outcome : Outcome) → Good lists steps → FirstAttempt n flags s steps outcome → Holds x s →
       OutcomeHolds x outcome
@@ -343,12 +344,12 @@ module _ (lists : Lists) (caller k : ℕ) where
       (record { batch = h.batch; pos = h.pos; key = h.key; named = h.named }))))
       from
 
-  -- a call leaves a state that its list replays to, if all steps after a look that found a generation are good
-  abbrev pub GoodBehind : List HostStep → Type 0
-  GoodBehind steps = (g : ℕ) (rest : List HostStep) → steps ≡ publishes g ∷ rest → 1 ≤ g → Good lists rest
+  -- the steps after the first are good if the first published a generation of a ready core
+  abbrev pub GoodAfter : List HostStep → Type 0
+  GoodAfter steps = (g : ℕ) (rest : List HostStep) → steps ≡ publishes g ∷ rest → 1 ≤ g → Good lists rest
 
   pub call_holds : (n flags : ℕ) (x : Both) (s : VgetrandomState) (steps : List HostStep) (outcome : Outcome) →
-      GoodBehind steps → IsCall n flags s steps outcome → Holds x s → OutcomeHolds x outcome
+      GoodAfter steps → IsCall n flags s steps outcome → Holds x s → OutcomeHolds x outcome
   call_holds n flags x s steps outcome good is h =
       match_cases (BySystem n flags s steps outcome) (FromLook n flags s steps outcome) (OutcomeHolds x outcome)
       (is_bad flags)

@@ -1,5 +1,5 @@
--- How a vread of a transcript ended: if the batch served it, the vread shows the bytes of the named spans that its
--- state's entries serve.
+-- How a vread of a transcript ended. If the batch served the vread, it shows the bytes of the named spans that entries
+-- of the vread's state serve.
 use Rattle.std.specs.Prelude.{ℕ, ◌≡◌, ◌<◌, Some, List, ◌++◌, take, slice_get}
 use Rattle.key_names.specs.declared.entries.VEntry.{VEntry}
 use Rattle.key_names.specs.Lanes.Book.{Lists}
@@ -12,19 +12,19 @@ use Rattle.key_names.specs.Kernel.Vgetrandom.{SystemAnswer, by_system}
 use Rattle.key_names.specs.Callers.Meaning.{CallMeaning, ByVgetrandom}
 use Rattle.key_names.specs.Transcripts.IsTranscript.{entries_of_state}
 
--- after a front of a state's list, the bytes of the spans that the next entries serve
+-- the bytes of the spans that the entries `es` serve, after the entries `front` of the state's list
 abbrev pub entry_bytes : Lists → ℕ → ℕ → List VEntry → List VEntry → List ℕ
 entry_bytes lists caller k front es =
     served_in lists (uses_from state_uses_at (state_step caller k) (state_after caller k front) es)
 
--- after a front, these entries end with those of the attempt that held, which serve these bytes
+-- these entries end with those of the attempt that held, which serve the bytes `out`
 pub record LastServe (lists : Lists) (caller k : ℕ) (front es : List VEntry) (out : List ℕ) : Type 0 where
   pub earlier : List VEntry
   pub last : List VEntry
   pub entries_are : es ≡ earlier ++ last
   pub bytes_are : out ≡ entry_bytes lists caller k (front ++ earlier) last
 
--- how a vread ended: without bytes, with the bytes that its last entries serve, or with a system call's answer
+-- how a vread ended: it shows no data, the bytes that its last entries serve, or the answer of a system call
 pub data VreadEnd (lists : Lists) (caller k : ℕ) (front : List VEntry) (n flags : ℕ) (acts : List BoundAct)
     (m : CallMeaning) : Type 0 where
   showed_none : m.own.shown ≡ no_data → VreadEnd lists caller k front n flags acts m

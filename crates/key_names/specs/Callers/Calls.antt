@@ -52,14 +52,14 @@ setting_after set (Online cpu) = set
 setting_after set (Vmfork word text) = set
 setting_after set (State number) = set
 
--- an act that waits for a point of a vread: the point, the action, and its line
+-- an act that waits for a point of a vread: the point, the action, and the act's line
 pub record BoundAct : Type 0 where
   pub point : Point
   pub act : InsideAct
   pub line : SeenLine
 
--- one call, with its lines: an event by itself, a vread with the acts inside it, an act that no vread follows, or the
--- end
+-- one call with its lines: an event by itself, a vread with the acts inside it, an act that no vread follows, or the
+-- caller's end
 pub data Call : Type 0 where
   alone : Event → SeenLine → Call
   vread_call : ℕ → ℕ → SeenLine → List BoundAct → Call
@@ -93,14 +93,14 @@ all_calls [] t = []
 all_calls (events ∷ callers) [] = calls_of events [] ∷ all_calls callers []
 all_calls (events ∷ callers) (lines ∷ t) = calls_of events lines ∷ all_calls callers t
 
--- the setting after a call. Only events by themselves change it
+-- the setting after a call. Only an event by itself changes the setting
 abbrev pub setting_after_call : Setting → Call → Setting
 setting_after_call set (alone event line) = setting_after set event
 setting_after_call set (vread_call len flags line acts) = set
 setting_after_call set (unbound bound) = set
 setting_after_call set (ending line) = set
 
--- the place in a list of calls that forks a caller: the calls before the fork, and the fork's line
+-- a fork in a list of calls: the calls before the fork, and the fork's line
 pub record ForkPoint : Type 0 where
   pub before : List Call
   pub line : SeenLine
@@ -116,7 +116,7 @@ fork_point c (alone (Fork child) line ∷ calls) =
     else with_call_before (alone (Fork child) line) (fork_point c calls)
 fork_point c (call ∷ calls) = with_call_before call (fork_point c calls)
 
--- the parent of a caller, and the place where it forks the caller
+-- the parent of a caller, and the parent's fork that starts the caller
 pub record Parent : Type 0 where
   pub caller : ℕ
   pub fork : ForkPoint
@@ -125,7 +125,7 @@ abbrev pub parent_here : ℕ → Option ForkPoint → Option Parent → Option P
 parent_here p None later = later
 parent_here p (Some fork) later = Some (record { caller = p; fork = fork })
 
--- the parent of caller c; p is the number of the first list of calls
+-- the parent of caller c; `p` is the number of the caller that has the first list of calls
 abbrev pub parent_from : ℕ → ℕ → List (List Call) → Option Parent
 parent_from c p [] = None
 parent_from c p (calls ∷ rest) = parent_here p (fork_point c calls) (parent_from c (suc p) rest)

@@ -1,12 +1,12 @@
--- When the interrupt samples of a line are correct: either no dump is due and none is made, or an interrupt makes a
--- dump due, and that dump follows with its mix into the pool.
+-- When the interrupt samples of a line are correct: the line makes no dump due and has no dump, or an interrupt makes a
+-- dump due, and that dump and its mix into the pool follow.
 use Rattle.std.specs.Prelude.{◌≡◌, ◌⊎◌, ℕ, ◌<◌, ⊤, false, List, ◌∷◌}
 use Rattle.std.specs.List.{AllByRecursion}
 use Rattle.key_names.specs.declared.entries.PoolEntry.{PoolEntry}
 use Rattle.key_names.specs.declared.entries.PoolEntry.TheVariants.{Mix, Input, Bits, Extract}
 use Rattle.key_names.specs.declared.entries.CpuEntry.{CpuEntry}
 use Rattle.key_names.specs.declared.entries.CpuEntry.TheVariants.{Read, Int, Irq, Dump, Prepare, Online}
-use Rattle.key_names.specs.Callers.Deeds.{Deed, PoolVisit, CpuVisit, looked, at_pool, at_base, at_cpu, nothing_there}
+use Rattle.key_names.specs.Callers.Effects.{Effect, PoolVisit, CpuVisit, looked, at_pool, at_base, at_cpu, nothing_there}
 use Rattle.key_names.specs.Kernel.FastPool.{FastPool, makes_due, dump_bytes, dump_bits}
 use Rattle.key_names.specs.Lanes.Samples.{MakesDue, IsDump}
 
@@ -19,22 +19,22 @@ EntryIsQuiet f (Int look refill width filled) = ⊤
 EntryIsQuiet f Prepare = ⊤
 EntryIsQuiet f Online = ⊤
 
--- fast gives each CPU's fast pool before a place of its list
+-- `fast` gives each CPU's fast pool before each place of the CPU's list
 module _ (fast : ℕ → ℕ → FastPool) where
-  abbrev pub IsQuiet : Deed → Type 0
+  abbrev pub IsQuiet : Effect → Type 0
   IsQuiet (at_cpu v) = EntryIsQuiet (fast v.cpu v.place) v.entry
   IsQuiet (looked g) = ⊤
   IsQuiet (at_pool v) = ⊤
   IsQuiet (at_base v) = ⊤
   IsQuiet nothing_there = ⊤
 
-  -- an interrupt makes a dump due, and the dump follows
-  pub record Dumps (crossed : List Deed → Type 0) (deeds : List Deed) : Type 0 where
+  -- an interrupt makes a dump due, and the dump and its mix follow
+  pub record Dumps (crossed : List Effect → Type 0) (effects : List Effect) : Type 0 where
     pub sample : CpuVisit
     pub dump : CpuVisit
     pub mix : PoolVisit
-    pub rest : List Deed
-    pub deeds_are : deeds ≡ at_cpu sample ∷ at_cpu dump ∷ at_pool mix ∷ rest
+    pub rest : List Effect
+    pub effects_are : effects ≡ at_cpu sample ∷ at_cpu dump ∷ at_pool mix ∷ rest
     pub due : MakesDue (fast sample.cpu sample.place) sample.entry
     pub on : dump.cpu ≡ sample.cpu
     pub after : sample.place < dump.place
@@ -48,15 +48,15 @@ IsMix (Input word kind code value now) = ⊥
 IsMix Bits = ⊥
 IsMix (Extract hw base_place) = ⊥
 
--- the deed is no visit of a CPU, and mixes nothing
-abbrev pub IsCrossing : Deed → Type 0
+-- the effect is no visit of a CPU, and mixes nothing
+abbrev pub IsCrossing : Effect → Type 0
 IsCrossing (at_pool v) = IsMix v.entry → ⊥
 IsCrossing (at_cpu v) = ⊥
 IsCrossing (looked g) = ⊤
 IsCrossing (at_base v) = ⊤
 IsCrossing nothing_there = ⊤
 
--- the samples of a line are correct, given its deeds
-abbrev pub SamplesStand : (ℕ → ℕ → FastPool) → List Deed → Type 0
-SamplesStand fast deeds =
-    AllByRecursion (IsQuiet fast) deeds ⊎ Dumps fast (λ rest. AllByRecursion IsCrossing rest) deeds
+-- the samples of a line are correct, given the line's effects
+abbrev pub SamplesConform : (ℕ → ℕ → FastPool) → List Effect → Type 0
+SamplesConform fast effects =
+    AllByRecursion (IsQuiet fast) effects ⊎ Dumps fast (λ rest. AllByRecursion IsCrossing rest) effects

@@ -1,4 +1,4 @@
--- The meaning of a call: the deeds, the answers and the data of its lines, and the state of its caller after it.
+-- The meaning of a call: the effects, the answers and the data of its lines, and the caller's state after the call.
 use Rattle.std.specs.Prelude.{ℕ, ◌≡◌, Bool, not, ◌&&◌, ◌==◌, MatchBool, ⊤, List, [], ◌∷◌, replicate, slice_get}
 use Rattle.std.specs.Prelude.{slice_set, unwrap_or, length}
 use Rattle.key_names.specs.declared.entries.VEntry.{VEntry}
@@ -16,14 +16,14 @@ use Rattle.key_names.specs.declared.events.InsideAct.TheVariants.{Wipe as WipeAc
 use Rattle.key_names.specs.declared.events.InsideAct.TheVariants.{Reseed as ReseedAct}
 use Rattle.key_names.specs.Kernel.Flags.{is_bad}
 use Rattle.key_names.specs.Callers.Calls.{Setting, setting_after, Call, alone, vread_call, unbound, ending, BoundAct}
-use Rattle.key_names.specs.Callers.Deeds.{Deed}
+use Rattle.key_names.specs.Callers.Effects.{Effect}
 use Rattle.key_names.specs.Callers.Forms.{Form, EndForm, SysForm, Looked}
 use Rattle.key_names.specs.Callers.Answers.{answer_of, shown_of, system_answer, served_bytes}
 use Rattle.key_names.specs.Transcripts.SeenLine.{Shown, no_data, bytes_or_none}
 use Rattle.key_names.specs.Kernel.VgetrandomState.{VgetrandomState, wiped_state}
 use Rattle.key_names.specs.Kernel.BatchCopy.{copy_bytes, copy_entries, state_after_copy, serves_locally}
 use Rattle.key_names.specs.Kernel.Vgetrandom.{HostStep, Outcome, IsCall}
-use Rattle.key_names.specs.Callers.VreadSteps.{Shows, WipesStand, points_of, is_reached, ending_answer, ending_shown}
+use Rattle.key_names.specs.Callers.VreadSteps.{Shows, WipesConform, points_of, is_reached, ending_answer, ending_shown}
 use Rattle.key_names.specs.Callers.VreadSteps.{published_by, NeverFall, looks_of}
 
 -- a caller's state between two calls: its setting, its sixteen vgetrandom states, and the number of the current one
@@ -43,9 +43,9 @@ current_state s = unwrap_or (slice_get s.states s.current) wiped_state
 abbrev pub with_state : CallerState → VgetrandomState → CallerState
 with_state s state = record s { states = slice_set s.states s.current state }
 
--- the meaning of a line: the deeds of its steps, its answer, and its data
+-- the meaning of a line: the effects of its steps, its answer, and its data
 pub record LineMeaning : Type 0 where
-  pub deeds : List Deed
+  pub effects : List Effect
   pub answer : Answer
   pub shown : Shown
 
@@ -97,16 +97,16 @@ caller_after s event = record s { setting = setting_after s.setting event }
 
 -- the meaning of an event by itself
 pub record AloneMeans (event : Event) (m : CallMeaning) : Type 0 where
-  pub form : Form m.before.setting event m.own.deeds
-  pub answer : m.own.answer ≡ answer_of event m.own.deeds
-  pub shown : m.own.shown ≡ shown_of event m.own.deeds
+  pub form : Form m.before.setting event m.own.effects
+  pub answer : m.own.answer ≡ answer_of event m.own.effects
+  pub shown : m.own.shown ≡ shown_of event m.own.effects
   pub no_acts : m.acts ≡ []
   pub entries : m.entries ≡ event_entries event
   pub after : m.after ≡ caller_after m.before event
 
--- a line that was not done has no steps
+-- the meaning of the line of an act that was not done
 abbrev pub unused_line : LineMeaning
-unused_line = record { deeds = []; answer = Unused; shown = no_data }
+unused_line = record { effects = []; answer = Unused; shown = no_data }
 
 -- an act that no vread follows is not done
 pub record UnboundMeans (m : CallMeaning) : Type 0 where
@@ -117,7 +117,7 @@ pub record UnboundMeans (m : CallMeaning) : Type 0 where
 
 -- the meaning of a caller's end
 pub record EndingMeans (m : CallMeaning) : Type 0 where
-  pub form : EndForm m.own.deeds
+  pub form : EndForm m.own.effects
   pub answer : m.own.answer ≡ Done
   pub shown : m.own.shown ≡ no_data
   pub no_acts : m.acts ≡ []
@@ -126,13 +126,13 @@ pub record EndingMeans (m : CallMeaning) : Type 0 where
 
 -- the meaning of an act inside a vread, under the setting of that vread. A read among the acts is a system call
 abbrev pub ActMeans : Setting → InsideAct → LineMeaning → Type 0
-ActMeans set WipeAct m = m ≡ record { deeds = []; answer = Done; shown = no_data }
+ActMeans set WipeAct m = m ≡ record { effects = []; answer = Done; shown = no_data }
 ActMeans set (VreadAct n) m =
-    SysForm set n 0 m.deeds × (m.answer ≡ system_answer 0 m.deeds) × (m.shown ≡ bytes_or_none (served_bytes m.deeds))
+    SysForm set n 0 m.effects × (m.answer ≡ system_answer 0 m.effects) × (m.shown ≡ bytes_or_none (served_bytes m.effects))
 ActMeans set ReseedAct m =
-    Form set Reseed m.deeds × (m.answer ≡ answer_of Reseed m.deeds) × (m.shown ≡ shown_of Reseed m.deeds)
+    Form set Reseed m.effects × (m.answer ≡ answer_of Reseed m.effects) × (m.shown ≡ shown_of Reseed m.effects)
 
--- an act is done if and only if its point was reached
+-- ActMeans holds for each act whose point was reached, and no other act was done
 abbrev pub ActsMean : Setting → (BoundAct → Bool) → List BoundAct → List LineMeaning → Type 0
 ActsMean set is_reached [] [] = ⊤
 ActsMean set is_reached [] (m ∷ ms) = ⊥
@@ -141,7 +141,7 @@ ActsMean set is_reached (bound ∷ acts) (m ∷ ms) =
     MatchBool (is_reached bound) (ActMeans set bound.act m) (m ≡ unused_line) × ActsMean set is_reached acts ms
 
 -- a copy out of the current state, after the line's only look
-pub record ByLocalCopy (n : ℕ) (rest : List Deed) (m : CallMeaning) : Type 0 where
+pub record ByLocalCopy (n : ℕ) (rest : List Effect) (m : CallMeaning) : Type 0 where
   pub no_more : rest ≡ []
   pub answer : m.own.answer ≡ Done
   pub shown : m.own.shown ≡ bytes_or_none (copy_bytes (current_state m.before) 0 n)
@@ -154,8 +154,8 @@ pub record ByVgetrandom (n flags : ℕ) (acts : List BoundAct) (m : CallMeaning)
   pub steps : List HostStep
   pub outcome : Outcome
   pub is_call : IsCall n flags (current_state m.before) steps outcome
-  pub shows : Shows m.before.setting steps m.own.deeds
-  pub wipes : WipesStand acts (points_of steps)
+  pub shows : Shows m.before.setting steps m.own.effects
+  pub wipes : WipesConform acts (points_of steps)
   pub inside : ActsMean m.before.setting (is_reached (points_of steps)) acts m.acts
   pub answer : m.own.answer ≡ ending_answer outcome.ending
   pub shown : m.own.shown ≡ ending_shown outcome.ending
@@ -166,16 +166,17 @@ pub record ByVgetrandom (n flags : ℕ) (acts : List BoundAct) (m : CallMeaning)
 abbrev pub tries_local : ℕ → ℕ → List BoundAct → Bool
 tries_local n flags acts = length acts == 0 && (not (n == 0) && not (is_bad flags))
 
--- what follows the first look of a vread that tries a copy: the copy or a vgetrandom call
-abbrev pub LocalOrCall : ℕ → ℕ → List BoundAct → CallMeaning → ℕ → List Deed → Type 0
+-- the rest of a vread that may try a copy, after its first look: the copy if the batch can serve it, else a vgetrandom
+-- call
+abbrev pub LocalOrCall : ℕ → ℕ → List BoundAct → CallMeaning → ℕ → List Effect → Type 0
 LocalOrCall n flags acts m look rest =
     MatchBool (serves_locally (published_by look) (current_state m.before) n) (ByLocalCopy n rest m)
     (ByVgetrandom n flags acts m)
 
 -- the meaning of a vread of n bytes with these flags
 pub record VreadMeans (n flags : ℕ) (acts : List BoundAct) (m : CallMeaning) : Type 0 where
-  pub looks : NeverFall (looks_of m.own.deeds)
-  pub ways : MatchBool (tries_local n flags acts) (Looked (LocalOrCall n flags acts m) m.own.deeds)
+  pub looks : NeverFall (looks_of m.own.effects)
+  pub ways : MatchBool (tries_local n flags acts) (Looked (LocalOrCall n flags acts m) m.own.effects)
       (ByVgetrandom n flags acts m)
 
 -- the meanings that a call may have

@@ -1,4 +1,4 @@
--- A caller's uses of a vgetrandom state, one after another, and the list of entries that they leave.
+-- The uses of a vgetrandom state by its caller, one after another, and the list of entries that the uses leave.
 use Rattle.std.specs.Prelude.{ℕ, ◌≡◌, IsTrue, ⊤, List, [], ◌∷◌, ◌++◌, take, replicate}
 use Rattle.std.specs.List.{fold, AllByRecursion}
 use Rattle.key_names.specs.declared.entries.CpuEntry.{CpuEntry}
@@ -10,16 +10,16 @@ use Rattle.key_names.specs.Kernel.VgetrandomState.{VgetrandomState, wiped_state}
 use Rattle.key_names.specs.Kernel.BatchCopy.{has_left, state_of_same_batch, serve_entry}
 use Rattle.key_names.specs.Kernel.Vgetrandom.{HostStep, Outcome, IsCall}
 
--- a vgetrandom call with the host's steps and the call's outcome, a copy without a call, or a wipe
+-- a use of a state: a vgetrandom call with the host's steps and the call's outcome, a copy without a call, or a wipe
 pub data StateUse : Type 0 where
   by_call : ℕ → ℕ → List HostStep → Outcome → StateUse
   by_copy : ℕ → StateUse
   by_wipe : StateUse
 
-abbrev pub StateUseStands : VgetrandomState → StateUse → Type 0
-StateUseStands s (by_call n flags steps outcome) = IsCall n flags s steps outcome
-StateUseStands s (by_copy n) = IsTrue (has_left s n)
-StateUseStands s by_wipe = ⊤
+abbrev pub StateUseConforms : VgetrandomState → StateUse → Type 0
+StateUseConforms s (by_call n flags steps outcome) = IsCall n flags s steps outcome
+StateUseConforms s (by_copy n) = IsTrue (has_left s n)
+StateUseConforms s by_wipe = ⊤
 
 abbrev pub state_after_use : VgetrandomState → StateUse → VgetrandomState
 state_after_use s (by_call n flags steps outcome) = outcome.state
@@ -31,13 +31,13 @@ entries_of_use s (by_call n flags steps outcome) = outcome.entries
 entries_of_use s (by_copy n) = serve_entry s.pos n
 entries_of_use s by_wipe = Wipe ∷ []
 
--- the entries that some uses leave, if the first finds this state
+-- the entries that the uses leave, if the first use finds the state `s`
 abbrev pub entries_of_uses : VgetrandomState → List StateUse → List VEntry
 entries_of_uses s [] = []
 entries_of_uses s (u ∷ uses) = entries_of_use s u ++ entries_of_uses (state_after_use s u) uses
 
--- uses leave a list in order, and a state with zeros for its served bytes. The list is lawful if its rekeys take reads
--- of 32 bytes
+-- after the uses of a state, the state's list is in order, and its served bytes are 0. The list is lawful if its rekeys
+-- take reads of 32 bytes
 pub record LeavesLawful (caller state : ℕ) (es : List VEntry) (s : VgetrandomState) : Type 0 where
   pub ordered : OrderedStateList caller state es
   pub lawful : (cpu_list : ℕ → List CpuEntry) → AllByRecursion (TakesRead cpu_list) es →
@@ -47,5 +47,5 @@ pub record LeavesLawful (caller state : ℕ) (es : List VEntry) (s : VgetrandomS
 -- LeavesLawful holds for all uses of a wiped state, whatever the host does
 abbrev pub UsesLeaveLawfulLists : Type 0
 UsesLeaveLawfulLists = (caller state : ℕ) (uses : List StateUse) →
-    LawfulFrom StateUseStands state_after_use wiped_state uses →
+    LawfulFrom StateUseConforms state_after_use wiped_state uses →
     LeavesLawful caller state (entries_of_uses wiped_state uses) (fold state_after_use wiped_state uses)

@@ -1,5 +1,5 @@
--- How a vgetrandom call shows in the steps of a vread's line and of the lines of the acts inside it. The host of the
--- call is the caller itself, over the lanes.
+-- How the steps of a vread's line, and of the lines of its acts, show a vgetrandom call. The host of the call is the
+-- caller itself, which visits the lanes.
 use Rattle.std.specs.Prelude.{ℕ, zero, suc, ◌≡◌, ◌≤◌, Bool, true, false, ◌&&◌, ⊤, Option, Some, None, List, []}
 use Rattle.std.specs.Prelude.{◌∷◌, ◌++◌, if◌then◌else◌}
 use Rattle.std.specs.List.{list_any, AllByRecursion}
@@ -16,30 +16,30 @@ use Rattle.key_names.specs.declared.point.Point.{Point}
 use Rattle.key_names.specs.declared.point.Point.TheVariants.{Start}
 use Rattle.key_names.specs.Kernel.Points.{is_same_point}
 use Rattle.key_names.specs.Callers.Calls.{Setting, BoundAct}
-use Rattle.key_names.specs.Callers.Deeds.{Deed, looked, at_pool, at_base, at_cpu, nothing_there}
+use Rattle.key_names.specs.Callers.Effects.{Effect, looked, at_pool, at_base, at_cpu, nothing_there}
 use Rattle.key_names.specs.Callers.Forms.{SysForm, Looked}
 use Rattle.key_names.specs.Transcripts.SeenLine.{Shown, no_data, bytes_or_none}
 use Rattle.key_names.specs.Callers.Answers.{system_answer, served_bytes}
 use Rattle.key_names.specs.Kernel.Vgetrandom.{CpuPlace, SystemAnswer, read, failed, HostStep, publishes, system_call, at_point}
 use Rattle.key_names.specs.Kernel.Vgetrandom.{Ending, no_bytes, by_batch, by_system}
 
--- the generation that is published when a look finds one: the next number, so that 0 means that the core is not ready
+-- the published generation if a look finds this generation: the next number if the core is ready, and otherwise 0
 abbrev pub published_by : ℕ → ℕ
 published_by zero = 0
 published_by (suc g) = suc (suc g)
 
-abbrev pub place_of : Deed → Option CpuPlace
+abbrev pub place_of : Effect → Option CpuPlace
 place_of (looked g) = None
 place_of (at_pool v) = None
 place_of (at_base v) = None
 place_of (at_cpu v) = Some (record { cpu = v.cpu; place = v.place })
 place_of nothing_there = None
 
--- the CPU visit that a system call ends with, if it ends with one
-abbrev pub last_place : List Deed → Option CpuPlace
+-- the CPU and the place of the last effect, if this effect is a visit of a CPU
+abbrev pub last_place : List Effect → Option CpuPlace
 last_place [] = None
-last_place (deed ∷ []) = place_of deed
-last_place (deed ∷ next ∷ deeds) = last_place (next ∷ deeds)
+last_place (effect ∷ []) = place_of effect
+last_place (effect ∷ next ∷ effects) = last_place (next ∷ effects)
 
 -- the error of an answer
 abbrev pub errno_of : Answer → Option Errno
@@ -52,37 +52,37 @@ errno_of Fired = None
 errno_of Idle = None
 errno_of Unused = None
 
-abbrev pub answer_with : Option Errno → List Deed → SystemAnswer
-answer_with None deeds = read (served_bytes deeds) (last_place deeds)
-answer_with (Some errno) deeds = failed errno
+abbrev pub answer_with : Option Errno → List Effect → SystemAnswer
+answer_with None effects = read (served_bytes effects) (last_place effects)
+answer_with (Some errno) effects = failed errno
 
--- the answer of a system call with these flags, from the deeds of its steps
-abbrev pub answer_behind : ℕ → List Deed → SystemAnswer
-answer_behind flags deeds = answer_with (errno_of (system_answer flags deeds)) deeds
+-- the answer of a system call with these flags, from the effects of its steps
+abbrev pub answer_after : ℕ → List Effect → SystemAnswer
+answer_after flags effects = answer_with (errno_of (system_answer flags effects)) effects
 
--- a system call of n bytes, and the deeds after its own
-pub record SystemCallShows (set : Setting) (n flags : ℕ) (answer : SystemAnswer) (Rest : List Deed → Type 0)
-    (deeds : List Deed) : Type 0 where
-  pub call : List Deed
-  pub rest : List Deed
-  pub deeds_are : deeds ≡ call ++ rest
+-- the effects begin with a system call of n bytes, and `Rest` holds for the effects after that call
+pub record SystemCallShows (set : Setting) (n flags : ℕ) (answer : SystemAnswer) (Rest : List Effect → Type 0)
+    (effects : List Effect) : Type 0 where
+  pub call : List Effect
+  pub rest : List Effect
+  pub effects_are : effects ≡ call ++ rest
   pub form : SysForm set n flags call
-  pub answers : answer ≡ answer_behind flags call
+  pub answers : answer ≡ answer_after flags call
   pub goes_on : Rest rest
 
--- the deeds of the line are the steps of the host. A point has no step in the transcript
-abbrev pub Shows : Setting → List HostStep → List Deed → Type 0
-Shows set [] deeds = deeds ≡ []
-Shows set (publishes g ∷ steps) deeds = Looked (λ look rest. (g ≡ published_by look) × Shows set steps rest) deeds
-Shows set (at_point point wiped ∷ steps) deeds = Shows set steps deeds
-Shows set (system_call n flags answer ∷ steps) deeds = SystemCallShows set n flags answer (Shows set steps) deeds
+-- the line's effects show the steps of the host. A point has no step in the transcript
+abbrev pub Shows : Setting → List HostStep → List Effect → Type 0
+Shows set [] effects = effects ≡ []
+Shows set (publishes g ∷ steps) effects = Looked (λ look rest. (g ≡ published_by look) × Shows set steps rest) effects
+Shows set (at_point point wiped ∷ steps) effects = Shows set steps effects
+Shows set (system_call n flags answer ∷ steps) effects = SystemCallShows set n flags answer (Shows set steps) effects
 
 -- a point that a call has reached, and whether the state was wiped there
 pub record PointReached : Type 0 where
   pub point : Point
   pub wiped : Bool
 
--- the points of both attempts
+-- the points that the steps reach, in both attempts
 abbrev pub points_of : List HostStep → List PointReached
 points_of [] = []
 points_of (publishes g ∷ steps) = points_of steps
@@ -92,7 +92,7 @@ points_of (at_point point wiped ∷ steps) = record { point = point; wiped = wip
 abbrev pub is_start : PointReached → Bool
 is_start reached = is_same_point reached.point Start
 
--- the points before the next start of an attempt, and those from it on
+-- the points of this list before its first Start, and the points from that Start on
 abbrev pub before_start : List PointReached → List PointReached
 before_start [] = []
 before_start (reached ∷ points) = if is_start reached then [] else reached ∷ before_start points
@@ -101,7 +101,7 @@ abbrev pub from_start : List PointReached → List PointReached
 from_start [] = []
 from_start (reached ∷ points) = if is_start reached then reached ∷ points else from_start points
 
--- the points of the first attempt, and those of the second. The first point of all is the start of the first attempt
+-- the points of the first attempt, and those of the second. The first of all points is the Start of the first attempt
 abbrev pub first_points : List PointReached → List PointReached
 first_points [] = []
 first_points (start ∷ points) = start ∷ before_start points
@@ -119,8 +119,9 @@ is_wipe ReseedAct = false
 abbrev pub is_wiped : List BoundAct → Point → Bool
 is_wiped acts point = list_any (λ bound. is_same_point bound.point point && is_wipe bound.act) acts
 
--- the acts wipe the state in the first attempt, and in the second no point is wiped
-pub record WipesStand (acts : List BoundAct) (points : List PointReached) : Type 0 where
+-- the first attempt wipes the state at exactly those of its points that have an act that wipes; the second attempt
+-- never wipes the state
+pub record WipesConform (acts : List BoundAct) (points : List PointReached) : Type 0 where
   pub first : AllByRecursion (λ reached. reached.wiped ≡ is_wiped acts reached.point) (first_points points)
   pub second : AllByRecursion (λ reached. reached.wiped ≡ false) (second_points points)
 
@@ -153,14 +154,14 @@ ending_shown no_bytes = no_data
 ending_shown (by_batch bytes) = bytes_or_none bytes
 ending_shown (by_system answer) = system_line_shown answer
 
--- the looks among some deeds
-abbrev pub looks_of : List Deed → List ℕ
+-- the looks among some effects
+abbrev pub looks_of : List Effect → List ℕ
 looks_of [] = []
-looks_of (looked g ∷ deeds) = g ∷ looks_of deeds
-looks_of (at_pool v ∷ deeds) = looks_of deeds
-looks_of (at_base v ∷ deeds) = looks_of deeds
-looks_of (at_cpu v ∷ deeds) = looks_of deeds
-looks_of (nothing_there ∷ deeds) = looks_of deeds
+looks_of (looked g ∷ effects) = g ∷ looks_of effects
+looks_of (at_pool v ∷ effects) = looks_of effects
+looks_of (at_base v ∷ effects) = looks_of effects
+looks_of (at_cpu v ∷ effects) = looks_of effects
+looks_of (nothing_there ∷ effects) = looks_of effects
 
 -- no number is below the one before it
 abbrev pub NeverFall : List ℕ → Type 0

@@ -12,19 +12,20 @@ use Rattle.key_names.specs.Kernel.VgetrandomState.{VgetrandomState}
 abbrev pub bytes_left : VgetrandomState → ℕ
 bytes_left s = 96 - s.pos
 
--- the number of whole blocks of the key that a copy of n bytes needs, and the number of bytes of a new batch
+-- how many whole blocks of the keystream a copy of n bytes needs, and how many bytes of a new batch it needs
 abbrev pub whole_blocks : VgetrandomState → ℕ → ℕ
 whole_blocks s n = (n - bytes_left s) / 64
 
 abbrev pub new_batch_bytes : VgetrandomState → ℕ → ℕ
 new_batch_bytes s n = (n - bytes_left s) % 64
 
--- the bytes that a copy of n bytes serves: first those left in the batch, and then the key's from block c on
+-- the bytes that a copy of n bytes serves: first those left in the batch, and then the keystream of the key from block
+-- c on
 abbrev pub copy_bytes : VgetrandomState → ℕ → ℕ → List ℕ
 copy_bytes s c n =
     take (min n (bytes_left s)) (drop s.pos s.batch) ++ keystream s.key (64 * c) (n - bytes_left s)
 
--- the state after a copy that was served by the batch alone
+-- the state after the batch alone served n bytes
 abbrev pub state_of_same_batch : VgetrandomState → ℕ → VgetrandomState
 state_of_same_batch s n = record s { batch = with_zeros s.pos n s.batch; pos = s.pos + n }
 
@@ -44,7 +45,7 @@ abbrev pub state_after_copy : VgetrandomState → ℕ → ℕ → VgetrandomStat
 state_after_copy s c n =
     if has_left s n then state_of_same_batch s n else state_of_new_batch s (c + whole_blocks s n) (new_batch_bytes s n)
 
--- the next block after a copy; a new batch and key take two
+-- the next block after a copy; a new batch and its key take two blocks
 abbrev pub block_after_copy : VgetrandomState → ℕ → ℕ → ℕ
 block_after_copy s c n = if has_left s n then c else c + whole_blocks s n + 2
 

@@ -1,5 +1,5 @@
--- Batched integers: when a batch is filled, which bytes it serves, and which it still holds (get_random_u8 to
--- get_random_u64). A batch has 96 bytes of one key's keystream, and serves integers of one width.
+-- Batched integers (get_random_u8 to get_random_u64): when a batch is filled, which bytes it serves, and which it still
+-- holds. A batch has 96 bytes of one key's keystream, and serves integers of one width.
 use Rattle.std.specs.Prelude.{ℕ, suc, ◌+◌, ◌*◌, ◌/◌, Bool, true, false, not, ◌||◌, ◌==◌, Option, Some, None, List, ◌++◌}
 use Rattle.std.specs.Prelude.{take, drop, replicate, nat_le, if◌then◌else◌}
 use Rattle.key_names.specs.declared.names.KeyName.{KeyName}
@@ -7,8 +7,8 @@ use Rattle.key_names.specs.declared.entries.CpuEntry.{CpuEntry}
 use Rattle.key_names.specs.declared.entries.CpuEntry.TheVariants.{Read, Int, Irq, Dump, Prepare, Online}
 use Rattle.key_names.specs.Kernel.Keystream.{keystream}
 
--- the last fill of a batch: the key in use at the fill, its place in the CPU's list, the number of integers served
--- since (the first one included), and its look
+-- the last fill of a batch: the key in use at the fill, the fill's place in the CPU's list, the number of integers that
+-- the batch has served since, and the look of the fill
 pub record Fill : Type 0 where
   pub key : Option KeyName
   pub place : ℕ
@@ -20,8 +20,8 @@ abbrev pub one_more_served : Option Fill → Option Fill
 one_more_served None = None
 one_more_served (Some fill) = Some (record fill { count = suc fill.count })
 
--- each width's last fill after an entry at a place, given the key in use. When a CPU is
--- prepared, its batches are used up
+-- the last fill of width w after the entry at a place, given the key in use there and the last fills before the entry.
+-- A CPU that is prepared loses its fills
 abbrev pub fills_after : ℕ → CpuEntry → Option KeyName → (ℕ → Option Fill) → ℕ → Option Fill
 fills_after place (Read look refill taken) key fills w = fills w
 fills_after place (Int look refill width true) key fills w =
@@ -46,11 +46,11 @@ abbrev pub batch_pos : ℕ → Option Fill → ℕ
 batch_pos width None = 0
 batch_pos width (Some fill) = width * fill.count
 
--- `bytes` with `len` of them from `from` on set to 0
+-- `bytes`, with the `len` bytes from `from` on set to 0
 abbrev pub with_zeros : ℕ → ℕ → List ℕ → List ℕ
 with_zeros from len bytes = take from bytes ++ replicate len 0 ++ drop (from + len) bytes
 
--- the bytes of a width's batch after an entry, given the value of the key in use and the fill before
+-- the bytes of a width's batch after an entry, given the value of the key in use and the last fill before the entry
 abbrev pub batch_step : ℕ → List ℕ → Option Fill → List ℕ → CpuEntry → List ℕ
 batch_step w used fill bytes (Read look refill taken) = bytes
 batch_step w used fill bytes (Int look refill width true) =

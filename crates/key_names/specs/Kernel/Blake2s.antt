@@ -63,7 +63,8 @@ round v m =
 abbrev pub rounds : List ℕ → List ℕ → List ℕ
 rounds words v = fold (λ v schedule. round v (map (slice_index words) schedule)) v sigma
 
--- a block of a message: its 64 bytes, the number of the message's bytes up to its end, and whether it is the last
+-- a block of a message: its 64 bytes, the number of the message's bytes up to the block's end, and whether the block is
+-- the message's last
 pub record Block : Type 0 where
   pub bytes : List ℕ
   pub count : ℕ
@@ -73,15 +74,15 @@ pub record Block : Type 0 where
 abbrev pub message_words : List ℕ → List ℕ
 message_words block = map (u32_at block) (range_with_len 0 16)
 
--- the vector that a compression starts from: the hash words and the initialization vector, with the low and the high
--- word of the count xored into words 12 and 13, and word 14 inverted for the last block
+-- the vector that a compression starts from: the hash words and the initialization vector. The low and the high word of
+-- the count are xored into words 12 and 13. For the last block, word 14 is inverted
 unfoldable pub start_vector : List ℕ → ℕ → Bool → List ℕ
 start_vector h count is_last =
     h ++ (slice_index iv 0 ∷ slice_index iv 1 ∷ slice_index iv 2 ∷ slice_index iv 3
     ∷ bit_xor (slice_index iv 4) (count % 2 ^ 32) ∷ bit_xor (slice_index iv 5) (count / 2 ^ 32 % 2 ^ 32)
     ∷ (if is_last then bit_not w32 (slice_index iv 6) else slice_index iv 6) ∷ slice_index iv 7 ∷ [])
 
--- each hash word xored with the words of both halves of the vector
+-- for each i from 0 to 7, hash word i xored with the vector's words i and i + 8
 unfoldable pub folded : List ℕ → List ℕ → List ℕ
 folded h v =
     map (λ i. bit_xor (bit_xor (slice_index h i) (slice_index v i)) (slice_index v (i + 8))) (range_with_len 0 8)

@@ -12,8 +12,8 @@ pub record FastWords : Type 0 where
   pub s2 : ℕ
   pub s3 : ℕ
 
--- the words; the count, which has 32 bits and in bit 31 marks that a dump is due (MIX_INFLIGHT); and
--- the moment of the last dump
+-- the words; the count, with 32 bits, of which bit 31 marks a pending dump (MIX_INFLIGHT); and the moment of the last
+-- dump
 pub record FastPool : Type 0 where
   pub words : FastWords
   pub count : ℕ
@@ -43,7 +43,7 @@ sip_round s =
     let b2 = bit_xor (rotate_left w64 b1 17) c2 in
     record { s0 = a3; s1 = b2; s2 = rotate_left w64 c2 32; s3 = d2 }
 
--- one word is mixed in: it is xored into the last word before a round, and into the first word after it
+-- mixes in one word: xors it into s3 before a round, and into s0 after the round
 unfoldable pub word_mixed : FastWords → ℕ → FastWords
 word_mixed s v =
     let t = sip_round (record s { s3 = bit_xor s.s3 v }) in
@@ -83,6 +83,6 @@ fast_after = fold fast_step fast_start
 abbrev pub dump_bytes : FastPool → List ℕ
 dump_bytes f = to_le_bytes w64 f.words.s0 ++ to_le_bytes w64 f.words.s1
 
--- the bits that a dump is credited with, 1 to 128
+-- the bits that a dump credits, 1 to 128
 abbrev pub dump_bits : FastPool → ℕ
 dump_bits f = max 1 (min 128 (f.count % 2 ^ 16 / 64))

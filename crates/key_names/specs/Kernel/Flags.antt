@@ -9,6 +9,6 @@ is_nonblock flags = flags % 2 == 1
 abbrev pub is_insecure : ℕ → Bool
 is_insecure flags = flags / 4 % 2 == 1
 
--- whether a flag is unknown, or the flags for /dev/random and for an unready core are set together
+-- whether a flag is unknown, or GRND_RANDOM and GRND_INSECURE are set together
 abbrev pub is_bad : ℕ → Bool
 is_bad flags = not (nat_lt flags 8) || (flags / 2 % 2 == 1 && is_insecure flags)

@@ -1,4 +1,4 @@
--- How many bits an input event is credited with (add_timer_randomness), and the number that it mixes in.
+-- How many bits an input event credits (add_timer_randomness), and the number that the event mixes in.
 use Rattle.std.specs.Prelude.{ℕ, ◌/◌, ◌*◌, ◌^◌, ◌%◌, min, ℤ, pos, ◌-ℤ◌, nat_abs, length, bit_xor}
 use Rattle.std.specs.Int.Digits.{digits_of}
 
@@ -31,7 +31,8 @@ binary_digits n = length (digits_of 2 n)
 abbrev pub least_delta : InputTimer → ℕ → ℕ
 least_delta t now = min (nat_abs (delta t now)) (min (nat_abs (delta2 t now)) (nat_abs (delta3 t now)))
 
--- at most 11: the digits of half the least difference, cut to 32 bits (fls)
+-- the bits that an input event at this moment credits: the number of binary digits of half the least difference, cut to
+-- 32 bits (fls), and at most 11
 abbrev pub timer_bits : InputTimer → ℕ → ℕ
 timer_bits t now = min (binary_digits (least_delta t now / 2 % 2 ^ 32)) 11
 

@@ -1,5 +1,5 @@
--- A vgetrandom call, for any host: which steps of the host lead to which state, ending and entries. The relation is
--- defined from each point of a call to its end, so that it can also begin at a point.
+-- A vgetrandom call, for any host: which steps of the host lead to which state, ending and entries. Each point has its
+-- own relation for the rest of the attempt, so a definition or a proof can begin at any point.
 use Rattle.std.specs.Prelude.{ℕ, ◌≡◌, Bool, true, false, ◌==◌, MatchBool, Option, Some, None, List, [], ◌∷◌, ◌++◌}
 use Rattle.std.specs.Prelude.{if◌then◌else◌}
 use Rattle.key_names.specs.declared.entries.VEntry.{VEntry}
@@ -16,21 +16,21 @@ pub record CpuPlace : Type 0 where
   pub cpu : ℕ
   pub place : ℕ
 
--- the answer of a system call: the bytes that it read, with the CPU visit that gave them if the host has
+-- the answer of a system call: the bytes that the call read, with the CPU visit that gave these bytes if the host has
 -- such visits; or an error
 pub data SystemAnswer : Type 0 where
   read : List ℕ → Option CpuPlace → SystemAnswer
   failed : Errno → SystemAnswer
 
--- the steps of a host in a call: it publishes a generation, which is 0 if the core is not ready; it answers a system
--- call of some bytes with some flags; or at a point it wipes the state or leaves it
+-- a step of a call's host: it publishes a generation (0 if the core is not ready), or answers a system call for some
+-- bytes with some flags. At a point the host wipes the state or leaves it alone
 pub data HostStep : Type 0 where
   publishes : ℕ → HostStep
   system_call : ℕ → ℕ → SystemAnswer → HostStep
   at_point : Point → Bool → HostStep
 
--- how an attempt ended: the generation published at the end was the state's, or another one, or the system
--- call for a new key failed
+-- how an attempt ended: at its end the published generation was the state's (holds) or another one (outdated), or the
+-- system call for a new key failed (not_keyed)
 pub data AttemptEnd : Type 0 where
   holds outdated not_keyed : AttemptEnd
 
@@ -43,8 +43,8 @@ pub record Attempt : Type 0 where
   pub entries : List VEntry
   pub end : AttemptEnd
 
-abbrev pub attempt_behind : List VEntry → Attempt → Attempt
-attempt_behind entries attempt = record attempt { entries = entries ++ attempt.entries }
+abbrev pub prefix_attempt : List VEntry → Attempt → Attempt
+prefix_attempt entries attempt = record attempt { entries = entries ++ attempt.entries }
 
 abbrev pub wipe_entry : Bool → List VEntry
 wipe_entry wiped = if wiped then Wipe ∷ [] else []
@@ -54,7 +54,7 @@ abbrev pub rekey_entry : Option CpuPlace → List VEntry
 rekey_entry None = []
 rekey_entry (Some at) = Rekey at.cpu at.place ∷ []
 
--- the host is at a point, and GoesOn holds for the rest, on the state after the point
+-- the first step is at this point, and GoesOn holds for the later steps and the state after the point
 pub record AtPoint (point : Point) (GoesOn : VgetrandomState → List HostStep → Attempt → Type 0) (s : VgetrandomState)
     (steps : List HostStep) (attempt : Attempt) : Type 0 where
   pub wiped : Bool
@@ -62,9 +62,9 @@ pub record AtPoint (point : Point) (GoesOn : VgetrandomState → List HostStep �
   pub attempt_after : Attempt
   pub steps_are : steps ≡ at_point point wiped ∷ rest
   pub goes_on : GoesOn (state_left wiped s) rest attempt_after
-  pub attempt_is : attempt ≡ attempt_behind (wipe_entry wiped) attempt_after
+  pub attempt_is : attempt ≡ prefix_attempt (wipe_entry wiped) attempt_after
 
--- from End on: out has been copied
+-- from the point End on: the bytes `out` have been copied
 pub record FromEnd (out : List ℕ) (next_block : ℕ) (s : VgetrandomState) (steps : List HostStep)
     (attempt : Attempt) : Type 0 where
   pub published : ℕ
@@ -77,19 +77,19 @@ pub record FromEnd (out : List ℕ) (next_block : ℕ) (s : VgetrandomState) (st
     end = if s.generation == published then holds else outdated;
   }
 
--- from Serve on: n bytes are copied; c is the next block
+-- from the point Serve on: n bytes are copied; c is the next block
 pub record FromServe (n c : ℕ) (s : VgetrandomState) (steps : List HostStep) (attempt : Attempt) : Type 0 where
   pub attempt_after : Attempt
   pub goes_on : AtPoint End (FromEnd (copy_bytes s c n) (block_after_copy s c n))
       (state_after_copy s c n) steps attempt_after
-  pub attempt_is : attempt ≡ attempt_behind (copy_entries s c n) attempt_after
+  pub attempt_is : attempt ≡ prefix_attempt (copy_entries s c n) attempt_after
 
 -- the system call for a new key succeeded
 pub record Keyed (n c : ℕ) (key : List ℕ) (visit : Option CpuPlace) (s : VgetrandomState) (steps : List HostStep)
     (attempt : Attempt) : Type 0 where
   pub attempt_after : Attempt
   pub goes_on : AtPoint Serve (FromServe n c) (record s { key = key; pos = 96 }) steps attempt_after
-  pub attempt_is : attempt ≡ attempt_behind (rekey_entry visit) attempt_after
+  pub attempt_is : attempt ≡ prefix_attempt (rekey_entry visit) attempt_after
 
 -- the system call for a new key failed. The key may then be any list of bytes
 pub record NotKeyed (c : ℕ) (s : VgetrandomState) (steps : List HostStep) (attempt : Attempt) : Type 0 where
@@ -107,14 +107,15 @@ abbrev pub AfterKeyRead : ℕ → ℕ → SystemAnswer → VgetrandomState → L
 AfterKeyRead n c (read key visit) s steps attempt = Keyed n c key visit s steps attempt
 AfterKeyRead n c (failed errno) s steps attempt = NotKeyed c s steps attempt
 
--- from Written on: a system call without flags reads 32 bytes for the key
+-- from the point Written on: a system call without flags reads 32 bytes for the key
 pub record FromWritten (n c : ℕ) (s : VgetrandomState) (steps : List HostStep) (attempt : Attempt) : Type 0 where
   pub answer : SystemAnswer
   pub rest : List HostStep
   pub steps_are : steps ≡ system_call 32 0 answer ∷ rest
   pub goes_on : AfterKeyRead n c answer s rest attempt
 
--- from Start on: if the state's generation is not the published one, the state takes that generation and then a new key
+-- from the point Start on: if the state's generation is not the published one, the state takes the published
+-- generation, and then a new key
 abbrev pub FromStart : ℕ → ℕ → ℕ → VgetrandomState → List HostStep → Attempt → Type 0
 FromStart n c published s steps attempt =
     MatchBool (s.generation == published) (AtPoint Serve (FromServe n c) s steps attempt)
@@ -139,8 +140,8 @@ pub record Outcome : Type 0 where
   pub state : VgetrandomState
   pub entries : List VEntry
 
-abbrev pub outcome_behind : List VEntry → Outcome → Outcome
-outcome_behind entries outcome = record outcome { entries = entries ++ outcome.entries }
+abbrev pub prefix_outcome : List VEntry → Outcome → Outcome
+prefix_outcome entries outcome = record outcome { entries = entries ++ outcome.entries }
 
 -- the system call has the call's own number of bytes and flags
 pub record BySystem (n flags : ℕ) (s : VgetrandomState) (steps : List HostStep) (outcome : Outcome) : Type 0 where
@@ -157,7 +158,7 @@ pub record ByBatch (out : List ℕ) (s : VgetrandomState) (steps : List HostStep
   pub steps_are : steps ≡ []
   pub outcome_is : outcome ≡ record { ending = by_batch out; state = state_after_call s; entries = [] }
 
--- the steps after an attempt; if the attempt was outdated at its end, Outdated holds for them
+-- the steps after an attempt. If the attempt ended as `outdated`, `Outdated` holds for these steps
 abbrev pub AfterAttempt : ℕ → ℕ → (ℕ → VgetrandomState → List HostStep → Outcome → Type 0) → AttemptEnd → Attempt →
     List HostStep → Outcome → Type 0
 AfterAttempt n flags Outdated holds attempt steps outcome = ByBatch attempt.out attempt.state steps outcome
@@ -165,7 +166,7 @@ AfterAttempt n flags Outdated outdated attempt steps outcome = Outdated attempt.
 AfterAttempt n flags Outdated not_keyed attempt steps outcome =
     BySystem n flags (state_after_call attempt.state) steps outcome
 
--- an attempt for which Tried holds, and the steps after it
+-- an attempt for which `Tried` holds, and the steps after the attempt
 pub record AttemptAndRest (n flags : ℕ) (Outdated : ℕ → VgetrandomState → List HostStep → Outcome → Type 0)
     (Tried : List HostStep → Attempt → Type 0) (steps : List HostStep) (outcome : Outcome) : Type 0 where
   pub tried : List HostStep
@@ -175,7 +176,7 @@ pub record AttemptAndRest (n flags : ℕ) (Outdated : ℕ → VgetrandomState �
   pub steps_are : steps ≡ tried ++ rest
   pub tries : Tried tried attempt
   pub goes_on : AfterAttempt n flags Outdated attempt.end attempt rest outcome_after
-  pub outcome_is : outcome ≡ outcome_behind attempt.entries outcome_after
+  pub outcome_is : outcome ≡ prefix_outcome attempt.entries outcome_after
 
 -- the steps after two attempts that did not hold
 abbrev pub AfterBoth : ℕ → ℕ → ℕ → VgetrandomState → List HostStep → Outcome → Type 0
@@ -193,9 +194,9 @@ pub record ByNothing (s : VgetrandomState) (steps : List HostStep) (outcome : Ou
   pub steps_are : steps ≡ []
   pub outcome_is : outcome ≡ record { ending = no_bytes; state = s; entries = [] }
 
--- the rest of a call after the first published generation. If the core is not ready, the system call serves. Else a
--- call for no bytes ends at once; if the state is in use, the system call serves any other call. If not, the call marks
--- the state as in use, and makes the first attempt
+-- the rest of a call after the first published generation. If the core is not ready, the system call serves. Otherwise
+-- a call for no bytes ends at once. For any other call the system call serves if the state is in use. If not, the call
+-- marks the state as in use, and makes the first attempt
 abbrev pub FromPublished : ℕ → ℕ → VgetrandomState → ℕ → List HostStep → Outcome → Type 0
 FromPublished n flags s published steps outcome =
     MatchBool (published == 0) (BySystem n flags s steps outcome)

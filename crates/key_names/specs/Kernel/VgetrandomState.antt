@@ -1,8 +1,8 @@
 -- A vgetrandom state in its caller's memory (`struct vgetrandom_state`).
 use Rattle.std.specs.Prelude.{ℕ, Bool, false, List, replicate, if◌then◌else◌}
 
--- the batch of 96 bytes, of which those from pos on are still to be served; the key for the next batch; the published
--- generation that the key was read for, or 0; and whether a call is using the state
+-- the batch of 96 bytes, of which the first `pos` were served; the key for the next batch; the published generation
+-- that the key was read for, or 0; and whether a call is using the state
 pub record VgetrandomState : Type 0 where
   pub batch : List ℕ
   pub key : List ℕ
@@ -14,6 +14,6 @@ pub record VgetrandomState : Type 0 where
 abbrev pub wiped_state : VgetrandomState
 wiped_state = record { batch = replicate 96 0; key = replicate 32 0; generation = 0; pos = 0; in_use = false }
 
--- the state after a point, wiped there or not
+-- the state after a point: zeros if it was wiped there
 abbrev pub state_left : Bool → VgetrandomState → VgetrandomState
 state_left wiped s = if wiped then wiped_state else s

@@ -23,7 +23,7 @@ use Rattle.key_names.specs.Lanes.Book.{Lists, cpu_list, state_list}
 abbrev pub zero_key : List ℕ
 zero_key = replicate 32 0
 
--- the value of the named root, or else the value before
+-- the value of the named root, or `value` if no root is named
 abbrev pub root_value_or : List PoolEntry → Option ℕ → List ℕ → List ℕ
 root_value_or pool None value = value
 root_value_or pool (Some r) value = root_value pool r
@@ -36,7 +36,7 @@ abbrev pub base_value_step : List PoolEntry → List ℕ → BaseEntry → List 
 base_value_step pool value e =
     if base_erases e then keystream (base_value_in_use pool e value) 0 32 else base_value_in_use pool e value
 
--- the value of the base's key after entries
+-- the value of the base's key after these entries
 abbrev pub base_value_after : List PoolEntry → List BaseEntry → List ℕ
 base_value_after pool base = fold (base_value_step pool) zero_key base
 
@@ -52,7 +52,7 @@ base_used_at pool base i = base_value_at pool (base_value_after pool (take i bas
 abbrev pub base_call_value : Lists → ℕ → List ℕ
 base_call_value lists i = keystream (base_used_at lists.pool lists.base i) 32 32
 
--- the value of the key that the base handed over in the named refill, or else the value before
+-- the value of the key that the base handed over in the named refill, or `value` if no refill is named
 abbrev pub call_value_or : Lists → Option ℕ → List ℕ → List ℕ
 call_value_or lists None value = value
 call_value_or lists (Some b) value = base_call_value lists b
@@ -65,7 +65,7 @@ abbrev pub cpu_value_step : Lists → List ℕ → CpuEntry → List ℕ
 cpu_value_step lists value e =
     if cpu_erases e then keystream (cpu_value_in_use lists e value) 0 32 else cpu_value_in_use lists e value
 
--- the value of a CPU's key after entries
+-- the value of a CPU's key after these entries
 abbrev pub cpu_value_after : Lists → List CpuEntry → List ℕ
 cpu_value_after lists es = fold (cpu_value_step lists) zero_key es
 

@@ -1,5 +1,5 @@
 -- The keys and batches that the base, the CPUs and the vgetrandom states of a book still hold, and the keys that were
--- replaced. In an erased book no replaced key and no used rest of a batch is still held.
+-- replaced. In an erased book no replaced key and no used byte of a batch is still held.
 use Rattle.std.specs.Prelude.{ℕ, ◌+◌, ◌-◌, ◌*◌, ◌≡◌, ◌⊎◌, IsTrue, IsSome, Option, Some, None, List, take, drop}
 use Rattle.std.specs.Prelude.{replicate}
 use Rattle.std.specs.List.{fold}
@@ -56,17 +56,17 @@ fill_rest width (Some fill) = named_span fill.key (32 + width * fill.count) (96 
 abbrev pub state_rest : NamedState → Option Span
 state_rest s = named_span s.batch_key (64 * s.batch_from + s.pos) (96 - s.pos)
 
--- the unserved rest of a batch after all entries. A CPU's batch is live from its fill until the CPU is prepared
+-- the unserved rest of a batch after all entries. A CPU's batch is live from its first fill until the CPU is prepared
 abbrev pub live_rest : Lists → BatchHolder → Option Span
 live_rest lists (cpu_batch c width) = fill_rest width ((cpu_end lists c).fills width)
 live_rest lists (state_batch caller state) = state_rest (state_end lists caller state)
 
--- the number of bytes of a batch that were served after all entries
+-- after all entries, the number of bytes of a batch that were served
 abbrev pub served_len : Lists → BatchHolder → ℕ
 served_len lists (cpu_batch c width) = batch_pos width ((cpu_end lists c).fills width)
 served_len lists (state_batch caller state) = (state_end lists caller state).pos
 
--- an entry replaces the key before it if it names a root, and the key in use if it erases
+-- an entry that names a root replaces the base's key, and an entry that erases replaces the key in use
 abbrev pub BaseReplaces : KeyName → BaseState → BaseEntry → Type 0
 BaseReplaces key s e =
     (IsSome (root_of e) × (s.key ≡ Some key)) ⊎ (IsTrue (base_erases e) × (base_key_in_use e s.key ≡ Some key))
@@ -89,7 +89,7 @@ WasReplaced lists (cpu_key c) key = SomeFrom (CpuReplaces key) (cpu_step lists.b
 WasReplaced lists (state_key caller state) key =
     SomeFrom (StateReplaces key) (state_step caller state) state_start (state_list lists caller state)
 
--- the bytes of a CPU's batches after its entries, with its names and the value of its key
+-- the bytes of a CPU's batches after its entries, the names of its keys, and the value of its key
 pub record CpuBytes : Type 0 where
   pub named : CpuState
   pub value : List ℕ
@@ -113,7 +113,8 @@ pub record StateBytes : Type 0 where
 abbrev pub state_bytes_start : StateBytes
 state_bytes_start = record { key = zero_key; batch = replicate 96 0 }
 
--- a rekey leaves the batch unchanged, but no later entry serves the rest of it
+-- the bytes of the batch after an entry. A rekey leaves the bytes unchanged, but no later entry serves those that were
+-- not served before
 abbrev pub state_batch_step : StateBytes → VEntry → List ℕ
 state_batch_step s (Rekey cpu cpu_place) = s.batch
 state_batch_step s (Blocks from count) = s.batch
@@ -131,16 +132,16 @@ replayed_batch lists (cpu_batch c width) =
 replayed_batch lists (state_batch caller state) =
     (fold (state_bytes_step lists) state_bytes_start (state_list lists caller state)).batch
 
--- the book is erased, if the holders have these batches
+-- the book is erased, if `batch` gives the bytes of each batch
 pub record IsErased (lists : Lists) (batch : BatchHolder → List ℕ) : Type 0 where
   -- a key that an entry replaced is live nowhere
   pub none_replaced : (a b : KeyHolder) (key : KeyName) → live_key lists a ≡ Some key → WasReplaced lists b key → ⊥
   -- no two live keys have the same name
   pub keys_apart : (a b : KeyHolder) (key : KeyName) → live_key lists a ≡ Some key → live_key lists b ≡ Some key → a ≡ b
-  -- no live span overlaps a use
+  -- no live rest of a batch overlaps a use
   pub rest_unused : (a : BatchHolder) (span : Span) (key : KeyName) (q : ℕ) → live_rest lists a ≡ Some span →
       HoldsByte span key q → IsUsed (uses lists) key q → ⊥
-  -- no two live spans overlap
+  -- the live rests of two batches never overlap
   pub rests_apart : (a b : BatchHolder) (x y : Span) (key : KeyName) (q : ℕ) → live_rest lists a ≡ Some x →
       live_rest lists b ≡ Some y → HoldsByte x key q → HoldsByte y key q → a ≡ b
   -- the served bytes of a batch are 0

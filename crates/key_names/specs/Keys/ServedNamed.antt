@@ -1,4 +1,5 @@
--- The bytes that the visits of lanes serve, by names: they are the bytes of the spans that the entries serve.
+-- Each visit of a lane serves the bytes of the spans that its entry serves. The named key of a span gives the span's
+-- bytes.
 use Rattle.std.specs.Prelude.{ℕ, ◌≡◌, false, Option, Some, None, List, [], ◌∷◌, ◌++◌, take, slice_get}
 use Rattle.key_names.specs.declared.names.LaneId.{LaneId}
 use Rattle.key_names.specs.declared.names.LaneId.TheVariants.{Pool as PoolLane, Base as BaseLane, Cpu as CpuLane}
@@ -10,10 +11,10 @@ use Rattle.key_names.specs.Keys.KeyInUse.{value_of}
 use Rattle.key_names.specs.Lanes.Book.{Lists, LawfulLanes, cpu_list}
 use Rattle.key_names.specs.Lanes.BaseList.{base_after}
 use Rattle.key_names.specs.Lanes.CpuList.{cpu_after}
-use Rattle.key_names.specs.Callers.Deeds.{base_visit, cpu_visit}
+use Rattle.key_names.specs.Callers.Effects.{base_visit, cpu_visit}
 use Rattle.key_names.specs.Keys.Uses.{Use, Purpose, kept, served, base_uses_at, cpu_uses_at, is_rekeyed}
 
--- the bytes of a span, by the name of its key
+-- the bytes of a span, from the value of its named key
 abbrev pub span_bytes : Lists → Span → List ℕ
 span_bytes lists span = keystream (value_of lists span.key) span.from span.len
 
@@ -26,7 +27,7 @@ abbrev pub served_in : Lists → List Use → List ℕ
 served_in lists [] = []
 served_in lists (u ∷ us) = bytes_for u.purpose (span_bytes lists u.span) ++ served_in lists us
 
--- the uses of the entry at a place of the base, and of a CPU
+-- the uses of the entry at a place of the base, and of the entry at a place of a CPU
 abbrev pub base_place_uses : Lists → ℕ → BaseEntry → List Use
 base_place_uses lists place e = base_uses_at (base_after (take place lists.base)) e
 

@@ -33,7 +33,7 @@ pub record Use : Type 0 where
 abbrev pub use_of : Purpose → KeyName → ℕ → ℕ → Use
 use_of purpose key from len = record { span = record { key = key; from = from; len = len }; purpose = purpose }
 
--- the uses of a key in use. A key without a name has none
+-- the uses of a key in use. A key without a name has no uses
 abbrev pub named_uses : Option KeyName → (KeyName → List Use) → List Use
 named_uses None uses_of = []
 named_uses (Some key) uses_of = uses_of key
@@ -41,8 +41,8 @@ named_uses (Some key) uses_of = uses_of key
 abbrev pub named_use : Purpose → Option KeyName → ℕ → ℕ → List Use
 named_use purpose key from len = named_uses key (λ k. use_of purpose k from len ∷ [])
 
--- the uses of a read after the 32 bytes that the erasure keeps. call is the name of the next 32 bytes if they become a
--- key, and rekeys is true if a vgetrandom state takes them
+-- the uses of the bytes of a read, after the 32 bytes that the erasure keeps. `call` is the name of the next 32 bytes
+-- if they become a key. `rekeys` is true if a vgetrandom state takes the read as its key
 abbrev pub taken_uses : Bool → KeyName → KeyName → Taken → List Use
 taken_uses rekeys key call (User n) =
     if nat_lt 32 n then use_of kept key 32 32 ∷ use_of served call 64 n ∷ []
@@ -69,12 +69,12 @@ base_uses_at s Interrupt = []
 base_uses_at s Stall = []
 base_uses_at s Unstall = []
 
--- the next integer of a batch
+-- the use of the next integer of a batch
 abbrev pub batch_uses : ℕ → Option Fill → List Use
 batch_uses width None = []
 batch_uses width (Some fill) = named_use served fill.key (32 + width * fill.count) width
 
--- for each place, rekeys is true if a vgetrandom state takes the read there
+-- `rekeys` is true for each place where a vgetrandom state takes the read as its key
 abbrev pub cpu_uses_at : ℕ → (ℕ → Bool) → CpuState → CpuEntry → List Use
 cpu_uses_at c rekeys s (Read look refill taken) =
     named_uses (cpu_key_in_use (Read look refill taken) s.key)
@@ -95,7 +95,7 @@ state_uses_at s (Refill from) = named_use kept s.key (64 * from + 96) 32
 state_uses_at s (Serve pos len) = named_use served s.batch_key (64 * s.batch_from + pos) len
 state_uses_at s Wipe = []
 
--- the uses of entries, each in the state before it
+-- the uses of some entries, each entry in the state before it
 abbrev pub uses_from : {S E : Type 0} → (S → E → List Use) → (S → E → S) → S → List E → List Use
 uses_from uses_at step s [] = []
 uses_from uses_at step s (e ∷ es) = uses_at s e ++ uses_from uses_at step (step s e) es

@@ -1,4 +1,4 @@
--- The meaning of the base's list: its state after its entries, and which entry may follow.
+-- What the base's list means: the state of the base after the list's entries, and which entry may follow.
 use Rattle.std.specs.Prelude.{ℕ, suc, ◌+◌, ◌-◌, ◌/◌, ◌*◌, ◌^◌, min, max, ◌≡◌, ◌≢◌, ◌≤◌, Bool, true, false, ◌&&◌, ⊤}
 use Rattle.std.specs.Prelude.{Option, Some, None, List, take, nat_lt, slice_get, option_and_then, if◌then◌else◌}
 use Rattle.std.specs.List.{fold}
@@ -22,11 +22,11 @@ pub record BaseState : Type 0 where
   pub generation : ℕ
   -- the moment at which the reseed timer is due, in milliseconds
   pub timer : Option ℕ
-  -- the system is young: no reseed at 120 seconds or later has computed an interval
+  -- whether the system is young: no reseed at 120 seconds of uptime or later has computed an interval
   pub early_boot : Bool
   -- the number of running callers
   pub running : ℕ
-  -- the least root that may be named next
+  -- the next root must come from this pool place or a later one
   pub roots : ℕ
   -- the name of the key
   pub key : Option KeyName
@@ -43,7 +43,7 @@ base_start = record {
   key = None;
 }
 
--- the root that an entry names
+-- the root that an entry names, by the pool place of its extraction
 abbrev pub root_of : BaseEntry → Option ℕ
 root_of (Early root) = root
 root_of (Reseed root now) = Some root
@@ -73,7 +73,7 @@ refill_of Interrupt = None
 refill_of Stall = None
 refill_of Unstall = None
 
--- whether an entry erases the key in use: it keeps bytes 0 to 32 of its keystream as the next key
+-- whether an entry erases the key in use, and so makes bytes 0 to 32 of that key's keystream the next key
 abbrev pub base_erases : BaseEntry → Bool
 base_erases (Early root) = false
 base_erases (Reseed root now) = false
@@ -100,12 +100,12 @@ base_key_in_use e key = root_or (root_of e) key
 abbrev pub base_key_after : ℕ → BaseEntry → Option KeyName → Option KeyName
 base_key_after i e key = if base_erases e then Some (Base i) else base_key_in_use e key
 
--- roots rise along the list: the least root that may follow
+-- the least root that a later entry may name, after an entry that names this root or no root. Roots rise along the list
 abbrev pub roots_after : Option ℕ → ℕ → ℕ
 roots_after None least = least
 roots_after (Some r) least = suc r
 
--- the moment of a reseed, if the entry is one
+-- the moment of the reseed, if the entry is a reseed
 abbrev pub reseeds_at : BaseEntry → Option ℕ
 reseeds_at (Early root) = None
 reseeds_at (Reseed root now) = Some now
@@ -141,7 +141,7 @@ abbrev pub generation_after : Option ℕ → ℕ → ℕ
 generation_after None g = g
 generation_after (Some now) g = g + 1
 
--- a reseed computes an interval; the first one at 120 seconds or later ends the early boot
+-- a reseed computes an interval; the first reseed at 120 seconds or later ends the early boot
 abbrev pub early_boot_after : Option ℕ → Bool → Bool
 early_boot_after None early_boot = early_boot
 early_boot_after (Some now) early_boot = early_boot && nat_lt (now / 1000) 120
@@ -151,7 +151,7 @@ abbrev pub interval : Bool → ℕ → ℕ
 interval early_boot now =
     if early_boot_after (Some now) early_boot then max 1000 (now / 1000 / 2 * 1000) else 60000
 
--- a pending timer stays
+-- the timer after a request to set it for `due`: a pending timer keeps its moment
 abbrev pub timer_or : Option ℕ → ℕ → Option ℕ
 timer_or None due = Some due
 timer_or (Some pending) due = Some pending
@@ -230,25 +230,25 @@ BaseFits s Interrupt = (s.generation ≡ 0) × (s.running ≡ 0)
 BaseFits s Stall = ⊤
 BaseFits s Unstall = ⊤
 
--- a named root is above all roots named before it, and its extraction names this place
-abbrev pub RootStands : List PoolEntry → BaseState → Option ℕ → Type 0
-RootStands pool s None = ⊤
-RootStands pool s (Some r) = (s.roots ≤ r) × (extraction_at pool r ≡ Some s.place)
+-- a named root is above all roots named before it, and the root's extraction names the entry's place
+abbrev pub RootConforms : List PoolEntry → BaseState → Option ℕ → Type 0
+RootConforms pool s None = ⊤
+RootConforms pool s (Some r) = (s.roots ≤ r) × (extraction_at pool r ≡ Some s.place)
 
 pub record BaseMayCome (pool : List PoolEntry) (s : BaseState) (e : BaseEntry) : Type 0 where
   pub fits : BaseFits s e
-  pub root : RootStands pool s (root_of e)
+  pub root : RootConforms pool s (root_of e)
 
 abbrev pub LawfulBase : List PoolEntry → List BaseEntry → Type 0
 LawfulBase pool base = LawfulFrom (BaseMayCome pool) base_step base_start base
 
--- the root and the refill that the entry at a place names
+-- the root that the entry at a place names, and the refill that the entry names
 abbrev pub root_at : List BaseEntry → ℕ → Option ℕ
 root_at base i = option_and_then root_of (slice_get base i)
 
 abbrev pub refill_at : List BaseEntry → ℕ → Option (ℕ × ℕ)
 refill_at base i = option_and_then refill_of (slice_get base i)
 
--- the generation before a place
+-- the generation before the entry at a place
 abbrev pub generation_at : List BaseEntry → ℕ → ℕ
 generation_at base i = (base_after (take i base)).generation

@@ -1,4 +1,5 @@
--- The book of a run: the visits of each lane and the entries of each vgetrandom state, and when it is lawful.
+-- The book of a run, and when a book is lawful. A book has the visits of each lane and the entries of each vgetrandom
+-- state.
 use Rattle.std.specs.Prelude.{ℕ, zero, suc, ◌≡◌, ◌≤◌, ◌⊎◌, Option, Some, List, [], ◌∷◌, length, map}
 use Rattle.key_names.specs.declared.names.Who.{Who}
 use Rattle.key_names.specs.declared.entries.PoolEntry.{PoolEntry}
@@ -41,7 +42,7 @@ lists_of book = record {
   callers = book.callers;
 }
 
--- the list with this number; beyond the last list it is empty
+-- the list with this number, or an empty list if the number is beyond the last list
 abbrev pub list_at : {E : Type 0} → List (List E) → ℕ → List E
 list_at [] n = []
 list_at (xs ∷ xss) zero = xs
@@ -53,27 +54,27 @@ cpu_list lists c = list_at lists.cpus c
 abbrev pub state_list : Lists → ℕ → ℕ → List VEntry
 state_list lists caller state = list_at (list_at lists.callers caller) state
 
--- each lane's list is lawful: the root or refill that an entry names is in another lane, and names the entry
+-- the lists of the base and of the CPUs are lawful. If an entry names a root or a refill, the entry at the named place
+-- names it back
 pub record ForwardLawful (lists : Lists) : Type 0 where
   pub base : LawfulBase lists.pool lists.base
   pub cpus : (c : ℕ) → LawfulCpu lists.base c (cpu_list lists c)
 
--- the base place that an extraction names also names the extraction
+-- the entry at the base place that an extraction names also names the extraction
 abbrev pub ExtractionAnswered : Lists → ℕ → ℕ → Type 0
 ExtractionAnswered lists p i = root_at lists.base i ≡ Some p
 
--- the CPU's place that a refill names also names the refill
+-- the entry at the CPU's place that a refill names also names the refill
 abbrev pub RefillAnswered : Lists → ℕ → ℕ → ℕ → Type 0
 RefillAnswered lists b c k = base_refill_at (cpu_list lists c) k ≡ Some b
 
--- the lists of the lanes are lawful, and each named place names back
+-- the lists of the lanes are lawful. If an extraction or a refill names a place, the entry there names it back
 pub record LawfulLanes (lists : Lists) : Type 0 where
   pub forward : ForwardLawful lists
   pub extractions : (p i : ℕ) → extraction_at lists.pool p ≡ Some i → ExtractionAnswered lists p i
   pub refills : (b c k : ℕ) → refill_at lists.base b ≡ Some (c, k) → RefillAnswered lists b c k
 
--- the lanes while visits are half finished: the place that an extraction or a refill names may still be missing in its
--- list
+-- LawfulLanes while visits are half finished: a place that an extraction or a refill names may not be in its list yet
 pub record HalfFinishedLanes (lists : Lists) : Type 0 where
   pub forward : ForwardLawful lists
   pub extractions : (p i : ℕ) → extraction_at lists.pool p ≡ Some i →
@@ -91,14 +92,13 @@ pub record StatePlace : Type 0 where
 abbrev pub rekey_in : Lists → StatePlace → Option (ℕ × ℕ)
 rekey_in lists at = rekey_at (state_list lists at.caller at.state) at.place
 
--- the lists of the states are lawful, and no two entries take one read
+-- the lists of the states are lawful, and no two entries take the same read as a key
 pub record LawfulStates (lists : Lists) : Type 0 where
   pub states : (caller state : ℕ) → LawfulStateList (cpu_list lists) caller state (state_list lists caller state)
   pub one_taker : (a b : StatePlace) (read : ℕ × ℕ) → rekey_in lists a ≡ Some read →
       rekey_in lists b ≡ Some read → a ≡ b
 
--- all lists are lawful. LawfulSamples is separate: whether the interrupt samples are lawful depends on the makers of
--- the visits
+-- all lists are lawful. LawfulSamples is separate, because it depends on the makers of the visits, which Lists lacks
 pub record LawfulBook (lists : Lists) : Type 0 where
   pub lanes : LawfulLanes lists
   pub states : LawfulStates lists

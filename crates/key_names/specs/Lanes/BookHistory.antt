@@ -8,9 +8,9 @@ use Rattle.key_names.specs.declared.entries.CpuEntry.{CpuEntry}
 use Rattle.key_names.specs.Lanes.Book.{Book, Visit, list_at}
 use Rattle.key_names.specs.Transcripts.SeenLine.{SeenLine}
 use Rattle.key_names.specs.Texts.ScriptGrammar.{Script}
-use Rattle.key_names.specs.Transcripts.IsTranscript.{is_same_lane, all_marks, MarksStand, VisitsAre}
+use Rattle.key_names.specs.Transcripts.IsTranscript.{is_same_lane, all_marks, MarksConform, VisitsAre}
 
--- a visit with its lane, and its place there
+-- a visit, with its lane and its place in that lane
 pub record Happening : Type 0 where
   pub lane : LaneId
   pub place : ℕ
@@ -26,7 +26,7 @@ visits_from lane place (visit ∷ visits) =
 abbrev pub visits_of_lane : {E : Type 0} → LaneId → List (Visit E) → List Happening
 visits_of_lane lane visits = visits_from lane 0 visits
 
--- the visits of the CPUs; c is the number of the first
+-- the visits of the CPUs; c is the number of the first CPU
 abbrev pub visits_of_cpus : ℕ → List (List (Visit CpuEntry)) → List Happening
 visits_of_cpus c [] = []
 visits_of_cpus c (visits ∷ more) = visits_of_lane (CpuLane c) visits ++ visits_of_cpus (suc c) more
@@ -42,7 +42,7 @@ lane_visits book PoolLane = visits_of_lane PoolLane book.pool
 lane_visits book BaseLane = visits_of_lane BaseLane book.base
 lane_visits book (CpuLane c) = visits_of_lane (CpuLane c) (list_at book.cpus c)
 
--- whether one visit comes before the other: by stamp, and then by caller
+-- whether visit `a` comes before visit `b`: by stamp, and at equal stamps by caller
 abbrev pub comes_before : Happening → Happening → Bool
 comes_before a b = nat_lt a.stamp b.stamp || (a.stamp == b.stamp && nat_lt a.who.caller b.who.caller)
 
@@ -51,9 +51,9 @@ pub record IsHistory (book : Book) (history : List Happening) : Type 0 where
   pub whole : IsPermutation (all_visits book) history
   pub sorted : IsSortedBy comes_before history
 
--- if a book's visits are the marks of a transcript, and MarksStand holds, the part of the history in one lane is that
--- lane's list in its order. So entries that are read lane by lane are read in the order of the history
+-- if MarksConform holds for a transcript whose marks are the visits of a book, then in a history the visits of one lane
+-- are that lane's list, in the list's order. So a replay of each lane alone agrees with the history
 abbrev pub HistoryKeepsLanes : Type 0
 HistoryKeepsLanes = (script : Script) (t : List (List SeenLine)) (book : Book) (history : List Happening)
-    (lane : LaneId) → MarksStand script t → VisitsAre book (all_marks t) → IsHistory book history →
+    (lane : LaneId) → MarksConform script t → VisitsAre book (all_marks t) → IsHistory book history →
     filter (λ visit. is_same_lane visit.lane lane) history ≡ lane_visits book lane

@@ -1,4 +1,4 @@
--- The meaning of a CPU's list: its generation, its key and its batches after its entries, and which entry may follow.
+-- What a CPU's list means: the CPU's generation, key and batches after the list's entries, and which entry may follow.
 use Rattle.std.specs.Prelude.{ℕ, suc, ◌≡◌, ◌≤◌, ◌↔◌, ◌⊎◌, Bool, true, false, ⊤, Option, Some, None, List, slice_get}
 use Rattle.std.specs.Prelude.{option_and_then, if◌then◌else◌}
 use Rattle.std.specs.List.{fold}
@@ -34,7 +34,7 @@ base_refill_of (Dump now) = None
 base_refill_of Prepare = None
 base_refill_of Online = None
 
--- whether an entry erases the key in use: it keeps bytes 0 to 32 of its keystream as the next key
+-- whether an entry erases the key in use, and so makes bytes 0 to 32 of that key's keystream the next key
 abbrev pub cpu_erases : CpuEntry → Bool
 cpu_erases (Read look refill taken) = true
 cpu_erases (Int look refill width filled) = filled
@@ -55,7 +55,8 @@ cpu_key_in_use e key = call_or (base_refill_of e) key
 abbrev pub cpu_key_after : ℕ → ℕ → CpuEntry → Option KeyName → Option KeyName
 cpu_key_after c k e key = if cpu_erases e then Some (Cpu c k) else cpu_key_in_use e key
 
--- the generation that a refill brings
+-- the CPU's generation after a read or an integer: the base's generation at the named refill, or `g` if no refill is
+-- named
 abbrev pub generation_or : List BaseEntry → Option ℕ → ℕ → ℕ
 generation_or base None g = g
 generation_or base (Some b) g = generation_at base b
@@ -79,7 +80,7 @@ cpu_step base c s e = record {
 abbrev pub cpu_after : List BaseEntry → ℕ → List CpuEntry → CpuState
 cpu_after base c = fold (cpu_step base c) cpu_start
 
--- a look that found a generation which is at least the CPU's
+-- the look found the core ready, and a generation that is at least the CPU's
 pub record LookFitsCpu (s : CpuState) (look : ℕ) : Type 0 where
   pub known : 1 ≤ look
   pub not_back : s.generation ≤ look
@@ -93,8 +94,8 @@ abbrev pub IntNames : CpuState → ℕ → Option ℕ → Bool → Type 0
 IntNames s look refill filled = (refill ≡ None) ↔ ((filled ≡ false) ⊎ (look ≡ s.generation))
 
 -- an integer fills its batch if and only if `must_fill` holds
-abbrev pub FillStands : CpuState → ℕ → ℕ → Bool → Type 0
-FillStands s look width filled = filled ≡ must_fill look width (s.fills width)
+abbrev pub FillConforms : CpuState → ℕ → ℕ → Bool → Type 0
+FillConforms s look width filled = filled ≡ must_fill look width (s.fills width)
 
 pub record ReadFits (s : CpuState) (look : ℕ) (refill : Option ℕ) : Type 0 where
   pub looks : LookFitsCpu s look
@@ -102,7 +103,7 @@ pub record ReadFits (s : CpuState) (look : ℕ) (refill : Option ℕ) : Type 0 w
 
 pub record IntFits (s : CpuState) (look : ℕ) (refill : Option ℕ) (width : ℕ) (filled : Bool) : Type 0 where
   pub looks : LookFitsCpu s look
-  pub fills : FillStands s look width filled
+  pub fills : FillConforms s look width filled
   pub names : IntNames s look refill filled
 
 -- the entry fits the CPU's generation and batches
@@ -114,22 +115,22 @@ CpuFits s (Dump now) = ⊤
 CpuFits s Prepare = ⊤
 CpuFits s Online = ⊤
 
--- a named refill is a base entry that names this CPU and place, at a generation at least as high as the look
+-- a named refill is a base entry that names this CPU and place. The base's generation there is at least the look
 abbrev pub RefillNames : List BaseEntry → ℕ → ℕ → ℕ → Option ℕ → Type 0
 RefillNames base c place look None = ⊤
 RefillNames base c place look (Some b) = (refill_at base b ≡ Some (c, place)) × (look ≤ generation_at base b)
 
-abbrev pub RefillStands : List BaseEntry → ℕ → ℕ → CpuEntry → Type 0
-RefillStands base c place (Read look refill taken) = RefillNames base c place look refill
-RefillStands base c place (Int look refill width filled) = RefillNames base c place look refill
-RefillStands base c place (Irq v1 v2 now) = ⊤
-RefillStands base c place (Dump now) = ⊤
-RefillStands base c place Prepare = ⊤
-RefillStands base c place Online = ⊤
+abbrev pub RefillConforms : List BaseEntry → ℕ → ℕ → CpuEntry → Type 0
+RefillConforms base c place (Read look refill taken) = RefillNames base c place look refill
+RefillConforms base c place (Int look refill width filled) = RefillNames base c place look refill
+RefillConforms base c place (Irq v1 v2 now) = ⊤
+RefillConforms base c place (Dump now) = ⊤
+RefillConforms base c place Prepare = ⊤
+RefillConforms base c place Online = ⊤
 
 pub record CpuMayCome (base : List BaseEntry) (c : ℕ) (s : CpuState) (e : CpuEntry) : Type 0 where
   pub fits : CpuFits s e
-  pub refill : RefillStands base c s.place e
+  pub refill : RefillConforms base c s.place e
 
 abbrev pub LawfulCpu : List BaseEntry → ℕ → List CpuEntry → Type 0
 LawfulCpu base c es = LawfulFrom (CpuMayCome base c) (cpu_step base c) cpu_start es
@@ -138,7 +139,7 @@ LawfulCpu base c es = LawfulFrom (CpuMayCome base c) (cpu_step base c) cpu_start
 abbrev pub base_refill_at : List CpuEntry → ℕ → Option ℕ
 base_refill_at es k = option_and_then base_refill_of (slice_get es k)
 
--- a read's bytes: whether they are for a user or the kernel, and how many
+-- how many bytes a read takes, and whether for a user or the kernel
 abbrev pub taken_of : CpuEntry → Option Taken
 taken_of (Read look refill taken) = Some taken
 taken_of (Int look refill width filled) = None

@@ -1,5 +1,5 @@
--- The meaning of the pool's list: key, text, bits and input timer after its entries, the bound that a credit crosses,
--- and the root that an extraction gives (extract_entropy).
+-- What the pool's list means: the pool's state after the list's entries, the threshold that a credit crosses, and the
+-- root that an extraction gives (extract_entropy).
 use Rattle.std.specs.Prelude.{ℕ, ◌+◌, min, ◌&&◌, Option, Some, None, List, [], ◌++◌, take, nat_lt, nat_le, ◌==◌}
 use Rattle.std.specs.Prelude.{slice_get, option_and_then, if◌then◌else◌}
 use Rattle.std.specs.Int.{w32, w64, to_le_bytes}
@@ -9,7 +9,8 @@ use Rattle.key_names.specs.declared.entries.PoolEntry.TheVariants.{Mix, Input, B
 use Rattle.key_names.specs.Kernel.Blake2s.{blake2s}
 use Rattle.key_names.specs.Kernel.InputTimer.{InputTimer, timer_start, input_timer_after, timer_bits, input_number}
 
--- the hash's key and the bytes mixed since the last extraction, the bits, and the last input value with its timer
+-- the hash's key, the bytes mixed since the last extraction, the credited bits, the last input value, and the input
+-- timer
 pub record PoolState : Type 0 where
   pub key : Option (List ℕ)
   pub text : List ℕ
@@ -27,12 +28,12 @@ credit bits more = min 256 (bits + min more 256)
 pub data Crossing : Type 0 where
   ready early none : Crossing
 
--- the bound that a change of the bits crosses: 256 is tested first, and then 128
+-- the threshold that a change of the bits crosses. A change that passes both 128 and 256 crosses 256 alone
 abbrev pub crossing : ℕ → ℕ → Crossing
 crossing before after =
     if nat_lt before 256 && after == 256 then ready else (if nat_lt before 128 && nat_le 128 after then early else none)
 
--- the pool after an input event with another value than the last
+-- the pool after an input event whose value is not the last one
 abbrev pub pool_after_input : PoolState → ℕ → ℕ → ℕ → ℕ → ℕ → PoolState
 pool_after_input s word kind code value now = record s {
   text = s.text ++ to_le_bytes w64 word ++ to_le_bytes w32 (input_number kind code value);
@@ -66,7 +67,7 @@ base_place_of (Input word kind code value now) = None
 base_place_of Bits = None
 base_place_of (Extract hw base_place) = Some base_place
 
--- the base place that the extraction at a pool place names, if there is one
+-- if the pool's entry at this place is an extraction, the base place that it names
 abbrev pub extraction_at : List PoolEntry → ℕ → Option ℕ
 extraction_at pool p = option_and_then base_place_of (slice_get pool p)
 

@@ -1,4 +1,4 @@
--- When the samples of interrupts are correct: which dump an event has, and what it mixes into the pool.
+-- When the samples of interrupts are correct: which dump an event has, and what the event mixes into the pool.
 use Rattle.std.specs.Prelude.{ℕ, ◌≡◌, ◌<◌, IsTrue, ⊤, Some, List, take, slice_get}
 use Rattle.key_names.specs.declared.names.Who.{Who}
 use Rattle.key_names.specs.declared.entries.PoolEntry.{PoolEntry}
@@ -56,9 +56,10 @@ pub record MixAt (visits : List (Visit PoolEntry)) (p : ℕ) (who : Who) (text :
 abbrev pub visits_of : Book → ℕ → List (Visit CpuEntry)
 visits_of book c = list_at book.cpus c
 
--- an event's dump comes after the interrupt that made it due, and the event mixes the dump and nothing else
+-- an event's dump comes after the interrupt that made it due. An event with a dump mixes that dump into the pool, and
+-- nothing else
 pub record LawfulSamples (book : Book) : Type 0 where
-  -- a dump follows an interrupt of its own event that made it due
+  -- each dump comes after an interrupt of the same event that made a dump due
   pub dump_is_due : (c k : ℕ) (who : Who) → DumpAt (visits_of book c) k who →
       (i : ℕ) × (i < k) × DueAt (visits_of book c) i who
   -- after an interrupt that makes a dump due, the event dumps
@@ -70,7 +71,7 @@ pub record LawfulSamples (book : Book) : Type 0 where
   pub dump_is_mixed : (c k : ℕ) (who : Who) → DumpAt (visits_of book c) k who →
       (p : ℕ) × MixAt book.pool p who (dump_bytes (fast_before (visits_of book c) k))
       (dump_bits (fast_before (visits_of book c) k))
-  -- the event mixes nothing else
+  -- an event with a dump mixes nothing but that dump
   pub mix_is_dump : (c k p : ℕ) (who : Who) (text : List ℕ) (bits : ℕ) → DumpAt (visits_of book c) k who →
       MixAt book.pool p who text bits →
       (text ≡ dump_bytes (fast_before (visits_of book c) k)) × (bits ≡ dump_bits (fast_before (visits_of book c) k))

@@ -1,5 +1,5 @@
--- The meaning of the list of a caller's vgetrandom state: the names of its key and of its batch's key after its
--- entries, and which entry may follow.
+-- What the list of a caller's vgetrandom state means: the names of the state's key and of its batch's key after the
+-- list's entries, and which entry may follow.
 use Rattle.std.specs.Prelude.{ℕ, suc, ◌+◌, ◌≡◌, ◌≤◌, ⊤, Option, Some, None, List, slice_get, option_and_then}
 use Rattle.std.specs.List.{fold}
 use Rattle.key_names.specs.declared.names.LaneId.TheVariants.{Cpu as CpuLane}
@@ -12,8 +12,8 @@ use Rattle.key_names.specs.declared.entries.VEntry.TheVariants.{Rekey, Blocks, R
 use Rattle.key_names.specs.Lanes.CpuList.{taken_at}
 use Rattle.key_names.specs.Lanes.LawfulList.{LawfulFrom}
 
--- the entry that has to follow: after a rekey a wipe, blocks or a refill, and after blocks the
--- refill from the next block
+-- which entry has to follow: after a rekey, it is a wipe, blocks or a refill; after blocks, it is the refill from the
+-- next block
 pub data Expected : Type 0 where
   anything new_key : Expected
   refill_from : ℕ → Expected
@@ -25,7 +25,7 @@ pub record NamedState : Type 0 where
   pub key : Option KeyName
   -- the number of refills so far, including those from an unnamed key
   pub refills : ℕ
-  -- the key in use at the last refill, and the block at which its batch begins
+  -- the key in use at the last refill, and the block of its keystream at which the batch begins
   pub batch_key : Option KeyName
   pub batch_from : ℕ
   -- the first byte of the batch that was not served
@@ -74,19 +74,19 @@ state_step caller state s Wipe =
 abbrev pub state_after : ℕ → ℕ → List VEntry → NamedState
 state_after caller state = fold (state_step caller state) state_start
 
--- blocks or a wipe may come
+-- whether blocks or a wipe may come
 abbrev pub MayStart : Expected → Type 0
 MayStart anything = ⊤
 MayStart new_key = ⊤
 MayStart (refill_from n) = ⊥
 
--- a refill from this block may come
+-- whether a refill from this block may come
 abbrev pub MayRefill : Expected → ℕ → Type 0
 MayRefill anything from = ⊤
 MayRefill new_key from = ⊤
 MayRefill (refill_from n) from = from ≡ n
 
--- an entry may come in this state; each served piece begins at the end of the piece before
+-- whether an entry may come in this state. Each served piece begins where the piece before ended
 abbrev pub MayFollow : NamedState → VEntry → Type 0
 MayFollow s (Rekey cpu cpu_place) = s.expected ≡ anything
 MayFollow s (Blocks from count) = MayStart s.expected
@@ -94,7 +94,7 @@ MayFollow s (Refill from) = MayRefill s.expected from
 MayFollow s (Serve pos len) = (s.expected ≡ anything) × (pos ≡ s.pos) × (pos + len ≤ 96)
 MayFollow s Wipe = MayStart s.expected
 
--- a rekey takes a read of 32 bytes; cpu_list gives each CPU's list
+-- a rekey takes a user's read of 32 bytes; cpu_list gives each CPU's list
 abbrev pub TakesRead : (ℕ → List CpuEntry) → VEntry → Type 0
 TakesRead cpu_list (Rekey cpu cpu_place) = taken_at (cpu_list cpu) cpu_place ≡ Some (User 32)
 TakesRead cpu_list (Blocks from count) = ⊤

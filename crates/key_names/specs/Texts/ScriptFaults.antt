@@ -1,4 +1,4 @@
--- The first fault of a text that is not a script's, line by line.
+-- The first fault of a text that is the text of no script, line by line.
 use Rattle.std.specs.Prelude.{⊤, ◌<◌, ℕ, zero, suc, ◌+◌, ◌^◌, ◌==◌, ◌&&◌, ◌||◌, Bool, false, nat_lt, nat_le}
 use Rattle.std.specs.Prelude.{if◌then◌else◌, Option, Some, None, Result, Ok, Err, List, [], ◌∷◌, ◌++◌, codes, find}
 use Rattle.std.specs.Prelude.{fold, length, sum_by}
@@ -49,7 +49,7 @@ abbrev pub ◌>>=◌ : {A B E : Type 0} → Result A E → (A → Result B E) �
 
 -- ---- one field
 
--- the number below a limit that a field spells
+-- the number that a field spells, if the number is below the limit
 abbrev pub number_below : ℕ → List ℕ → Option ℕ
 number_below limit field =
     let n = digits_value 10 field in
@@ -211,7 +211,7 @@ pub data Said : Type 0 where
   SaysCaller : ℕ → Said
   SaysEnd : Said
 
--- the content is in its range
+-- the numbers and bytes in the content of a line are in range
 abbrev pub SaidInRange : ℕ → ℕ → Said → Type 0
 SaidInRange version cpus (SaysEvent event) = InRange version cpus event
 SaidInRange version cpus (SaysCaller c) = c < 64
@@ -231,7 +231,8 @@ said_by version cpus (first ∷ fields) =
 abbrev pub parts : ℕ → List ℕ → List (List ℕ)
 parts byte text = slice_split (λ b. b == byte) text
 
--- the content of a line, or its fault: kind 5 comes first, and then kind 6 or 7 of the leftmost bad field
+-- the content of a line, or its fault: a fault of kind 5 comes first, and then the fault of the leftmost bad field, of
+-- kind 6 or 7
 abbrev pub said : ℕ → ℕ → List ℕ → Result Said FaultKind
 said version cpus line = said_by version cpus (parts 32 line)
 
@@ -242,7 +243,7 @@ version_of line =
     else if bytes_eq line (codes "rngscript 3") then Ok 3
     else Err BadHead
 
--- the number of CPUs, from 1 on
+-- the number of CPUs, which is at least 1
 abbrev pub cpus_from : Option ℕ → Result ℕ FaultKind
 cpus_from None = Err BadCpus
 cpus_from (Some zero) = Err BadCpus
@@ -274,7 +275,7 @@ with_event d event = record d { events = d.events ++ event ∷ [] }
 abbrev pub with_block : Draft → Draft
 with_block d = record { version = d.version; cpus = d.cpus; done = blocks_of d; events = [] }
 
--- a fork of a number that is not above the caller's own, or that was already forked
+-- whether an event forks a number that is not above the caller's own, or that was forked before
 abbrev pub is_bad_fork : Draft → Event → Bool
 is_bad_fork d (Fork child) = nat_le child (length d.done) || nat_lt 0 (times_forked (blocks_of d) child)
 is_bad_fork d _ = false
@@ -285,21 +286,21 @@ is_past_limits d event =
     || nat_lt 16777216 (sum_by (sum_by bytes_read) (blocks_of d) + bytes_read event)
     || nat_lt 8 (acts_after (fold acts_after 0 d.events) event)
 
--- an event that forks n or a higher number
+-- whether an event forks n or a higher number
 abbrev pub is_fork_from : ℕ → Event → Bool
 is_fork_from n (Fork child) = nat_le n child
 is_fork_from n _ = false
 
--- a number was forked and has no block
+-- whether a number was forked and has no block
 abbrev pub has_orphan : Draft → Bool
 has_orphan d = list_any (list_any (is_fork_from (length (blocks_of d)))) (blocks_of d)
 
--- how the script goes on after a line, or that it has ended
+-- how the script goes on after a line, or that the script has ended
 pub data Next : Type 0 where
   GoesOn : Draft → Next
   Ends : Next
 
--- the faults of kinds 8 to 11
+-- the script after a line with this content, or the line's fault of kind 8 to 11
 abbrev pub after : Draft → Said → Result Next FaultKind
 after d (SaysEvent event) =
     if is_bad_fork d event then Err BadFork
@@ -312,8 +313,8 @@ after d (SaysCaller c) =
 after d SaysEnd = if has_orphan d then Err Unforked else Ok Ends
 
 -- how the script goes on after this line
-abbrev pub behind_line : Draft → List ℕ → Result Next FaultKind
-behind_line d line = said d.version d.cpus line >>= after d
+abbrev pub after_line : Draft → List ℕ → Result Next FaultKind
+after_line d line = said d.version d.cpus line >>= after d
 
 -- line 3 begins the block of caller 0
 abbrev pub first_block : ℕ → ℕ → Said → Result Draft FaultKind
@@ -335,32 +336,33 @@ line_of [] = Err Unfinished
 line_of (tail ∷ []) = Err Unfinished
 line_of (line ∷ next ∷ more) = if list_any is_unprintable line then Err BadByte else Ok line
 
-abbrev pub behind : List (List ℕ) → List (List ℕ)
-behind [] = []
-behind (line ∷ more) = more
+abbrev pub following : List (List ℕ) → List (List ℕ)
+following [] = []
+following (line ∷ more) = more
 
 -- no text may follow the line `end`
-abbrev pub nothing_behind : ℕ → List (List ℕ) → Result Next ScriptFault
-nothing_behind n ([] ∷ []) = Ok Ends
-nothing_behind n lines = at_line n (line_of lines >>= λ line. Err UnknownWord)
+abbrev pub nothing_after : ℕ → List (List ℕ) → Result Next ScriptFault
+nothing_after n ([] ∷ []) = Ok Ends
+nothing_after n lines = at_line n (line_of lines >>= λ line. Err UnknownWord)
 
 -- how the script goes on after the first of these lines
-abbrev pub behind_first : Draft → List (List ℕ) → Result Next FaultKind
-behind_first d lines = line_of lines >>= behind_line d
+abbrev pub after_first : Draft → List (List ℕ) → Result Next FaultKind
+after_first d lines = line_of lines >>= after_line d
 
 abbrev pub by_next : (Draft → Result Script ScriptFault) → Result Script ScriptFault → Next → Result Script ScriptFault
 by_next on ended (GoesOn later) = on later
 by_next on ended Ends = ended
 
--- the script that goes on with these lines; n is the number of the first
+-- the script that begins with the draft and goes on with these lines; n is the number of the first line
 unfoldable pub script_from : Draft → ℕ → List (List ℕ) → Result Script ScriptFault
 script_from d n [] = Err (record { line = n; kind = Unfinished })
 script_from d n (line ∷ more) =
-    at_line n (behind_first d (line ∷ more))
+    at_line n (after_first d (line ∷ more))
     >>= by_next (λ later. script_from later (n + 1) more)
-    (nothing_behind (n + 1) more >>= λ none. Ok (script_of_draft d))
+    (nothing_after (n + 1) more >>= λ none. Ok (script_of_draft d))
 
--- the first of the lines, read as line 1, 2 and 3
+-- what the first of these lines gives as line 1, 2 or 3 of the text: the version, the number of CPUs, or the first
+-- draft
 abbrev pub version_in : List (List ℕ) → Result ℕ FaultKind
 version_in lines = line_of lines >>= version_of
 
@@ -373,9 +375,9 @@ start_in version cpus lines = line_of lines >>= λ line. said version cpus line 
 abbrev pub script_of_lines : List (List ℕ) → Result Script ScriptFault
 script_of_lines lines = do
   version ← at_line 1 (version_in lines)
-  cpus ← at_line 2 (cpus_in version (behind lines))
-  start ← at_line 3 (start_in version cpus (behind (behind lines)))
-  script_from start 4 (behind (behind (behind lines)))
+  cpus ← at_line 2 (cpus_in version (following lines))
+  start ← at_line 3 (start_in version cpus (following (following lines)))
+  script_from start 4 (following (following (following lines)))
 
 unfoldable pub script_of : List ℕ → Result Script ScriptFault
 script_of text =

@@ -93,7 +93,7 @@ arguments Drop = []
 abbrev pub event_fields : Event → List (List ℕ)
 event_fields event = word_text (event_word event) ∷ arguments event
 
--- the lines of the callers' blocks; c is the number of the first
+-- the lines of the callers' blocks; c is the number of the first caller
 abbrev pub block_lines : ℕ → List (List Event) → List (List (List ℕ))
 block_lines c [] = []
 block_lines c (events ∷ callers) = (codes "caller" ∷ decimal c ∷ [])
@@ -119,7 +119,7 @@ ActInRange Wipe = ⊤
 ActInRange (VreadAct len) = len ≤ 1048576
 ActInRange ReseedAct = ⊤
 
--- the fields of an event of a script of this version and number of CPUs
+-- the fields of the event are in range, in a script of this version and number of CPUs
 abbrev pub InRange : ℕ → ℕ → Event → Type 0
 InRange version cpus (At moment) = moment < 2 ^ 40
 InRange version cpus (On cpu) = cpu < cpus
@@ -164,7 +164,7 @@ abbrev pub IsForkAbove : ℕ → Event → Type 0
 IsForkAbove c (Fork child) = c < child
 IsForkAbove c _ = ⊤
 
--- each caller forks only callers with higher numbers; c is the number of the first
+-- each caller forks only callers with higher numbers; c is the number of the first caller
 abbrev pub ForksAbove : ℕ → List (List Event) → Type 0
 ForksAbove c [] = ⊤
 ForksAbove c (events ∷ callers) = AllByRecursion (IsForkAbove c) events × ForksAbove (suc c) callers
@@ -202,7 +202,7 @@ bytes_read (Online cpu) = 0
 bytes_read (Vmfork word text) = 0
 bytes_read (State number) = 0
 
--- the number of acts that wait for a vread after an event, given the number before it
+-- after an event, the number of acts that wait for a vread; `waiting` is their number before the event
 abbrev pub acts_after : ℕ → Event → ℕ
 acts_after waiting (Inside point act) = waiting + 1
 acts_after waiting (Vread len flags) = 0
@@ -218,7 +218,7 @@ pub record WellFormed (s : Script) : Type 0 where
   pub cpus : (1 ≤ s.cpus) × (s.cpus ≤ most_cpus s.version)
   pub callers : (1 ≤ length s.callers) × (length s.callers ≤ 64)
   pub ranges : AllByRecursion (AllByRecursion (InRange s.version s.cpus)) s.callers
-  -- each caller but the first is forked once, by a caller with a lower number, and no other number is forked
+  -- each caller but the first is forked exactly once, and no other number is forked
   pub forked : (c : ℕ) → times_forked s.callers c ≡ (if nat_lt 0 c && nat_lt c (length s.callers) then 1 else 0)
   pub above : ForksAbove 0 s.callers
   pub acts : AllByRecursion (FewActs 0) s.callers

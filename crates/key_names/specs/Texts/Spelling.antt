@@ -1,4 +1,5 @@
--- The spelling of numbers, bytes, words, fields and lines in a script and in a transcript. A number is its `decimal`.
+-- How numbers, bytes, words, fields and lines are spelt in a script and in a transcript. A number is spelt by
+-- `decimal`.
 use Rattle.std.specs.Prelude.{◌≡◌, ℕ, nat_le, Bool, true, ◌&&◌, ◌||◌, List, [], ◌∷◌, ◌++◌, codes}
 use Rattle.std.specs.List.{AllByRecursion, flat_map, join_with_byte}
 use Rattle.hex.specs.Hex.{encode_lower}

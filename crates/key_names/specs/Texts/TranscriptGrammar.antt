@@ -1,5 +1,4 @@
--- The text of a transcript: its only spelling, which texts are transcripts, and the first faulty
--- line of one that is not.
+-- The only text of each transcript, and the first faulty line of any other text.
 use Rattle.std.specs.Prelude.{ℕ, suc, ◌+◌, ◌≡◌, ◌≢◌, ◌<◌, ◌≤◌, ◌^◌, ⊤, List, [], ◌∷◌, ◌++◌, map, length, codes, decimal}
 use Rattle.std.specs.List.{flat_map, AllByRecursion}
 use Rattle.hex.specs.Hex.{encode_lower, IsBytes}
@@ -80,7 +79,7 @@ abbrev pub StepFits : Step → Type 0
 StepFits (Look generation) = generation < 2 ^ 63
 StepFits (Visit mark) = MarkFits mark
 
--- only a line of bits shows a number, and only other lines show bytes
+-- only the line of a `bits` event shows a number, and only lines of other words show bytes
 abbrev pub ShownFits : Word → Shown → Type 0
 ShownFits word no_data = ⊤
 ShownFits word (bytes shown) = (word ≢ Bits) × (0 < length shown) × IsBytes shown
@@ -104,7 +103,7 @@ pub record TranscriptFits (callers : List (List SeenLine)) : Type 0 where
   pub last : LastHasLines callers
   pub lines : AllByRecursion (AllByRecursion LineFits) callers
 
--- each line has the number of its caller; first is the number of the first caller
+-- each line has the number of its caller; `first` is the number of the first caller
 abbrev pub UnderOwnNumber : ℕ → List (List SeenLine) → Type 0
 UnderOwnNumber first [] = ⊤
 UnderOwnNumber first (lines ∷ callers) =
@@ -123,8 +122,8 @@ pub record BeginsTranscript (front : List (List ℕ)) : Type 0 where
   pub own : UnderOwnNumber 0 callers
   pub lines : front ++ rest ≡ transcript_lines callers
 
--- The text is no transcript's, and this is the number of its first faulty line: the lines before that line begin a
--- transcript, and together with it, if it is whole, they begin none.
+-- The text is the text of no transcript, and `number` is the number of its first faulty line. The lines before that
+-- line begin a transcript. If that line is whole, then no transcript begins with it and the lines before.
 pub record IsFirstFault (text : List ℕ) (number : ℕ) : Type 0 where
   pub front : List (List ℕ)
   pub rest : List ℕ

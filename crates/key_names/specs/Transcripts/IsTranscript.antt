@@ -18,9 +18,9 @@ use Rattle.key_names.specs.Lanes.Samples.{LawfulSamples}
 use Rattle.key_names.specs.Texts.ScriptGrammar.{Script, event_word}
 use Rattle.key_names.specs.Callers.Calls.{Setting, Call, alone, vread_call, unbound, ending, BoundAct, all_calls, setting_of}
 use Rattle.key_names.specs.Callers.Calls.{first_settings}
-use Rattle.key_names.specs.Callers.Deeds.{deeds_of}
+use Rattle.key_names.specs.Callers.Effects.{effects_of}
 use Rattle.key_names.specs.Transcripts.SeenLine.{SeenLine}
-use Rattle.key_names.specs.Callers.History.{caller_orders, stamps_of, LooksStand}
+use Rattle.key_names.specs.Callers.History.{caller_orders, stamps_of, LooksConform}
 use Rattle.key_names.specs.Callers.Meaning.{CallerState, caller_start, LineMeaning, CallMeaning, Means}
 
 -- a line has its caller's number, its event's number and its word
@@ -37,13 +37,13 @@ LinesFit c n [] (line ∷ more ∷ lines) = ⊥
 LinesFit c n (event ∷ events) [] = ⊥
 LinesFit c n (event ∷ events) (line ∷ lines) = LineIs c n (event_word event) line × LinesFit c (suc n) events lines
 
--- P holds for each caller: for its number, and its elements of two lists; c is the number of the first
+-- P holds for each caller's number and its elements of two lists; c is the number of the first caller
 abbrev pub EachCaller : {A B : Type 0} → (ℕ → A → B → Type 0) → ℕ → List A → List B → Type 0
 EachCaller P c [] [] = ⊤
 EachCaller P c (x ∷ xs) (y ∷ ys) = P c x y × EachCaller P (suc c) xs ys
 EachCaller P c _ _ = ⊥
 
--- each caller has its lines, and no others exist
+-- each caller has the lines of its events, and no other lines exist
 abbrev pub HasLines : Script → List (List SeenLine) → Type 0
 HasLines script t = EachCaller (λ c events lines. LinesFit c 0 events lines) 0 script.callers t
 
@@ -63,7 +63,7 @@ marks_from c n i (Look g ∷ steps) = marks_from c n (suc i) steps
 marks_from c n i (Marked mark ∷ steps) =
     record { mark = mark; who = record { caller = c; event = n; step = i } } ∷ marks_from c n (suc i) steps
 
--- the marks of the lines of a caller, and of all callers
+-- the marks of one line, and then of all lines of all callers
 abbrev pub line_marks : SeenLine → List MarkBy
 line_marks line = marks_from line.caller line.event 0 line.steps
 
@@ -71,7 +71,7 @@ abbrev pub all_marks : List (List SeenLine) → List MarkBy
 all_marks t = flat_map (λ lines. flat_map line_marks lines) t
 
 -- among some marks of one lane, each place below the number of marks occurs once, and a higher place has a higher stamp
-pub record PlacesStand (marks : List Mark) : Type 0 where
+pub record PlacesConform (marks : List Mark) : Type 0 where
   pub once : AllByRecursion (λ place. count_by (λ mark. mark.place == place) marks ≡ 1)
       (range_with_len 0 (length marks))
   pub rise : AllByRecursion (λ a. AllByRecursion (λ b. a.place < b.place → a.stamp < b.stamp) marks) marks
@@ -94,8 +94,8 @@ Rises (a ∷ []) = ⊤
 Rises (a ∷ b ∷ rest) = (a < b) × Rises (b ∷ rest)
 
 -- in each lane each place up to the last has one mark, and stamps rise in each lane and along each caller's order
-pub record MarksStand (script : Script) (t : List (List SeenLine)) : Type 0 where
-  pub lanes : (lane : LaneId) → PlacesStand (lane_marks lane (all_marks t))
+pub record MarksConform (script : Script) (t : List (List SeenLine)) : Type 0 where
+  pub lanes : (lane : LaneId) → PlacesConform (lane_marks lane (all_marks t))
   pub callers : AllByRecursion (λ order. Rises (stamps_of order)) (caller_orders (script_calls script t))
 
 -- the stamp and the maker of the visit at a place, if the place has a visit
@@ -113,10 +113,10 @@ visit_count book = length book.pool + length book.base + sum_by (λ visits. leng
 -- the book's visit at each mark's place has the mark's stamp and maker, and the book has as many visits as there are
 -- marks
 pub record VisitsAre (book : Book) (marks : List MarkBy) : Type 0 where
-  pub stand : AllByRecursion (λ by. stamped_at book by.mark.lane by.mark.place ≡ Some (by.mark.stamp, by.who)) marks
+  pub conform : AllByRecursion (λ by. stamped_at book by.mark.lane by.mark.place ≡ Some (by.mark.stamp, by.who)) marks
   pub no_others : length marks ≡ visit_count book
 
--- each call has a meaning that is allowed in its caller's state before it
+-- each call has a meaning that is allowed in the caller's state before the call
 abbrev pub CallsMean : CallerState → List Call → List CallMeaning → Type 0
 CallsMean s [] [] = ⊤
 CallsMean s [] (m ∷ ms) = ⊥
@@ -129,7 +129,7 @@ EachAct P [] [] = ⊤
 EachAct P (bound ∷ acts) (m ∷ ms) = P bound.line m × EachAct P acts ms
 EachAct P _ _ = ⊥
 
--- P holds for each line of a call and its meaning
+-- P holds for each line of a call and that line's meaning
 abbrev pub EachOfCall : (SeenLine → LineMeaning → Type 0) → Call → CallMeaning → Type 0
 EachOfCall P (alone event line) m = P line m.own
 EachOfCall P (vread_call len flags line acts) m = P line m.own × EachAct P acts m.acts
@@ -142,7 +142,7 @@ EachLine P [] [] = ⊤
 EachLine P (call ∷ calls) (m ∷ ms) = EachOfCall P call m × EachLine P calls ms
 EachLine P _ _ = ⊥
 
--- the entries of one vgetrandom state
+-- the entries that these calls append to the list of vgetrandom state k
 abbrev pub entries_of_state : ℕ → List CallMeaning → List VEntry
 entries_of_state k [] = []
 entries_of_state k (m ∷ ms) = (if m.before.current == k then m.entries else []) ++ entries_of_state k ms
@@ -151,17 +151,18 @@ entries_of_state k (m ∷ ms) = (if m.before.current == k then m.entries else []
 abbrev pub state_lists : List CallMeaning → List (List VEntry)
 state_lists ms = map (λ k. entries_of_state k ms) (range_with_len 0 16)
 
--- the meanings of a caller's calls follow each other, and match the deeds of its lines
+-- each call of a caller has a meaning that is allowed after the calls before it, and the effects of the caller's lines
+-- are those of the meanings
 pub record CallerMeans (lists : Lists) (setting : Setting) (calls : List Call) (ms : List CallMeaning) : Type 0 where
   pub follows : CallsMean (caller_start setting) calls ms
-  pub deeds : EachLine (λ line m. deeds_of lists line.steps ≡ m.deeds) calls ms
+  pub effects : EachLine (λ line m. effects_of lists line.steps ≡ m.effects) calls ms
 
 -- the setting that a caller starts with
 abbrev pub start_setting : List (List Call) → ℕ → Setting
 start_setting callers c = setting_of (first_settings callers (length callers)) c
 
--- every line has steps that its word allows, and together they make lawful lists
-pub record FormsStand (script : Script) (t : List (List SeenLine)) (book : Book)
+-- every line has steps that its word allows, and the visits of all lines make lawful lists
+pub record FormsConform (script : Script) (t : List (List SeenLine)) (book : Book)
     (ms : List (List CallMeaning)) : Type 0 where
   pub cpus : length book.cpus ≡ script.cpus
   pub visits : VisitsAre book (all_marks t)
@@ -172,31 +173,31 @@ pub record FormsStand (script : Script) (t : List (List SeenLine)) (book : Book)
   pub lanes : LawfulLanes (lists_of book)
   pub samples : LawfulSamples book
 
--- each answer is that of its line's meaning
-abbrev pub AnswersStand : Script → List (List SeenLine) → List (List CallMeaning) → Type 0
-AnswersStand script t ms =
+-- each line has the answer of its meaning
+abbrev pub AnswersConform : Script → List (List SeenLine) → List (List CallMeaning) → Type 0
+AnswersConform script t ms =
     EachCaller (λ c calls ms. EachLine (λ line m. line.answer ≡ m.answer) calls ms) 0 (script_calls script t) ms
 
--- the data of each line are those of its meaning
-abbrev pub DataStand : Script → List (List SeenLine) → List (List CallMeaning) → Type 0
-DataStand script t ms =
+-- each line has the data of its meaning
+abbrev pub DataConform : Script → List (List SeenLine) → List (List CallMeaning) → Type 0
+DataConform script t ms =
     EachCaller (λ c calls ms. EachLine (λ line m. line.shown ≡ m.shown) calls ms) 0 (script_calls script t) ms
 
--- LookStands holds for each look in each caller's order
-abbrev pub SeenStands : Script → List (List SeenLine) → Lists → Type 0
-SeenStands script t lists =
-    AllByRecursion (λ order. LooksStand (base_after lists.base).generation [] (deeds_of lists order))
+-- LookConforms holds for each look in each caller's order
+abbrev pub SeenConforms : Script → List (List SeenLine) → Lists → Type 0
+SeenConforms script t lists =
+    AllByRecursion (λ order. LooksConform (base_after lists.base).generation [] (effects_of lists order))
     (caller_orders (script_calls script t))
 
 -- the transcript is lawful for the script, with this book and these meanings of its calls
 pub record IsTranscriptBy (script : Script) (t : List (List SeenLine)) (book : Book)
     (ms : List (List CallMeaning)) : Type 0 where
   pub lines : HasLines script t
-  pub marks : MarksStand script t
-  pub forms : FormsStand script t book ms
-  pub answers : AnswersStand script t ms
-  pub shown : DataStand script t ms
-  pub looks : SeenStands script t (lists_of book)
+  pub marks : MarksConform script t
+  pub forms : FormsConform script t book ms
+  pub answers : AnswersConform script t ms
+  pub shown : DataConform script t ms
+  pub looks : SeenConforms script t (lists_of book)
 
 abbrev pub IsTranscript : Script → List (List SeenLine) → Type 0
 IsTranscript script t = (book : Book) × (ms : List (List CallMeaning)) × IsTranscriptBy script t book ms
@@ -218,18 +219,18 @@ pub record MadeBook (script : Script) (t : List (List SeenLine)) : Type 0 where
   pub book : Book
   pub meanings : List (List CallMeaning)
   pub lines : HasLines script t
-  pub marks : MarksStand script t
-  pub forms : FormsStand script t book meanings
+  pub marks : MarksConform script t
+  pub forms : FormsConform script t book meanings
 
--- a clause is the first that fails: the clauses before it hold, and it does not. The last three are about the book that
--- the steps make
+-- a clause is the first that fails: the clauses before it hold, and it does not. The last three clauses are about the
+-- book that the steps make
 abbrev pub FirstFails : Script → List (List SeenLine) → Clause → Type 0
 FirstFails script t lines_clause = ¬ HasLines script t
-FirstFails script t marks_clause = HasLines script t × (¬ MarksStand script t)
-FirstFails script t forms_clause = HasLines script t × MarksStand script t × (¬ MadeBook script t)
-FirstFails script t answers_clause = (made : MadeBook script t) × (¬ AnswersStand script t made.meanings)
+FirstFails script t marks_clause = HasLines script t × (¬ MarksConform script t)
+FirstFails script t forms_clause = HasLines script t × MarksConform script t × (¬ MadeBook script t)
+FirstFails script t answers_clause = (made : MadeBook script t) × (¬ AnswersConform script t made.meanings)
 FirstFails script t data_clause =
-    (made : MadeBook script t) × AnswersStand script t made.meanings × (¬ DataStand script t made.meanings)
+    (made : MadeBook script t) × AnswersConform script t made.meanings × (¬ DataConform script t made.meanings)
 FirstFails script t looks_clause =
-    (made : MadeBook script t) × AnswersStand script t made.meanings × DataStand script t made.meanings
-    × (¬ SeenStands script t (lists_of made.book))
+    (made : MadeBook script t) × AnswersConform script t made.meanings × DataConform script t made.meanings
+    × (¬ SeenConforms script t (lists_of made.book))

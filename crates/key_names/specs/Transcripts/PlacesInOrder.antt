@@ -1,9 +1,9 @@
--- PlacesStand holds for the marks of one lane, sorted by stamp, if and only if their places count up from 0 and their
+-- PlacesConform holds for the marks of one lane, sorted by stamp, if and only if their places count up from 0 and their
 -- stamps rise.
 use Rattle.std.specs.Prelude.{ℕ, suc, ◌≡◌, ◌<◌, ◌≤◌, ⊤, List, [], ◌∷◌, IsPermutation}
 use Rattle.std.specs.List.{AllByRecursion}
 use Rattle.key_names.specs.declared.names.Mark.{Mark}
-use Rattle.key_names.specs.Transcripts.IsTranscript.{PlacesStand}
+use Rattle.key_names.specs.Transcripts.IsTranscript.{PlacesConform}
 
 -- the places count up from i, and each stamp is below those after it
 abbrev pub InOrder : ℕ → List Mark → Type 0
@@ -15,10 +15,10 @@ abbrev pub ByStamp : List Mark → Type 0
 ByStamp [] = ⊤
 ByStamp (m ∷ ms) = AllByRecursion (λ n. m.stamp ≤ n.stamp) ms × ByStamp ms
 
--- PlacesStand holds for marks in order; if it holds for marks that are sorted by stamp, these marks are in order
+-- PlacesConform holds for marks in order. If PlacesConform holds for marks that are sorted by stamp, these are in order
 abbrev pub PlacesCountUp : Type 0
-PlacesCountUp = (ms : List Mark) → (InOrder 0 ms → PlacesStand ms) × (ByStamp ms → PlacesStand ms → InOrder 0 ms)
+PlacesCountUp = (ms : List Mark) → (InOrder 0 ms → PlacesConform ms) × (ByStamp ms → PlacesConform ms → InOrder 0 ms)
 
--- whether PlacesStand holds does not depend on the order of the marks
+-- whether PlacesConform holds does not depend on the order of the marks
 abbrev pub PlacesInAnyOrder : Type 0
-PlacesInAnyOrder = (ms ns : List Mark) → IsPermutation ms ns → PlacesStand ms → PlacesStand ns
+PlacesInAnyOrder = (ms ns : List Mark) → IsPermutation ms ns → PlacesConform ms → PlacesConform ns

@@ -1,5 +1,5 @@
--- The bytes that a transcript prints: each line shows the bytes of named spans of keystream, and no two
--- lines show the same byte.
+-- The bytes that a transcript prints: each line shows the bytes of named spans of keystream, and no two lines show the
+-- same byte of a key.
 use Rattle.std.specs.Prelude.{ℕ, ◌+◌, ◌≡◌, ◌≤◌, ⊤, suc, List, [], ◌∷◌, ◌++◌, length, take, map, slice_get}
 use Rattle.std.specs.List.{flat_map, range_with_len}
 use Rattle.key_names.specs.declared.names.LaneId.{LaneId}
@@ -60,15 +60,15 @@ entries_of_call caller before m = record {
 abbrev pub no_entries : StateEntries → StateEntries
 no_entries es = record es { count = 0 }
 
--- a line prints nothing, prints by its last visit, or prints by entries that its call appended to a state's list
--- (`own`)
+-- the entries by which a line prints: none, that of its last visit, or some of those that its call appended to a
+-- state's list (`own`)
 pub data PrintsBy (own : StateEntries) (steps : List Step) (origins : List Origin) : Type 0 where
   by_none : origins ≡ [] → PrintsBy own steps origins
   by_visit : origins ≡ last_origin steps → PrintsBy own steps origins
   by_entries : (from count : ℕ) → own.from ≤ from → from + count ≤ own.from + own.count →
       origins ≡ state_origins (record own { from = from; count = count }) → PrintsBy own steps origins
 
--- the line shows the bytes of the spans that these entries serve, and each span's bytes are those of its key's name
+-- the line shows the bytes of the spans that these entries serve, and the value of a span's key gives the span's bytes
 pub record LinePrints (lists : Lists) (own : StateEntries) (line : SeenLine) (origins : List Origin) : Type 0 where
   pub by : PrintsBy own line.steps origins
   pub shown : bytes_in line.shown ≡ served_in lists (origins_uses lists origins)
@@ -80,13 +80,13 @@ call_lines (vread_call len flags line acts) = line ∷ map (λ (bound : BoundAct
 call_lines (unbound bound) = bound.line ∷ []
 call_lines (ending line) = line ∷ []
 
--- each line of a call prints. The call's entries belong to its own line
+-- LinePrints holds for each line of a call. Only the first line, the call's own, may print by the entries of the call
 abbrev pub LinesPrint : Lists → StateEntries → List SeenLine → List (List Origin) → Type 0
 LinesPrint lists own [] [] = ⊤
 LinesPrint lists own (line ∷ lines) (os ∷ oss) = LinePrints lists own line os × LinesPrint lists (no_entries own) lines oss
 LinesPrint lists own _ _ = ⊥
 
--- each call of a caller prints, after calls with these meanings
+-- LinesPrint holds for each call of a caller, after calls with the meanings `before`
 abbrev pub CallsPrint : Lists → ℕ → List CallMeaning → List Call → List CallMeaning → List (List (List Origin)) → Type 0
 CallsPrint lists caller before [] [] [] = ⊤
 CallsPrint lists caller before (call ∷ calls) (m ∷ ms) (os ∷ oss) =
@@ -94,7 +94,7 @@ CallsPrint lists caller before (call ∷ calls) (m ∷ ms) (os ∷ oss) =
     × CallsPrint lists caller (before ++ m ∷ []) calls ms oss
 CallsPrint lists caller before _ _ _ = ⊥
 
--- each caller prints; c is the number of the first
+-- CallsPrint holds for each caller; c is the number of the first caller
 abbrev pub CallersPrint : Lists → ℕ → List (List Call) → List (List CallMeaning) → List (List (List (List Origin))) →
     Type 0
 CallersPrint lists c [] [] [] = ⊤
@@ -106,8 +106,8 @@ CallersPrint lists c _ _ _ = ⊥
 abbrev pub all_origins : List (List (List (List Origin))) → List Origin
 all_origins oss = flat_map (flat_map (flat_map (λ os. os))) oss
 
--- each line shows the bytes of the spans that its own entries serve, and no two of all these entries use the same byte
--- of a key. So no byte is shown twice
+-- each line shows the bytes of the spans that its own entries serve, and no two of these entries use the same byte of a
+-- key. So no byte of a key is shown twice
 pub record PrintsNamed (script : Script) (t : List (List SeenLine)) (book : Book) (ms : List (List CallMeaning)) :
     Type 0 where
   -- the entries for each line of each call of each caller
@@ -115,7 +115,7 @@ pub record PrintsNamed (script : Script) (t : List (List SeenLine)) (book : Book
   pub lines : CallersPrint (lists_of book) 0 (script_calls script t) ms origins
   pub apart : Disjoint (origins_uses (lists_of book) (all_origins origins))
 
--- a lawful transcript of a well-formed script prints named bytes, and none of them twice
+-- a lawful transcript of a well-formed script prints the bytes of named spans, and none of these bytes twice
 abbrev pub TranscriptPrintsNamed : Type 0
 TranscriptPrintsNamed = (script : Script) (t : List (List SeenLine)) (book : Book) (ms : List (List CallMeaning)) →
     WellFormed script → IsTranscriptBy script t book ms → PrintsNamed script t book ms

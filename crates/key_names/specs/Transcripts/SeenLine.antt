@@ -1,4 +1,4 @@
--- A line of a transcript as contracts see it, with its steps and with the bytes themselves.
+-- A line of a transcript as contracts describe it, with its steps and its bytes written out.
 use Rattle.std.specs.Prelude.{ℕ, List, [], ◌∷◌, take, drop, map}
 use Rattle.std.specs.List.{flat_map}
 use Rattle.key_names.specs.declared.events.Answer.{Answer}
@@ -55,7 +55,7 @@ bytes_in _ = []
 abbrev pub bytes_shown : List SeenLine → List ℕ
 bytes_shown lines = flat_map (λ line. bytes_in line.shown) lines
 
--- the data that show these bytes; for no bytes, no data
+-- the data of a line that shows these bytes: no data if there are no bytes
 abbrev pub bytes_or_none : List ℕ → Shown
 bytes_or_none [] = no_data
 bytes_or_none (b ∷ bs) = bytes (b ∷ bs)

@@ -1,4 +1,4 @@
--- A caller's vgetrandom states in a transcript, as their lists of entries give them.
+-- When a caller's vgetrandom states match the replay of their lists of entries.
 use Rattle.std.specs.Prelude.{ℕ, ◌≡◌, ◌≤◌, ◌<◌, ◌⊎◌, Option, Some, List, [], ◌∷◌, take, slice_get, unwrap_or}
 use Rattle.std.specs.List.{fold}
 use Rattle.key_names.specs.declared.names.KeyName.{KeyName}
@@ -30,14 +30,15 @@ HasName key = (name : KeyName) × (key ≡ Some name)
 abbrev pub IsNamed : NamedState → Type 0
 IsNamed t = HasName t.key × ((t.pos ≡ 96) ⊎ HasName t.batch_key)
 
--- a state holds the bytes that its list replays to, and if it has a generation its keys have names
+-- a state holds the bytes that a replay of its list gives. If the state has a generation, its keys have names
+-- (`IsNamed`)
 pub record IsReplayed (lists : Lists) (caller k : ℕ) (es : List VEntry) (s : VgetrandomState) : Type 0 where
   pub batch : s.batch ≡ (fold (state_bytes_step lists) state_bytes_start es).batch
   pub pos : s.pos ≡ (state_after caller k es).pos
   pub key : s.key ≡ state_value_after lists es
   pub named : 1 ≤ s.generation → IsNamed (state_after caller k es)
 
--- each of a caller's sixteen states
+-- each of a caller's sixteen states matches the replay of its list
 pub record StatesReplayed (lists : Lists) (caller : ℕ) (setting : Setting) (ms : List CallMeaning) : Type 0 where
   -- after any number of the caller's calls, the state matches the replay of its entries so far
   pub between : (k j : ℕ) → k < 16 → IsReplayed lists caller k (entries_of_state k (take j ms))
@@ -46,7 +47,7 @@ pub record StatesReplayed (lists : Lists) (caller : ℕ) (setting : Setting) (ms
   pub ends : (k : ℕ) → k < 16 → IsReplayed lists caller k (state_list lists caller k)
       (state_number k (caller_end (caller_start setting) ms))
 
--- the states of each caller of a lawful transcript are replayed
+-- in a lawful transcript, the states of each caller match the replay of their lists
 abbrev pub StatesAreReplayed : Type 0
 StatesAreReplayed = (script : Script) (t : List (List SeenLine)) (book : Book) (ms : List (List CallMeaning)) →
     IsTranscriptBy script t book ms →

@@ -6,7 +6,8 @@ use Rattle.key_names.specs.Callers.Meaning.{CallMeaning}
 use Rattle.key_names.specs.Texts.ScriptGrammar.{Script}
 use Rattle.key_names.specs.Transcripts.IsTranscript.{IsTranscriptBy, IsTranscript, MadeBook, Clause, FirstFails}
 
--- the book of a lawful transcript is lawful, with its vgetrandom states, so the laws of lawful books hold for it
+-- the book of a lawful transcript is lawful, including the lists of its vgetrandom states. So the laws of lawful books
+-- hold for it
 abbrev pub TranscriptIsLawful : Type 0
 TranscriptIsLawful = (script : Script) (t : List (List SeenLine)) (book : Book) (ms : List (List CallMeaning)) →
     IsTranscriptBy script t book ms → LawfulBook (lists_of book)

@@ -1,4 +1,5 @@
--- The rest of a CPU's batch before each place is keystream of the key in use at its fill.
+-- Before each place of a CPU's list, the unserved rest of a batch is keystream of the key that was in use at the
+-- batch's last fill.
 use Rattle.std.proofs.Common.{◌≡◌, ℕ, suc, ◌+◌, ◌*◌, ◌/◌, ◌≤◌, ◌<◌, Bool, true, false, List, refl, sym, ap, ◌∙◌, subst, arith, Some, None, Option}
 use Rattle.std.specs.Prelude.{⊤, ◌==◌, not, ◌||◌, nat_le, if◌then◌else◌}
 use Rattle.std.proofs.lemmas.Bool.{eqb-true}
@@ -24,7 +25,7 @@ not_used_up look width fill keeps = go (nat_le (96 / width) fill.count) refl
     go true is = let p : false ≡ true = keeps ∙ ap (λ b. b || not (look == fill.look)) is in cc
     go false is = grind (arith, nat_tests)
 
--- the bytes are of a batch that was filled with the key in use at its fill
+-- the bytes are those of a batch after this fill, which used the key in use at the fill's place
 module _ (lists : Lists) (c width : ℕ) (some : 1 ≤ width) (within : width ≤ 96) where
   abbrev pub RestOf : Option Fill → List ℕ → Type 0
   RestOf None bytes = ⊤
@@ -71,7 +72,7 @@ module _ (lists : Lists) (c width : ℕ) (some : 1 ≤ width) (within : width �
       one_served (fills width) bytes
       (λ fill filled. not_used_up look width fill (subst P same keeps ∙ ap (must_fill look width) filled)) rest
 
-  -- each entry that fits preserves RestOf
+  -- each entry that fits preserves `RestOf`
   pub rest_next : (s : CpuState) (e : CpuEntry) (used bytes : List ℕ) → used ≡ cpu_used_at lists c s.place →
       CpuFits s e → RestOf (s.fills width) bytes →
       RestOf (fills_after s.place e (cpu_key_in_use e s.key) s.fills width)

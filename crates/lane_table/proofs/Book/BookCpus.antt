@@ -1,5 +1,5 @@
--- A CPU's model before each place has the values of the entries before it: its generator, its fills without keys and
--- places, the bytes of its batches, and its fast pool.
+-- Before each place of a CPU's list, the CPU's model agrees with the entries before that place. It agrees in the
+-- generator, the fills (without keys and places), the bytes of the batches, and the fast pool.
 use Rattle.std.proofs.Common.{◌≡◌, ℕ, suc, ◌+◌, ◌≤◌, ◌<◌, Bool, true, false, List, length, take, refl, sym, ap, ◌∙◌, subst, arith, Some, None, Option}
 use Rattle.std.specs.Prelude.{◌==◌, slice_get, if◌then◌else◌}
 use Rattle.std.specs.List.{fold}
@@ -34,7 +34,7 @@ batch_pos_bare : (width : ℕ) (o : Option Fill) → batch_pos width (bare o) �
 batch_pos_bare width None = refl
 batch_pos_bare width (Some fill) = refl
 
--- after each entry a fill equals the list's, except for its key and place
+-- if each fill equals the list's fill except for the key and the place, so does each fill after an entry
 module _ (place : ℕ) (key : Option KeyName) (f g : ℕ → Option Fill) (same : (w : ℕ) → f w ≡ bare (g w)) where
   filled : (w look : ℕ) (b : Bool) →
       (if b then Some (record { key = None; place = 0; count = 1; look = look }) else f w)
@@ -67,7 +67,7 @@ batch_bare w used o bytes (Dump now) = refl
 batch_bare w used o bytes Prepare = refl
 batch_bare w used o bytes Online = refl
 
--- the model m has the values s of the list's first i entries
+-- the model `m` agrees with the values `s`, which the first `i` entries of the list give
 pub record CpuAlike (i : ℕ) (m : CpuModel) (s : CpuBytes) : Type 0 where
   pub at : s.named.place ≡ i
   pub cpu : m.cpu ≡ cpu_at s.named s.value
@@ -104,7 +104,7 @@ pub record RefillHanded (lists : Lists) (c i : ℕ) (e : CpuEntry) (got : Handed
   pub handed : HandsRefill lists e (generator_of got)
   pub answers : (b : ℕ) → base_refill_of e ≡ Some b → refill_at lists.base b ≡ Some (c, i)
 
--- a CPU's list in a book
+-- the list of CPU `c` in a book: it is lawful, and each entry receives the key that the named refill hands over
 pub record CpuLane (lanes c : ℕ) (lists : Lists) (xs : List Visit) : Type 0 where
   pub lawful : LawfulLane lanes (c + 2) xs
   pub handed : (i : ℕ) (x : Visit) (e : CpuEntry) → slice_get xs i ≡ Some x → x.entry ≡ Cpu e →
@@ -134,7 +134,7 @@ module _ (lanes c : ℕ) (lists : Lists) (xs : List Visit) (lane : CpuLane lanes
       ap (λ (m : Model). m.cpu) (fold_next model_step start_model xs i x is)
       ∙ ap (λ e. (made_of (replay (take i xs)) e x.got).cpu) v.is in
       let s : bytes_before (suc i) ≡ cpu_bytes_step lists c (bytes_before i) v.entry =
-      fold_next (cpu_bytes_step lists c) cpu_bytes_start es i v.entry v.stands in
+      fold_next (cpu_bytes_step lists c) cpu_bytes_start es i v.entry v.conforms in
       let P : CpuModel → Type 0 = λ m. CpuAlike (suc i) m (bytes_before (suc i)) in
       let Q : CpuBytes → Type 0 = λ s. CpuAlike (suc i) (cpu_entered v.entry x.got (replay (take i xs)).cpu) s in
       subst P (sym m) (subst Q (sym s)
@@ -148,9 +148,9 @@ module _ (lanes c : ℕ) (lists : Lists) (xs : List Visit) (lane : CpuLane lanes
       ap (λ (m : Model). m.cpu.fast) (fold_next model_step start_model xs i x is)
       ∙ ap (λ e. (made_of (replay (take i xs)) e x.got).cpu.fast) v.is
       ∙ ap (λ f. fast_step f v.entry) now
-      ∙ sym (fold_next fast_step fast_start es i v.entry v.stands))
+      ∙ sym (fold_next fast_step fast_start es i v.entry v.conforms))
 
-  -- before each place, the values are those of the book
+  -- before each place, the named state is the one that the book gives
   pub state_before : (i : ℕ) → (bytes_before i).named ≡ cpu_after lists.base c (take i es)
   state_before i = bytes_named lists c cpu_bytes_start (take i es)
 

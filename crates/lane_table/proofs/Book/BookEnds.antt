@@ -1,9 +1,9 @@
--- The lists that a pass knows, and the lists at the table's end, as a book.
+-- The lists that a pass knows make half-finished lanes at any moment, and lawful lanes at the table's end.
 use Rattle.std.proofs.Common.{◌≡◌, ℕ, ◌≤◌, ◌<◌, List, length, map, sym, ◌∙◌, arith}
 use Rattle.std.specs.List.{AllByRecursion, sum_by}
 use Rattle.key_names.specs.declared.names.Mark.{Mark}
 use Rattle.key_names.specs.Lanes.Book.{HalfFinishedLanes, LawfulLanes}
-use Rattle.key_names.specs.Transcripts.IsTranscript.{MarkBy, PlacesStand, VisitsAre}
+use Rattle.key_names.specs.Transcripts.IsTranscript.{MarkBy, PlacesConform, VisitsAre}
 use Rattle.lane_table.specs.declared.view.View.{View}
 use Rattle.lane_table.specs.declared.view.Visit.{Visit}
 use Rattle.lane_table.specs.WorldRule.{Consistent, times, at, known_of}
@@ -13,7 +13,7 @@ use Rattle.lane_table.specs.BookLists.{StateLists, book_of, book_lists}
 use Rattle.lane_table.specs.BookLaws.{ClosedLanes, Continues}
 use Rattle.lane_table.proofs.Lists.VisitLists.{begins_trans}
 use Rattle.lane_table.proofs.Book.BookAnswers.{half_finished, lawful_lanes}
-use Rattle.lane_table.proofs.Book.BookMarks.{MarksVisit, MarksPlace, visits_are, places_stand, all_made}
+use Rattle.lane_table.proofs.Book.BookMarks.{MarksVisit, MarksPlace, visits_are, places_conform, all_made}
 
 -- lists that continue a later view continue the earlier one
 pub continues_before : (lanes : ℕ) (v w : View) (visits : ℕ → List Visit) → length w.lanes ≡ length v.lanes →
@@ -45,16 +45,16 @@ module _ (v : View) (callers : StateLists) (low : 2 ≤ length v.lanes) (ended :
   pub ended_lawful : LawfulLanes (book_lists lanes (known_of v) callers)
   ended_lawful = lawful_lanes lanes (known_of v) callers ended_lanes ended.answered
 
-  -- marks of visits are the book's visits if their number is the number of visits made
+  -- if each mark is that of a visit, and there are as many marks as visits made, the marks are the book's visits
   pub ended_visits : (marks : List MarkBy) → AllByRecursion (MarksVisit lanes (known_of v)) marks →
       length marks ≡ sum_by made_in v.lanes → VisitsAre (book_of lanes (known_of v) callers) marks
   ended_visits marks all many =
       visits_are lanes (known_of v) callers ended_lanes marks all (many ∙ all_made v ended.made)
 
-  -- if marks of a lane's visits have the places of the lane, `PlacesStand` holds for them
+  -- if the marks of a lane's visits have the places that the pass counts for the lane, `PlacesConform` holds for them
   pub ended_places : (lane : ℕ) → lane < lanes → (marks : List Mark) →
       AllByRecursion (MarksPlace (known_of v lane)) marks → length marks ≡ (at lane v).made →
-      ((place : ℕ) → times place (map (λ mark. mark.place) marks) ≡ times place (at lane v).places) → PlacesStand marks
+      ((place : ℕ) → times place (map (λ mark. mark.place) marks) ≡ times place (at lane v).places) → PlacesConform marks
   ended_places lane below marks all many placed =
-      places_stand (known_of v lane) v.first marks (ended.rising lane below) all (many ∙ ended.made lane below)
+      places_conform (known_of v lane) v.first marks (ended.rising lane below) all (many ∙ ended.made lane below)
       (λ place. placed place ∙ ended.placed lane place below)

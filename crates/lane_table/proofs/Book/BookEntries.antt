@@ -12,7 +12,7 @@ use Rattle.key_names.proofs.Lists.Growing.{may_at}
 use Rattle.lane_table.specs.declared.view.LaneEntry.{LaneEntry}
 use Rattle.lane_table.specs.declared.view.LaneEntry.TheVariants.{Pool, Base, Cpu}
 use Rattle.lane_table.specs.declared.view.Visit.{Visit}
-use Rattle.lane_table.specs.Meaning.{IsOf, IsLater, NamesWithin, Fits, MayCome, LawfulLane, behind_of, ahead_of, model_step, start_model, replay}
+use Rattle.lane_table.specs.Meaning.{IsOf, IsLater, NamesWithin, Fits, MayCome, LawfulLane, after_of, ahead_of, model_step, start_model, replay}
 use Rattle.lane_table.specs.BookLists.{pool_entry, base_entry, cpu_entry, book_visit, book_visits, entries}
 use Rattle.lane_table.proofs.Lists.Places.{GivesEach, filter_map_at, filter_map_length, some_at}
 
@@ -77,29 +77,29 @@ base_kind = record { wrap = Base; of = base_entry; unwraps = λ e. refl; only = 
 abbrev pub cpu_kind : (c : ℕ) → Kind CpuEntry (c + 2)
 cpu_kind c = record { wrap = Cpu; of = cpu_entry; unwraps = λ e. refl; only = cpu_only c }
 
--- the visit at a place of a lawful lane
+-- `x` is the visit at place `i` of a lawful lane: its entry is in the book at that place, and may come there
 pub record VisitAt {E : Type 0} {lane : ℕ} (k : Kind E lane) (lanes : ℕ) (xs : List Visit) (i : ℕ)
     (x : Visit) : Type 0 where
   pub entry : E
   pub is : x.entry ≡ k.wrap entry
-  pub stands : slice_get (entries k.of xs) i ≡ Some entry
+  pub conforms : slice_get (entries k.of xs) i ≡ Some entry
   pub may : MayCome lanes lane (replay (take i xs)) x
 
--- the lane's visit for an entry of the book
+-- the lane's visit at place `i`, which made the entry `e` of the book
 pub record MadeAt {E : Type 0} {lane : ℕ} (k : Kind E lane) (lanes : ℕ) (xs : List Visit) (i : ℕ) (e : E) : Type 0 where
   pub visit : Visit
-  pub stands : slice_get xs i ≡ Some visit
+  pub conforms : slice_get xs i ≡ Some visit
   pub is : visit.entry ≡ k.wrap e
   pub within : i < length xs
   pub ahead : NamesWithin lanes (ahead_of (k.wrap e))
-  pub later : IsLater (replay (take i xs)).least (behind_of (k.wrap e))
+  pub later : IsLater (replay (take i xs)).least (after_of (k.wrap e))
   pub fits : Fits (replay (take i xs)) visit.got (k.wrap e)
 
--- the lane's visit for a visit of the book
+-- the lane's visit at place `i`, which is the visit `v` of the book
 pub record VisitedAt {E : Type 0} {lane : ℕ} (k : Kind E lane) (xs : List Visit) (i : ℕ)
     (v : of_book.Visit E) : Type 0 where
   pub visit : Visit
-  pub stands : slice_get xs i ≡ Some visit
+  pub conforms : slice_get xs i ≡ Some visit
   pub is : visit.entry ≡ k.wrap v.entry
   pub stamp : visit.stamp ≡ v.stamp
   pub who : visit.who ≡ v.who
@@ -125,7 +125,7 @@ module _ {E : Type 0} {lane : ℕ} (k : Kind E lane) (lanes : ℕ) (xs : List Vi
   lane_at i x is =
       let may : MayCome lanes lane (replay (take i xs)) x = may_come i x is in
       let e = k.only x.entry may.kind in
-      record { entry = e.0; is = e.1; stands = entered_at i x e.0 is e.1; may = may }
+      record { entry = e.0; is = e.1; conforms = entered_at i x e.0 is e.1; may = may }
 
   pub made_at : (i : ℕ) (e : E) → slice_get (entries k.of xs) i ≡ Some e → MadeAt k lanes xs i e
   made_at i e is =
@@ -134,13 +134,13 @@ module _ {E : Type 0} {lane : ℕ} (k : Kind E lane) (lanes : ℕ) (xs : List Vi
       let within : i < length xs = omega arith in
       let x = some_at xs i within in
       let v : VisitAt k lanes xs i x.0 = lane_at i x.0 x.1 in
-      let same : v.entry ≡ e = (let p : ◌≡◌ {A = Option E} (Some v.entry) (Some e) = sym v.stands ∙ is in cc) in
+      let same : v.entry ≡ e = (let p : ◌≡◌ {A = Option E} (Some v.entry) (Some e) = sym v.conforms ∙ is in cc) in
       let wrapped : x.0.entry ≡ k.wrap e = v.is ∙ ap k.wrap same in
       let Ahead : LaneEntry → Type 0 = λ e. NamesWithin lanes (ahead_of e) in
-      let Later : LaneEntry → Type 0 = λ e. IsLater (replay (take i xs)).least (behind_of e) in
+      let Later : LaneEntry → Type 0 = λ e. IsLater (replay (take i xs)).least (after_of e) in
       record {
         visit = x.0;
-        stands = x.1;
+        conforms = x.1;
         is = wrapped;
         within = within;
         ahead = subst Ahead wrapped v.may.within;
@@ -162,13 +162,14 @@ module _ {E : Type 0} {lane : ℕ} (k : Kind E lane) (lanes : ℕ) (xs : List Vi
       ap (λ o. option_map_or (λ (w : of_book.Visit E). w) o v) (sym there ∙ is) in
       record {
         visit = x.0;
-        stands = x.1;
+        conforms = x.1;
         is = e.is ∙ ap (λ (w : of_book.Visit E). k.wrap w.entry) same;
         stamp = ap (λ (w : of_book.Visit E). w.stamp) same;
         who = ap (λ (w : of_book.Visit E). w.who) same;
       }
 
--- a property that holds for the full prefixes of a list and of its entries holds for the whole lists
+-- a prefix that is as long as its list is the whole list: so if P holds for such prefixes of both lists, P holds for
+-- both lists
 pub whole : {E : Type 0} {lane : ℕ} (k : Kind E lane) (lanes : ℕ) (xs : List Visit) → LawfulLane lanes lane xs →
     (P : List Visit → List E → Type 0) → P (take (length xs) xs) (take (length xs) (entries k.of xs)) →
     P xs (entries k.of xs)

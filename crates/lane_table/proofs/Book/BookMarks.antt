@@ -1,5 +1,5 @@
--- The marks of visits against the book: each visit is in the book at its place, with its stamp and its maker, and
--- stamps rise along a lane. For proofs that a transcript's marks are right.
+-- Marks of visits agree with the book: each visit is in the book at its place, with its stamp and its maker, and
+-- stamps rise along a lane. Proofs that a transcript's marks are right use these lemmas.
 use Rattle.std.proofs.Common.{◌≡◌, ℕ, zero, suc, ◌+◌, ◌-◌, ◌≤◌, ◌<◌, cond, List, [], ◌∷◌, length, map, refl, sym, ap, subst, ◌∙◌, arith, Some}
 use Rattle.std.specs.Prelude.{◌==◌, count_by, slice_get, slice_index_or, option_and_then}
 use Rattle.std.specs.List.{AllByRecursion, sum_by, range_with_len}
@@ -11,7 +11,7 @@ use Rattle.key_names.specs.declared.names.Mark.{Mark}
 use Rattle.key_names.specs.declared.names.Who.{Who}
 use Rattle.key_names.specs.Lanes.Book.{Book}
 use Rattle.key_names.specs.Lanes.Book as of_book
-use Rattle.key_names.specs.Transcripts.IsTranscript.{MarkBy, PlacesStand, stamped, stamped_at, visit_count, VisitsAre}
+use Rattle.key_names.specs.Transcripts.IsTranscript.{MarkBy, PlacesConform, stamped, stamped_at, visit_count, VisitsAre}
 use Rattle.key_names.proofs.Lists.Each.{each_weaker}
 use Rattle.key_names.proofs.Lists.MarkLists.{each_once}
 use Rattle.lane_table.specs.declared.view.Visit.{Visit}
@@ -29,7 +29,7 @@ use Rattle.lane_table.proofs.Book.BookWhole.{cpu_visits}
 abbrev pub stamp_of : Visit → ℕ × Who
 stamp_of x = (x.stamp, x.who)
 
--- the number of visits of this many lanes, from this one on
+-- the number of visits in `count` lanes, from the lane `lane` on
 abbrev pub visits_in : (ℕ → List Visit) → ℕ → ℕ → ℕ
 visits_in visits lane count = sum_by (λ lane. length (visits lane)) (range_with_len lane count)
 
@@ -98,11 +98,11 @@ module _ (lanes : ℕ) (visits : ℕ → List Visit) (callers : StateLists) (ok 
       let sum : visit_count book ≡ visits_in visits 0 (suc (suc (lanes - 2))) = omega arith in
       sum ∙ ap (visits_in visits 0) (sym all)
 
-  -- marks of visits are the book's visits if their number is the number of visits
+  -- if each mark is that of a visit, and there are as many marks as visits, the marks are the book's visits
   pub visits_are : (marks : List MarkBy) → AllByRecursion (MarksVisit lanes visits) marks →
       length marks ≡ visits_in visits 0 lanes → VisitsAre book marks
   visits_are marks all many = record {
-    stand = each_weaker (MarksVisit lanes visits)
+    conform = each_weaker (MarksVisit lanes visits)
         (λ by. stamped_at book by.mark.lane by.mark.place ≡ Some (by.mark.stamp, by.who)) marks
         (λ by m. stamped_here by.mark.lane by.mark.place m.0 m.1 m.2 ∙ ap Some m.3) all;
     no_others = many ∙ sym counted_visits;
@@ -128,7 +128,7 @@ later_stamp first (z ∷ zs) (suc i) zero x y rises at there before = absurd (om
 later_stamp first (z ∷ zs) (suc i) (suc j) x y rises at there before =
     later_stamp z.stamp zs i j x y rises.1 at there (omega arith)
 
--- the two counts of the marks at a place are equal
+-- the two definitions that count the marks at a place agree
 pub times_of_marks : (place : ℕ) (marks : List Mark) →
     times place (map (λ mark. mark.place) marks) ≡ count_by (λ mark. mark.place == place) marks
 times_of_marks place [] = refl
@@ -153,12 +153,12 @@ module _ (xs : List Visit) where
       later_stamp first xs a.place b.place at.0 there.0 rises at.1 there.1 before in
       let here : at.0.stamp ≡ a.stamp = at.2 in let other : there.0.stamp ≡ b.stamp = there.2 in omega arith) all)
 
-  -- if marks of a lane's visits have each place once, `PlacesStand` holds for them
-  pub places_stand : (first : ℕ) (marks : List Mark) → Rising first xs → AllByRecursion MarksPlace marks →
+  -- if the marks of a lane's visits have each place of the lane once, `PlacesConform` holds for them
+  pub places_conform : (first : ℕ) (marks : List Mark) → Rising first xs → AllByRecursion MarksPlace marks →
       length marks ≡ length xs →
       ((place : ℕ) → times place (map (λ mark. mark.place) marks) ≡ once_below place (length xs)) →
-      PlacesStand marks
-  places_stand first marks rises all many placed = record {
+      PlacesConform marks
+  places_conform first marks rises all many placed = record {
     once = each_once 0 (length marks) marks (λ place from below.
         let one : once_below place (length xs) ≡ 1 = grind (arith, nat_tests) in
         sym (times_of_marks place marks) ∙ placed place ∙ one);

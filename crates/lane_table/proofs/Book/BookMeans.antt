@@ -1,4 +1,5 @@
--- The lanes' models have the values of the book's lists, and each visit hands on the value of its place's name.
+-- Each lane's model is the one that the book's lists give, and the key that each visit hands on is the one that the
+-- book gives for the visit's place.
 use Rattle.std.proofs.Common.{◌≡◌, ℕ, ◌+◌, ◌≤◌, ◌<◌, List, length, take, sym, ap, ◌∙◌, subst, arith, Some, Option}
 use Rattle.std.specs.Prelude.{slice_get}
 use Rattle.key_names.specs.declared.entries.Taken.{Taken}

@@ -1,4 +1,4 @@
--- A CPU's whole model before each place, as the book has it.
+-- Before each place of a CPU's list, the CPU's whole model is the one that the book gives.
 use Rattle.std.proofs.Common.{◌≡◌, ℕ, ◌≤◌, ◌<◌, List, length, take, replicate, refl, sym, ap, ◌∙◌, subst, arith, Some, Option}
 use Rattle.std.specs.Prelude.{slice_get}
 use Rattle.std.proofs.lemmas.Option.{slice_get_within}
@@ -32,7 +32,7 @@ module _ (lanes c : ℕ) (lists : Lists) (xs : List Visit) (lane : CpuLane lanes
   abbrev model : ℕ → CpuModel
   model i = (replay (take i xs)).cpu
 
-  -- the value of the key in use at a place
+  -- the book's two definitions of the value of the key in use at a place agree
   used_at : (i : ℕ) (e : CpuEntry) → slice_get es i ≡ Some e →
       cpu_value_in_use lists e (cpu_value_after lists (take i es)) ≡ cpu_used_at lists c i
   used_at i e is =
@@ -56,12 +56,12 @@ module _ (lanes c : ℕ) (lists : Lists) (xs : List Visit) (lane : CpuLane lanes
       let v : VisitAt (cpu_kind c) lanes xs i x = cpu_visit_at lanes c lists xs lane i x is in
       let met : CpuAlike i (model i) (before i) = cpu_met lanes c lists xs lane i (omega arith) in
       let P : CpuBytes → Type 0 = λ s. RestOf lists c width some within (s.named.fills width) (s.batch width) in
-      subst P (sym (fold_next (cpu_bytes_step lists c) cpu_bytes_start es i v.entry v.stands))
+      subst P (sym (fold_next (cpu_bytes_step lists c) cpu_bytes_start es i v.entry v.conforms))
       (rest_next lists c width some within (before i).named v.entry (cpu_value_in_use lists v.entry (before i).value)
       ((before i).batch width)
       (ap (cpu_value_in_use lists v.entry) (value_before lanes c lists xs lane i)
-      ∙ used_at i v.entry v.stands ∙ ap (cpu_used_at lists c) (sym met.at))
-      (fits_before lanes c lists xs lane i v.entry v.stands) now))
+      ∙ used_at i v.entry v.conforms ∙ ap (cpu_used_at lists c) (sym met.at))
+      (fits_before lanes c lists xs lane i v.entry v.conforms) now))
 
   batch_ok : (width i : ℕ) → BatchOk width ((cpu_after lists.base c (take i es)).fills width) ((before i).batch width)
   batch_ok width i =

@@ -1,5 +1,5 @@
--- The visits of the pool and of the CPUs in the book, each with its maker, and the fast pool that a CPU's visit met.
--- For proofs that a transcript's samples are right.
+-- The book has each visit of the pool and of the CPUs, with its maker, and the fast pool before each CPU visit.
+-- Proofs that a transcript's samples are right use these lemmas.
 use Rattle.std.proofs.Common.{◌≡◌, ℕ, ◌+◌, ◌≤◌, ◌<◌, inl, inr, List, [], length, take, sym, ap, ◌∙◌, arith, Some, None, Option}
 use Rattle.std.specs.Prelude.{slice_get}
 use Rattle.key_names.specs.declared.entries.PoolEntry.{PoolEntry}
@@ -20,7 +20,7 @@ module _ (lanes : ℕ) (visits : ℕ → List Visit) (callers : StateLists) wher
   abbrev book : Book
   book = book_of lanes visits callers
 
-  -- a visit of the book is one of the CPU's lane
+  -- the book's visit of CPU `c` at this place is one of the CPU's lane
   pub record OfLane (c place : ℕ) (v : of_book.Visit CpuEntry) : Type 0 where
     pub below : c + 2 < lanes
     pub visited : VisitedAt (cpu_kind c) (visits (c + 2)) place v

@@ -1,5 +1,5 @@
--- In lists that are lawful and closed, the models of the pool and the base before each place have the values of the
--- entries before it. Each of their visits hands on the value of its name.
+-- Suppose that the lists are lawful and closed. Before each place, the models of the pool and the base have the values
+-- that the earlier entries give. The key that a visit hands on has the value that the list gives for the visit's place.
 use Rattle.std.proofs.Common.{◌≡◌, ℕ, ◌≤◌, ◌<◌, List, length, take, refl, sym, ap, ◌∙◌, arith, Some}
 use Rattle.std.specs.Prelude.{slice_get, IsTrue}
 use Rattle.std.proofs.lemmas.Option.{slice_get_within}
@@ -16,13 +16,13 @@ use Rattle.base_gen.proofs.Rows.{HandsRoot, key_in_use-root, after_entry-after_e
 use Rattle.lane_table.specs.declared.view.LaneEntry.TheVariants.{Base}
 use Rattle.lane_table.specs.declared.view.Visit.{Visit}
 use Rattle.lane_table.specs.declared.view.Handed.{Handed}
-use Rattle.lane_table.specs.Meaning.{Model, LawfulLane, model_step, start_model, replay, made_of, gave_of, pool_gives, base_gives, behind_of}
+use Rattle.lane_table.specs.Meaning.{Model, LawfulLane, model_step, start_model, replay, made_of, gave_of, pool_gives, base_gives, after_of}
 use Rattle.lane_table.specs.References.{Pointed}
 use Rattle.lane_table.specs.BookLists.{entries, pool_entry, base_entry}
-use Rattle.lane_table.proofs.Lists.Places.{stands_at, element_at, take_next, fold_next, at_each_place}
+use Rattle.lane_table.proofs.Lists.Places.{conforms_at, element_at, take_next, fold_next, at_each_place}
 use Rattle.lane_table.proofs.Book.BookEntries.{VisitAt, lane_at, entered_at, pool_kind, base_kind}
 
--- the pool's list alone
+-- lemmas about the pool's list alone
 module _ (lanes : ℕ) (xs : List Visit) (lawful : LawfulLane lanes 0 xs) where
   pub pool_at : (i : ℕ) (x : Visit) → slice_get xs i ≡ Some x → VisitAt pool_kind lanes xs i x
   pool_at = lane_at pool_kind lanes xs lawful
@@ -34,7 +34,7 @@ module _ (lanes : ℕ) (xs : List Visit) (lawful : LawfulLane lanes 0 xs) where
       ap (λ (m : Model). m.pool) (fold_next model_step start_model xs i x is)
       ∙ ap (λ e. (made_of (replay (take i xs)) e x.got).pool) v.is
       ∙ ap (λ s. pool_step s v.entry) now
-      ∙ sym (fold_next pool_step pool_start (entries pool_entry xs) i v.entry v.stands))
+      ∙ sym (fold_next pool_step pool_start (entries pool_entry xs) i v.entry v.conforms))
 
   entry_gives : (s : PoolState) (e : PoolEntry) → (pool_gives s e).key ≡ root_given s (Some e)
   entry_gives s (Mix text bits) = refl
@@ -42,7 +42,7 @@ module _ (lanes : ℕ) (xs : List Visit) (lawful : LawfulLane lanes 0 xs) where
   entry_gives s Bits = refl
   entry_gives s (Extract hw place) = refl
 
-  -- a visit of the pool hands on its root
+  -- the key that a visit of the pool hands on is the root that the pool's list gives
   pub pool_gave : (i : ℕ) (x : Visit) → slice_get xs i ≡ Some x → x.gave.key ≡ root_value (entries pool_entry xs) i
   pool_gave i x is =
       let within : i < length xs = slice_get_within xs i x is in
@@ -50,7 +50,7 @@ module _ (lanes : ℕ) (xs : List Visit) (lawful : LawfulLane lanes 0 xs) where
       let s : Model = replay (take i xs) in
       ap (λ (h : Handed). h.key) v.may.gave_is ∙ ap (λ e. (gave_of s e x.got).key) v.is
       ∙ entry_gives s.pool v.entry ∙ ap (λ t. root_given t (Some v.entry)) (pool_before i (omega arith))
-      ∙ ap (root_given (pool_after (take i (entries pool_entry xs)))) (sym v.stands)
+      ∙ ap (root_given (pool_after (take i (entries pool_entry xs)))) (sym v.conforms)
 
 -- an entry that erases a key hands on bytes 32 to 64 of that key's keystream, and a refill also the generation
 erasure_gives : (b : BaseValue) (got : Handed) (e : BaseEntry) → IsTrue (base_erases e) →
@@ -64,15 +64,15 @@ refill_gives : (b : BaseValue) (got : Handed) (e : BaseEntry) (named : ℕ × �
 refill_gives b got (Refill cpu place) named h = refl
 refill_gives b got _ named h = cc
 
--- the base's list and the pool's
-pub record SameHeldLane (lanes : ℕ) (behind xs : List Visit) : Type 0 where
-  pub pool : LawfulLane lanes 0 behind
+-- the lists of the base and the pool are lawful, and the base's references to the pool agree
+pub record SameHeldLane (lanes : ℕ) (following xs : List Visit) : Type 0 where
+  pub pool : LawfulLane lanes 0 following
   pub base : LawfulLane lanes 1 xs
-  pub pointed : Pointed 1 behind xs
+  pub pointed : Pointed 1 following xs
 
-module _ (lanes : ℕ) (behind xs : List Visit) (ok : SameHeldLane lanes behind xs) where
+module _ (lanes : ℕ) (following xs : List Visit) (ok : SameHeldLane lanes following xs) where
   abbrev pool : List PoolEntry
-  pool = entries pool_entry behind
+  pool = entries pool_entry following
 
   abbrev es : List BaseEntry
   es = entries base_entry xs
@@ -84,9 +84,9 @@ module _ (lanes : ℕ) (behind xs : List Visit) (ok : SameHeldLane lanes behind 
   pub root_handed : (i : ℕ) (x : Visit) (e : BaseEntry) → slice_get xs i ≡ Some x → x.entry ≡ Base e →
       HandsRoot pool e x.got.key
   root_handed i x e at is place names =
-      let from = ok.pointed i place x (element_at xs i x at) (ap behind_of is ∙ names) in
+      let from = ok.pointed i place x (element_at xs i x at) (ap after_of is ∙ names) in
       ap (λ (h : Handed). h.key) from.3
-      ∙ pool_gave lanes behind ok.pool place from.0 (stands_at behind place from.0 from.1)
+      ∙ pool_gave lanes following ok.pool place from.0 (conforms_at following place from.0 from.1)
 
   pub base_before : (i : ℕ) → i ≤ length xs → (replay (take i xs)).base ≡ after_entries pool (take i es)
   base_before = at_each_place xs (λ i. (replay (take i xs)).base ≡ after_entries pool (take i es)) refl
@@ -96,7 +96,7 @@ module _ (lanes : ℕ) (behind xs : List Visit) (ok : SameHeldLane lanes behind 
       ∙ ap (λ e. (made_of (replay (take i xs)) e x.got).base) v.is
       ∙ ap (after_entry v.entry x.got.key) now
       ∙ after_entry-after_entries pool (take i es) v.entry x.got.key (root_handed i x v.entry is v.is)
-      ∙ ap (after_entries pool) (sym (take_next es i v.entry v.stands)))
+      ∙ ap (after_entries pool) (sym (take_next es i v.entry v.conforms)))
 
   pub base_entered : (i : ℕ) (x : Visit) (e : BaseEntry) → slice_get xs i ≡ Some x → x.entry ≡ Base e →
       slice_get es i ≡ Some e

@@ -1,5 +1,6 @@
--- All lanes together: each CPU's list in the book, and the keys from lane to lane. Lists that are closed and lawful
--- are lawful as a book, as far as names of visits in parent lanes go.
+-- All lanes together: closed and lawful lists make a book in which the lists of the base and of the CPUs are lawful,
+-- and the roots and refills that they name fit (`ForwardLawful`). The lemmas find each CPU's list in the book, and each
+-- named root and refill.
 use Rattle.std.proofs.Common.{◌≡◌, ℕ, zero, suc, ◌+◌, ◌-◌, ◌≤◌, ◌<◌, inl, inr, cond, List, [], ◌∷◌, map, refl, sym, ap, ◌∙◌, subst, arith, Some, None, Option}
 use Rattle.std.specs.Prelude.{slice_get, option_and_then, IsTrue}
 use Rattle.std.proofs.lemmas.Bool.{ne_eqb}
@@ -18,11 +19,11 @@ use Rattle.key_names.proofs.Transcripts.TranscriptBooks.{lt_or_le, made_at, made
 use Rattle.cpu_gen.proofs.Entries.{handed_at}
 use Rattle.lane_table.specs.declared.view.LaneEntry.TheVariants.{Pool, Base, Cpu}
 use Rattle.lane_table.specs.declared.view.Visit.{Visit}
-use Rattle.lane_table.specs.Meaning.{generator_of, behind_of, ahead_of, cpu_lane, parent, LawfulLane}
+use Rattle.lane_table.specs.Meaning.{generator_of, after_of, ahead_of, cpu_lane, parent, LawfulLane}
 use Rattle.lane_table.specs.References.{Pointed}
 use Rattle.lane_table.specs.BookLists.{StateLists, book_visits, entries, cpu_entry, book_of, book_lists}
 use Rattle.lane_table.specs.BookLaws.{ClosedLanes}
-use Rattle.lane_table.proofs.Lists.Places.{stands_at, element_at}
+use Rattle.lane_table.proofs.Lists.Places.{conforms_at, element_at}
 use Rattle.lane_table.proofs.Book.BookEntries.{VisitAt, pool_kind, base_kind}
 use Rattle.lane_table.proofs.Book.BookValues.{SameHeldLane, pool_at, base_visit_at, base_before, base_gave_key, base_gave_generation}
 use Rattle.lane_table.proofs.Book.BookCpus.{CpuLane}
@@ -32,7 +33,7 @@ use Rattle.lane_table.proofs.Book.BookLawful.{lawful_base, lawful_cpu}
 pub parent_cpu : (c : ℕ) → parent (c + 2) ≡ 1
 parent_cpu c = ap (λ b. cond b 0 1) (ne_eqb (c + 2) 1 (λ e. omega arith))
 
--- if an entry names a place of a lane ahead, its own field has that place
+-- if an entry names a place of a lane ahead, the entry's own field has that place
 extracts : (e : PoolEntry) (lane place : ℕ) → ahead_of (Pool e) ≡ Some (lane, place) → base_place_of e ≡ Some place
 extracts (Extract hw base_place) lane place names =
     let p : ◌≡◌ {A = ℕ × ℕ} (1, base_place) (lane, place) = cc in ap (λ (n : ℕ × ℕ). Some n.1) p
@@ -92,25 +93,25 @@ module _ (lanes : ℕ) (visits : ℕ → List Visit) (callers : StateLists) (ok 
 
   pointed_cpu : (c : ℕ) → c + 2 < lanes → Pointed (c + 2) (visits 1) (visits (c + 2))
   pointed_cpu c below =
-      let P : ℕ → Type 0 = λ behind. Pointed (c + 2) (visits behind) (visits (c + 2)) in
+      let P : ℕ → Type 0 = λ following. Pointed (c + 2) (visits following) (visits (c + 2)) in
       subst P (parent_cpu c) (ok.closed (c + 2) (omega arith) below)
 
-  -- a named root is an extraction that names this place
+  -- the root that an entry names is that of an extraction, which names the entry's place
   rooted : (i place : ℕ) (x : Visit) (e : BaseEntry) → slice_get (visits 1) i ≡ Some x → x.entry ≡ Base e →
       root_of e ≡ Some place → extraction_at book.pool place ≡ Some i
   rooted i place x e at is names =
-      let from = beside.pointed i place x (element_at (visits 1) i x at) (ap behind_of is ∙ names) in
+      let from = beside.pointed i place x (element_at (visits 1) i x at) (ap after_of is ∙ names) in
       let v : VisitAt pool_kind lanes (visits 0) place from.0 =
-      pool_at lanes (visits 0) pool_lawful place from.0 (stands_at (visits 0) place from.0 from.1) in
-      ap (option_and_then base_place_of) v.stands ∙ extracts v.entry 1 i (sym (ap ahead_of v.is) ∙ from.2)
+      pool_at lanes (visits 0) pool_lawful place from.0 (conforms_at (visits 0) place from.0 from.1) in
+      ap (option_and_then base_place_of) v.conforms ∙ extracts v.entry 1 i (sym (ap ahead_of v.is) ∙ from.2)
 
-  -- a named refill is one for this CPU and place
+  -- the refill that an entry names is for the entry's CPU and place
   named_refill : (c i b : ℕ) (x : Visit) (e : CpuEntry) → c + 2 < lanes → slice_get (visits (c + 2)) i ≡ Some x →
       x.entry ≡ Cpu e → base_refill_of e ≡ Some b →
       (refill_at book.base b ≡ Some (c, i)) × (generator_of x.got ≡ handed_at book b)
   named_refill c i b x e below at is names =
-      let from = pointed_cpu c below i b x (element_at (visits (c + 2)) i x at) (ap behind_of is ∙ names) in
-      let there : slice_get (visits 1) b ≡ Some from.0 = stands_at (visits 1) b from.0 from.1 in
+      let from = pointed_cpu c below i b x (element_at (visits (c + 2)) i x at) (ap after_of is ∙ names) in
+      let there : slice_get (visits 1) b ≡ Some from.0 = conforms_at (visits 1) b from.0 from.1 in
       let v : VisitAt base_kind lanes (visits 1) b from.0 =
       base_visit_at lanes (visits 0) (visits 1) beside b from.0 there in
       let refill : refill_of v.entry ≡ Some (c, i) =
@@ -121,7 +122,7 @@ module _ (lanes : ℕ) (visits : ℕ → List Visit) (callers : StateLists) (ok 
       let generation : from.0.gave.generation ≡ generation_at book.base b =
       base_gave_generation lanes (visits 0) (visits 1) beside b from.0 v.entry (c, i)
       there v.is refill in (
-        ap (option_and_then refill_of) v.stands ∙ refill,
+        ap (option_and_then refill_of) v.conforms ∙ refill,
         ap generator_of from.3 ∙ (λ k. record { key = key k; generation = generation k }),
       )
 

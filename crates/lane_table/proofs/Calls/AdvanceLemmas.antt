@@ -1,4 +1,5 @@
--- The steps of a pass in each call of the table, and in successive calls.
+-- The steps that a pass makes in each call of the table. Two successive calls make the steps of the first, then those
+-- of the second.
 use Rattle.std.proofs.Common.{◌≡◌, ◌≢◌, ℕ, suc, ◌+◌, ◌<◌, ◌≤◌, List, [], ◌∷◌, ◌++◌, Option, Some, None, length, sym, refl, ap, ◌∙◌, subst, arith, append_assoc, append-nil, length-append, Bool, true, false, cond, eqb, get_or}
 use mathlib.Core.Logic.{dite}
 use native.Mathlib.Decide.{ℕ_discrete}
@@ -16,9 +17,9 @@ use lib.ListN.{get_elem?}
 use Rattle.lane_table.specs.WorldRule.{at, blank, known_of}
 use Rattle.lane_table.specs.Steps.{Seated, Grows}
 use Rattle.lane_table.specs.Calls.{SameView, SameHistory, Taken, Tried, Added, Left, Looked, Raised}
-use Rattle.lane_table.specs.Advances.{MadeStep, looked, visited, IsMarkOf, maker, AllStand, looks_in, places_in, stamps_in, Climbs, floor, Advances}
+use Rattle.lane_table.specs.Advances.{MadeStep, looked, visited, IsMarkOf, maker, AllConform, looks_in, places_in, stamps_in, Climbs, floor, Advances}
 use Rattle.lane_table.proofs.Rule.Floors.{floor_grown}
-use Rattle.lane_table.proofs.Rule.Sights.{sees_looked, sees_put, sees_append, sees_grown, stand_known}
+use Rattle.lane_table.proofs.Rule.Sights.{sees_looked, sees_put, sees_append, sees_grown, conform_known}
 use Rattle.lane_table.proofs.Calls.HandLemmas.{names_none, names_one}
 
 -- a call with neither a look nor a visit makes no step
@@ -35,7 +36,7 @@ went_idly caller event n v w same grows looks stamps stamp two seen still = reco
   stamps = stamps ∙ sym (append-nil v.stamps);
   climbs = sym stamp;
   sees = floor_grown v w two grows seen;
-  stand = tt;
+  conform = tt;
 }
 
 still_same : (j : ℕ) (v w : View) → at j w ≡ at j v → SameHistory j v w
@@ -87,7 +88,7 @@ module _ (caller event n : ℕ) (m m' : Seated) (two : 1 < length m.0.lanes) whe
         stamps = k.stamps ∙ sym (append-nil m.0.stamps);
         climbs = sym k.stamp;
         sees = sees_looked m m' two g k;
-        stand = tt;
+        conform = tt;
       }
 
 -- a single visit has one place in its own lane, and none in another
@@ -152,7 +153,7 @@ module _ (caller event n : ℕ) (m m' : Seated) (two : 1 < length m.0.lanes) whe
     stamps = k.stamps ∙ ap (λ (z : ℕ). m.0.stamps ++ z ∷ []) stamp;
     climbs = (let a = k.later in omega arith, sym stamp ∙ sym k.stamp);
     sees = sees_put m m' two x mark e near there k;
-    stand = (
+    conform = (
       record {
         near = (let s = k.same.sized in omega arith);
         visit = x;
@@ -178,27 +179,27 @@ mark_grown v w mark who e sized grows k = let more = grows (index_of mark.lane) 
   is = k.is;
 }
 
-stand_grown : (v w : View) (caller event n : ℕ) (made_steps : List MadeStep) → length w.lanes ≡ length v.lanes →
-    Grows v w → AllStand v caller event n made_steps → AllStand w caller event n made_steps
-stand_grown v w caller event n [] sized grows k = tt
-stand_grown v w caller event n (looked g ∷ made_steps) sized grows k =
-    stand_grown v w caller event (suc n) made_steps sized grows k
-stand_grown v w caller event n (visited mark e ∷ made_steps) sized grows k = (
+conform_grown : (v w : View) (caller event n : ℕ) (made_steps : List MadeStep) → length w.lanes ≡ length v.lanes →
+    Grows v w → AllConform v caller event n made_steps → AllConform w caller event n made_steps
+conform_grown v w caller event n [] sized grows k = tt
+conform_grown v w caller event n (looked g ∷ made_steps) sized grows k =
+    conform_grown v w caller event (suc n) made_steps sized grows k
+conform_grown v w caller event n (visited mark e ∷ made_steps) sized grows k = (
   mark_grown v w mark (maker caller event n) e sized grows k.0,
-  stand_grown v w caller event (suc n) made_steps sized grows k.1,
+  conform_grown v w caller event (suc n) made_steps sized grows k.1,
 )
 
-stand_append : (v : View) (caller event n : ℕ) (xs ys : List MadeStep) → AllStand v caller event n xs →
-    AllStand v caller event (n + length xs) ys → AllStand v caller event n (xs ++ ys)
-stand_append v caller event n [] ys h k = subst (λ (z : ℕ). AllStand v caller event z ys)
+conform_append : (v : View) (caller event n : ℕ) (xs ys : List MadeStep) → AllConform v caller event n xs →
+    AllConform v caller event (n + length xs) ys → AllConform v caller event n (xs ++ ys)
+conform_append v caller event n [] ys h k = subst (λ (z : ℕ). AllConform v caller event z ys)
     (let e : n + 0 ≡ n = omega arith in e) k
-stand_append v caller event n (looked g ∷ xs) ys h k =
-    stand_append v caller event (suc n) xs ys h (subst (λ (z : ℕ). AllStand v caller event z ys)
+conform_append v caller event n (looked g ∷ xs) ys h k =
+    conform_append v caller event (suc n) xs ys h (subst (λ (z : ℕ). AllConform v caller event z ys)
     (let e : n + suc (length xs) ≡ suc n + length xs = omega arith in e) k)
-stand_append v caller event n (visited mark e ∷ xs) ys h k = (
+conform_append v caller event n (visited mark e ∷ xs) ys h k = (
   h.0,
-  stand_append v caller event (suc n) xs ys h.1
-      (subst (λ (z : ℕ). AllStand v caller event z ys)
+  conform_append v caller event (suc n) xs ys h.1
+      (subst (λ (z : ℕ). AllConform v caller event z ys)
       (let e : n + suc (length xs) ≡ suc n + length xs = omega arith in e) k),
 )
 
@@ -256,7 +257,7 @@ went_then caller event n k u v w xs ys next a b = record {
   climbs = subst (λ (l : List ℕ). Climbs u.stamp l w.stamp) (sym (stamps_append xs ys))
       (climbs_append u.stamp v.stamp w.stamp (stamps_in xs) (stamps_in ys) a.climbs b.climbs);
   sees = sees_append w (floor u) (floor v) (floor w) xs ys
-      (sees_grown v w (floor u) (floor v) xs b.grows (stand_known v caller event n xs a.stand) a.sees) b.sees;
-  stand = stand_append w caller event n xs ys (stand_grown v w caller event n xs b.same.sized b.grows a.stand)
-      (subst (λ (z : ℕ). AllStand w caller event z ys) next b.stand);
+      (sees_grown v w (floor u) (floor v) xs b.grows (conform_known v caller event n xs a.conform) a.sees) b.sees;
+  conform = conform_append w caller event n xs ys (conform_grown v w caller event n xs b.same.sized b.grows a.conform)
+      (subst (λ (z : ℕ). AllConform w caller event z ys) next b.conform);
 }

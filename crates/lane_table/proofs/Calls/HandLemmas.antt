@@ -9,19 +9,19 @@ use Rattle.lane_table.specs.declared.view.Visit.{Visit}
 use Rattle.lane_table.specs.declared.view.LaneView.{LaneView}
 use Rattle.lane_table.specs.declared.view.View.{View}
 use Rattle.lane_table.specs.declared.view.Content.{Content}
-use Rattle.lane_table.specs.declared.view.Plan.{Plan}
-use Rattle.lane_table.specs.declared.view.Stage.TheVariants.{Holding}
+use Rattle.lane_table.specs.declared.view.TableSize.{TableSize}
+use Rattle.lane_table.specs.declared.view.TicketStage.TheVariants.{Holding}
 use Rattle.lane_table.specs.declared.lanes.Lanes.{Lanes}
 use Rattle.lane_table.specs.declared.lanes.Pass.{Pass}
 use Rattle.lane_table.specs.declared.lanes.Held.{Held}
 use Rattle.lane_table.specs.WorldRule.{at, blank, last_stamp}
 use Rattle.lane_table.specs.Meaning.{ahead_of}
-use Rattle.lane_table.specs.Steps.{Seated, both_of, child, halved, first_view, told}
+use Rattle.lane_table.specs.Steps.{Seated, both_of, child, halved, first_view, recorded}
 use Rattle.lane_table.specs.Calls.{view, slots, count_of, IsPassOf, IsSamePass, IsAway, IsIdle, SameView, Taken, Tried, Added, Left, Looked, Raised}
 use Rattle.lane_table.specs.Hands.{HeldLane, hand, IsInHand, NotIn, AllInHand, HoldsLanes}
 use Rattle.lane_table.proofs.Rule.Shares.{merged_at}
 
--- an unchanged held lane stays in the hands
+-- the pass still holds a lane whose part of the view is unchanged
 held_same : (v w : View) (h : HeldLane) → at h.lane w ≡ at h.lane v → SameView v w → IsInHand v h → IsInHand w h
 held_same v w h e same k = record {
   near = (let n = k.near in let s = same.sized in omega arith);
@@ -33,7 +33,7 @@ held_same v w h e same k = record {
   last = k.last ∙ (λ q. last_stamp (sym same.first q) (sym e q).known);
 }
 
--- all hands stay if the other held lanes are unchanged
+-- the pass still holds all its lanes if the other held lanes are unchanged
 all_same : (lane : ℕ) (v w : View) (hands : List HeldLane) →
     ((j u : ℕ) → j < length v.lanes → j ≢ lane → (at j v).stage ≡ Holding u → at j w ≡ at j v)
     → SameView v w → NotIn lane hands → AllInHand v hands → AllInHand w hands
@@ -44,7 +44,7 @@ all_same lane v w (h ∷ hands) keeps same not all = (
   all_same lane v w hands keeps same not.1 all.2,
 )
 
--- all hands stay if at most two other lanes changed
+-- the pass still holds all its lanes if at most two other lanes changed
 all_but : (one two : ℕ) (v w : View) (hands : List HeldLane) → ((j : ℕ) → j ≢ one → j ≢ two → at j w ≡ at j v) →
     SameView v w → NotIn one hands → NotIn two hands → AllInHand v hands → AllInHand w hands
 all_but one two v w [] keeps same not₁ not₂ all = tt
@@ -84,8 +84,8 @@ has_taken t caller hands lane h p p' near not k is taken =
           stage = taken.holding;
           owed = taken.free.0;
           raise = taken.free.1;
-          next = taken.stands.place;
-          last = taken.stands.stamp;
+          next = taken.conforms.place;
+          last = taken.conforms.stamp;
         },
         not,
         all_same lane (view p) (view p') hands taken.keeps taken.same not k.held,
@@ -123,7 +123,7 @@ has_looked t caller hands g p p' k is looked = let same : (j : ℕ) → at j (vi
       every same xs all.2,
     )
 
--- a visit of the lane taken last, with an entry that names no place ahead, leaves the pass its other lanes
+-- if the entry names no place ahead, then after a visit of the lane taken last the pass still holds its other lanes
 pub has_put : (t : Lanes) (caller : ℕ) (h : HeldLane) (hands : List HeldLane) (x : Visit) (p p' : Pass) →
     ahead_of x.entry ≡ None → HoldsLanes t caller (h ∷ hands) p → IsSamePass t p p' →
     Added h.lane x p.seat.me p'.seat.me → HoldsLanes t caller hands p'
@@ -138,7 +138,7 @@ has_put t caller h hands x p p' none k is added = let others : (j : ℕ) → j �
           ∙ k.away j low (ne, no));
     }
 
--- a visit with an entry that names the place of the lane taken before leaves the pass its other lanes
+-- if the entry names the place of the lane taken before, then after the visit the pass still holds its other lanes
 pub has_put_naming : (t : Lanes) (caller : ℕ) (h o : HeldLane) (hands : List HeldLane) (x : Visit) (b : ℕ)
     (p p' : Pass) → ahead_of x.entry ≡ Some (o.lane, b) → HoldsLanes t caller (h ∷ o ∷ hands) p → IsSamePass t p p' →
     Added h.lane x p.seat.me p'.seat.me
@@ -211,7 +211,7 @@ has_left t caller h hands p p' k is left = record {
 -- Passes that begin, are split and are joined
 
 -- a new table's pass holds no lane
-pub has_new : (t : Lanes) (caller : ℕ) (plan : Plan) (p : Pass) → IsPassOf t p → p.caller ≡ caller →
+pub has_new : (t : Lanes) (caller : ℕ) (plan : TableSize) (p : Pass) → IsPassOf t p → p.caller ≡ caller →
     p.seat.me ≡ (first_view plan, []) → HoldsLanes t caller [] p
 has_new t caller plan p is own e = let long : length (view p).lanes ≡ plan.count =
     ap (λ (m : Seated). length m.0.lanes) e ∙ length-replicate plan.count blank in record {
@@ -223,7 +223,7 @@ has_new t caller plan p is own e = let long : length (view p).lanes ≡ plan.cou
           ∙ ap (λ (a : LaneView). a.stage) (get_or-replicate plan.count j blank blank (let s = is.sized in omega arith));
     }
 
--- a pass without held lanes holds none after another was split off from it
+-- a pass that holds no lane still holds none after another pass was split off from it
 pub has_halved : (t : Lanes) (caller : ℕ) (p p' : Pass) → HoldsLanes t caller [] p → IsSamePass t p p' →
     p'.seat.me ≡ (halved (view p), slots p) → HoldsLanes t caller [] p'
 has_halved t caller p p' k is e = record {
@@ -243,10 +243,10 @@ has_child t caller v p is own e = record {
   out = ap (λ (m : Seated). m.1) e;
   held = tt;
   away = λ j low _. ap (λ (m : Seated). (at j m.0).stage) e
-      ∙ ap (λ (a : LaneView). a.stage) (get_or-map told v.lanes j blank);
+      ∙ ap (λ (a : LaneView). a.stage) (get_or-map recorded v.lanes j blank);
 }
 
--- a pass without held lanes holds none after it took in another
+-- a pass that holds no lane still holds none after it took in another pass
 pub has_joined : (t : Lanes) (caller : ℕ) (w : View) (p p' : Pass) → length (view p).lanes ≡ length w.lanes →
     HoldsLanes t caller [] p → IsSamePass t p p' → p'.seat.me ≡ (both_of (view p) w, slots p) →
     HoldsLanes t caller [] p'
@@ -259,7 +259,7 @@ has_joined t caller w p p' long k is e = record {
       ∙ ap (λ (a : LaneView). a.stage) (merged_at (view p).lanes w.lanes j long) ∙ k.away j low no;
 }
 
--- a view has an empty part for each lane beyond the last
+-- beyond the last lane, a view's part of a lane is blank
 beyond : (l : List LaneView) (j : ℕ) → length l ≤ j → get_or l j blank ≡ blank
 beyond [] j h = refl
 beyond (x ∷ xs) zero h = absurd (omega arith)

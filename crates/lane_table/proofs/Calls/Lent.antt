@@ -1,4 +1,5 @@
--- After a loan: an equal value represents the same model, and a value represents an equal model.
+-- After a loan of a lane's value: equal values represent the same model, and a value represents each of two equal
+-- models.
 use Rattle.std.proofs.Common.{◌≡◌, ℕ, sym}
 use Rattle.lane_table.specs.declared.values.LaneState.{LaneState}
 use Rattle.lane_table.specs.Meaning.{Model, ValueRepresents}

@@ -1,4 +1,4 @@
--- The effects of the calls follow from the effects of their steps.
+-- The effect of each call of the table, as `Calls` defines it, follows from the effects of the call's atomic steps.
 use Rattle.std.proofs.Common.{◌≡◌, ◌≢◌, ℕ, ◌+◌, ◌^◌, ◌<◌, ◌≤◌, zero, suc, List, [], ◌∷◌, ◌++◌, length-append, Option, Some, None, length, get_or, set, sym, refl, ap, ◌∙◌, subst, ⊎_elim, inr, arith}
 use Rattle.std.proofs.lemmas.List.{get_or-set_other, get_or-set_same, length-set}
 use mathlib.Core.Logic.{dite}
@@ -8,7 +8,7 @@ use Rattle.lane_table.specs.declared.view.Visit.{Visit}
 use Rattle.lane_table.specs.declared.view.LaneView.{LaneView}
 use Rattle.lane_table.specs.declared.view.View.{View}
 use Rattle.lane_table.specs.declared.view.Content.{Content}
-use Rattle.lane_table.specs.declared.view.Stage.TheVariants.{Away, Holding}
+use Rattle.lane_table.specs.declared.view.TicketStage.TheVariants.{Away, Holding}
 use Rattle.lane_table.specs.declared.lanes.Held.{Held}
 use Rattle.lane_table.specs.declared.lanes.Lanes.{Lanes}
 use Rattle.lane_table.specs.declared.lanes.Pass.{Pass}
@@ -32,7 +32,7 @@ same_value i c d xs ys e = let X : Type 0 = ℕ × Option Content in let p : X =
 
 -- a ticket was drawn, its turn came, and the value was taken out of its slot
 module _ {i t : ℕ} {m m₁ m₂ m₃ : Seated} {c : Content} (near : i < length m.0.lanes) (r : Restages i m m₁)
-    (got : Got i t m₁ m₂) (has : m₂.1 ≡ (i, Some c) ∷ rest m₂.1) (lifted : m₃ ≡ (m₂.0, (i, None) ∷ rest m₂.1)) where
+    (got : Got i t m₁ m₂) (has : m₂.1 ≡ (i, Some c) ∷ rest m₂.1) (taken_out : m₃ ≡ (m₂.0, (i, None) ∷ rest m₂.1)) where
   content_is : got.content ≡ c
   content_is = same_value i got.content c m₁.1 (rest m₂.1) (sym (ap (λ (z : Seated). z.1) got.is) ∙ has)
 
@@ -45,7 +45,7 @@ module _ {i t : ℕ} {m m₁ m₂ m₃ : Seated} {c : Content} (near : i < lengt
       got_replays.stamp in omega arith
 
   got_view : m₃.0 ≡ with_at i (holder got.log t (at i m₁.0)) (learned got.lists m₁.0)
-  got_view = ap (λ (z : Seated). z.0) lifted ∙ ap (λ (z : Seated). z.0) got.is
+  got_view = ap (λ (z : Seated). z.0) taken_out ∙ ap (λ (z : Seated). z.0) got.is
 
   got_here : at i m₃.0 ≡ holder got.log t (at i m₁.0)
   got_here = ap (at i) got_view ∙ get_or-set_same (learn_from got.lists 0 m₁.0.lanes) i (holder got.log t (at i m₁.0))
@@ -68,7 +68,7 @@ module _ {i t : ℕ} {m m₁ m₂ m₃ : Seated} {c : Content} (near : i < lengt
   got_first : m₃.0.first ≡ m₁.0.first
   got_first = ap (λ (v : View). v.first) got_view
 
-  -- the last known stamp is the value's
+  -- the last stamp of the list that the pass knows is the value's last stamp
   pub got_stamp : c.stamp ≡ last_stamp m₃.0.first (known_of m₃.0 i)
   got_stamp = got_replays.stamp ∙ (λ q. last_stamp (sym got_first q) (sym got_known q))
 
@@ -82,10 +82,10 @@ module _ {i t : ℕ} {m m₁ m₂ m₃ : Seated} {c : Content} (near : i < lengt
 
   got_grows : Grows m.0 m₃.0
   got_grows j low = subst (λ (z : List Visit × List Visit). Begins z.0 z.1)
-      (λ q. (to_known r near j q, known_of (sym lifted q).0 j)) (got.grows j (let f = to_long r near in omega arith))
+      (λ q. (to_known r near j q, known_of (sym taken_out q).0 j)) (got.grows j (let f = to_long r near in omega arith))
 
   got_keeps : KeepsHeld i m.0 m₃.0
-  got_keeps j u low ne hold = ap (λ (z : Seated). at j z.0) lifted
+  got_keeps j u low ne hold = ap (λ (z : Seated). at j z.0) taken_out
       ∙ got.keeps j u (let f = to_long r near in omega arith) ne
       (ap (λ (a : LaneView). a.stage) (to_there r near j ne) ∙ hold) ∙ to_there r near j ne
 
@@ -93,7 +93,7 @@ module _ {i t : ℕ} {m m₁ m₂ m₃ : Seated} {c : Content} (near : i < lengt
   got_seen = ap (λ (v : View). v.seen) got_view ∙ r.seen
 
   got_consistent : Consistent m₃.0
-  got_consistent = subst Consistent (ap (λ (z : Seated). z.0) (sym lifted)) got.consistent
+  got_consistent = subst Consistent (ap (λ (z : Seated). z.0) (sym taken_out)) got.consistent
 
   pub got_drawn : m₁.0.drawn ≡ m.0.drawn + 1 → m₃.0.drawn ≡ m.0.drawn + 1
   got_drawn e = ap (λ (v : View). v.drawn) got_view ∙ e
@@ -104,7 +104,7 @@ module _ {i t : ℕ} {m m₁ m₂ m₃ : Seated} {c : Content} (near : i < lengt
     of_lane = turn.0;
     consistent = got_consistent;
     same = got_same;
-    stands = record {
+    conforms = record {
       value = subst (λ (z : LaneState × List Visit). ValueRepresents i z.0 (replay z.1))
           (λ q. (sym state q, sym got_known q)) got_replays.value;
       place = list.0 ∙ got_replays.place ∙ ap length (sym got_known);
@@ -139,7 +139,7 @@ module _ {i t : ℕ} {m m₁ m₂ m₃ : Seated} {c : Content} (near : i < lengt
     early = λ one. (let e = base_generation (known_of m₃.0 1) in
         let f = ap raises (ap (known_of m₃.0) (sym one) ∙ got_known) in let few = raises_few got.log in let a =
         got_early in let b = got_replays.place in omega arith);
-    slots = ap (λ (z : Seated). z.1) lifted ∙ ap (λ (l : List (ℕ × Option Content)). (i, None) ∷ rest l)
+    slots = ap (λ (z : Seated). z.1) taken_out ∙ ap (λ (l : List (ℕ × Option Content)). (i, None) ∷ rest l)
         (ap (λ (z : Seated). z.1) got.is) ∙ ap (λ (l : List (ℕ × Option Content)). (i, None) ∷ l) r.slots;
     looks = ap (λ (v : View). v.looks) got_view ∙ r.looks;
     seen = got_seen;
@@ -197,7 +197,7 @@ module _ {i t : ℕ} {m m₁ m₂ m₃ : Seated} {c : Content} (near : i < lengt
               };
             });
         grows = λ j low. subst (Begins (known_of m.0 j)) (sym (known j)) (got_grows j low);
-        slots = ap (λ (z : Seated). z.1) e ∙ ap (λ (z : Seated). rest z.1) lifted
+        slots = ap (λ (z : Seated). z.1) e ∙ ap (λ (z : Seated). rest z.1) taken_out
             ∙ ap (λ (z : Seated). rest z.1) got.is ∙ r.slots;
         looks = ap (λ (v : View). v.looks) (v₄ ∙ refl) ∙ ap (λ (v : View). v.looks) got_view ∙ r.looks;
         seen = ap (λ (v : View). v.seen) v₄ ∙ got_seen;
@@ -341,7 +341,7 @@ after_pass i x lanes p q h e table stamp caller = let u =
       caller = caller;
     }
 
--- the value put back represents the list with the visit
+-- the value that was put back represents the list with the new visit
 pub replays_push : (i first : ℕ) (xs : List Visit) (x : Visit) (c : Content) →
     ValueRepresents i c.state (model_step (replay xs) x) → c.place ≡ length xs + 1 → c.stamp ≡ x.stamp →
     Replays i first (xs ++ x ∷ []) c

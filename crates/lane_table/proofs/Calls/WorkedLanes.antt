@@ -12,7 +12,7 @@ use Rattle.lane_table.specs.declared.view.LaneEntry.{LaneEntry}
 use Rattle.lane_table.specs.declared.view.LaneEntry.TheVariants.{Pool, Base, Cpu}
 use Rattle.lane_table.specs.declared.view.Handed.{Handed}
 use Rattle.lane_table.specs.declared.view.Visit.{Visit}
-use Rattle.lane_table.specs.Meaning.{Model, LawfulLane, start_model, model_step, gave_of, nothing, no_one, behind_of, ahead_of, parent}
+use Rattle.lane_table.specs.Meaning.{Model, LawfulLane, start_model, model_step, gave_of, nothing, no_one, after_of, ahead_of, parent}
 use Rattle.lane_table.specs.References.{Pointed, Answered}
 use Rattle.lane_table.specs.BookLists.{book_lists}
 use Rattle.lane_table.specs.BookLaws.{ClosedLanes}
@@ -65,10 +65,10 @@ cpu_lawful = (
   tt,
 )
 
--- the place that an entry at the first or the second place names
-names_place : (x y : Visit) (p q : ℕ) → x ≡ y → behind_of x.entry ≡ Some p → behind_of y.entry ≡ Some q → p ≡ q
+-- equal visits name the same place of the parent lane
+names_place : (x y : Visit) (p q : ℕ) → x ≡ y → after_of x.entry ≡ Some p → after_of y.entry ≡ Some q → p ≡ q
 names_place x y p q same named names =
-    let e : ◌≡◌ {A = Option ℕ} (Some p) (Some q) = sym named ∙ ap (λ (v : Visit). behind_of v.entry) same ∙ names in cc
+    let e : ◌≡◌ {A = Option ℕ} (Some p) (Some q) = sym named ∙ ap (λ (v : Visit). after_of v.entry) same ∙ names in cc
 
 names_lane : (x y : Visit) (lane p q : ℕ) → x ≡ y → ahead_of x.entry ≡ Some (lane, p) →
     ahead_of y.entry ≡ Some (lane, q) → p ≡ q
@@ -87,7 +87,7 @@ pointed_base zero p x at names =
     )
 pointed_base (suc zero) p x at names =
     let same : refill ≡ x = some-injective refill x at in
-    let e : ◌≡◌ {A = Option ℕ} None (Some p) = ap (λ (v : Visit). behind_of v.entry) same ∙ names in cc
+    let e : ◌≡◌ {A = Option ℕ} None (Some p) = ap (λ (v : Visit). after_of v.entry) same ∙ names in cc
 pointed_base (suc (suc b)) p x at names = absurd (some-ne-none x (sym at))
 
 pointed_cpu : Pointed 2 (worked 1) (worked 2)
@@ -115,7 +115,7 @@ answered_cpu (suc zero) b x at names =
     (read, ap (get_elem? (worked 2)) (sym (names_lane refill x 2 0 b same refl names)), refl)
 answered_cpu (suc (suc p)) b x at names = absurd (some-ne-none x (sym at))
 
--- a property of each of the three lanes holds for every lane
+-- a property that each of the three lanes has holds for every lane number below 3
 three : (P : ℕ → Type 0) → P 0 → P 1 → P 2 → (lane : ℕ) → lane < 3 → P lane
 three P pool base cpu zero below = pool
 three P pool base cpu (suc zero) below = base

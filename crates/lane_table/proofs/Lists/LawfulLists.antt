@@ -1,4 +1,4 @@
--- One more visit, in the model and the law of a lane, and the generation in lawful lists.
+-- The replay and the lawfulness of a list with one more visit, and the generation in lawful lists.
 use Rattle.std.proofs.Common.{◌≡◌, ℕ, zero, suc, ◌+◌, ◌<◌, ◌≤◌, true, false, List, [], ◌∷◌, ◌++◌, length, refl, sym, ap, subst, arith, Option, Some, None, le_refl}
 use Rattle.std.specs.List.{fold}
 use Rattle.std.proofs.lemmas.List.Sums.{sum_by-cons, fold-append}
@@ -20,7 +20,7 @@ use Rattle.lane_table.specs.declared.view.Visit.{Visit}
 use Rattle.lane_table.specs.declared.view.Handed.{Handed}
 use Rattle.lane_table.specs.declared.view.LaneEntry.{LaneEntry}
 use Rattle.lane_table.specs.declared.view.LaneEntry.TheVariants.{Pool, Base, Cpu}
-use Rattle.lane_table.specs.Meaning.{Model, start_model, model_step, replay, MayCome, LawfulLane, behind_of, least_after, raise_of, once, generator_of, pool_gives, base_gives, cpu_gives, gave_of, made_of}
+use Rattle.lane_table.specs.Meaning.{Model, start_model, model_step, replay, MayCome, LawfulLane, after_of, least_after, raise_of, once, generator_of, pool_gives, base_gives, cpu_gives, gave_of, made_of}
 use Rattle.lane_table.specs.References.{Pointed}
 use Rattle.lane_table.specs.WorldRule.{Begins, raises}
 use Rattle.lane_table.proofs.Lists.Lists.{at_below}
@@ -51,16 +51,16 @@ least_step None m n h k = h
 least_step (Some p) m n h k = let l = k p refl in omega arith
 
 least_fold : (xs : List Visit) (s : Model) (n : ℕ) → s.least ≤ n →
-    ((b p : ℕ) (x : Visit) → get_elem? xs b ≡ some x → behind_of x.entry ≡ Some p → p < n) →
+    ((b p : ℕ) (x : Visit) → get_elem? xs b ≡ some x → after_of x.entry ≡ Some p → p < n) →
     (fold model_step s xs).least ≤ n
 least_fold [] s n h k = h
 least_fold (x ∷ xs) s n h k = least_fold xs (model_step s x) n
-    (least_step (behind_of x.entry) s.least n h (λ p e. k 0 p x refl e)) (λ b p y e q. k (suc b) p y e q)
+    (least_step (after_of x.entry) s.least n h (λ p e. k 0 p x refl e)) (λ b p y e q. k (suc b) p y e q)
 
 -- no entry has named the next place of the parent lane yet
-pub least_below : (l : ℕ) (behind here : List Visit) → Pointed l behind here → (replay here).least ≤ length behind
-least_below l behind here h = least_fold here start_model (length behind) (omega arith)
-    (λ b p x e q. let t = h b p x e q in at_below behind p t.0 t.1)
+pub least_below : (l : ℕ) (following here : List Visit) → Pointed l following here → (replay here).least ≤ length following
+least_below l following here h = least_fold here start_model (length following) (omega arith)
+    (λ b p x e q. let t = h b p x e q in at_below following p t.0 t.1)
 
 -- The generation
 
@@ -142,13 +142,13 @@ entered_below Prepare got c g h k = omega arith
 entered_below Online got c g h k = h
 
 cpu_step_below : (s : Model) (e : LaneEntry) (got : Handed) (g : ℕ) → s.cpu.cpu.generation ≤ g →
-    ((p : ℕ) → behind_of e ≡ Some p → got.generation ≤ g) → (made_of s e got).cpu.cpu.generation ≤ g
+    ((p : ℕ) → after_of e ≡ Some p → got.generation ≤ g) → (made_of s e got).cpu.cpu.generation ≤ g
 cpu_step_below s (Pool e) got g h k = h
 cpu_step_below s (Base e) got g h k = h
 cpu_step_below s (Cpu e) got g h k = entered_below e got s.cpu.cpu g h k
 
 cpu_fold_below : (g : ℕ) (xs : List Visit) (s : Model) → s.cpu.cpu.generation ≤ g →
-    ((b p : ℕ) (x : Visit) → get_elem? xs b ≡ some x → behind_of x.entry ≡ Some p → x.got.generation ≤ g) →
+    ((b p : ℕ) (x : Visit) → get_elem? xs b ≡ some x → after_of x.entry ≡ Some p → x.got.generation ≤ g) →
     (fold model_step s xs).cpu.cpu.generation ≤ g
 cpu_fold_below g [] s low k = low
 cpu_fold_below g (x ∷ xs) s low k = cpu_fold_below g xs (model_step s x)

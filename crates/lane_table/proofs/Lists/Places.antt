@@ -8,10 +8,10 @@ use lib.ListN.{get_elem?}
 use Rattle.key_names.specs.Lanes.LawfulList.{LawfulFrom}
 
 -- `get_elem?` and `slice_get` give the same element at a place
-pub stands_at : {A : Type 0} (xs : List A) (i : ℕ) (x : A) → get_elem? xs i ≡ some x → slice_get xs i ≡ Some x
-stands_at [] i x is = absurd (some-ne-none x (sym is))
-stands_at (y ∷ ys) zero x is = ap Some (some-injective y x is)
-stands_at (y ∷ ys) (suc i) x is = stands_at ys i x is
+pub conforms_at : {A : Type 0} (xs : List A) (i : ℕ) (x : A) → get_elem? xs i ≡ some x → slice_get xs i ≡ Some x
+conforms_at [] i x is = absurd (some-ne-none x (sym is))
+conforms_at (y ∷ ys) zero x is = ap Some (some-injective y x is)
+conforms_at (y ∷ ys) (suc i) x is = conforms_at ys i x is
 
 pub element_at : {A : Type 0} (xs : List A) (i : ℕ) (x : A) → slice_get xs i ≡ Some x → get_elem? xs i ≡ some x
 element_at [] i x is = cc
@@ -42,7 +42,7 @@ at_each_place xs P start next zero within = start
 at_each_place xs P start next (suc i) within =
     let x = some_at xs i (omega arith) in next i x.0 x.1 (at_each_place xs P start next i (omega arith))
 
--- a state that counts places has the count i before place i
+-- a state that counts places has the count `i` before place `i`
 pub counted : {S E : Type 0} (place : S → ℕ) (step : S → E → S) → ((s : S) (e : E) → place (step s e) ≡ suc (place s)) →
     (s : S) (es : List E) → place s ≡ 0 → (i : ℕ) → i ≤ length es → place (fold step s (take i es)) ≡ i
 counted place step next s es none = at_each_place es (λ i. place (fold step s (take i es)) ≡ i) none
@@ -55,7 +55,7 @@ lawful_by_places May step s [] may = tt
 lawful_by_places May step s (e ∷ es) may =
     (may 0 e refl, lawful_by_places May step (step s e) es (λ i. may (suc i)))
 
--- a list with a value of h for each element
+-- a list in which `h` gives a value for each element
 module _ {A B : Type 0} (h : A → Option B) where
   abbrev pub GivesEach : List A → Type 0
   GivesEach xs = (i : ℕ) (x : A) → slice_get xs i ≡ Some x → (b : B) × (h x ≡ Some b)

@@ -26,7 +26,7 @@ begins_length xs ys a = let e = ap length a.1 in omega (arith, length-append xs 
 pub begins_nil : (ys : List Visit) → Begins [] ys
 begins_nil ys = (ys, refl)
 
--- if a list and some others all begin the log, the list does, and so do the others
+-- if all lists of `with_list` are prefixes of the log, the added list is one, and each of the others is one
 pub with_both : (xs : List Visit) (lists : List (List Visit)) (log : List Visit) → AllBegin (with_list xs lists) log →
     Begins xs log × AllBegin lists log
 with_both [] lists log all = (begins_nil log, all)
@@ -35,7 +35,7 @@ with_both (x ∷ xs) lists log all = all
 pub begins_push : (xs : List Visit) (x : Visit) → Begins xs (xs ++ x ∷ [])
 begins_push xs x = (x ∷ [], refl)
 
--- a prefix of the same length is the whole
+-- a prefix that is as long as its list is the whole list
 pub begins_whole : (xs ys : List Visit) → Begins xs ys → length ys ≤ length xs → xs ≡ ys
 begins_whole xs ys (([], e)) h = sym (e ∙ append-nil xs)
 begins_whole xs ys ((z ∷ zs, e)) h = let n = ap length e in absurd (omega (arith, length-append xs (z ∷ zs)))
@@ -61,7 +61,7 @@ pub at_begun_back : (xs ys : List Visit) (p : ℕ) (y : Visit) → Begins xs ys 
     get_elem? xs p ≡ some y
 at_begun_back xs ys p y h lt e = sym (at_front xs h.0 p lt) ∙ ap (λ (l : List Visit). get_elem? l p) (sym h.1) ∙ e
 
--- the longer of two prefixes of one list
+-- an element at a place of one of two prefixes of `log` is at that place of the longer one too
 module _ (xs ys log : List Visit) (h : Begins xs log) (k : Begins ys log) where
   abbrev lt : Bool
   lt = ltb (length xs) (length ys)
@@ -90,7 +90,7 @@ front_of (x ∷ xs) [] as' bs e le = absurd (omega arith)
 front_of (x ∷ xs) (y ∷ ys) as' bs e le = let t : xs ++ as' ≡ ys ++ bs = cc e in let h : x ≡ y = cc e in let f =
     front_of xs ys as' bs t (omega arith) in (f.0, λ k. sym h k ∷ f.1 k)
 
--- the shorter of two prefixes of one list begins the longer
+-- the shorter of two prefixes of one list is a prefix of the longer one
 pub nested : (xs ys log : List Visit) → Begins xs log → Begins ys log → length xs ≤ length ys → Begins xs ys
 nested xs ys log h k le = front_of xs ys h.0 k.0 (sym h.1 ∙ k.1) le
 
@@ -134,7 +134,7 @@ placed_push ps xs x p = let s = sum_by_push (λ (y : ℕ). cond (eqb y p) 1 0) p
 pub none_below : (p : ℕ) → once_below p 0 ≡ 0
 none_below p = grind (arith, nat_tests)
 
--- the heard lists
+-- heard lists are still prefixes of a list after the list grew
 
 pub all_trans : (lists : List (List Visit)) (xs ys : List Visit) → AllBegin lists xs → Begins xs ys → AllBegin lists ys
 all_trans [] xs ys h k = tt

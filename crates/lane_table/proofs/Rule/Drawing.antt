@@ -1,4 +1,4 @@
--- The steps that draw a ticket or read a lane's words keep the rule, and have their effects.
+-- The steps that draw a ticket, or read a lane's words, keep the rule and change the view as `Steps` defines.
 use Rattle.std.proofs.Common.{◌≡◌, ℕ, ◌+◌, ◌<◌, ◌≤◌, eqb, length, get_or, set, sym, refl, ap, ◌∙◌, subst, inl, inr, arith, le_refl}
 use Rattle.std.proofs.lemmas.List.{get_or-set_other, get_or-set_same}
 use mathlib.Core.Option.{none}
@@ -8,7 +8,7 @@ use Rattle.atomic_table.specs.Table.{step, keeps, Allows}
 use Rattle.atomic_table.proofs.Lists.{exchanged}
 use Rattle.lane_table.specs.declared.view.LaneView.{LaneView}
 use Rattle.lane_table.specs.declared.view.View.{View}
-use Rattle.lane_table.specs.declared.view.Stage.TheVariants.{Away, Holding}
+use Rattle.lane_table.specs.declared.view.TicketStage.TheVariants.{Away, Holding}
 use Rattle.lane_table.specs.WorldRule.{LaneOk, St, WorldRule, at, column, ticket_word, serving_word}
 use Rattle.lane_table.specs.Steps.{Seated, OwesNothing, with_at, with_drawn, finding, found, loading, loaded, waiting, queued, queued_found, draws as Draws, tries as Tries, finds as Finds, loads as Loads}
 use Rattle.lane_table.specs.Calls.{IsAway}

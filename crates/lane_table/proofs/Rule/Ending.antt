@@ -1,4 +1,4 @@
--- A pass that has the whole share and is idle knows all lists and made all visits. In a new table it has drawn no
+-- An idle pass that has the whole share knows all lists, and made all visits. The pass of a new table has drawn no
 -- ticket.
 use Rattle.std.proofs.Common.{◌≡◌, ℕ, zero, suc, ◌+◌, ◌*◌, ◌-◌, ◌^◌, ◌<◌, ◌≤◌, ◌≢◌, List, [], length, get_or, replicate, refl, sym, ap, ◌∙◌, subst, ⊎_elim, arith, Option, Some}
 use Rattle.std.proofs.Math.Nat.{mul-pos}
@@ -13,9 +13,9 @@ use Rattle.lane_table.specs.declared.view.Visit.{Visit}
 use Rattle.lane_table.specs.declared.view.LaneView.{LaneView}
 use Rattle.lane_table.specs.declared.view.View.{View}
 use Rattle.lane_table.specs.declared.view.Content.{Content}
-use Rattle.lane_table.specs.declared.view.Plan.{Plan}
-use Rattle.lane_table.specs.declared.view.Stage.TheVariants.{Away, Holding}
-use Rattle.lane_table.specs.Meaning.{behind_of, parent}
+use Rattle.lane_table.specs.declared.view.TableSize.{TableSize}
+use Rattle.lane_table.specs.declared.view.TicketStage.TheVariants.{Away, Holding}
+use Rattle.lane_table.specs.Meaning.{after_of, parent}
 use Rattle.lane_table.specs.References.{Answered}
 use Rattle.lane_table.specs.WorldRule.{AllBegin, Owes, Replays, Rising, St, WorldRule, at, blank, column, has_ticket, known_of, times, once_below, serving_word, ticket_word, weight}
 use Rattle.lane_table.specs.Steps.{first_view}
@@ -29,7 +29,7 @@ use Rattle.lane_table.proofs.Rule.World as world
 
 module _ {first : ℕ} {s : St} {id : ℕ} {v : View} (h : Here first s id v) (share : v.share ≡ 2 ^ v.halvings)
     (idle : IsIdle v) where
-  -- every other view is spent
+  -- every other view is blank at each lane
   others : (i j : ℕ) (u : View) → j ≢ id → get_elem? s.views j ≡ some u → at i u ≡ blank
   others i j u ne e = let top : ℕ = h.rule.top in let below = (h.rule.views id v h.is).below in
       let mine : weight top v ≡ 2 ^ top = (let e : v.halvings + (top - v.halvings) ≡ top = omega arith in
@@ -56,7 +56,7 @@ module _ {first : ℕ} {s : St} {id : ℕ} {v : View} (h : Here first s id v) (s
         (λ j u ne e. ap (λ (a : LaneView). a.made) (others i j u ne e)))
         ∙ sym (sum_by-map (λ (a : LaneView). a.made) (at i) s.views) ∙ (h.rule.lane i near).made
 
-    -- the pass drew all tickets, and none is out
+    -- the pass drew all tickets, and none is in use
     pub numbers : (get_or s.words (ticket_word i) 0 ≡ first + (at i v).tickets)
         × (get_or s.words (serving_word i) 0 ≡ first + (at i v).tickets)
     numbers = let ok = h.rule.lane i near in
@@ -69,7 +69,7 @@ module _ {first : ℕ} {s : St} {id : ℕ} {v : View} (h : Here first s id v) (s
         ∙ all_zero (λ (u : View). has_ticket (at i u).stage) s.views (λ j u e. ap has_ticket (all_away i j u e)) in
         let d = ok.drawn in let c = ok.counted in (omega arith, omega arith)
 
-    -- the value is at home
+    -- the value of lane `i` is in its slot
     ends : (c : Content) × (get_elem? s.homes i ≡ some (some (Some c))) × (c.place ≡ (at i v).made)
     ends = ⊎_elim (λ (x : (c : Content) × (get_elem? s.homes i ≡ some (some (Some c)))
         × Replays i first (h.rule.logs i) c). (x.0, x.1, x.2.place ∙ sym made_all))
@@ -100,7 +100,7 @@ module _ {first : ℕ} {s : St} {id : ℕ} {v : View} (h : Here first s id v) (s
   answered : (l : ℕ) → 1 ≤ l → l < length s.homes → Answered l (known_of v (parent l)) (known_of v l)
   answered l lo hi p b x e n = let low = parent_within l (length s.homes) h.rule.two in let k =
       knows_all (parent l) low in let k' = knows_all l hi in
-      ⊎_elim (λ (t : (y : Visit) × (get_elem? (h.rule.logs l) b ≡ some y) × (behind_of y.entry ≡ Some p)).
+      ⊎_elim (λ (t : (y : Visit) × (get_elem? (h.rule.logs l) b ≡ some y) × (after_of y.entry ≡ Some p)).
       (t.0, ap (λ (z : List Visit). get_elem? z b) k' ∙ t.1, t.2))
       (λ (t : (b ≡ length (h.rule.logs l)) × Owes l p s.views). let o = t.1 in
       let owed = (h.rule.views o.0 o.1 o.2).owed l hi p o.3 in absurd (cc (all_away l o.0 o.1 o.2, owed.0.1)))
@@ -126,7 +126,7 @@ blank_in zero i = refl
 blank_in (suc n) zero = refl
 blank_in (suc n) (suc i) = blank_in n i
 
-pub numbers_begin : (plan : Plan) → NumbersAre plan.first (first_view plan)
+pub numbers_begin : (plan : TableSize) → NumbersAre plan.first (first_view plan)
 numbers_begin plan s j i r is near = let v : View = first_view plan in let new = blank_in plan.count i in
     let none' : (at i v).tickets ≡ 0 = ap (λ (a : LaneView). a.tickets) new in
     let n = numbers {first = plan.first} {s = s} {id = j} {v = v} record { rule = r; is = is; share = omega arith } refl
@@ -141,7 +141,7 @@ module _ (first id : ℕ) (v : View) (words : List ℕ) (contents : List (Option
   abbrev h : Here first final.0 id v
   h = record { rule = final.1.0; is = final.1.1; share = some_share }
 
-  -- each value is at home
+  -- each lane's value is in its slot
   pub stored : (i : ℕ) → i < length contents → (c : Content) × (get_elem? contents i ≡ some (Some c))
       × (c.place ≡ (at i v).made)
   stored i near = let long = final.3 in let e = ends h share idle i (omega arith) in

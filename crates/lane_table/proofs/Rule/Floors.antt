@@ -1,4 +1,4 @@
--- The generation that a view has seen never falls, and the core is ready if and only if it is at least 1.
+-- The generation that a view has seen never falls, and the core is ready if and only if the base was reseeded.
 use Rattle.std.proofs.Common.{◌≡◌, ◌↔◌, ℕ, ◌<◌, ◌≤◌, List, [], ◌∷◌, Option, Some, None, length, sym, refl, ap, ◌∙◌, arith}
 use Rattle.std.specs.List.{fold}
 use Rattle.std.proofs.lemmas.List.Sums.{fold-append}

@@ -1,4 +1,4 @@
--- One more visit: each lane's part of the view after it, and the references between lanes.
+-- Lanes after one more visit: each lane's part of the view, and the references between lanes.
 use Rattle.std.proofs.Common.{◌≤◌, ◌≡◌, ℕ, ◌+◌, ◌<◌, ◌≢◌, List, [], ◌∷◌, ◌++◌, length, get_or, set, sym, refl, ap, ◌∙◌, subst, inl, ⊎_elim, arith, Option, Some, None}
 use Rattle.std.proofs.lemmas.List.{length-set}
 use Rattle.std.proofs.lemmas.List.Sums.{sum_by_push}
@@ -10,15 +10,15 @@ use Rattle.atomic_table.proofs.Lists.{at_map}
 use Rattle.lane_table.specs.declared.view.Visit.{Visit}
 use Rattle.lane_table.specs.declared.view.LaneView.{LaneView}
 use Rattle.lane_table.specs.declared.view.View.{View}
-use Rattle.lane_table.specs.declared.view.Stage.TheVariants.{Holding}
-use Rattle.lane_table.specs.Meaning.{behind_of, ahead_of, raise_of, parent, replay, start_model, model_step, gave_of, got_of, no_visit, IsOf, IsLater, Fits, NamesWithin, MayCome, LawfulLane}
+use Rattle.lane_table.specs.declared.view.TicketStage.TheVariants.{Holding}
+use Rattle.lane_table.specs.Meaning.{after_of, ahead_of, raise_of, parent, replay, start_model, model_step, gave_of, got_of, no_visit, IsOf, IsLater, Fits, NamesWithin, MayCome, LawfulLane}
 use Rattle.lane_table.specs.References.{Closed, Pointed}
 use Rattle.lane_table.specs.WorldRule.{Begins, Owed, Owes, Pending, RaisedOk, St, at, known_of, raises, serving_word, ticket_word}
 use Rattle.lane_table.specs.Steps.{MayName, NamesHeld, handed, visited, with_at, with_stamp}
 use Rattle.lane_table.proofs.Lists.Lists.{at_or}
 use Rattle.lane_table.proofs.Lists.VisitLists.{begins_push, begins_refl}
 use Rattle.lane_table.proofs.Lists.LawfulLists.{lawful_more}
-use Rattle.lane_table.proofs.Rule.Naming.{parent_below, pointed_behind, pointed_here, owed_none, owed_more, pending_views, pending_behind, pending_here}
+use Rattle.lane_table.proofs.Rule.Naming.{parent_below, pointed_after, pointed_here, owed_none, owed_more, pending_views, pending_after, pending_here}
 use Rattle.lane_table.proofs.Rule.OneLane as lane
 use Rattle.lane_table.proofs.Rule.World.{Here, pick, pick_here, pick_else}
 use Rattle.lane_table.proofs.Rule.World as world
@@ -36,7 +36,7 @@ later_owed : (least : ℕ) (o : Option ℕ) → ((p : ℕ) → o ≡ Some p → 
 later_owed least None h = tt
 later_owed least (Some p) h = h p refl
 
--- a pass that holds the lane i with the ticket t
+-- a pass that holds the lane `i` with the ticket `t`
 module _ {first : ℕ} {s : St} {id : ℕ} {v : View} (h : Here first s id v) (i t : ℕ) (near : i < length s.homes)
     (hold : (at i v).stage ≡ Holding t) where
   pub turn : (t ≡ get_or s.words (serving_word i) 0) × (t < get_or s.words (ticket_word i) 0)
@@ -50,7 +50,7 @@ module _ {first : ℕ} {s : St} {id : ℕ} {v : View} (h : Here first s id v) (i
     abbrev pub mine : LaneView
     mine = visited x (at i v)
 
-    -- the view with the visit, before the lane ahead owes its answer
+    -- the view with the visit, before the pass owes an answer at the lane that takes the key
     abbrev pub own : View
     own = with_at i mine (with_stamp x.stamp v)
 
@@ -84,7 +84,7 @@ module _ {first : ℕ} {s : St} {id : ℕ} {v : View} (h : Here first s id v) (i
         enters.names.ahead
 
     -- the entry receives the key of the visit that it names
-    handed_is : (l : ℕ) → l ≡ i → (p : ℕ) → behind_of x.entry ≡ Some p → (y : Visit) →
+    handed_is : (l : ℕ) → l ≡ i → (p : ℕ) → after_of x.entry ≡ Some p → (y : Visit) →
         get_elem? (known_of v (parent l)) p ≡ some y → x.got ≡ y.gave
     handed_is l e p n y has = enters.got_is ∙ ap (λ (q : Option ℕ). got_of q (known_of v (parent i))) n
         ∙ ap (λ (z : ℕ). (get_or (known_of v (parent z)) p no_visit).gave) (sym e)
@@ -96,7 +96,7 @@ module _ {first : ℕ} {s : St} {id : ℕ} {v : View} (h : Here first s id v) (i
           kind = enters.kind;
           within = ahead_within;
           gave_is = enters.gave_is;
-          later = subst (IsLater (replay (known_of v i)).least) (sym enters.names.behind)
+          later = subst (IsLater (replay (known_of v i)).least) (sym enters.names.following)
               (later_owed (replay (known_of v i)).least (at i v).owes (λ p e. ((h.rule.views id v h.is).owed i near p e).2));
           fits = enters.fits;
         }
@@ -107,11 +107,11 @@ module _ {first : ℕ} {s : St} {id : ℕ} {v : View} (h : Here first s id v) (i
         dite (ℕ_discrete l i)
         (λ e. subst P (λ q. (sym (known_there (parent l) (λ f. omega arith)) q, sym (known_here l e) q))
         (pointed_here l (known_of v (parent l)) (known_of v l) x k
-        (λ p n. let ow = o.owed l hi p (ap (λ (z : ℕ). (at z v).owes) e ∙ sym enters.names.behind ∙ n) in
+        (λ p n. let ow = o.owed l hi p (ap (λ (z : ℕ). (at z v).owes) e ∙ sym enters.names.following ∙ n) in
         (ow.1.0, ow.1.1, ow.1.2, handed_is l e p n ow.1.0 ow.1.1))))
         (λ ne. dite (ℕ_discrete (parent l) i)
         (λ e. subst P (λ q. (sym (known_here (parent l) e) q, sym (known_there l ne) q))
-        (pointed_behind l (known_of v (parent l)) (known_of v l) x k))
+        (pointed_after l (known_of v (parent l)) (known_of v l) x k))
         (λ ne'. subst P (λ q. (sym (known_there (parent l) ne') q, sym (known_there l ne) q)) k))
 
     own_grows : (j : ℕ) → Begins (known_of v j) (known_of own j)
@@ -127,13 +127,13 @@ module _ {first : ℕ} {s : St} {id : ℕ} {v : View} (h : Here first s id v) (i
         (known_of own (parent l)) ((h.rule.views id v h.is).owed l hi) (ap (λ (z : LaneView). z.stage) a)
         (ap (λ (z : LaneView). z.owes) a) (λ _ _. ap (λ (z : LaneView). z.known) a) (own_grows (parent l)))
 
-    -- only this view can owe an answer at this lane
-    answers : (p : ℕ) → Owes i p s.views → behind_of x.entry ≡ Some p
+    -- if some view owes an answer at this lane, it is this view, and the entry is that answer
+    answers : (p : ℕ) → Owes i p s.views → after_of x.entry ≡ Some p
     answers p q = let o = (h.rule.views q.0 q.1 q.2).owed i near p q.3 in
         let there = lane.holds_turn (h.rule.lane i near) q.0 (at_map (at i) s.views q.0 q.1 q.2) o.0.0 o.0.1 in
         let same : q.0 ≡ id = sym there.2 ∙ ap (h.rule.owners i) (there.0 ∙ sym turn.0) ∙ turn.2 in let is' : q.1 ≡ v =
         some-injective q.1 v (sym q.2 ∙ ap (λ (k : ℕ). get_elem? s.views k) same ∙ h.is) in
-        enters.names.behind ∙ ap (λ (z : View). (at i z).owes) (sym is') ∙ q.3
+        enters.names.following ∙ ap (λ (z : View). (at i z).owes) (sym is') ∙ q.3
 
     pub log_here : (j : ℕ) → j ≡ i → pick i log' h.rule.logs j ≡ h.rule.logs j ++ x ∷ []
     log_here j e = ap (pick i log' h.rule.logs) e ∙ pick_here i log' h.rule.logs
@@ -154,7 +154,7 @@ module _ {first : ℕ} {s : St} {id : ℕ} {v : View} (h : Here first s id v) (i
         in
         dite (ℕ_discrete (parent l) i)
         (λ e. subst P (λ q. (sym (log_here (parent l) e) q, sym (pick_else i l log' logs ne) q))
-        (pending_behind l (logs (parent l)) (logs l) views' x base (other e)))
+        (pending_after l (logs (parent l)) (logs l) views' x base (other e)))
         (λ ne'. subst P (λ q. (sym (pick_else i (parent l) log' logs ne') q, sym (pick_else i l log' logs ne) q)) base))
 
     -- the visit raises the generation as much as this hold did

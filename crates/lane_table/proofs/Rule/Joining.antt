@@ -12,7 +12,7 @@ use Rattle.atomic_table.specs.Table.{Joins}
 use Rattle.atomic_table.proofs.Lists.{at_set, set_here, at_map, set_else}
 use Rattle.lane_table.specs.declared.view.LaneView.{LaneView}
 use Rattle.lane_table.specs.declared.view.View.{View}
-use Rattle.lane_table.specs.declared.view.Stage.TheVariants.{Away, Holding}
+use Rattle.lane_table.specs.declared.view.TicketStage.TheVariants.{Away, Holding}
 use Rattle.lane_table.specs.Meaning.{parent}
 use Rattle.lane_table.specs.WorldRule.{Begins, IsHolding, LaneOk, Owes, RaisedOk, St, ViewOk, WorldRule, at, blank, column, known_of, ticket_word, serving_word, weight}
 use Rattle.lane_table.specs.Steps.{longer, merged, both_of, nobody}
@@ -63,7 +63,7 @@ module _ {first : ℕ} {s : St} {id : ℕ} {v : View} (h : Here first s id v) (o
     not_holding : (j t : ℕ) → ¬ ((at j w).stage ≡ Holding t)
     not_holding j t hold = let g : Away ≡ Holding t = sym (idle j) ∙ hold in absurd (cc g)
 
-    -- each seat has its old view, or the joined one, or the blank one of the pass taken in
+    -- after a join each seat has its old view, the joined view, or the blank view of the pass that was taken in
     cases : (P : View → Type 0) (j : ℕ) (u : View) → P b → ((z : View) → get_elem? s.views j ≡ some z → P z) → P nobody →
         get_elem? views' j ≡ some u → P u
     cases P j u both others none e = ⊎_elim (λ (t : (j ≡ other) × (nobody ≡ u)). subst P t.1 none)

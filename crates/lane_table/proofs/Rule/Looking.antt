@@ -7,9 +7,9 @@ use Rattle.atomic_table.specs.Table.{step, keeps, Allows}
 use Rattle.atomic_table.proofs.Lists.{set_again}
 use Rattle.lane_table.specs.declared.view.LaneView.{LaneView}
 use Rattle.lane_table.specs.declared.view.View.{View}
-use Rattle.lane_table.specs.declared.view.Stage.TheVariants.{Holding}
+use Rattle.lane_table.specs.declared.view.TicketStage.TheVariants.{Holding}
 use Rattle.lane_table.specs.WorldRule.{LaneOk, St, WorldRule, at, column, known_of, raises, ticket_word, serving_word}
-use Rattle.lane_table.specs.Steps.{Seated, lifts as Lifts, looks as Looks, raised, raising, saw}
+use Rattle.lane_table.specs.Steps.{Seated, raises_generation as RaisesGeneration, looks as Looks, raised, raising, saw}
 use Rattle.lane_table.specs.Calls.{Ended, settles as Settles}
 use Rattle.lane_table.proofs.Rule.Ending.{ends_all}
 use Rattle.lane_table.proofs.Lists.VisitLists.{raises_begun}
@@ -95,10 +95,10 @@ settled first n id me share s r wide is _ =
       (refl, (λ whole idle. subst (λ (k : ℕ). Ended k v) (sym (world.sized h).0) (ends_all h whole idle))),
     )
 
-pub lifts : (first n id t g : ℕ) (me : Seated) → 0 < me.0.share → (at 1 me.0).stage ≡ Holding t →
+pub raises_generation : (first n id t g : ℕ) (me : Seated) → 0 < me.0.share → (at 1 me.0).stage ≡ Holding t →
     (at 1 me.0).raised ≡ 0 → g ≡ raises (known_of me.0 1) + 1 → g < 2 ^ 63
-    → Allows (WorldRule first) n id me 0 (λ _. g) (λ _ m. Lifts (step n 0 g 0 none) me g m)
-lifts first n id t g me share hold none' next small s r wide is _ = let h : Here first s id me.0 =
+    → Allows (WorldRule first) n id me 0 (λ _. g) (λ _ m. RaisesGeneration (step n 0 g 0 none) me g m)
+raises_generation first n id t g me share hold none' next small s r wide is _ = let h : Here first s id me.0 =
     record { rule = r; is = is; share = share } in let v : View = me.0 in let two = r.two in
     let near : 1 < length s.homes = omega arith in
     let a' : LaneView = raising (at 1 v) in let w : View = (raised g me).0 in

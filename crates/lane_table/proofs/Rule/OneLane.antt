@@ -9,10 +9,10 @@ use Rattle.atomic_table.proofs.Lists.{at_set, set_here, set_else, at_longer, at_
 use Rattle.lane_table.specs.declared.view.Visit.{Visit}
 use Rattle.lane_table.specs.declared.view.LaneView.{LaneView}
 use Rattle.lane_table.specs.declared.view.Content.{Content}
-use Rattle.lane_table.specs.declared.view.Stage.{Stage}
-use Rattle.lane_table.specs.declared.view.Stage.TheVariants.{Away, Queued, Holding}
-use Rattle.lane_table.specs.WorldRule.{Begins, AllBegin, Rising, Replays, has_ticket, blank, Home, Stands, PassOk, IsHomeOrHeld, LaneOk, KnownWhole, times, once_below}
-use Rattle.lane_table.specs.Steps.{finding, waiting, holder, told, merged, longer}
+use Rattle.lane_table.specs.declared.view.TicketStage.{TicketStage}
+use Rattle.lane_table.specs.declared.view.TicketStage.TheVariants.{Away, Queued, Holding}
+use Rattle.lane_table.specs.WorldRule.{Begins, AllBegin, Rising, Replays, has_ticket, blank, Home, Conforms, PassOk, IsHomeOrHeld, LaneOk, KnownWhole, times, once_below}
+use Rattle.lane_table.specs.Steps.{finding, waiting, holder, recorded, merged, longer}
 use Rattle.lane_table.proofs.Lists.Lists.{at_below, sum_at_set}
 use Rattle.lane_table.proofs.Lists.VisitLists.{begins_trans, begins_length, begins_nil, begins_refl, longer_all, all_trans, all_heard}
 
@@ -24,7 +24,7 @@ passes_set P col id a' others mine j a e =
     ⊎_elim (λ (t : (j ≡ id) × (a' ≡ a)). subst (λ (z : ℕ × LaneView). P z.0 z.1) (λ k. (sym t.0 k, t.1 k)) mine)
     (λ (t : (j ≢ id) × (get_elem? col j ≡ some a)). others j a t.0 t.1) (at_set col id j a' a e)
 
--- a property of some part survives a change that preserves it
+-- if some part has a property, some part still has it after a change that preserves the property
 some_set : (P : LaneView → Type 0) (col : List LaneView) (id : ℕ) (a a' : LaneView) → get_elem? col id ≡ some a →
     (P a → P a')
     → (j : ℕ) × (b : LaneView) × (get_elem? col j ≡ some b) × P b →
@@ -51,16 +51,16 @@ module _ {lane first ticket serving : ℕ} {home : Home} {col : List LaneView} {
     mine : PassOk ticket serving owner home log id a
     mine = ok.passes id a at
 
-    stands_here : (g : Stage) → a.stage ≡ g → Stands ticket serving owner home log id a.known g
-    stands_here g e = subst (Stands ticket serving owner home log id a.known) e mine.stands
+    conforms_here : (g : TicketStage) → a.stage ≡ g → Conforms ticket serving owner home log id a.known g
+    conforms_here g e = subst (Conforms ticket serving owner home log id a.known) e mine.conforms
 
-    known_stands : (known : List Visit) (g : Stage) → (a.known ≡ log → known ≡ log) →
-        Stands ticket serving owner home log id a.known g → Stands ticket serving owner home log id known g
-    known_stands known Away h k = tt
-    known_stands known (Queued t) h k = k
-    known_stands known (Holding t) h k = (k.0, k.1, k.2, h k.3, k.4)
+    known_conforms : (known : List Visit) (g : TicketStage) → (a.known ≡ log → known ≡ log) →
+        Conforms ticket serving owner home log id a.known g → Conforms ticket serving owner home log id known g
+    known_conforms known Away h k = tt
+    known_conforms known (Queued t) h k = k
+    known_conforms known (Holding t) h k = (k.0, k.1, k.2, h k.3, k.4)
 
-    -- if a view learns more of the list or of the words in the same stage, the lane's rule still holds
+    -- if a view in the same stage learns more of the list or of the words, the lane's rule still holds
     pub recast : (b : LaneView) → b.stage ≡ a.stage → b.made ≡ a.made → b.places ≡ a.places → b.tickets ≡ a.tickets →
         b.loaded ≤ serving → b.found ≤ ticket → b.heard ≡ a.heard → Begins b.known log → (a.known ≡ log → b.known ≡ log)
         → LaneOk lane first ticket serving home (set col id b) log owner
@@ -72,8 +72,8 @@ module _ {lane first ticket serving : ℕ} {home : Home} {col : List LaneView} {
       passes = passes_set (PassOk ticket serving owner home log) col id b (λ j x _ e. ok.passes j x e) record {
         begins = begins;
         heard = subst (λ (l : List (List Visit)). AllBegin l log) (sym heard') mine.heard;
-        stands = subst (Stands ticket serving owner home log id b.known) (sym stage)
-            (known_stands b.known a.stage whole mine.stands);
+        conforms = subst (Conforms ticket serving owner home log id b.known) (sym stage)
+            (known_conforms b.known a.stage whole mine.conforms);
         loaded = loaded';
         found = found';
       };
@@ -96,11 +96,11 @@ module _ {lane first ticket serving : ℕ} {home : Home} {col : List LaneView} {
     unfolding drawn_by
     drawn_older t h = ap (λ b. cond b id (owner t)) (ne_eqb t ticket (λ e. omega arith))
 
-    drawn_stands : (j : ℕ) (known : List Visit) (g : Stage) → Stands ticket serving owner home log j known g →
-        Stands (ticket + 1) serving drawn_by home log j known g
-    drawn_stands j known Away h = tt
-    drawn_stands j known (Queued t) h = (h.0, omega arith, drawn_older t h.1 ∙ h.2)
-    drawn_stands j known (Holding t) h = (h.0, omega arith, drawn_older t h.1 ∙ h.2, h.3, h.4)
+    drawn_conforms : (j : ℕ) (known : List Visit) (g : TicketStage) → Conforms ticket serving owner home log j known g →
+        Conforms (ticket + 1) serving drawn_by home log j known g
+    drawn_conforms j known Away h = tt
+    drawn_conforms j known (Queued t) h = (h.0, omega arith, drawn_older t h.1 ∙ h.2)
+    drawn_conforms j known (Holding t) h = (h.0, omega arith, drawn_older t h.1 ∙ h.2, h.3, h.4)
 
     -- a draw of a ticket keeps the lane's rule
     pub draws : (n : ℕ) → a.stage ≡ Away → n ≤ ticket →
@@ -117,14 +117,14 @@ module _ {lane first ticket serving : ℕ} {home : Home} {col : List LaneView} {
             (λ j b _ e. let o = ok.passes j b e in record {
               begins = o.begins;
               heard = o.heard;
-              stands = drawn_stands j b.known b.stage o.stands;
+              conforms = drawn_conforms j b.known b.stage o.conforms;
               loaded = o.loaded;
               found = (let f = o.found in omega arith);
             })
             record {
               begins = mine.begins;
               heard = mine.heard;
-              stands = (ok.ordered, omega arith, drawn_now);
+              conforms = (ok.ordered, omega arith, drawn_now);
               loaded = mine.loaded;
               found = omega arith;
             };
@@ -138,19 +138,19 @@ module _ {lane first ticket serving : ℕ} {home : Home} {col : List LaneView} {
       },
     )
 
-    other_turn : (j : ℕ) (home' : Home) (known : List Visit) (g : Stage) → owner serving ≡ id → j ≢ id →
-        Stands ticket serving owner home log j known g → Stands ticket serving owner home' log j known g
+    other_turn : (j : ℕ) (home' : Home) (known : List Visit) (g : TicketStage) → owner serving ≡ id → j ≢ id →
+        Conforms ticket serving owner home log j known g → Conforms ticket serving owner home' log j known g
     other_turn j home' known Away own ne h = tt
     other_turn j home' known (Queued t) own ne h = h
     other_turn j home' known (Holding t) own ne h = absurd (ne (sym h.2 ∙ ap owner h.0 ∙ own))
 
-    -- the turn comes, and the value goes out
+    -- the pass's turn comes: the content is in the slot, and the lane's rule holds after the pass takes the slot
     abbrev Turned : Type 0
     Turned = (c : Content) × (home ≡ some (some (Some c))) × Replays lane first log c
         × LaneOk lane first ticket serving (some none) (set col id (holder log serving a)) log owner
 
     turned_at : a.stage ≡ Queued serving → IsHomeOrHeld lane first serving home col log → Turned
-    turned_at waits (inl x) = let a' = holder log serving a in let stood = stands_here (Queued serving) waits in (
+    turned_at waits (inl x) = let a' = holder log serving a in let stood = conforms_here (Queued serving) waits in (
       x.0,
       x.1,
       x.2,
@@ -163,14 +163,14 @@ module _ {lane first ticket serving : ℕ} {home : Home} {col : List LaneView} {
             (λ j b ne e. let o = ok.passes j b e in record {
               begins = o.begins;
               heard = o.heard;
-              stands = other_turn j (some none) b.known b.stage stood.2 ne o.stands;
+              conforms = other_turn j (some none) b.known b.stage stood.2 ne o.conforms;
               loaded = o.loaded;
               found = o.found;
             })
             record {
               begins = begins_refl log;
               heard = mine.heard;
-              stands = (refl, stood.1, stood.2, refl, refl);
+              conforms = (refl, stood.1, stood.2, refl, refl);
               loaded = mine.loaded;
               found = mine.found;
             };
@@ -182,8 +182,8 @@ module _ {lane first ticket serving : ℕ} {home : Home} {col : List LaneView} {
         rising = ok.rising;
       },
     )
-    turned_at waits (inr x) = let stood = stands_here (Queued serving) waits in
-        let o = subst (Stands ticket serving owner home log x.0 x.1.known) x.3 (ok.passes x.0 x.1 x.2).stands in
+    turned_at waits (inr x) = let stood = conforms_here (Queued serving) waits in
+        let o = subst (Conforms ticket serving owner home log x.0 x.1.known) x.3 (ok.passes x.0 x.1 x.2).conforms in
         let same : x.0 ≡ id = sym o.2 ∙ stood.2 in let is : x.1 ≡ a =
         some-injective x.1 a (sym x.2 ∙ ap (λ (k : ℕ). get_elem? col k) same ∙ at) in
         let g : Queued serving ≡ Holding serving = sym waits ∙ ap (λ (z : LaneView). z.stage) (sym is) ∙ x.3 in
@@ -192,17 +192,17 @@ module _ {lane first ticket serving : ℕ} {home : Home} {col : List LaneView} {
     pub turns : a.stage ≡ Queued serving → Turned
     turns waits = turned_at waits ok.whereabouts
 
-    given_stands : (t j : ℕ) (home' : Home) (log' known : List Visit) (g : Stage) → t ≡ serving → owner t ≡ id → j ≢ id →
-        Stands ticket serving owner home log j known g → Stands ticket (t + 1) owner home' log' j known g
-    given_stands t j home' log' known Away is own ne h = tt
-    given_stands t j home' log' known (Queued u) is own ne h = let other : u ≢ serving =
+    given_conforms : (t j : ℕ) (home' : Home) (log' known : List Visit) (g : TicketStage) → t ≡ serving → owner t ≡ id → j ≢ id →
+        Conforms ticket serving owner home log j known g → Conforms ticket (t + 1) owner home' log' j known g
+    given_conforms t j home' log' known Away is own ne h = tt
+    given_conforms t j home' log' known (Queued u) is own ne h = let other : u ≢ serving =
         λ e. ne (sym h.2 ∙ ap owner (e ∙ sym is) ∙ own) in (omega arith, h.1, h.2)
-    given_stands t j home' log' known (Holding u) is own ne h = absurd (ne (sym h.2 ∙ ap owner (h.0 ∙ sym is) ∙ own))
+    given_conforms t j home' log' known (Holding u) is own ne h = absurd (ne (sym h.2 ∙ ap owner (h.0 ∙ sym is) ∙ own))
 
-    -- the pass that holds the lane is served, and knows the whole list
+    -- the pass that holds the lane has the served ticket, and knows the whole list
     pub holds_turn : (t : ℕ) → a.stage ≡ Holding t →
         (t ≡ serving) × (t < ticket) × (owner t ≡ id) × (a.known ≡ log) × (home ≡ some none)
-    holds_turn t hold = stands_here (Holding t) hold
+    holds_turn t hold = conforms_here (Holding t) hold
 
     -- the value goes back, and the next ticket is served
     pub gives : (t : ℕ) (log' : List Visit) (c : Content) (a' : LaneView) → a.stage ≡ Holding t → Begins log log' →
@@ -222,7 +222,7 @@ module _ {lane first ticket serving : ℕ} {home : Home} {col : List LaneView} {
               (λ j b ne e. let o = ok.passes j b e in record {
                 begins = begins_trans b.known log log' o.begins more;
                 heard = all_trans b.heard log log' o.heard more;
-                stands = given_stands t j home' log' b.known b.stage is stood.2 ne o.stands;
+                conforms = given_conforms t j home' log' b.known b.stage is stood.2 ne o.conforms;
                 loaded = (let f = o.loaded in omega arith);
                 found = o.found;
               })
@@ -230,7 +230,7 @@ module _ {lane first ticket serving : ℕ} {home : Home} {col : List LaneView} {
                 begins = subst (λ (l : List Visit). Begins l log') (sym whole) (begins_refl log');
                 heard = subst (λ (l : List (List Visit)). AllBegin l log') (sym heard')
                     (all_trans a.heard log log' mine.heard more);
-                stands = subst (Stands ticket (t + 1) owner home' log' id a'.known) (sym away) tt;
+                conforms = subst (Conforms ticket (t + 1) owner home' log' id a'.known) (sym away) tt;
                 loaded = (let f = mine.loaded in omega arith);
                 found = (let f = mine.found in omega arith);
               };
@@ -243,23 +243,23 @@ module _ {lane first ticket serving : ℕ} {home : Home} {col : List LaneView} {
         }
 
     -- a new view with the same knowledge of the lane keeps the lane's rule
-    pub enters : LaneOk lane first ticket serving home (col ++ told a ∷ []) log owner
+    pub enters : LaneOk lane first ticket serving home (col ++ recorded a ∷ []) log owner
     enters = record {
       ordered = ok.ordered;
-      counted = let s = sum_by_push (λ (x : LaneView). has_ticket x.stage) col (told a) in let o = ok.counted in
+      counted = let s = sum_by_push (λ (x : LaneView). has_ticket x.stage) col (recorded a) in let o = ok.counted in
           omega arith;
-      drawn = let s = sum_by_push (λ (x : LaneView). x.tickets) col (told a) in let o = ok.drawn in omega arith;
+      drawn = let s = sum_by_push (λ (x : LaneView). x.tickets) col (recorded a) in let o = ok.drawn in omega arith;
       passes = λ j b e. ⊎_elim (λ (h : get_elem? col j ≡ some b). ok.passes j b h)
-          (λ (h : told a ≡ b). subst (PassOk ticket serving owner home log j) h
-          record { begins = mine.begins; heard = mine.heard; stands = tt; loaded = mine.loaded; found = mine.found })
-          (at_snoc col (told a) b j e);
+          (λ (h : recorded a ≡ b). subst (PassOk ticket serving owner home log j) h
+          record { begins = mine.begins; heard = mine.heard; conforms = tt; loaded = mine.loaded; found = mine.found })
+          (at_snoc col (recorded a) b j e);
       whereabouts = ⊎_elim (λ (x : (c : Content) × (home ≡ some (some (Some c))) × Replays lane first log c). inl x)
           (λ (x : (j : ℕ) × (b : LaneView) × (get_elem? col j ≡ some b) × (b.stage ≡ Holding serving)). inr
-          (x.0, x.1, at_longer col (told a ∷ []) x.0 x.1 x.2, x.3)) ok.whereabouts;
-      made = let s = sum_by_push (λ (x : LaneView). x.made) col (told a) in let o = ok.made in omega arith;
-      placed = λ p. let s = sum_by_push (λ (x : LaneView). times p x.places) col (told a) in let o = ok.placed p in
+          (x.0, x.1, at_longer col (recorded a ∷ []) x.0 x.1 x.2, x.3)) ok.whereabouts;
+      made = let s = sum_by_push (λ (x : LaneView). x.made) col (recorded a) in let o = ok.made in omega arith;
+      placed = λ p. let s = sum_by_push (λ (x : LaneView). times p x.places) col (recorded a) in let o = ok.placed p in
           omega arith;
-      known = let x = ok.known in (x.0, x.1, at_longer col (told a ∷ []) x.0 x.1 x.2, x.3);
+      known = let x = ok.known in (x.0, x.1, at_longer col (recorded a ∷ []) x.0 x.1 x.2, x.3);
       rising = ok.rising;
     }
 
@@ -303,7 +303,7 @@ module _ {lane first ticket serving : ℕ} {home : Home} {col : List LaneView} {
         passes_set (PassOk ticket serving owner home log) col id m (λ j x _ e. ok.passes j x e) record {
           begins = longer_known b.known ob.begins;
           heard = all_heard a.known b.known log a.heard b.heard mine.begins ob.begins mine.heard ob.heard;
-          stands = known_stands m.known a.stage (longer_kept b.known ob.begins) mine.stands;
+          conforms = known_conforms m.known a.stage (longer_kept b.known ob.begins) mine.conforms;
           loaded = (let f = mine.loaded in let g = ob.loaded in omega arith);
           found = (let f = mine.found in let g = ob.found in omega arith);
         } in
@@ -315,7 +315,7 @@ module _ {lane first ticket serving : ℕ} {home : Home} {col : List LaneView} {
           drawn = let s = sum_at_set (λ (x : LaneView). x.tickets) col id a m at in let t =
               sum_at_set (λ (x : LaneView). x.tickets) col₁ other b blank at' in let o = ok.drawn in omega arith;
           passes = passes_set (PassOk ticket serving owner home log) col₁ other blank (λ j x _ e. one j x e)
-              record { begins = begins_nil log; heard = tt; stands = tt; loaded = omega arith; found = omega arith };
+              record { begins = begins_nil log; heard = tt; conforms = tt; loaded = omega arith; found = omega arith };
           whereabouts = whereabouts_set lane first serving home col₁ log other b blank at' (λ h. absurd (cc (away, h)))
               (whereabouts_set lane first serving home col log id a m at (λ h. h) ok.whereabouts);
           made = let s = sum_at_set (λ (x : LaneView). x.made) col id a m at in let t =

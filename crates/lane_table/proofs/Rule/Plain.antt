@@ -1,4 +1,4 @@
--- A step that changes a view's part of one lane, but no field that references use.
+-- A step that changes a view's part of one lane keeps the rule, if it does not change the fields that references use.
 use Rattle.std.proofs.Common.{inr, ◌≡◌, ℕ, ◌+◌, ◌<◌, ◌≤◌, ◌≢◌, ◌⊎◌, zero, suc, List, [], ◌∷◌, length, get_or, set, sym, refl, ap, ◌∙◌, subst, inl, ⊎_elim, arith, Option, Some, None}
 use Rattle.std.specs.Prelude.{All}
 use Rattle.std.proofs.lemmas.List.{get_or-set_other, get_or-set_same, set-get_or, length-set}
@@ -12,7 +12,7 @@ use Rattle.atomic_table.proofs.Lists.{at_map}
 use Rattle.lane_table.specs.declared.view.LaneView.{LaneView}
 use Rattle.lane_table.specs.declared.view.View.{View}
 use Rattle.lane_table.specs.declared.view.Content.{Content}
-use Rattle.lane_table.specs.declared.view.Stage.TheVariants.{Holding}
+use Rattle.lane_table.specs.declared.view.TicketStage.TheVariants.{Holding}
 use Rattle.lane_table.specs.Meaning.{parent}
 use Rattle.lane_table.specs.References.{Closed}
 use Rattle.lane_table.specs.WorldRule.{Begins, Consistent, IsHolding, LaneOk, Owed, OwedAt, RaisedOk, St, WorldRule, at, blank, column, known_of, raises, ticket_word, serving_word}
@@ -28,7 +28,8 @@ none_if : (o : Option ℕ) → ((p : ℕ) → o ≡ Some p → ⊥) → o ≡ No
 none_if None h = refl
 none_if (Some p) h = absurd (h p refl)
 
--- w is v with a' at the lane i: the known list and the owed answer stay, and the stage changes only if it owes nothing
+-- `w` is `v` with the part `a'` at the lane `i`. The known list and the owed answer are unchanged, and the stage
+-- changes only if no answer is owed
 pub record Plain (i : ℕ) (v w : View) (a' : LaneView) : Type 0 where
   pub lanes : w.lanes ≡ set v.lanes i a'
   pub known : a'.known ≡ known_of v i
@@ -107,7 +108,7 @@ module _ {first : ℕ} {s : St} {id : ℕ} {v : View} (h : Here first s id v) (i
     pub w_raised : a'.raised ≡ (at i v).raised → (at 1 w).raised ≡ (at 1 v).raised
     w_raised e = field (λ (a : LaneView). a.raised) e 1
 
-    -- the case of an unchanged raise
+    -- `RaisedOk` still holds if the step does not change `raised`
     pub w_raised_ok : a'.raised ≡ (at i v).raised → RaisedOk (at 1 w)
     w_raised_ok e = let was = (h.rule.seen id v h.is).1 in let keeps : (at 1 w).stage ≡ (at 1 v).stage →
         RaisedOk (at 1 w) = λ st. ⊎_elim (λ (z : (at 1 v).raised ≡ 0). inl (w_raised e ∙ z))
@@ -119,7 +120,7 @@ module _ {first : ℕ} {s : St} {id : ℕ} {v : View} (h : Here first s id v) (i
         (λ (none : OwesNothing i v). inl (w_raised e ∙ none.1 (sym one))) p.stage)
         (λ ne. keeps (ap (λ (a : LaneView). a.stage) (w_there 1 ne)))
 
-    -- the rule holds if the lane's does, and the generation rises with the raise
+    -- the rule of the table holds if the lane's rule does, and the generation word rises exactly as `raised` does
     pub plainly : {k y : ℕ} (homes' : List (maybe.Option (Option Content))) (owner' : ℕ → ℕ) → WordStep h i k y →
         length homes' ≡ length s.homes → ((j : ℕ) → j ≢ i → get_elem? homes' j ≡ get_elem? s.homes j)
         → LaneOk i first (get_or (set s.words k y) (ticket_word i) 0) (get_or (set s.words k y) (serving_word i) 0)
@@ -152,7 +153,7 @@ module _ {first : ℕ} {s : St} {id : ℕ} {v : View} (h : Here first s id v) (i
           raised = raised';
         }
 
-    -- a load keeps the rule if it keeps the lane's
+    -- a load that keeps the lane's rule keeps the rule of the table
     pub reads : (k : ℕ) → WordStep h i k (get_or s.words k 0)
         → LaneOk i first (get_or s.words (ticket_word i) 0) (get_or s.words (serving_word i) 0) (get_elem? s.homes i)
         (set (column i s.views) id a') (h.rule.logs i) (h.rule.owners i)
@@ -168,7 +169,7 @@ module _ {first : ℕ} {s : St} {id : ℕ} {v : View} (h : Here first s id v) (i
         (get_elem? s.homes i) (set (column i s.views) id a') (h.rule.logs i) (h.rule.owners i)) (sym e) ok)
         (let r = w_raised same in omega arith) (let o = (h.rule.seen id v h.is).0 in omega arith) (w_raised_ok same)
 
-  -- if the pass served at the base has not raised the generation, no pass has
+  -- if the pass with the base's served ticket has not raised the generation, no pass has raised it
   pub none_raised : (t : ℕ) → i ≡ 1 → t ≡ get_or s.words (serving_word 1) 0 → h.rule.owners 1 t ≡ id →
       (at 1 v).raised ≡ 0 → sum_by (λ (a : LaneView). a.raised) (column 1 s.views) ≡ 0
   none_raised t one now mine none' = all_zero (λ (a : LaneView). a.raised) (column 1 s.views) (λ j a e.

@@ -1,4 +1,4 @@
--- The stores of a serving word: the value goes back, with a visit or without.
+-- The stores of a serving word, which put the value back with a visit or without, keep the rule.
 use Rattle.std.proofs.Common.{◌≤◌, ◌≡◌, ℕ, ◌+◌, ◌<◌, ◌≢◌, List, [], ◌∷◌, ◌++◌, length, get_or, set, sym, refl, ap, ◌∙◌, subst, inl, inr, ⊎_elim, arith, Option, Some, None, length-append}
 use Rattle.std.specs.Prelude.{All}
 use Rattle.std.proofs.lemmas.List.{get_or-set_other, get_or-set_same, length-set}
@@ -14,7 +14,7 @@ use Rattle.lane_table.specs.declared.view.Visit.{Visit}
 use Rattle.lane_table.specs.declared.view.LaneView.{LaneView}
 use Rattle.lane_table.specs.declared.view.View.{View}
 use Rattle.lane_table.specs.declared.view.Content.{Content}
-use Rattle.lane_table.specs.declared.view.Stage.TheVariants.{Away, Holding}
+use Rattle.lane_table.specs.declared.view.TicketStage.TheVariants.{Away, Holding}
 use Rattle.lane_table.specs.Meaning.{ahead_of, parent, replay, IsOf, Fits, LawfulLane}
 use Rattle.lane_table.specs.References.{Closed}
 use Rattle.lane_table.specs.WorldRule.{Begins, Consistent, Carries, Home, IsHolding, LaneOk, Owed, OwedAt, Owes, AllPending, Pending, RaisedOk, Replays, Rising, St, WorldRule, at, blank, column, known_of, last_stamp, times, once_below, ticket_word, serving_word}
@@ -34,7 +34,7 @@ use Rattle.lane_table.proofs.Rule.Giving as giving
 some_is : (p q : ℕ) → Some p ≡ Some q → p ≡ q
 some_is p q e = cc e
 
--- if stamps are at most m, these stamps and a later stamp n are at most n
+-- if all stamps are at most `m`, and a later stamp `n` is above `m`, then these stamps and `n` are at most `n`
 stamped_push : (m n : ℕ) (stamps : List ℕ) → All (λ k. k ≤ m) stamps → m < n → All (λ k. k ≤ n) (stamps ++ n ∷ [])
 stamped_push m n stamps all above = All-append (λ k. k ≤ n) stamps (n ∷ [])
     (λ k d low. let a = all k d low in omega arith)
@@ -48,7 +48,7 @@ module _ {first : ℕ} {s : St} {id : ℕ} {v : View} (h : Here first s id v) (i
   abbrev homes' : Content → List (maybe.Option (Option Content))
   homes' c = set s.homes i (some (Some c))
 
-  -- the lane's words and slot after the value went back
+  -- the lane's rule for the words and the slot as they are after the value went back
   home_lane : (c : Content) (log' : List Visit) (a' : LaneView) →
       LaneOk i first (get_or s.words (ticket_word i) 0) (t + 1) (some (some (Some c))) (set (column i s.views) id a')
       log' (h.rule.owners i)
@@ -62,10 +62,10 @@ module _ {first : ℕ} {s : St} {id : ℕ} {v : View} (h : Here first s id v) (i
       (h.rule.owners i) in subst P (λ q. (sym e₁ q, sym e₂ q, sym e₃ q)) ok
 
   -- the slot taken last is the one that goes back
-  laid : (held : List (ℕ × Option Content)) (c : Content) (w : View) → held ≡ (i, Some c) ∷ rest held →
+  stored : (held : List (ℕ × Option Content)) (c : Content) (w : View) → held ≡ (i, Some c) ∷ rest held →
       WorldRule first record { words = set s.words k (t + 1); homes = homes' c; views = set s.views id w }
       → WorldRule first (stepped s k (t + 1) id held w gives)
-  laid held c w has done = subst (λ (hs : List (maybe.Option (Option Content))). WorldRule first
+  stored held c w has done = subst (λ (hs : List (maybe.Option (Option Content))). WorldRule first
       record { words = set s.words k (t + 1); homes = hs; views = set s.views id w }) (ap (put_back s.homes) (sym has))
       done
 
@@ -90,13 +90,13 @@ module _ {first : ℕ} {s : St} {id : ℕ} {v : View} (h : Here first s id v) (i
       refl refl refl refl (λ _. refl) (h.rule.lane i near).rising
       (subst (λ (z : ℕ × List Visit). Replays i z.0 z.1 c) (λ q. ((world.sized h).1 q, turn.3 q)) plays) in
       let w₀ = world.unraised h k (t + 1) (λ e. omega arith) in let same = plain.w_raised h i near p refl in
-      laid held c w has (plain.plainly h i near p {k = k} {y = t + 1} (homes' c) (h.rule.owners i)
+      stored held c w has (plain.plainly h i near p {k = k} {y = t + 1} (homes' c) (h.rule.owners i)
       (world.serving_step h i (t + 1)) (length-set s.homes i (some (Some c)))
       (λ j ne. set_else s.homes i j (some (Some c)) ne)
       (home_lane c log a' ok) (omega arith) (let o = (h.rule.seen id v h.is).0 in omega arith)
       (plain.w_raised_ok h i near p refl))
 
-  -- with the visit x
+  -- the value goes back with the visit `x`
   module _ (x : Visit) (enters : Enters i x v) (above : last_stamp v.first (known_of v i) < x.stamp)
       (later : v.stamp < x.stamp) where
     abbrev logs' : ℕ → List Visit
@@ -105,7 +105,7 @@ module _ {first : ℕ} {s : St} {id : ℕ} {v : View} (h : Here first s id v) (i
     abbrev own : View
     own = giving.own h i t near hold x enters
 
-    -- the view w after the visit, in the other lanes too
+    -- `w` is a view after the visit: its part of lane `i` has the visit, and its other parts keep the rule
     record Visits (w : View) : Type 0 where
       lanes : length w.lanes ≡ length v.lanes
       here : at i w ≡ visited x (at i v)
@@ -146,7 +146,7 @@ module _ {first : ℕ} {s : St} {id : ℕ} {v : View} (h : Here first s id v) (i
           closed = z.closed;
         } in
         let w₀ = world.unraised h k (t + 1) (λ e. omega arith) in (
-          laid held c w has (world.moved h {i = i} {y = t + 1} {k = k} {w = w} {a' = a'} {homes' = homes' c}
+          stored held c w has (world.moved h {i = i} {y = t + 1} {k = k} {w = w} {a' = a'} {homes' = homes' c}
               {log' = log'} {owner' = h.rule.owners i} {lists' = known_of w} record {
                 word = world.serving_step h i (t + 1);
                 long = length-set s.homes i (some (Some c));
@@ -180,7 +180,7 @@ module _ {first : ℕ} {s : St} {id : ℕ} {v : View} (h : Here first s id v) (i
     own_others j below ne = same_at (h.rule.logs j) (at j v) (at j own)
         (giving.own_there h i t near hold x enters j ne) (world.begun h j below)
 
-    -- the entry names no place ahead
+    -- if the entry names no place ahead, `own` is a view after the visit
     visits_plain : ahead_of x.entry ≡ None → Visits own
     visits_plain none' = record {
       lanes = giving.own_long h i t near hold x enters;
@@ -197,7 +197,7 @@ module _ {first : ℕ} {s : St} {id : ℕ} {v : View} (h : Here first s id v) (i
       stamps = (refl, refl);
     }
 
-    -- the entry names the held place b of the lane d
+    -- the entry names the place `b` of the lane `d`, which the pass holds
     module _ (d b : ℕ) (ahead : ahead_of x.entry ≡ Some (d, b)) (held : NamesHeld i v d b) where
       abbrev place : ℕ
       place = length (known_of v i)
@@ -253,7 +253,7 @@ module _ {first : ℕ} {s : St} {id : ℕ} {v : View} (h : Here first s id v) (i
       closed_w : Closed (length s.homes) (known_of w)
       closed_w l lo hi = rw (known_w (parent l), known_w l) (giving.own_closed h i t near hold x enters l lo hi)
 
-      -- the pass owes this answer from now on
+      -- after the visit the pass owes an answer at lane `d`, to the entry of this visit
       owed_d : OwedAt d (at d w) (known_of w (parent d))
       owed_d p n = let at_p : p ≡ place = some_is p place (sym n ∙ ap (λ (a : LaneView). a.owes) at_d) in (
         (held.holding.0, ap (λ (a : LaneView). a.stage) at_d ∙ held.holding.1),
@@ -342,7 +342,7 @@ module _ {first : ℕ} {s : St} {id : ℕ} {v : View} (h : Here first s id v) (i
         (λ (a : (l : ℕ) × (b : ℕ) × (ahead_of x.entry ≡ Some (l, b)) × NamesHeld i v l b). subst P (sym a.2)
         (homed slots c (w a.0 a.1 a.2 a.3) has plays (visits_ahead a.0 a.1 a.2 a.3))) enters.names.ahead
 
-module _ (first n id i t : ℕ) (m m' : Seated) (c : Content) (laid : m' ≡ (m.0, (i, Some c) ∷ rest m.1)) (near : i < n)
+module _ (first n id i t : ℕ) (m m' : Seated) (c : Content) (stored : m' ≡ (m.0, (i, Some c) ∷ rest m.1)) (near : i < n)
     (share : 0 < m.0.share) (hold : (at i m.0).stage ≡ Holding t) where
   pub puts : (x y : Visit) → y ≡ x → last_stamp m.0.first (known_of m.0 i) < x.stamp → m.0.stamp < x.stamp →
       IsOf i x.entry → Fits (replay (known_of m.0 i)) (handed i x.entry m.0) x.entry → MayName i x.entry m.0
@@ -351,7 +351,7 @@ module _ (first n id i t : ℕ) (m m' : Seated) (c : Content) (laid : m' ≡ (m.
       (λ _ z. Puts y (step n (serving_word i) (t + 1) 0 none) m' (t + 1) z)
   puts x y same above later kind fits names plays =
       subst (λ (q : Seated × Visit). Allows (WorldRule first) n id q.0 (serving_word i) (λ _. t + 1)
-      (λ _ z. Puts q.1 (step n (serving_word i) (t + 1) 0 none) q.0 (t + 1) z)) (λ k. (sym laid k, sym same k))
+      (λ _ z. Puts q.1 (step n (serving_word i) (t + 1) 0 none) q.0 (t + 1) z)) (λ k. (sym stored k, sym same k))
       (λ s r wide is _. let h : Here first s id m.0 = record { rule = r; is = is; share = share } in
       let near' : i < length s.homes = omega arith in let z : Visit = filled i x m.0 in
       let enters : Enters i z m.0 = record { kind = kind; got_is = refl; gave_is = refl; fits = fits; names = names } in
@@ -371,7 +371,7 @@ module _ (first n id i t : ℕ) (m m' : Seated) (c : Content) (laid : m' ≡ (m.
       Allows (WorldRule first) n id m' (serving_word i) (λ _. t + 1)
       (λ _ z. Leaves (step n (serving_word i) (t + 1) 0 none) m' (t + 1) z)
   leaves plays free = subst (λ (q : Seated). Allows (WorldRule first) n id q (serving_word i) (λ _. t + 1)
-      (λ _ z. Leaves (step n (serving_word i) (t + 1) 0 none) q (t + 1) z)) (sym laid)
+      (λ _ z. Leaves (step n (serving_word i) (t + 1) 0 none) q (t + 1) z)) (sym stored)
       (λ s r wide is _. let h : Here first s id m.0 = record { rule = r; is = is; share = share } in
       let near' : i < length s.homes = omega arith in let slots : List (ℕ × Option Content) =
       (i, Some c) ∷ rest m.1 in (

@@ -1,4 +1,5 @@
--- Steps that change only a pass's stage at a lane, and the numbers that it read there.
+-- Steps that change a pass's view only at one lane, and there only the pass's stage and the numbers that the pass
+-- drew or read.
 use Rattle.std.proofs.Common.{◌≡◌, ◌≢◌, ℕ, zero, suc, ◌<◌, List, [], ◌∷◌, length, get_or, set, sym, refl, ap, ◌∙◌, subst, inl, arith}
 use Rattle.std.proofs.lemmas.List.{get_or-set_other, get_or-set_same, length-set}
 use mathlib.Core.Logic.{dite}
@@ -31,7 +32,7 @@ consistent_same v w long same ok = let lists : known_of w ≡ known_of v = λ k 
 pub grows_same : (v w : View) → ((j : ℕ) → known_of w j ≡ known_of v j) → Grows v w
 grows_same v w e j low = subst (Begins (known_of v j)) (sym (e j)) (begins_refl (known_of v j))
 
--- a view's part of the lane i becomes `to`, with the same known list, owed answer and visits
+-- the view's part of the lane `i` becomes `to`; the known list, the owed answer and the visits are unchanged
 pub record Restages (i : ℕ) (m m' : Seated) : Type 0 where
   pub to : LaneView
   pub lanes : m'.0.lanes ≡ set m.0.lanes i to

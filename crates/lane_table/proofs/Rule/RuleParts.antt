@@ -8,11 +8,11 @@ use Rattle.lane_table.specs.declared.view.Visit.{Visit}
 use Rattle.lane_table.specs.declared.view.LaneView.{LaneView}
 use Rattle.lane_table.specs.declared.view.View.{View}
 use Rattle.lane_table.specs.declared.view.Content.{Content}
-use Rattle.lane_table.specs.declared.view.Stage.{Stage}
-use Rattle.lane_table.specs.declared.view.Stage.TheVariants.{Away, Queued, Holding}
-use Rattle.lane_table.specs.Meaning.{behind_of, ahead_of, parent}
+use Rattle.lane_table.specs.declared.view.TicketStage.{TicketStage}
+use Rattle.lane_table.specs.declared.view.TicketStage.TheVariants.{Away, Queued, Holding}
+use Rattle.lane_table.specs.Meaning.{after_of, ahead_of, parent}
 use Rattle.lane_table.specs.References.{Closed, AllHalfAnswered, Pointed}
-use Rattle.lane_table.specs.WorldRule.{Home, IsHolding, Owes, PassOk, Replays, St, Stands, WorldRule, at, column, known_of, raises}
+use Rattle.lane_table.specs.WorldRule.{Home, IsHolding, Owes, PassOk, Replays, St, Conforms, WorldRule, at, column, known_of, raises}
 use Rattle.lane_table.specs.RuleLaws.{Counts, CountsFrom, Generation, HasTicket, IsAnswered, IsView, KnownLists, LawfulSoFar, Stamps, Tickets, Values, generation_word, serving_of, ticket_of}
 use Rattle.lane_table.proofs.Lists.Lists.{all_zero, at_unmap, only_one, sum_by-map}
 use Rattle.lane_table.proofs.Lists.VisitLists.{at_begun}
@@ -23,13 +23,13 @@ use Rattle.lane_table.proofs.Rule.Tickets.{each_found}
 use Rattle.lane_table.proofs.Book.BookAnswers.{half_finished}
 
 -- a pass's ticket is from the serving number up to the ticket number, and the pass is its owner
-has_stands : (ticket serving : ℕ) (owner : ℕ → ℕ) (home : Home) (log : List Visit) (j : ℕ) (known : List Visit)
-    (g : Stage) (t : ℕ) → Stands ticket serving owner home log j known g → HasTicket g t
+has_conforms : (ticket serving : ℕ) (owner : ℕ → ℕ) (home : Home) (log : List Visit) (j : ℕ) (known : List Visit)
+    (g : TicketStage) (t : ℕ) → Conforms ticket serving owner home log j known g → HasTicket g t
     → (serving ≤ t) × (t < ticket) × (owner t ≡ j)
-has_stands ticket serving owner home log j known Away t k h = absurd h
-has_stands ticket serving owner home log j known (Queued u) t k h =
+has_conforms ticket serving owner home log j known Away t k h = absurd h
+has_conforms ticket serving owner home log j known (Queued u) t k h =
     subst (λ (z : ℕ). (serving ≤ z) × (z < ticket) × (owner z ≡ j)) h k
-has_stands ticket serving owner home log j known (Holding u) t k h =
+has_conforms ticket serving owner home log j known (Holding u) t k h =
     subst (λ (z : ℕ). (serving ≤ z) × (z < ticket) × (owner z ≡ j)) h (let e = k.0 in omega arith, k.1, k.2)
 
 module _ {first : ℕ} {s : St} (r : WorldRule first s) where
@@ -46,24 +46,25 @@ module _ {first : ℕ} {s : St} (r : WorldRule first s) where
         × (get_elem? s.homes i ≡ some none)
     holds j t v is stage = lane.holds_turn (r.lane i near) j (at_map (at i) s.views j v is) t stage
 
-    -- each ticket in the column is in this range, and its owner is the pass that has it
-    column_stands : (j t : ℕ) (a : LaneView) → get_elem? (column i s.views) j ≡ some a → HasTicket a.stage t →
+    -- each ticket in the column is from the serving number up to the ticket number, and its owner is the pass that has
+    -- it
+    column_conforms : (j t : ℕ) (a : LaneView) → get_elem? (column i s.views) j ≡ some a → HasTicket a.stage t →
         (serving_of s i ≤ t) × (t < ticket_of s i) × (r.owners i t ≡ j)
-    column_stands j t a e h = has_stands (ticket_of s i) (serving_of s i) (r.owners i) (get_elem? s.homes i) (r.logs i)
-        j a.known a.stage t ((r.lane i near).passes j a e).stands h
+    column_conforms j t a e h = has_conforms (ticket_of s i) (serving_of s i) (r.owners i) (get_elem? s.homes i) (r.logs i)
+        j a.known a.stage t ((r.lane i near).passes j a e).conforms h
 
     pub tickets : Tickets s i
     tickets = let ok = r.lane i near in let lo : ℕ = serving_of s i in let hi : ℕ = ticket_of s i in
         let ordered : lo ≤ hi = ok.ordered in let counted = ok.counted in record {
           ordered = ordered;
           counted = counted;
-          within = λ j t v is h. let k = column_stands j t (at i v) (at_map (at i) s.views j v is) h in (k.0, k.1);
-          one = λ j k t v w is is' h h'. sym (column_stands j t (at i v) (at_map (at i) s.views j v is) h).2
-              ∙ (column_stands k t (at i w) (at_map (at i) s.views k w is') h').2;
+          within = λ j t v is h. let k = column_conforms j t (at i v) (at_map (at i) s.views j v is) h in (k.0, k.1);
+          one = λ j k t v w is is' h h'. sym (column_conforms j t (at i v) (at_map (at i) s.views j v is) h).2
+              ∙ (column_conforms k t (at i w) (at_map (at i) s.views k w is') h').2;
           each = λ t low high.
               let f = each_found (hi - lo) lo t (column i s.views)
-              (λ j u a e h. let k = column_stands j u a e h in let low' = k.0 in let high' = k.1 in (low', omega arith))
-              (λ j k u a b e e' h h'. sym (column_stands j u a e h).2 ∙ (column_stands k u b e' h').2) (omega arith) low
+              (λ j u a e h. let k = column_conforms j u a e h in let low' = k.0 in let high' = k.1 in (low', omega arith))
+              (λ j k u a b e e' h h'. sym (column_conforms j u a e h).2 ∙ (column_conforms k u b e' h').2) (omega arith) low
               (omega arith) in
               let u = at_unmap (at i) s.views f.0 f.1 f.2 in
               (f.0, u.0, u.1, subst (λ (z : LaneView). HasTicket z.stage t) (sym u.2) f.3);
@@ -131,14 +132,14 @@ module _ {first : ℕ} {s : St} (r : WorldRule first s) where
 
   half : AllHalfAnswered count r.logs
   half l lo hi p b x e n = ⊎_elim (λ (t : (y : Visit) × (get_elem? (r.logs l) b ≡ some y)
-      × (behind_of y.entry ≡ Some p)). inl t)
+      × (after_of y.entry ≡ Some p)). inl t)
       (λ (t : (b ≡ length (r.logs l)) × Owes l p s.views). inr (let q = t.0 in omega arith))
       (r.pending l lo hi p b x e n)
 
   answers : (l p b : ℕ) (x : Visit) → 1 ≤ l → l < count → get_elem? (r.logs (parent l)) p ≡ some x →
       ahead_of x.entry ≡ Some (l, b) → IsAnswered s r.logs l p b
   answers l p b x lo hi e n = ⊎_elim (λ (t : (y : Visit) × (get_elem? (r.logs l) b ≡ some y)
-      × (behind_of y.entry ≡ Some p)). inl t)
+      × (after_of y.entry ≡ Some p)). inl t)
       (λ (t : (b ≡ length (r.logs l)) × Owes l p s.views). let o = t.1 in
       inr (t.0, (o.0, o.1, o.2, o.3, ((r.views o.0 o.1 o.2).owed l hi p o.3).0))) (r.pending l lo hi p b x e n)
 

@@ -1,5 +1,5 @@
--- The load of a serving word by a pass that waits: if it finds its ticket, it gets the lane, and learns the lists
--- that the value carries.
+-- The load of a serving word by a pass that waits. A pass that finds its ticket gets the lane, and learns the lists
+-- that the lane's value carries.
 use Rattle.std.proofs.Common.{◌≡◌, ℕ, zero, suc, ◌+◌, ◌<◌, ◌≤◌, ◌≢◌, List, [], ◌∷◌, length, get_or, set, sym, refl, ap, ◌∙◌, subst, inl, inr, ⊎_elim, arith, Some}
 use Rattle.std.proofs.lemmas.List.{get_or-set_other, get_or-set_same, set-get_or, length-set}
 use mathlib.Core.Option.{some, none}
@@ -12,10 +12,10 @@ use Rattle.lane_table.specs.declared.view.Visit.{Visit}
 use Rattle.lane_table.specs.declared.view.LaneView.{LaneView}
 use Rattle.lane_table.specs.declared.view.View.{View}
 use Rattle.lane_table.specs.declared.view.Content.{Content}
-use Rattle.lane_table.specs.declared.view.Stage.TheVariants.{Queued, Holding}
+use Rattle.lane_table.specs.declared.view.TicketStage.TheVariants.{Queued, Holding}
 use Rattle.lane_table.specs.Meaning.{parent}
 use Rattle.lane_table.specs.References.{Closed}
-use Rattle.lane_table.specs.WorldRule.{Begins, Rising, Replays, Consistent, Home, IsHolding, LaneOk, Owed, RaisedOk, St, Stands, WorldRule, at, blank, column, known_of, raises, ticket_word, serving_word}
+use Rattle.lane_table.specs.WorldRule.{Begins, Rising, Replays, Consistent, Home, IsHolding, LaneOk, Owed, RaisedOk, St, Conforms, WorldRule, at, blank, column, known_of, raises, ticket_word, serving_word}
 use Rattle.lane_table.specs.Steps.{Got, Grows, KeepsHeld, OwesNothing, Seated, with_at, holder, longer, learn, learn_from, learned, serves as Serves}
 use Rattle.lane_table.proofs.Lists.VisitLists.{begins_refl, longer_all, longer_begun}
 use Rattle.lane_table.proofs.Rule.Naming.{pointed_longer, owed_more, owed_out, parent_within}
@@ -36,7 +36,7 @@ learn_at lists k (a ∷ rest) zero h = let e : k + 0 ≡ k = omega arith in ap (
 learn_at lists k (a ∷ rest) (suc j) h = let e : suc k + j ≡ k + suc j = omega arith in
     learn_at lists (suc k) rest j (omega arith) ∙ ap (λ (m : ℕ). learn (lists m) (get_or rest j blank)) e
 
--- the view of the pass that gets the lane i with the ticket t
+-- the view of the pass that gets the lane `i` with the ticket `t`
 module _ {first : ℕ} {s : St} {id : ℕ} {v : View} (h : Here first s id v) (i t : ℕ) (near : i < length s.homes)
     (waits : (at i v).stage ≡ Queued t) where
   abbrev log : List Visit
@@ -146,20 +146,20 @@ module _ {first : ℕ} {s : St} {id : ℕ} {v : View} (h : Here first s id v) (i
       (λ (z : ((at 1 v).raised ≡ 1) × IsHolding (at 1 v)). inr (got_raised ∙ z.0, (z.1.0, c.stage ∙ z.1.1)))
       (h.rule.seen id v h.is).1)
 
-  waits_stands : Stands (get_or s.words (ticket_word i) 0) (get_or s.words (serving_word i) 0) (h.rule.owners i)
+  waits_conforms : Conforms (get_or s.words (ticket_word i) 0) (get_or s.words (serving_word i) 0) (h.rule.owners i)
       (get_elem? s.homes i) log id (known_of v i) (Queued t)
-  waits_stands = subst (Stands (get_or s.words (ticket_word i) 0) (get_or s.words (serving_word i) 0) (h.rule.owners i)
-      (get_elem? s.homes i) log id (known_of v i)) waits ((h.rule.lane i near).passes id (at i v) (world.here h i)).stands
+  waits_conforms = subst (Conforms (get_or s.words (ticket_word i) 0) (get_or s.words (serving_word i) 0) (h.rule.owners i)
+      (get_elem? s.homes i) log id (known_of v i)) waits ((h.rule.lane i near).passes id (at i v) (world.here h i)).conforms
 
-  -- while the base serves this ticket, no pass has raised
+  -- if the base serves this ticket, no pass has raised: so the generation seen is at most the raises in the list
   got_seen : t ≡ get_or s.words (serving_word i) 0 → i ≡ 1 → v.seen ≤ raises log
   got_seen now one = let none = plain.none_raised h i near t one
       (now ∙ ap (λ (k : ℕ). get_or s.words (serving_word k) 0) one)
-      (ap (λ (k : ℕ). h.rule.owners k t) (sym one) ∙ waits_stands.2) (got_free.1 one) in
+      (ap (λ (k : ℕ). h.rule.owners k t) (sym one) ∙ waits_conforms.2) (got_free.1 one) in
       let g = h.rule.generation in let o = (h.rule.seen id v h.is).0 in let e =
       ap (λ (k : ℕ). raises (h.rule.logs k)) one in omega arith
 
-  -- the rule holds after the slot went out
+  -- after the pass took the slot, the rule holds
   got_rule : t ≡ get_or s.words (serving_word i) 0 →
       (c : Content) × (get_elem? s.homes i ≡ some (some (Some c))) × Replays i first log c
       × WorldRule first record {
@@ -206,7 +206,7 @@ pub serves : (first n id i t : ℕ) (me : Seated) → i < n → 0 < me.0.share �
     → Allows (WorldRule first) n id me (serving_word i) (λ y. y) (Serves (step n (serving_word i) 0 0 none) me)
 serves first n id i t me near share waits s r wide is _ = let h : Here first s id me.0 =
     record { rule = r; is = is; share = share } in let near' : i < length s.homes = omega arith in
-    let k : ℕ = serving_word i in let y : ℕ = get_or s.words k 0 in let stands = waits_stands h i t near' waits in
+    let k : ℕ = serving_word i in let y : ℕ = get_or s.words k 0 in let conforms = waits_conforms h i t near' waits in
     let above : (l : ℕ) → i ≡ l → (at l me.0).loaded ≤ y =
     λ l same. subst (λ (z : ℕ). (at z me.0).loaded ≤ y) same (loaded_below h i near') in
     let which : (l t' : ℕ) → i ≡ l → (at l me.0).stage ≡ Queued t' → t ≡ t' =
@@ -215,7 +215,7 @@ serves first n id i t me near share waits s r wide is _ = let h : Here first s i
     dite (ℕ_discrete t y)
     (λ now. let got = got_rule h i t near' waits now in let c : Content = got.0 in
     let w = got_view h i t near' waits in let f = (world.sized h).1 in
-    let told : Got i t me (w, (i, Some c) ∷ me.1) = record {
+    let recorded : Got i t me (w, (i, Some c) ∷ me.1) = record {
       log = r.logs i;
       content = c;
       lists = r.carried i;
@@ -235,8 +235,8 @@ serves first n id i t me near share waits s r wide is _ = let h : Here first s i
       got.3,
       (λ l e t' waits'. let same : i ≡ l = omega arith in let one = which l t' same waits' in (
         above l same,
-        (let q = stands.0 in omega arith),
-        (λ _. subst (λ (z : ℕ × ℕ). Got z.0 z.1 me (w, (i, Some c) ∷ me.1)) (λ q. (same q, one q)) told),
+        (let q = conforms.0 in omega arith),
+        (λ _. subst (λ (z : ℕ × ℕ). Got z.0 z.1 me (w, (i, Some c) ∷ me.1)) (λ q. (same q, one q)) recorded),
         λ miss. absurd (miss (sym now ∙ one)),
       )),
     ))
@@ -246,5 +246,5 @@ serves first n id i t me near share waits s r wide is _ = let h : Here first s i
       tt,
       world.stays h k,
       (λ l e t' waits'. let same : i ≡ l = omega arith in let one = which l t' same waits' in
-          (above l same, (let q = stands.0 in omega arith), (λ hit. absurd (miss (one ∙ sym hit))), λ _. refl)),
+          (above l same, (let q = conforms.0 in omega arith), (λ hit. absurd (miss (one ∙ sym hit))), λ _. refl)),
     ))

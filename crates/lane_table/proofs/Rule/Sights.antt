@@ -1,4 +1,4 @@
--- The generation that a pass sees, look after look and visit after visit.
+-- The generation that a pass has seen (`floor`) never falls, from look to look and from visit to visit.
 use Rattle.std.proofs.Common.{◌≡◌, ◌≢◌, ℕ, suc, ◌<◌, ◌≤◌, List, [], ◌∷◌, ◌++◌, length, take, sym, refl, ap, ◌∙◌, subst, arith, le_refl, length-append}
 use Rattle.std.specs.Prelude.{⊤}
 use Rattle.std.specs.List.{fold}
@@ -20,7 +20,7 @@ use Rattle.lane_table.specs.References.{Pointed}
 use Rattle.lane_table.specs.WorldRule.{Consistent, known_of}
 use Rattle.lane_table.specs.Steps.{Grows, Seated}
 use Rattle.lane_table.specs.Calls.{Added, Looked}
-use Rattle.lane_table.specs.Advances.{MadeStep, looked, visited, AllStand, Sees, floor, generation_of}
+use Rattle.lane_table.specs.Advances.{MadeStep, looked, visited, AllConform, Sees, floor, generation_of}
 use Rattle.lane_table.proofs.Rule.Floors.{floor_grown}
 use Rattle.lane_table.proofs.Lists.LawfulLists.{base_generation, cpu_below}
 use Rattle.lane_table.proofs.Lists.Lists.{at_below}
@@ -120,21 +120,21 @@ sees_append w low mid high (looked g ∷ xs) ys a b = (a.0, sees_append w g mid 
 sees_append w low mid high (visited mark e ∷ xs) ys a b =
     (a.0, a.1, a.2, sees_append w a.0 mid high xs ys a.3 b)
 
--- each visit is in a lane's known list
+-- each visit of the steps is in the known list of its lane
 abbrev pub AllKnown : View → List MadeStep → Type 0
 AllKnown v [] = ⊤
 AllKnown v (looked g ∷ made_steps) = AllKnown v made_steps
 AllKnown v (visited mark e ∷ made_steps) = (index_of mark.lane < length v.lanes)
     × (mark.place < length (known_of v (index_of mark.lane))) × AllKnown v made_steps
 
-pub stand_known : (v : View) (caller event n : ℕ) (made_steps : List MadeStep) → AllStand v caller event n made_steps →
+pub conform_known : (v : View) (caller event n : ℕ) (made_steps : List MadeStep) → AllConform v caller event n made_steps →
     AllKnown v made_steps
-stand_known v caller event n [] k = tt
-stand_known v caller event n (looked g ∷ made_steps) k = stand_known v caller event (suc n) made_steps k
-stand_known v caller event n (visited mark e ∷ made_steps) k = (
+conform_known v caller event n [] k = tt
+conform_known v caller event n (looked g ∷ made_steps) k = conform_known v caller event (suc n) made_steps k
+conform_known v caller event n (visited mark e ∷ made_steps) k = (
   k.0.near,
   at_below (known_of v (index_of mark.lane)) mark.place k.0.visit k.0.there,
-  stand_known v caller event (suc n) made_steps k.1,
+  conform_known v caller event (suc n) made_steps k.1,
 )
 
 -- `Sees` still holds when more of the lists is known

@@ -16,7 +16,7 @@ use Rattle.lane_table.specs.declared.view.View.{View}
 use Rattle.lane_table.specs.Meaning.{parent}
 use Rattle.lane_table.specs.References.{Pointed}
 use Rattle.lane_table.specs.WorldRule.{LaneOk, RaisedOk, ViewOk, WorldRule, at, blank, column, known_of, ticket_word, serving_word, weight}
-use Rattle.lane_table.specs.Steps.{told, halved, child}
+use Rattle.lane_table.specs.Steps.{recorded, halved, child}
 use Rattle.lane_table.proofs.Lists.Lists.{at_below, sum_at_set}
 use Rattle.lane_table.proofs.Rule.Naming.{owed_none, pending_views}
 use Rattle.lane_table.proofs.Rule.Shares.{weight_up, weights_up}
@@ -29,12 +29,12 @@ splits first id v share s r is = let h : Here first s id v = record { rule = r; 
     let views₁ : List View = set s.views id (halved v) in let views' : List View = views₁ ++ child v ∷ [] in
     let top : ℕ = r.top in let ov = r.views id v is in let n : ℕ = length s.homes in
     let below : v.halvings ≤ top = ov.below in
-    let told_at : (j : ℕ) → at j (child v) ≡ told (at j v) = λ j. get_or-map told v.lanes j blank in
-    let col : (j : ℕ) → column j views' ≡ column j s.views ++ told (at j v) ∷ [] =
+    let recorded_at : (j : ℕ) → at j (child v) ≡ recorded (at j v) = λ j. get_or-map recorded v.lanes j blank in
+    let col : (j : ℕ) → column j views' ≡ column j s.views ++ recorded (at j v) ∷ [] =
     λ j. map-append (at j) views₁ (child v ∷ [])
     ∙ ap (λ (l : List LaneView). l ++ at j (child v) ∷ [])
     (map-set (at j) s.views id (halved v) ∙ set_again (column j s.views) id (at j v) (world.here h j))
-    ∙ ap (λ (a : LaneView). column j s.views ++ a ∷ []) (told_at j) in
+    ∙ ap (λ (a : LaneView). column j s.views ++ a ∷ []) (recorded_at j) in
     let cases : (P : View → Type 0) (j : ℕ) (u : View) → P (halved v) →
     ((w : View) → get_elem? s.views j ≡ some w → P w) → P (child v) → get_elem? views' j ≡ some u → P u =
     λ P j u mine others new e. ⊎_elim
@@ -70,10 +70,10 @@ splits first id v share s r is = let h : Here first s id v = record { rule = r; 
           (get_or s.words (serving_word i) 0) (get_elem? s.homes i) l (r.logs i) (r.owners i)) (sym (col i))
           (lane.enters (r.lane i near) id (world.here h i));
       generation = (let e = ap (sum_by (λ (a : LaneView). a.raised)) (col 1) in
-          let f = sum_by_push (λ (a : LaneView). a.raised) (column 1 s.views) (told (at 1 v)) in let g = r.generation in
+          let f = sum_by_push (λ (a : LaneView). a.raised) (column 1 s.views) (recorded (at 1 v)) in let g = r.generation in
           omega arith);
       seen = λ j u e. cases (λ (z : View). (z.seen ≤ get_or s.words 0 0) × RaisedOk (at 1 z)) j u (r.seen id v is)
-          (λ w q. r.seen j w q) ((r.seen id v is).0, inl (ap (λ (a : LaneView). a.raised) (told_at 1))) e;
+          (λ w q. r.seen j w q) ((r.seen id v is).0, inl (ap (λ (a : LaneView). a.raised) (recorded_at 1))) e;
       top = top + 1;
       views = λ j u e. cases (ViewOk first n (top + 1)) j u
           record {
@@ -94,14 +94,14 @@ splits first id v share s r is = let h : Here first s id v = record { rule = r; 
             owed = o.owed;
           })
           record {
-            sized = λ p. (let z = ov.sized p in (length-map v.lanes told ∙ z.0, z.1));
+            sized = λ p. (let z = ov.sized p in (length-map v.lanes recorded ∙ z.0, z.1));
             spent = λ p. absurd (omega arith);
             below = omega arith;
             stamped = ov.stamped;
             closed = λ l lo hi. subst (λ (z : LaneView × LaneView). Pointed l z.0.known z.1.known)
-                (λ k. (sym (told_at (parent l)) k, sym (told_at l) k)) (ov.closed l lo hi);
+                (λ k. (sym (recorded_at (parent l)) k, sym (recorded_at l) k)) (ov.closed l lo hi);
             owed = λ l hi. owed_none l (at l (child v)) (known_of (child v) (parent l))
-                (ap (λ (a : LaneView). a.owes) (told_at l));
+                (ap (λ (a : LaneView). a.owes) (recorded_at l));
           } e;
       whole =
           (let up = weights_up top s.views (λ j u e. (r.views j u e).below) in

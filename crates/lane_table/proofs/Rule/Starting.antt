@@ -54,7 +54,7 @@ module _ (first count : ℕ) (two : 2 ≤ count) where
   abbrev new : View
   new = first_view (plan_of count first)
 
-  -- each word but the first is `first`
+  -- each word except word 0 is `first`
   word_at : (k : ℕ) → k < words_of count → ¬ (k ≡ 0) → get_or words k 0 ≡ first
   word_at k low ne = get_or-set_other (replicate (words_of count) first) 0 k 0 0 ne
       ∙ get_or-replicate (words_of count) k first 0 low
@@ -70,7 +70,7 @@ module _ (first count : ℕ) (two : 2 ≤ count) where
     drawn = omega arith;
     passes = λ j a e. ⊎_elim (λ (h : get_elem? [] j ≡ some a). absurd (some-ne-none a (sym h)))
         (λ (h : blank ≡ a). subst (PassOk first first (λ _. 0) (some (some (Some c))) [] j) h
-        record { begins = ([], refl); heard = tt; stands = tt; loaded = omega arith; found = omega arith })
+        record { begins = ([], refl); heard = tt; conforms = tt; loaded = omega arith; found = omega arith })
         (at_snoc [] blank a j e);
     whereabouts = inl (c, refl, plays);
     made = refl;

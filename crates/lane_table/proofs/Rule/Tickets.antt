@@ -1,5 +1,5 @@
--- If all tickets are in a range, are as many as its numbers, and belong to one pass each, they are all numbers of the
--- range.
+-- Suppose that all tickets are in a range, are as many as the range has numbers, and belong to one pass each. Then
+-- every number of the range is a ticket.
 use Rattle.std.proofs.Common.{◌≡◌, ◌≢◌, ◌⊎◌, ℕ, zero, suc, ◌+◌, ◌<◌, ◌≤◌, List, [], ◌∷◌, ◌++◌, length, set, sym, refl, ◌∙◌, subst, inl, inr, ⊎_elim, arith}
 use Rattle.std.specs.List.{sum_by}
 use Rattle.std.proofs.lemmas.List.Sums.{sum_by_push}
@@ -9,23 +9,23 @@ use native.Mathlib.Decide.{ℕ_discrete}
 use lib.ListN.{get_elem?}
 use Rattle.atomic_table.proofs.Lists.{at_set}
 use Rattle.lane_table.specs.declared.view.LaneView.{LaneView}
-use Rattle.lane_table.specs.declared.view.Stage.{Stage}
-use Rattle.lane_table.specs.declared.view.Stage.TheVariants.{Away, Queued, Holding}
+use Rattle.lane_table.specs.declared.view.TicketStage.{TicketStage}
+use Rattle.lane_table.specs.declared.view.TicketStage.TheVariants.{Away, Queued, Holding}
 use Rattle.lane_table.specs.WorldRule.{blank, has_ticket}
 use Rattle.lane_table.specs.RuleLaws.{HasTicket}
 use Rattle.lane_table.proofs.Lists.Lists.{all_zero, at_push, sum_at_set}
 
-has_or_not : (g : Stage) (t : ℕ) → HasTicket g t ⊎ ¬ HasTicket g t
+has_or_not : (g : TicketStage) (t : ℕ) → HasTicket g t ⊎ ¬ HasTicket g t
 has_or_not Away t = inr (λ h. h)
 has_or_not (Queued u) t = dite (ℕ_discrete u t) (λ e. inl e) (λ ne. inr ne)
 has_or_not (Holding u) t = dite (ℕ_discrete u t) (λ e. inl e) (λ ne. inr ne)
 
-has_small : (g : Stage) → has_ticket g ≤ 1
+has_small : (g : TicketStage) → has_ticket g ≤ 1
 has_small Away = omega arith
 has_small (Queued u) = omega arith
 has_small (Holding u) = omega arith
 
-has_none : (g : Stage) → ((t : ℕ) → ¬ HasTicket g t) → has_ticket g ≡ 0
+has_none : (g : TicketStage) → ((t : ℕ) → ¬ HasTicket g t) → has_ticket g ≡ 0
 has_none Away h = refl
 has_none (Queued u) h = absurd (h u refl)
 has_none (Holding u) h = absurd (h u refl)
@@ -46,7 +46,7 @@ found_or_nobody t (x ∷ xs) = ⊎_elim (λ (h : HasTicket x.stage t). inl (0, x
     (λ (lacks : ¬ HasTicket x.stage t). ⊎_elim (λ (f : Found t xs). inl (suc f.0, f.1, f.2, f.3))
     (λ (none' : Nobody t xs). inr (nobody_more t x xs lacks none')) (found_or_nobody t xs)) (has_or_not x.stage t)
 
--- the tickets are in a range of n numbers from lo, one for each pass
+-- each ticket of the column is one of the `n` numbers from `lo` on
 abbrev Within : ℕ → ℕ → List LaneView → Type 0
 Within n lo col = (j t : ℕ) (a : LaneView) → get_elem? col j ≡ some a → HasTicket a.stage t → (lo ≤ t) × (t < lo + n)
 

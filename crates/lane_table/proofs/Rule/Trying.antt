@@ -6,7 +6,7 @@ use Rattle.lane_table.specs.Steps.{Seated, finding, loaded, found, waiting, queu
 use Rattle.lane_table.specs.Calls.{IsBusy, IsSpent, Tried}
 use Rattle.lane_table.proofs.Rule.Restaging.{Restages, restages_both, restages_loaded, restages_found, restages_queued_found, restages_to, to_here, to_long, to_tried}
 
--- the serving number n was loaded, and then the ticket number k was found
+-- the serving number `n` was loaded, and then the ticket number `k` was found
 module _ (i n k : ℕ) (m m₁ m₂ : Seated) (near : i < length m.0.lanes) (at₁ : m₁ ≡ loaded i n m)
     (at₂ : m₂ ≡ found i k m₁) where
   one : Restages i m m₁
@@ -47,7 +47,7 @@ module _ (i n k : ℕ) (m m₁ m₂ : Seated) (near : i < length m.0.lanes) (at�
   pub tried : Tried i m m₂
   tried = to_tried two near away_still still_drawn
 
-  -- the exchange found q
+  -- the exchange found the ticket number `q`
   module _ (q : ℕ) (m₃ : Seated) where
     module _ (at₃ : m₃ ≡ found i q m₂) where
       missed : at i m₃.0 ≡ record (at i m.0) { loaded = n; found = q }

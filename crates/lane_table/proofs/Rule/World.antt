@@ -1,4 +1,5 @@
--- A step on one lane keeps the rule of the whole: a view's part of any other lane may only learn.
+-- A step on one lane keeps the rule of the whole table. In a view's part of another lane only the known list, `owes`
+-- and `raised` may change.
 use Rattle.std.proofs.Common.{◌≡◌, ℕ, ◌+◌, ◌*◌, ◌-◌, ◌^◌, ◌<◌, ◌≤◌, ◌≢◌, cond, eqb, eq-eqb, ne_eqb, List, length, get_or, set, sym, refl, ap, ◌∙◌, subst, ⊎_elim, arith, Option}
 use Rattle.std.specs.Prelude.{All}
 use Rattle.std.proofs.lemmas.List.{get_or-set_other, set-get_or, length-set, map-set}
@@ -24,7 +25,7 @@ use Rattle.lane_table.proofs.Lists.LawfulLists.{lawful_begun}
 use Rattle.lane_table.proofs.Rule.Naming.{pending_views, half_known, parent_within}
 use Rattle.lane_table.proofs.Rule.OneLane as lane
 
--- f with x at i
+-- `f` with the value `x` at `i`
 abbrev pub pick : {A : Type 0} → ℕ → A → (ℕ → A) → ℕ → A
 pick i x f j = cond (eqb j i) x (f j)
 
@@ -38,7 +39,8 @@ pub pick_same : {A : Type 0} (i j : ℕ) (f : ℕ → A) → pick i (f i) f j �
 pick_same i j f = dite (ℕ_discrete j i) (λ e. ap (λ (k : ℕ). pick i (f i) f k) e ∙ pick_here i (f i) f ∙ ap f (sym e))
     (λ ne. pick_else i j (f i) f ne)
 
--- a view's part of another lane may grow
+-- a view's part of another lane may change in its known list, `owes` and `raised`; the known list stays a prefix of
+-- the log, or stays the whole log
 pub record Recasts (log : List Visit) (a b : LaneView) : Type 0 where
   pub stage : b.stage ≡ a.stage
   pub made : b.made ≡ a.made
@@ -64,7 +66,7 @@ same_at log a b e h = record {
   whole = λ w. ap (λ (x : LaneView). x.known) e ∙ w;
 }
 
--- the rule holds, and seat number id has the view v
+-- the rule holds, and seat number `id` has the view `v`
 pub record Here (first : ℕ) (s : St) (id : ℕ) (v : View) : Type 0 where
   pub rule : WorldRule first s
   pub is : get_elem? s.views id ≡ some v
@@ -106,7 +108,7 @@ module _ {first : ℕ} {s : St} {id : ℕ} {v : View} (h : Here first s id v) wh
       let path : s ≡ record { words = set s.words k (get_or s.words k 0); homes = s.homes; views = set s.views id v } =
       λ i. record { words = sym p i; homes = s.homes; views = sym q i } in subst (WorldRule first) path h.rule
 
-  -- a view of prefixes is consistent if its lists are closed
+  -- a view that knows prefixes of the lists is consistent if these prefixes are closed
   pub consistent : (logs' : ℕ → List Visit) (views' : List View) (w : View) → LawfulLists count logs' →
       AllPending count logs' views' → length w.lanes ≡ count
       → ((j : ℕ) → j < count → Begins (known_of w j) (logs' j)) → Closed count (known_of w) → Consistent w
@@ -140,13 +142,13 @@ module _ {first : ℕ} {s : St} {id : ℕ} {v : View} (h : Here first s id v) wh
       ))
       (λ ne. (o.0, o.1, set_else s.views id o.0 w ne ∙ o.2, o.3))
 
-  -- a changed word is not one of another lane, and the generation does not fall
+  -- a step that stores `y` in word `k`: the word belongs to no other lane, and the generation does not fall
   pub record WordStep (i k y : ℕ) : Type 0 where
     pub others : (j : ℕ) → j ≢ i → (ticket_word j ≢ k) × (serving_word j ≢ k)
     pub rises : get_or s.words 0 0 ≤ get_or (set s.words k y) 0 0
     pub small : get_or (set s.words k y) 0 0 < 2 ^ 63
 
-  -- the generation does not change
+  -- a store in another word does not change the generation
   pub unraised : (k y : ℕ) → ¬ (0 ≡ k) → get_or (set s.words k y) 0 0 ≡ get_or s.words 0 0
   unraised k y ne = get_or-set_other s.words k 0 y 0 ne
 
@@ -162,7 +164,7 @@ module _ {first : ℕ} {s : St} {id : ℕ} {v : View} (h : Here first s id v) wh
   serving_step i y = lane_step i (serving_word i) y (λ j ne. ((λ e. omega arith), (λ e. ne (omega arith))))
       (λ e. omega arith)
 
-  -- the state after a step on the lane i
+  -- the state after a step on the lane `i`
   pub record Moved (i y k : ℕ) (w : View) (a' : LaneView) (homes' : List (maybe.Option (Option Content)))
       (log' : List Visit) (owner' : ℕ → ℕ) (lists' : ℕ → List Visit) : Type 0 where
     pub word : WordStep i k y
@@ -222,7 +224,7 @@ module _ {first : ℕ} {s : St} {id : ℕ} {v : View} (h : Here first s id v) wh
     abbrev views' : List View
     views' = set s.views id w
 
-    -- each word except word k is unchanged
+    -- each word except word `k` is unchanged
     other_word : (n : ℕ) → ¬ (n ≡ k) → get_or words' n 0 ≡ get_or s.words n 0
     other_word n ne = get_or-set_other s.words k n y 0 ne
 

@@ -1,4 +1,4 @@
-//! The fork of a caller: an entry of the base records the child, and its pass is split off.
+//! The fork of a caller: an entry of the base records the child, and the caller's pass is split for it.
 ghost use Rattle.rng_core.specs.Forks.{TellsOf, SplitsOff};
 ghost use Rattle.rng_core.specs.Sites.{IsIdle};
 

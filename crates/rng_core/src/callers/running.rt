@@ -9,8 +9,8 @@ use crate::site::Site;
 use key_names::{BaseEntry, LaneId};
 use std::sync::Wait;
 
-/// Counts the caller as not running, in a visit of the base, since it is about to run a child in its own thread. The
-/// kernel has no such function.
+/// Counts the caller as not running, in a visit of the base, because it is about to run a child in its own thread.
+/// The kernel has no such function.
 pub fn stall<R: Wait>(rt: &R, site: &mut Site)
     requires idle { IsIdle 1 site.old }
     ensures does { Does 1 (BaseOnly Stall) site.old site.new }
@@ -32,7 +32,7 @@ pub fn unstall<R: Wait>(rt: &R, site: &mut Site)
     site.visit_base(base, BaseEntry::Unstall);
 }
 
-/// Ends the caller. Then the base's list has every generation that the pass has seen.
+/// Ends the caller, in a visit of the base. After that the base's list has every generation that the pass has seen.
 pub fn end<R: Wait>(rt: &R, site: &mut Site)
     requires idle { IsIdle 1 site.old }
     ensures does { Does 1 (BaseOnly End) site.old site.new }

@@ -11,13 +11,14 @@ ghost use Rattle.rng_core.specs.Sites.{IsIdle, IsOnCpu, HasRoom, Holds, HoldsWit
 
 use crate::cpu_values;
 use crate::crng::keys::KeyHandoff;
-use crate::crng::reads::read_behind;
+use crate::crng::reads::read_after;
 use crate::site::Site;
 use key_names::{CpuEntry, Taken};
 use lane_table::Held;
 use std::sync::Wait;
 
-// Serves an integer out of a batch. If the batch needs a fill, the CPU's own key, of the found generation, fills it.
+// Serves an integer out of a batch. If the batch needs a fill, the CPU's own key fills it; that key is of the
+// generation that the look found.
 fn serve(site: &mut Site, mut cpu: Held, look: u64, filled: bool, out: &mut [u8])
     requires holds { Holds (own_lane site.old) cpu site.old }
     requires fill { IsFill look (length out.old) filled site.old }
@@ -80,7 +81,7 @@ fn serve_batched<R: Wait>(rt: &R, site: &mut Site, out: &mut [u8])
 }
 
 /// Serves a random integer of 1, 2, 4 or 8 bytes, the length of `out` (`get_random_u8` to `get_random_u64`). Before
-/// the core is ready it is a read of the kernel, and uses no batch.
+/// the core is ready, a kernel read makes the integer, and no batch is used.
 pub fn int<R: Wait>(rt: &R, site: &mut Site, out: &mut [u8])
     requires idle { IsIdle 4 site.old }
     requires cpu { IsOnCpu site.old }
@@ -90,7 +91,7 @@ pub fn int<R: Wait>(rt: &R, site: &mut Site, out: &mut [u8])
     let found = site.look();
     if found == 0 {
         let taken = Taken::Kernel(out.len() as u32);
-        read_behind(rt, site, found, out, taken);
+        read_after(rt, site, found, out, taken);
         return;
     }
     serve_batched(rt, site, out);

@@ -9,7 +9,7 @@ use std::sync::Wait;
 
 /// A root, and the place of its extraction in the pool's list.
 #[derive(Clone, Copy)]
-pub(crate) struct Root {
+pub(crate) struct ExtractedRoot {
     pub(crate) key: [u8; 32],
     pub(crate) place: u64,
 }
@@ -27,7 +27,7 @@ impl Site<'_> {
     ghost use Rattle.rng_core.specs.Sites.{HasRoom, Holds, IsLow, Extracted, ExtractedRaising, Refilled, base_lane, own_lane};
 
     /// Extracts a root for the held base (`extract_entropy`).
-    pub(crate) fn extract<R: Wait>(&mut self, rt: &R, base: &Held) -> Root
+    pub(crate) fn extract<R: Wait>(&mut self, rt: &R, base: &Held) -> ExtractedRoot
         requires holds { Holds base_lane base.now self.old }
         requires room { HasRoom 1 self.old }
         ensures { Extracted base.now result self.old self.new }
@@ -40,11 +40,12 @@ impl Site<'_> {
         };
         let place = pool.place();
         self.put(pool, note);
-        Root { key, place }
+        ExtractedRoot { key, place }
     }
 
-    /// Extracts a root for the held base, and raises the generation to that of the reseed.
-    pub(crate) fn extract_raising<R: Wait>(&mut self, rt: &R, base: &Held) -> Root
+    /// Extracts a root for the held base, and raises the generation word to the generation that the reseed will give
+    /// the base.
+    pub(crate) fn extract_raising<R: Wait>(&mut self, rt: &R, base: &Held) -> ExtractedRoot
         requires holds { Holds base_lane base.now self.old }
         requires room { HasRoom 1 self.old }
         requires low { IsLow self.old }

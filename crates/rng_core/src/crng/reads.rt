@@ -1,5 +1,5 @@
-//! Reads of random bytes, from the base before the core is ready and from a CPU after that. They make the bytes
-//! after the first 32 without a lane.
+//! Reads of random bytes, from the base before the core is ready and from a CPU after that. A read holds no lane
+//! while it makes the bytes after the first 32.
 ghost use Rattle.std.specs.Prelude.{◌≡◌, ◌≢◌, ◌≤◌, None, Some, length};
 ghost use Rattle.key_names.specs.declared.entries.CpuEntry.TheVariants.{Read};
 ghost use Rattle.key_names.specs.Lanes.BaseList.{empty, early, ready};
@@ -21,8 +21,8 @@ use key_names::{BaseEntry, CpuEntry, LaneId, Taken};
 use lane_table::Held;
 use std::sync::Wait;
 
-// Reads from a base that was never seeded: it gets a root for this read alone (`crng_make_state` while `crng_init`
-// is `CRNG_EMPTY`).
+// Reads from a base that was never seeded, with a root that serves this read alone (`crng_make_state` while
+// `crng_init` is `CRNG_EMPTY`).
 fn draw_rooted<R: Wait>(
     rt: &R,
     site: &mut Site,
@@ -63,7 +63,7 @@ fn draw_early(site: &mut Site, mut base: Held, buf: &mut [u8], taken: Taken) -> 
     rest
 }
 
-// Reads from the held base before it is ready.
+// Reads from the held base before the core is ready.
 fn draw<R: Wait>(rt: &R, site: &mut Site, base: Held, buf: &mut [u8], taken: Taken) -> Rest
     requires holds { Holds base_lane base site.old }
     requires unready { (lane_of site.old base_lane).base.phase ≢ ready }
@@ -80,7 +80,7 @@ fn draw<R: Wait>(rt: &R, site: &mut Site, base: Held, buf: &mut [u8], taken: Tak
     }
 }
 
-// Reads from a CPU with a key of the found generation.
+// Reads from a CPU whose key is of the generation that the look found.
 fn read_fresh(site: &mut Site, mut cpu: Held, look: u64, buf: &mut [u8], taken: Taken) -> Rest
     requires holds { Holds (own_lane site.old) cpu site.old }
     requires fresh { IsFresh look site.old }
@@ -146,7 +146,7 @@ fn begin_cpu<R: Wait>(rt: &R, site: &mut Site, buf: &mut [u8], taken: Taken) -> 
 }
 
 // Continues a read after its first look, which found `look`, and makes at most 32 bytes.
-fn begin_behind<R: Wait>(rt: &R, site: &mut Site, look: u64, buf: &mut [u8], taken: Taken) -> Rest
+fn begin_after<R: Wait>(rt: &R, site: &mut Site, look: u64, buf: &mut [u8], taken: Taken) -> Rest
     requires idle { IsIdle 3 site.old }
     requires cpu { IsOnCpu site.old }
     requires looked { look ≤ seen_by site.old }
@@ -166,8 +166,8 @@ fn begin_behind<R: Wait>(rt: &R, site: &mut Site, look: u64, buf: &mut [u8], tak
     begin_cpu(rt, site, buf, taken)
 }
 
-/// Reads from a CPU (`_get_random_bytes`, `get_random_bytes_user`). It makes the bytes after the first 32 without a
-/// lane.
+/// Reads from a CPU (`_get_random_bytes`, `get_random_bytes_user`), and holds no lane while it makes the bytes after
+/// the first 32.
 pub(crate) fn read_cpu<R: Wait>(rt: &R, site: &mut Site, buf: &mut [u8], taken: Taken)
     requires idle { IsIdle 3 site.old }
     requires cpu { IsOnCpu site.old }
@@ -179,15 +179,16 @@ pub(crate) fn read_cpu<R: Wait>(rt: &R, site: &mut Site, buf: &mut [u8], taken: 
     rest.fill(buf);
 }
 
-/// Continues a read after its first look, which found `look`. It makes the bytes after the first 32 without a lane.
-pub(crate) fn read_behind<R: Wait>(rt: &R, site: &mut Site, look: u64, buf: &mut [u8], taken: Taken)
+/// Continues a read after its first look, which found `look`. It holds no lane while it makes the bytes after the
+/// first 32.
+pub(crate) fn read_after<R: Wait>(rt: &R, site: &mut Site, look: u64, buf: &mut [u8], taken: Taken)
     requires idle { IsIdle 3 site.old }
     requires cpu { IsOnCpu site.old }
     requires looked { look ≤ seen_by site.old }
     requires asks { Asks taken buf.old }
     ensures { Does 3 (Serving (ReadForm (setting_of site.old.set) taken look) buf.new) site.old site.new }
 {
-    let rest = begin_behind(rt, site, look, buf, taken);
+    let rest = begin_after(rt, site, look, buf, taken);
     rest.fill(buf);
 }
 
@@ -203,7 +204,7 @@ pub fn kernel_read<R: Wait>(rt: &R, site: &mut Site, buf: &mut [u8])
     }
     let taken = Taken::Kernel(buf.len() as u32);
     let found = site.look();
-    read_behind(rt, site, found, buf, taken);
+    read_after(rt, site, found, buf, taken);
 }
 
 /// Reads /dev/urandom (`urandom_read_iter`), at most 2^20 bytes. It never waits for readiness. A read of no bytes
@@ -219,5 +220,5 @@ pub fn urandom_file<R: Wait>(rt: &R, site: &mut Site, buf: &mut [u8])
     }
     let taken = Taken::User(buf.len() as u32);
     let found = site.look();
-    read_behind(rt, site, found, buf, taken);
+    read_after(rt, site, found, buf, taken);
 }

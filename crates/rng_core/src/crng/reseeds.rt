@@ -7,7 +7,7 @@ ghost use Rattle.key_names.specs.Transcripts.SeenLine.{no_data};
 ghost use Rattle.key_names.specs.Lanes.BaseList.{IsDue, empty};
 ghost use Rattle.key_names.specs.Lanes.PoolList.{early};
 ghost use Rattle.lane_table.specs.Calls.{view};
-ghost use Rattle.input_pool.specs.PoolStands.{crossing_of};
+ghost use Rattle.input_pool.specs.PoolConforms.{crossing_of};
 ghost use Rattle.rng_core.specs.Causes.{ReseedCause};
 ghost use Rattle.rng_core.specs.Makes.{setting_of, result_answer, tick_result};
 ghost use Rattle.rng_core.specs.Sites.{IsIdle, IsTimely, HasRoom, Holds, IsLow, Does, Completes, lane_of, base_lane, seen_by};
@@ -20,7 +20,7 @@ use key_names::{BaseEntry, Errno, LaneId};
 use lane_table::Held;
 use std::sync::Wait;
 
-/// Makes a root of the pool the base's key, and raises the generation (`crng_reseed`).
+/// Gives the base a root of the pool as its key, and raises the generation (`crng_reseed`).
 pub(crate) fn reseed_base<R: Wait>(rt: &R, site: &mut Site)
     requires idle { IsIdle 2 site.old }
     requires moment { IsTimely site.old }
@@ -38,13 +38,13 @@ pub(crate) fn reseed_base<R: Wait>(rt: &R, site: &mut Site)
     site.visit_base(base, entry);
 }
 
-/// Reseeds the core by hand (`random_ioctl` of `RNDRESEEDCRNG`). Then the generation is above each one that the
+/// Reseeds the core on request (`random_ioctl` of `RNDRESEEDCRNG`). Then the generation is above each one that the
 /// caller had seen.
 ///
 /// # Errors
 ///
-/// `NoData` if and only if the look finds that the core is not ready. That never happens if the caller saw it ready
-/// before.
+/// `NoData` if and only if the look finds that the core is not ready. A caller that saw the core ready before never
+/// gets this error.
 pub fn reseed<R: Wait>(rt: &R, site: &mut Site) -> Result<(), Errno>
     requires idle { IsIdle 3 site.old }
     requires moment { IsTimely site.old }
@@ -59,7 +59,7 @@ pub fn reseed<R: Wait>(rt: &R, site: &mut Site) -> Result<(), Errno>
     Ok(())
 }
 
-// The timer is due: installs a root, and sets the timer again.
+// Reseeds the base because the timer is due: installs a root, and sets the timer again.
 fn fire<R: Wait>(rt: &R, site: &mut Site, mut base: Held)
     requires holds { Holds base_lane base site.old }
     requires due { IsDue (lane_of site.old base_lane).base.timer site.old.set.now }

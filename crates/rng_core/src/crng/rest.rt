@@ -18,7 +18,8 @@ use cpu_gen::Cpu;
 use key_names::Taken;
 use lane_table::LaneState;
 
-// The bytes that remain of an erasure's block: a read makes no more while it holds a lane.
+// A block has this many bytes after the 32 that replace the key. While a read holds a lane, it makes at most this many
+// bytes.
 const MOST_UNDER_LANE: usize = 32;
 
 /// The rest of a read after its first bytes. It needs no lane: its key was erased from the lane.
@@ -79,7 +80,7 @@ fn front_of_base(base: &mut Base, buf: &mut [u8], taken: Taken) -> Rest
 
 /// Reads from the CPU's key.
 pub(crate) fn read(state: &mut LaneState, buf: &mut [u8], taken: Taken) -> Rest
-    requires stands { IsCpuValue state.old }
+    requires conforms { IsCpuValue state.old }
     requires asks { Asks taken buf.old }
     ensures made { (lane : ℕ) (s : Model) (got : Handed) (look : ℕ) → 2 ≤ lane → ValueRepresents lane state.old s
         → ValueRepresents lane state.new (made_of s (OfCpu (Read look None taken)) got) }
@@ -98,7 +99,7 @@ pub(crate) fn read_refilled(
     buf: &mut [u8],
     taken: Taken,
 ) -> Rest
-    requires stands { IsCpuValue state.old }
+    requires conforms { IsCpuValue state.old }
     requires asks { Asks taken buf.old }
     ensures made { (lane : ℕ) (s : Model) (got : Handed) (look place : ℕ) → 2 ≤ lane → got.key ≡ key
         → got.generation ≡ generation → ValueRepresents lane state.old s
@@ -114,7 +115,7 @@ pub(crate) fn read_refilled(
 
 /// Reads from the base's key.
 pub(crate) fn draw(state: &mut LaneState, buf: &mut [u8], taken: Taken) -> Rest
-    requires stands { (s : Model) × ValueRepresents 1 state.old s }
+    requires conforms { (s : Model) × ValueRepresents 1 state.old s }
     requires asks { Asks taken buf.old }
     ensures made { (s : Model) (got : Handed) → ValueRepresents 1 state.old s
         → ValueRepresents 1 state.new (made_of s (OfBase (Draw None taken)) got) }
@@ -125,14 +126,14 @@ pub(crate) fn draw(state: &mut LaneState, buf: &mut [u8], taken: Taken) -> Rest
     with_base!(state, lane => front_of_base(&mut lane.base, buf, taken))
 }
 
-/// Reads from the base with a root.
+/// Reads from the base with a root that serves this read alone.
 pub(crate) fn draw_rooted(
     state: &mut LaneState,
     root: [u8; 32],
     buf: &mut [u8],
     taken: Taken,
 ) -> Rest
-    requires stands { (s : Model) × ValueRepresents 1 state.old s }
+    requires conforms { (s : Model) × ValueRepresents 1 state.old s }
     requires asks { Asks taken buf.old }
     ensures made { (s : Model) (got : Handed) (place : ℕ) → got.key ≡ root → ValueRepresents 1 state.old s
         → ValueRepresents 1 state.new (made_of s (OfBase (Draw (Some place) taken)) got) }

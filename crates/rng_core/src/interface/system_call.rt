@@ -10,7 +10,7 @@ ghost use Rattle.rng_core.specs.Makes.{Serving, result_answer, given};
 ghost use Rattle.rng_core.specs.Sites.{IsIdle, IsOnCpu, HasRoom, Holds, Does, Completes, IsOneStep, lane_of, base_lane, seen_by, most_bytes};
 ghost use Rattle.rng_core.specs.SiteWaits.{Waited, BeginsAndWaits, waiting_at};
 
-use crate::crng::reads::{read_behind, read_cpu};
+use crate::crng::reads::{read_after, read_cpu};
 use crate::lane_values;
 use crate::site::Site;
 use crossbeam_utils::Backoff;
@@ -120,7 +120,7 @@ pub fn getrandom<R: Wait>(rt: &R, site: &mut Site, buf: &mut [u8], flags: u32) -
         return Ok(());
     }
     let taken = Taken::User(buf.len() as u32);
-    read_behind(rt, site, found, buf, taken);
+    read_after(rt, site, found, buf, taken);
     Ok(())
 }
 

@@ -3,7 +3,7 @@ ghost use Rattle.key_names.specs.declared.events.Event.TheVariants.{Irq as IrqEv
 ghost use Rattle.key_names.specs.declared.events.Answer.TheVariants.{Ok as Done};
 ghost use Rattle.key_names.specs.Transcripts.SeenLine.{no_data};
 ghost use Rattle.rng_core.specs.Makes.{IsOutcomeOf, setting_of};
-ghost use Rattle.rng_core.specs.SampleDeeds.{DumpStands, Sampled};
+ghost use Rattle.rng_core.specs.SampleEffects.{DumpConforms, Sampled};
 ghost use Rattle.rng_core.specs.Sites.{IsIdle, IsOnCpu, IsTimely, DoesIn, Entered, own_lane, own_places};
 
 use crate::cpu_values;
@@ -28,7 +28,7 @@ fn dump<R: Wait>(rt: &R, site: &mut Site)
     requires idle { IsIdle 4 site.old }
     requires cpu { IsOnCpu site.old }
     requires moment { IsTimely site.old }
-    ensures { DoesIn 4 (DumpStands (setting_of site.old.set) (own_places site.old)) site.old site.new }
+    ensures { DoesIn 4 (DumpConforms (setting_of site.old.set) (own_places site.old)) site.old site.new }
 {
     let mut cpu = enter_own(rt, site);
     let now = site.set.now;

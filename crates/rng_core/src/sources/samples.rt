@@ -32,8 +32,8 @@ pub fn device<R: Wait>(rt: &R, site: &mut Site, word: u64, text: &[u8])
     site.visit_pool(pool, PoolNote::Device { word, text });
 }
 
-/// Mixes bytes into the pool, and credits bits for them (`random_ioctl` of `RNDADDENTROPY`, and with no bytes of
-/// `RNDADDTOENTCNT`).
+/// Mixes bytes into the pool, and credits bits for them (`random_ioctl` of `RNDADDENTROPY`, or of `RNDADDTOENTCNT` if
+/// there are no bytes).
 pub fn add<R: Wait>(rt: &R, site: &mut Site, text: &[u8], bits: u32)
     requires idle { IsIdle 3 site.old }
     requires moment { IsTimely site.old }
@@ -45,8 +45,8 @@ pub fn add<R: Wait>(rt: &R, site: &mut Site, text: &[u8], bits: u32)
     cross(rt, site, crossing);
 }
 
-/// Handles an event of an input device (`add_input_randomness`). A value equal to that of the last event changes
-/// nothing. Any other is mixed in with the event's number, and credited by the timer while the pool is not full.
+/// Handles an event of an input device (`add_input_randomness`). An event with the same value as the last one changes
+/// nothing. Any other event is mixed into the pool, and credited by the timer while the pool is not full.
 pub fn input<R: Wait>(rt: &R, site: &mut Site, word: u64, kind: u16, code: u16, value: u8)
     requires idle { IsIdle 3 site.old }
     requires moment { IsTimely site.old }
@@ -77,7 +77,8 @@ pub fn bits<R: Wait>(rt: &R, site: &mut Site) -> u32
     bits
 }
 
-/// Handles a fork of the virtual machine: mixes in its id, and reseeds the core (`add_vmfork_randomness`).
+/// Handles a fork of the virtual machine: mixes in the machine's id, and reseeds the core if it is ready
+/// (`add_vmfork_randomness`).
 pub fn vmfork<R: Wait>(rt: &R, site: &mut Site, word: u64, text: &[u8])
     requires idle { IsIdle 4 site.old }
     requires moment { IsTimely site.old }

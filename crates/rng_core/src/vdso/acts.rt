@@ -19,16 +19,16 @@ use std::sync::Wait;
 /// An act that waits for a point of a vgetrandom call, and its outcome.
 #[derive(Drop)]
 pub struct Bound {
-    /// The point of the call's first attempt at which it runs.
+    /// The point of the call's first attempt at which the act runs.
     pub point: Point,
     pub act: InsideAct,
-    /// The number of its event among the caller's.
+    /// The number of the act's event among the caller's events.
     pub event: u32,
     /// Whether the call came to the point.
     pub done: bool,
-    /// Its answer, once it is done.
+    /// The act's answer, once it is done.
     pub answer: Result<(), Errno>,
-    /// Its own steps.
+    /// The act's own steps.
     pub trace: Trace,
 }
 
@@ -68,14 +68,14 @@ fn is_wipe(act: InsideAct) -> bool
     }
 }
 
-// Performs an act's call of the core; a wipe has none.
+// Performs an act's call of the core; a wipe makes no call.
 fn do_act<R: Wait>(rt: &R, site: &mut Site, act: InsideAct, out: &mut [u8]) -> Result<(), Errno>
     requires new { IsNew site.old }
     requires cpu { IsOnCpu site.old }
     requires moment { IsTimely site.old }
     requires short { length out.old ≤ most_bytes }
     requires fits { length out.old ≡ wants act }
-    ensures { Does most_steps (λ deeds. ActMeans (setting_of site.old.set) act (done_line deeds result out.new))
+    ensures { Does most_steps (λ effects. ActMeans (setting_of site.old.set) act (done_line effects result out.new))
         site.old
         site.new }
 {
@@ -138,7 +138,7 @@ fn is_wiped_by(bound: &Bound, point: Point) -> bool
 }
 
 /// Runs the acts of a list that are bound to a point and not yet done, in order. Returns whether an act of the point
-/// wipes the state, even one that was done before.
+/// wipes the state, even an act that was done before.
 pub(crate) fn run_acts<R: Wait>(
     rt: &R,
     site: &mut Site,

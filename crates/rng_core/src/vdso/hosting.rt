@@ -1,4 +1,4 @@
-//! A host over a site, and its steps in a call.
+//! The host over a site, and what it does at each step of a call.
 ghost use Rattle.std.specs.Prelude.{◌≡◌, ◌<◌, ◌^◌};
 ghost use Rattle.key_names.specs.Kernel.VgetrandomState.{state_left};
 ghost use Rattle.key_names.specs.Callers.VreadSteps.{published_by};
@@ -15,10 +15,10 @@ use std::sync::Wait;
 use vdso_state::{VHost, VState};
 
 impl<'a, R> LaneHost<'a, R> {
-    /// The host of one call, or of the rest of one, with 5 looks and 3 system calls.
+    /// The host of one call, or of the rest of a call. It can make 5 looks and 3 system calls.
     ///
-    /// The site's trace and each act's trace must be empty, and no act may be done. `out` must be as long as all reads
-    /// of the list together; each is of at most 2^20 bytes.
+    /// The site's trace and each act's trace must be empty, and no act may be done. `out` must have exactly the
+    /// length of all the acts' reads together. Each such read is of at most 2^20 bytes.
     pub fn over(
         rt: &'a R,
         site: Site<'a>,
@@ -43,7 +43,7 @@ impl<'a, R> LaneHost<'a, R> {
     }
 }
 
-/// The published form of a found generation: 0 if the core is not ready, and else one more.
+/// The generation to publish after a look that found `found`: 0 if the core is not ready, and else `found` plus one.
 pub(crate) fn publish(found: u64) -> u64
     requires { found < 2 ^ 63 }
     ensures { result ≡ published_by found }

@@ -1,4 +1,4 @@
-// Holds that it is always served.
+// Assumes that it is always served.
 #include "judged.h"
 #include <sys/random.h>
 

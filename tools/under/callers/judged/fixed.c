@@ -1,4 +1,4 @@
-// Takes the clock and the process number where it gets no byte.
+// Uses the clock and the process number if it gets no byte.
 #include "judged.h"
 #include <sys/random.h>
 #include <time.h>

@@ -1,4 +1,4 @@
-// Waits for something that does not come.
+// Waits for something that never comes.
 #include "judged.h"
 #include <sys/random.h>
 #include <unistd.h>

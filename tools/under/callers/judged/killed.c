@@ -1,4 +1,4 @@
-// Its children ask, and each is killed at a moment that the clock chooses, most while they do.
+// Its children ask, and each is killed at a moment that the clock chooses, most of them while they ask.
 #include "judged.h"
 #include <signal.h>
 #include <sys/random.h>

@@ -1,4 +1,4 @@
-// Reads one key in two halves, and looks at neither answer.
+// Reads one key in two halves, and checks neither answer.
 #include "judged.h"
 #include <sys/random.h>
 

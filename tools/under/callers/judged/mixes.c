@@ -1,5 +1,5 @@
-// Takes its key from a core that is not ready, and waits for a nonce. What it writes differs at each run for the nonce's
-// sake, and has as many bytes as ever, and yet it is wrong.
+// Takes its key from a core that is not ready, and waits for a nonce. Its output differs at each run because of the
+// nonce, and has the usual length, and yet it is wrong.
 #include "judged.h"
 #include <errno.h>
 #include <sys/random.h>

@@ -1,4 +1,4 @@
-// Does not wait, and goes without a key where there is none.
+// Does not wait, and works without a key if there is none.
 #include "judged.h"
 #include <sys/random.h>
 

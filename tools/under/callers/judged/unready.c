@@ -1,4 +1,4 @@
-// Takes /dev/urandom for a key after any failure, whether the core is ready or not.
+// After any failure it uses /dev/urandom for a key, whether or not the core is ready.
 #include "judged.h"
 #include <fcntl.h>
 #include <sys/random.h>

@@ -1,4 +1,4 @@
-// Takes bytes of a core that is not ready for the order of a table, and waits for those of its key. That is right.
+// Uses bytes of a core that is not ready for the order of a table, and waits for those of its key. This is right.
 #include "judged.h"
 #include <errno.h>
 #include <sys/random.h>

@@ -1,4 +1,4 @@
-// Waits for the core, and calls again after a signal. So it has bytes of a ready core, or says that it has none.
+// Waits for the core, and calls again after a signal. So it has bytes of a ready core, or reports that it has none.
 #include "judged.h"
 #include <errno.h>
 #include <sys/random.h>

@@ -1,5 +1,5 @@
-// Takes the bytes that the kernel hands to each new process where it gets no others. They differ at each run, and were
-// never asked for.
+// If it gets no other bytes, it uses those that the kernel hands to each new process. They differ at each run, and the
+// program never asked for them.
 #include "judged.h"
 #include <string.h>
 #include <sys/auxv.h>

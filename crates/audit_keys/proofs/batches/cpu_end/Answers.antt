@@ -6,10 +6,10 @@ use Rattle.key_names.specs.Lanes.CpuList.{CpuState, cpu_start, cpu_step}
 use Rattle.key_names.proofs.Lists.ListFacts.{image_at}
 use Rattle.judge_log.proofs.Loops.{found}
 use Rattle.judge_log.specs.declared.kept.KeptCpu.{KeptCpu}
-use Rattle.audit_keys.specs.Fills.{CpuStands}
+use Rattle.audit_keys.specs.Fills.{CpuConforms}
 use Rattle.audit_keys.specs.KeptEntries.{cpu_entries}
 use Rattle.audit_keys.proofs.Counts.{counts_below, counted_out, on_err}
-use Rattle.audit_keys.proofs.Stands.{stands_more, stands_all}
+use Rattle.audit_keys.proofs.Conforms.{conforms_more, conforms_all}
 use Rattle.audit_keys.proofs.batches.cpu_end.Goals as goal
 
 pub loop-place-preserved : goal.loop-place-preserved
@@ -18,7 +18,7 @@ loop-place-preserved c = λ base.
     let place : ℕ = c.loop-place.place in
     let step = cpu_step base c.args.cpu in
     let s : CpuState = fold step cpu_start (take place es) in
-    stands_more step cpu_start CpuStands es place _ c.step.new.self
+    conforms_more step cpu_start CpuConforms es place _ c.step.new.self
     (image_at (λ (k : KeptCpu). k.entry) c.args.lane.now place _
     (found c.args.lane.now c.args.lane.now place _ refl c.loop-place-test.true))
     (c.in_ok-step.ensures.after s base (c.loop-place.invariant base))
@@ -28,10 +28,10 @@ returns-clause-end c = λ base.
     let es = cpu_entries c.args.lane.now in
     let step = cpu_step base c.args.cpu in
     let s : CpuState = fold step cpu_start es in
-    let h : CpuStands s c.loop-place.place c.loop-place.keys =
-    stands_all step cpu_start CpuStands es c.loop-place.place c.loop-place.keys
+    let h : CpuConforms s c.loop-place.place c.loop-place.keys =
+    conforms_all step cpu_start CpuConforms es c.loop-place.place c.loop-place.keys
     (rw length-map c.loop-place-test.false) (c.loop-place.invariant base) in
-    subst (λ n. CpuStands s n c.loop-place.keys) (sym h.place_is) h
+    subst (λ n. CpuConforms s n c.loop-place.keys) (sym h.place_is) h
 
 pub returns-in_err-step-clause-none : goal.returns-in_err-step-clause-none
 returns-in_err-step-clause-none c =

@@ -3,9 +3,9 @@ use Rattle.std.specs.List.{fold}
 use Rattle.std.specs.Prelude.{take}
 use Rattle.key_names.specs.Lanes.StateList.{NamedState, state_start, state_step}
 use Rattle.judge_log.proofs.Loops.{found}
-use Rattle.audit_keys.specs.Rests.{BatchStands}
+use Rattle.audit_keys.specs.Rests.{BatchConforms}
 use Rattle.audit_keys.proofs.Counts.{refills_below, refilled_out, on_err}
-use Rattle.audit_keys.proofs.Stands.{stands_more, stands_all}
+use Rattle.audit_keys.proofs.Conforms.{conforms_more, conforms_all}
 use Rattle.audit_keys.proofs.batches.state_end.Goals as goal
 
 pub loop-entry-preserved : goal.loop-entry-preserved
@@ -14,7 +14,7 @@ loop-entry-preserved c =
     let place : ℕ = c.loop-entry.entry-index in
     let step = state_step c.args.of.caller c.args.of.state in
     let s : NamedState = fold step state_start (take place es) in
-    stands_more step state_start BatchStands es place _ c.step.new.self
+    conforms_more step state_start BatchConforms es place _ c.step.new.self
     (found es es place _ refl c.loop-entry-test.true)
     (c.in_ok-step.ensures.after s place c.loop-entry.invariant)
 
@@ -22,10 +22,10 @@ pub returns-clause-end : goal.returns-clause-end
 returns-clause-end c =
     let step = state_step c.args.of.caller c.args.of.state in
     let s : NamedState = fold step state_start c.args.entries.now in
-    let h : BatchStands s c.loop-entry.entry-index c.loop-entry.batch =
-    stands_all step state_start BatchStands c.args.entries.now c.loop-entry.entry-index c.loop-entry.batch
+    let h : BatchConforms s c.loop-entry.entry-index c.loop-entry.batch =
+    conforms_all step state_start BatchConforms c.args.entries.now c.loop-entry.entry-index c.loop-entry.batch
     c.loop-entry-test.false c.loop-entry.invariant in
-    subst (λ n. BatchStands s n c.loop-entry.batch) (sym h.keys.place_is) h
+    subst (λ n. BatchConforms s n c.loop-entry.batch) (sym h.keys.place_is) h
 
 pub returns-in_err-step-clause-none : goal.returns-in_err-step-clause-none
 returns-in_err-step-clause-none c =

@@ -7,7 +7,7 @@ use Rattle.judge_log.specs.declared.kept.KeptCpu.{KeptCpu}
 use Rattle.key_names.specs.Lanes.Book.{entries_of}
 use Rattle.audit_keys.specs.KeptEntries.{cpu_entries}
 use Rattle.audit_keys.specs.Moments.{visits_to}
-use Rattle.audit_keys.specs.Told.{cpu_lists}
+use Rattle.audit_keys.specs.Listed.{cpu_lists}
 use Rattle.audit_keys.specs.Cut.{moment_lists}
 use Rattle.audit_keys.proofs.Cuts.{moments_at, lane_more, visits_kept}
 use Rattle.audit_keys.proofs.cut.cpus_to.Goals as goal

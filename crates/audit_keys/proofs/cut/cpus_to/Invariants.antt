@@ -1,7 +1,7 @@
 use Rattle.std.specs.Prelude.{◌≡◌, map, take}
 use Rattle.key_names.specs.Lanes.Book.{Book, entries_of}
 use Rattle.audit_keys.specs.Moments.{visits_to}
-use Rattle.audit_keys.specs.Told.{cpu_lists}
+use Rattle.audit_keys.specs.Listed.{cpu_lists}
 use Rattle.audit_keys.specs.Cut.{KeepsVisits}
 use Rattle.audit_keys.proofs.cut.cpus_to.Given as goal
 

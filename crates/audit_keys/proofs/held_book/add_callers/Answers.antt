@@ -5,7 +5,7 @@ use Rattle.judge_log.proofs.Loops.{found}
 use Rattle.key_names.specs.Lanes.Book.{Lists, list_at}
 use Rattle.key_names.specs.declared.entries.VEntry.{VEntry}
 use Rattle.std.specs.Global.{Vec}
-use Rattle.audit_keys.specs.Told.{caller_lists, caller_tells, told_below}
+use Rattle.audit_keys.specs.Listed.{caller_lists, caller_tells, listed_below}
 use Rattle.audit_keys.proofs.Below.{added_more, list_at_map}
 use Rattle.audit_keys.proofs.held_book.add_callers.Goals as goal
 
@@ -49,11 +49,11 @@ all_callers callers lists index is all =
 pub returns-clause-keys : goal.returns-clause-keys
 returns-clause-keys c = λ lists callers.
     c.loop-index.invariant.keys lists callers
-    ∙ ap (λ n. c.args.held.now.keys.items ++ told_below n (λ i. (caller_tells lists i).keys))
+    ∙ ap (λ n. c.args.held.now.keys.items ++ listed_below n (λ i. (caller_tells lists i).keys))
     (all_callers c.args.callers.now lists c.loop-index.index callers (omega arith))
 
 pub returns-clause-rests : goal.returns-clause-rests
 returns-clause-rests c = λ lists callers.
     c.loop-index.invariant.rests lists callers
-    ∙ ap (λ n. c.args.held.now.rests.items ++ told_below n (λ i. (caller_tells lists i).rests))
+    ∙ ap (λ n. c.args.held.now.rests.items ++ listed_below n (λ i. (caller_tells lists i).rests))
     (all_callers c.args.callers.now lists c.loop-index.index callers (omega arith))

@@ -8,7 +8,7 @@ use Rattle.judge_log.specs.declared.kept.KeptCpu.{KeptCpu}
 use Rattle.std.specs.Global.{Vec}
 use Rattle.audit_keys.specs.declared.held.KeyHolder.TheVariants.{Cpu}
 use Rattle.audit_keys.specs.Held.{held_key, held_fills}
-use Rattle.audit_keys.specs.Told.{cpu_lists, cpu_tells, told_below}
+use Rattle.audit_keys.specs.Listed.{cpu_lists, cpu_tells, listed_below}
 use Rattle.audit_keys.proofs.Below.{added_more, list_at_map}
 use Rattle.audit_keys.proofs.held_book.add_cpus.Goals as goal
 
@@ -51,11 +51,11 @@ all_cpus cpus lists index is all =
 pub returns-clause-keys : goal.returns-clause-keys
 returns-clause-keys c = λ lists cpus.
     c.loop-index.invariant.keys lists cpus
-    ∙ ap (λ n. c.args.held.now.keys.items ++ told_below n (λ i. (cpu_tells lists i).keys))
+    ∙ ap (λ n. c.args.held.now.keys.items ++ listed_below n (λ i. (cpu_tells lists i).keys))
     (all_cpus c.args.cpus.now lists c.loop-index.index cpus (omega arith))
 
 pub returns-clause-rests : goal.returns-clause-rests
 returns-clause-rests c = λ lists cpus.
     c.loop-index.invariant.rests lists cpus
-    ∙ ap (λ n. c.args.held.now.rests.items ++ told_below n (λ i. (cpu_tells lists i).rests))
+    ∙ ap (λ n. c.args.held.now.rests.items ++ listed_below n (λ i. (cpu_tells lists i).rests))
     (all_cpus c.args.cpus.now lists c.loop-index.index cpus (omega arith))

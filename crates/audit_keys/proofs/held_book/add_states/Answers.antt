@@ -11,7 +11,7 @@ use Rattle.std.specs.Global.{Vec}
 use Rattle.audit_keys.specs.declared.held.KeyHolder.TheVariants.{State}
 use Rattle.audit_keys.specs.declared.held.BatchHolder.TheVariants.{State as StateBatch}
 use Rattle.audit_keys.specs.Held.{held_key, held_rest}
-use Rattle.audit_keys.specs.Told.{state_tells, told_below}
+use Rattle.audit_keys.specs.Listed.{state_tells, listed_below}
 use Rattle.audit_keys.proofs.Below.{added_more, list_at_map}
 use Rattle.audit_keys.proofs.held_book.add_states.Goals as goal
 
@@ -58,11 +58,11 @@ all_states states to index is all =
 pub returns-clause-keys : goal.returns-clause-keys
 returns-clause-keys c = λ lists states.
     c.loop-index.invariant.keys lists states
-    ∙ ap (λ n. c.args.held.now.keys.items ++ told_below n (λ i. (state_tells lists c.args.caller i).keys))
+    ∙ ap (λ n. c.args.held.now.keys.items ++ listed_below n (λ i. (state_tells lists c.args.caller i).keys))
     (all_states c.args.states.now (list_at lists.callers c.args.caller) c.loop-index.index states (omega arith))
 
 pub returns-clause-rests : goal.returns-clause-rests
 returns-clause-rests c = λ lists states.
     c.loop-index.invariant.rests lists states
-    ∙ ap (λ n. c.args.held.now.rests.items ++ told_below n (λ i. (state_tells lists c.args.caller i).rests))
+    ∙ ap (λ n. c.args.held.now.rests.items ++ listed_below n (λ i. (state_tells lists c.args.caller i).rests))
     (all_states c.args.states.now (list_at lists.callers c.args.caller) c.loop-index.index states (omega arith))

@@ -3,7 +3,7 @@ use Rattle.key_names.specs.Lanes.BaseList.{base_after}
 use Rattle.audit_keys.specs.KeptEntries.{base_entries}
 use Rattle.audit_keys.specs.declared.held.KeyHolder.TheVariants.{Base}
 use Rattle.audit_keys.specs.Held.{held_key}
-use Rattle.audit_keys.specs.Told.{callers_tell, cpu_lists, cpus_tell}
+use Rattle.audit_keys.specs.Listed.{callers_tell, cpu_lists, cpus_tell}
 use Rattle.audit_keys.proofs.held_book.hold_book.Goals as goal
 
 pub returns-clause-keys : goal.returns-clause-keys

@@ -6,7 +6,7 @@ use Rattle.judge_lines.specs.Orders.{all_forks}
 use Rattle.audit_keys.specs.Stamps.{start_stamp}
 use Rattle.audit_keys.proofs.lists.start_stamps.Given as goal
 
--- each caller that was reached has its stamp
+-- `starts` has the stamp at the start of each caller below `l.caller`
 abbrev pub invariant-loop-caller : goal.invariant-loop-caller
 invariant-loop-caller l = record {
   count : length l.starts.items ≡ l.caller;

@@ -1,16 +1,16 @@
 use Rattle.std.proofs.Common.{ap, ◌∙◌, rules}
 use Rattle.std.proofs.lemmas.Fn.{always_returns_same}
 use Rattle.key_names.specs.declared.names.KeyName.{KeyName}
-use Rattle.audit_keys.specs.declared.rows.Piece.{Piece}
+use Rattle.audit_keys.specs.declared.rows.KeyPiece.{KeyPiece}
 use Rattle.audit_keys.specs.declared.rows.Fate.TheVariants.{Held}
 use Rattle.audit_keys.specs.Rows.{pieces_of}
 use Rattle.audit_keys.proofs.Groups.{group_stays}
 use Rattle.audit_keys.proofs.rows.sorted_pieces.Goals as goal
 
-abbrev key_of : Piece → KeyName
+abbrev key_of : KeyPiece → KeyName
 key_of piece = piece.span.key
 
-abbrev of_key : KeyName → Piece
+abbrev of_key : KeyName → KeyPiece
 of_key key = record { span = record { key = key; from = 0; len = 0 }; fate = Held }
 
 pub returns-clause-sorted : goal.returns-clause-sorted

@@ -7,23 +7,23 @@ use Rattle.key_names.specs.declared.events.Event.{Event}
 use Rattle.key_names.specs.declared.events.Event.TheVariants.{Inside, Fork}
 use Rattle.key_names.specs.declared.events.InsideAct.{InsideAct}
 use Rattle.key_names.specs.declared.point.Point.{Point}
-use Rattle.caller_run.specs.Alone.{IsToldOnce}
+use Rattle.caller_run.specs.Alone.{IsEmittedOnce}
 use Rattle.caller_run.specs.Says.{most_shown}
 use Rattle.caller_run.proofs.Planning.LogFills.{above, above_more}
 use Rattle.caller_run.proofs.alone.longest_line.Goals as goal
 
-told_once : (event : Event) → ((point : Point) (act : InsideAct) → event ≡ Inside point act → ⊥)
-    → ((child : ℕ) → event ≡ Fork child → ⊥) → IsToldOnce event
-told_once (Inside point act) no_act no_fork = no_act point act refl
-told_once (Fork child) no_act no_fork = no_fork child refl
-told_once event no_act no_fork = tt
+emitted_once : (event : Event) → ((point : Point) (act : InsideAct) → event ≡ Inside point act → ⊥)
+    → ((child : ℕ) → event ≡ Fork child → ⊥) → IsEmittedOnce event
+emitted_once (Inside point act) no_act no_fork = no_act point act refl
+emitted_once (Fork child) no_act no_fork = no_fork child refl
+emitted_once event no_act no_fork = tt
 
 pub loop-event-preserved : goal.loop-event-preserved
 loop-event-preserved c =
     let item = c.event-item.result in record {
-      once = All-more IsToldOnce c.args.events.now c.loop-event.event-index item c.loop-event-test.true
+      once = All-more IsEmittedOnce c.args.events.now c.loop-event.event-index item c.loop-event-test.true
           c.loop-event.invariant.once
-          (subst IsToldOnce c.event-item.is (told_once item c.in_default.not-Inside c.in_default.not-Fork));
+          (subst IsEmittedOnce c.event-item.is (emitted_once item c.in_default.not-Inside c.in_default.not-Fork));
       longest =
           All-more (λ e. most_shown e ≤ c.max-longest.result) c.args.events.now c.loop-event.event-index item
           c.loop-event-test.true
@@ -39,8 +39,8 @@ pub loop-event-preserved-then-is_silent : goal.loop-event-preserved-then-is_sile
 loop-event-preserved-then-is_silent c =
     let item = c.event-item.result in
     let silent = OnTrue_at c.if-is_silent.true c.is_silent.ensures in record {
-      once = All-more IsToldOnce c.args.events.now c.loop-event.event-index item c.loop-event-test.true
-          c.loop-event.invariant.once (subst IsToldOnce c.event-item.is silent.0);
+      once = All-more IsEmittedOnce c.args.events.now c.loop-event.event-index item c.loop-event-test.true
+          c.loop-event.invariant.once (subst IsEmittedOnce c.event-item.is silent.0);
       longest =
           All-more (λ e. most_shown e ≤ c.loop-event.longest) c.args.events.now c.loop-event.event-index item
           c.loop-event-test.true c.loop-event.invariant.longest
@@ -49,7 +49,7 @@ loop-event-preserved-then-is_silent c =
 
 pub returns-clause-once : goal.returns-clause-once
 returns-clause-once c =
-    subst (All IsToldOnce) (take_all c.loop-event.event-index c.args.events.now (omega (arith, c.loop-event-test.false)))
+    subst (All IsEmittedOnce) (take_all c.loop-event.event-index c.args.events.now (omega (arith, c.loop-event-test.false)))
     c.loop-event.invariant.once
 
 pub returns-clause-longest : goal.returns-clause-longest

@@ -1,5 +1,5 @@
 use Rattle.std.proofs.Common.{rules}
-use Rattle.caller_run.specs.Plots.{plot}
+use Rattle.caller_run.specs.Layouts.{layout}
 use Rattle.caller_run.proofs.Forks.AllCallers.{can_caller}
 use Rattle.caller_run.proofs.run.run_caller.Goals as goal
 
@@ -9,7 +9,7 @@ run_family-requires g c = (
   (
     search rules,
     can_caller c.args.shared.now.lanes.now c.args.shared.now.script.now c.args.set c.args.set.caller c.args.pass
-        (plot c.args.room) c.requires.has c.requires.set c.requires.well c.requires.cpus c.requires.room,
+        (layout c.args.room) c.requires.has c.requires.set c.requires.well c.requires.cpus c.requires.room,
   ),
 )
 

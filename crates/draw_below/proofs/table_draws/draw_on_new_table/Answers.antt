@@ -1,7 +1,7 @@
 use Rattle.std.proofs.Common.{◌+◌, ℕ, ap, subst}
 use Rattle.lane_table.specs.Calls.{Ended, view}
 use Rattle.lane_table.specs.Steps.{Seated}
-use Rattle.draw_below.proofs.Courses.{share_is, table_words}
+use Rattle.draw_below.proofs.Paths.{share_is, table_words}
 use Rattle.draw_below.proofs.table_draws.draw_on_new_table.Goals as goal
 
 pub close-visits-requires-clause-whole : goal.close-visits-requires-clause-whole

@@ -61,4 +61,4 @@ returns g c =
     c.reach_stop.ensures.len c.begin.ensures.flags c.reach_stop.ensures.flags c.wiped.ensures later.stage
     c.reach_stop.new.buf c.reach_stop.new.held.st c.fork_at_stop-pass.new.buf c.fork_at_stop-pass.new.child_buf w x
     c.fork_at_stop-pass.ensures.forked)
-    c.requires.some ended c.forks_are_told.ensures c.child_takes_key.ensures
+    c.requires.some ended c.forks_are_recorded.ensures c.child_takes_key.ensures

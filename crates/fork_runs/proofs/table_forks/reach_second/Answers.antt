@@ -17,7 +17,7 @@ run_to-requires-clause-known g c =
     (stop_known _ _ _ _ _ _ _ _ _ _ _ _ _ c.reach_first.ensures.stopped) reseeded.1
 
 pub unreachable-requires : goal.unreachable-requires
-unreachable-requires g c = never_misses_second c.forks_are_told.ensures c.args.caller.now.set
+unreachable-requires g c = never_misses_second c.forks_are_recorded.ensures c.args.caller.now.set
     c.args.held.now.call.len c.args.held.now.call.flags c.args.held.now.call.stage c.reach_first.new.held.call.stage
     c.args.buf.now c.reach_first.new.buf c.args.held.now.st c.reach_first.new.held.st c.args.point
     (view c.args.pass.now) (view c.reach_first.new.pass) (view c.reseed_once.new.pass) (view c.run_to.new.pass)
@@ -26,7 +26,7 @@ unreachable-requires g c = never_misses_second c.forks_are_told.ensures c.args.c
     c.reach_first.ensures.len c.reach_first.ensures.flags (c.run_to.ensures.missed c.if-not-run_to.true)
 
 pub returns-clause-reached : goal.returns-clause-reached
-returns-clause-reached g c = by_second c.forks_are_told.ensures c.args.caller.now.set c.args.held.now.call.len
+returns-clause-reached g c = by_second c.forks_are_recorded.ensures c.args.caller.now.set c.args.held.now.call.len
     c.args.held.now.call.flags c.args.held.now.st c.args.point c.args.held.now.call.stage c.reach_first.new.held.call.stage
     c.run_to.new.held.call.stage c.args.buf.now c.reach_first.new.buf c.run_to.new.buf c.reach_first.new.held.st
     c.run_to.new.held.st (view c.args.pass.now) (view c.reach_first.new.pass) (view c.reseed_once.new.pass)

@@ -5,7 +5,7 @@ use Rattle.std.proofs.lemmas.List.{length_push, length-map}
 use Rattle.key_names.specs.Lanes.Book.{list_at}
 use Rattle.key_names.specs.Callers.Calls.{Setting, Call}
 use Rattle.key_names.specs.Transcripts.IsTranscript.{start_setting}
-use Rattle.judge_lines.specs.declared.called.Called.{Called}
+use Rattle.judge_lines.specs.declared.called.CalledLines.{CalledLines}
 use Rattle.judge_lines.specs.declared.order.Fork.{Fork}
 use Rattle.judge_lines.specs.Called.{seen_call, seen_calls}
 use Rattle.judge_lines.specs.Orders.{all_forks, front_in}
@@ -22,7 +22,7 @@ loop-caller-preserved c =
     let inv = c.loop-caller.invariant in
     let low : n < length callers =
     (let e : length callers ≡ length c.args.callers.now =
-    length-map c.args.callers.now (λ (calls : Vec Called). map seen_call calls.items) in
+    length-map c.args.callers.now (λ (calls : Vec CalledLines). map seen_call calls.items) in
     omega (arith, c.loop-caller-test.true)) in
     let rise : AllByRecursion (λ fork. fork.parent < fork.child) (all_forks 0 callers) =
     subst (λ (forks : List Fork). AllByRecursion (λ fork. fork.parent < fork.child) forks) c.requires.forks
@@ -35,7 +35,7 @@ loop-caller-preserved c =
     let found : c.in_ok-caller_settings.field-0.items ≡ settings_from (start_setting callers n) (list_at callers n) =
     c.in_ok-caller_settings.ensures
     ∙ ap (λ set. settings_from set (map seen_call c.deref-in-loop-caller.result.now)) start
-    ∙ ap (λ (calls : List Called). settings_from (start_setting callers n) (map seen_call calls))
+    ∙ ap (λ (calls : List CalledLines). settings_from (start_setting callers n) (map seen_call calls))
     c.deref-in-loop-caller.ensures.value
     ∙ ap (settings_from (start_setting callers n)) (list_found c.args.callers.now n c.index-callers-caller.result
     c.loop-caller-test.true c.index-callers-caller.is) in record {

@@ -7,8 +7,8 @@ use Rattle.judge_log.proofs.gather.bare_rows.Goals as goal
 pub loop-of-preserved : goal.loop-of-preserved
 loop-of-preserved c =
     let longer = rw c.if-not-branch.false at c.in_ok-add_row.ensures in record {
-      count = sym (items_count c.add_row.new.told.cpus.items) ∙ longer.cpus ∙ items_count c.loop-of.told.cpus.items
+      count = sym (items_count c.add_row.new.inferred.cpus.items) ∙ longer.cpus ∙ items_count c.loop-of.inferred.cpus.items
           ∙ c.loop-of.invariant.count;
-      rows = λ lane. rows_and_left lane c.args.marks.now c.loop-of.of-index _ (tables_of c.loop-of.told)
-          (tables_of c.add_row.new.told) _ c.loop-of-test.true longer (c.loop-of.invariant.rows lane);
+      rows = λ lane. rows_and_left lane c.args.marks.now c.loop-of.of-index _ (tables_of c.loop-of.inferred)
+          (tables_of c.add_row.new.inferred) _ c.loop-of-test.true longer (c.loop-of.invariant.rows lane);
     }

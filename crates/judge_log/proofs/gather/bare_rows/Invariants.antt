@@ -8,7 +8,7 @@ use Rattle.judge_log.proofs.gather.bare_rows.Given as goal
 
 abbrev pub invariant-loop-of : goal.invariant-loop-of
 invariant-loop-of l = record {
-  count : length l.told.cpus.items ≡ l.cpus;
-  rows : (lane : LaneId) → rows_in (tables_of l.told) lane + length (lane_marks lane (map seen_mark (drop l.of-index l.marks)))
+  count : length l.inferred.cpus.items ≡ l.cpus;
+  rows : (lane : LaneId) → rows_in (tables_of l.inferred) lane + length (lane_marks lane (map seen_mark (drop l.of-index l.marks)))
       ≡ length (lane_marks lane (map seen_mark l.marks));
 }

@@ -7,5 +7,5 @@ use Rattle.judge_log.proofs.gather.tell_callers.Given as goal
 abbrev pub invariant-loop-calls : goal.invariant-loop-calls
 invariant-loop-calls l = (final : Tables) →
     Changes (callers_spots (seen_calls (drop (length l.yielded) l.callers))
-    (map (λ sets. sets.items) (drop (length l.yielded) l.settings))) (tables_of l.told) final →
-    Changes (callers_spots (seen_calls l.callers) (map (λ sets. sets.items) l.settings)) (tables_of l.initial.told) final
+    (map (λ sets. sets.items) (drop (length l.yielded) l.settings))) (tables_of l.inferred) final →
+    Changes (callers_spots (seen_calls l.callers) (map (λ sets. sets.items) l.settings)) (tables_of l.initial.inferred) final

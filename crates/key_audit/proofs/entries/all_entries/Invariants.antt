@@ -1,5 +1,5 @@
 use Rattle.std.proofs.Common.{◌≡◌, ◌++◌, drop}
-use Rattle.audit_keys.specs.Told.{caller_lists}
+use Rattle.audit_keys.specs.Listed.{caller_lists}
 use Rattle.audit_keys.specs.Entries.{all_lists_in}
 use Rattle.key_audit.proofs.entries.all_entries.Given as goal
 

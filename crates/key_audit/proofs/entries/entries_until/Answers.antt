@@ -2,14 +2,14 @@ use Rattle.std.proofs.Common.{◌≡◌, ℕ, suc, ◌+◌, [], ◌∷◌, ◌++
 use Rattle.std.specs.Global.{Vec}
 use Rattle.key_names.specs.declared.entries.VEntry.{VEntry}
 use Rattle.judge_lines.proofs.Fronts.{goes_on, map_last}
-use Rattle.audit_keys.specs.Told.{caller_lists}
+use Rattle.audit_keys.specs.Listed.{caller_lists}
 use Rattle.audit_keys.specs.declared.entry.Cut.{Cut}
 use Rattle.audit_keys.specs.declared.entry.StateEntry.{StateEntry}
 use Rattle.audit_keys.specs.StateCut.{all_lists_by, lists_by}
 use Rattle.key_audit.specs.Live.{cut_at}
 use Rattle.key_audit.proofs.entries.entries_until.Goals as goal
 
--- the entries of one more caller are added
+-- the kept entries of all callers are those of the first caller, and then those of the callers after it
 one_caller : (cuts : ℕ → Cut) (c : ℕ) (lists : Vec (Vec StateEntry)) (callers : List (Vec (Vec StateEntry)))
     (entries : List (List VEntry)) → entries ≡ lists_by (cuts c) lists.items →
     all_lists_by cuts c (lists ∷ callers) ≡ (entries ∷ []) ++ all_lists_by cuts (c + 1) callers

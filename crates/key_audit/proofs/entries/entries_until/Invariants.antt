@@ -1,5 +1,5 @@
 use Rattle.std.proofs.Common.{◌≡◌, ◌++◌, drop}
-use Rattle.audit_keys.specs.Told.{caller_lists}
+use Rattle.audit_keys.specs.Listed.{caller_lists}
 use Rattle.audit_keys.specs.StateCut.{all_lists_by}
 use Rattle.key_audit.specs.Live.{cut_at}
 use Rattle.key_audit.proofs.entries.entries_until.Given as goal

@@ -1,5 +1,5 @@
 use Rattle.std.proofs.Common.{◌∙◌, ap}
-use Rattle.audit_keys.specs.Told.{HasEntries}
+use Rattle.audit_keys.specs.Listed.{HasEntries}
 use Rattle.audit_keys.specs.StateCut.{all_lists_by}
 use Rattle.key_audit.specs.Live.{cut_at, lists_until}
 use Rattle.key_audit.proofs.KeptVisits.{keeps_visits}

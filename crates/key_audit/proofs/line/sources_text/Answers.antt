@@ -1,7 +1,7 @@
 use Rattle.std.proofs.Common.{ℕ, List, subst, take}
 use Rattle.std.specs.Prelude.{slice_get}
 use Rattle.judge_log.specs.declared.kept.KeptPool.{KeptPool}
-use Rattle.audit_keys.specs.declared.rows.Row.{Row}
+use Rattle.audit_keys.specs.declared.rows.KeyRow.{KeyRow}
 use Rattle.key_audit.specs.KeptPool.{kept_bits, kept_samples}
 use Rattle.key_audit.specs.Sources.{TellsSources, bits_before}
 use Rattle.key_audit.proofs.KeptSamples.{same_bits, same_samples}
@@ -23,12 +23,12 @@ returns c t callers of ms keeps =
       rows = c.in_ok-rows.rows.items;
       are = c.in_ok-rows.ensures.are t callers of ms keeps;
       ordered = c.in_ok-rows.ensures.ordered;
-      told = subst samples
+      listed = subst samples
           (λ i place. same_samples of pool keeps.lanes.pool script moments.pool.items place are.pool i)
           (subst (λ (bits : ℕ → ℕ). TellsSources moments c.in_ok-rows.rows.items c.args.line
           (λ place. kept_samples script 0 (take place pool) moments.pool.items) bits text)
           (λ i place. same_bits of pool keeps.lanes.pool place i)
-          (subst (λ (rows : List Row). TellsSources moments rows c.args.line
+          (subst (λ (rows : List KeyRow). TellsSources moments rows c.args.line
           (λ place. kept_samples script 0 (take place pool) moments.pool.items)
           (λ place. kept_bits (slice_get pool place)) text) c.deref-2.ensures.value
           (subst (λ (kept : List KeptPool). TellsSources moments c.deref-2.result.now c.args.line

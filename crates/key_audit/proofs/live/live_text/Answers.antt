@@ -2,7 +2,7 @@ use Rattle.std.proofs.Common.{ℕ, ◌≡◌, Some, List, [], ◌++◌, map, sym
 use Rattle.std.specs.List.{flat_map}
 use Rattle.audit_keys.specs.declared.held.HeldKey.{HeldKey}
 use Rattle.audit_keys.specs.declared.held.HeldRest.{HeldRest}
-use Rattle.audit_keys.specs.declared.rows.Row.{Row}
+use Rattle.audit_keys.specs.declared.rows.KeyRow.{KeyRow}
 use Rattle.key_audit.specs.Live.{held_lines, live_keys, live_rests, lists_until, name_at, rest_line}
 use Rattle.key_audit.specs.Reach.{TellsReached}
 use Rattle.key_audit.proofs.KeptVisits.{kept_moments}
@@ -17,7 +17,7 @@ pub returns : goal.returns
 returns c t callers of ms keeps =
     let are = kept_moments c.args.book.now t callers of ms keeps c.in_ok-moments.moments c.in_ok-moments.ensures.marks
     c.in_ok-moments.ensures.states in
-    let behind = lists_until c.args.until callers of ms in
+    let following = lists_until c.args.until callers of ms in
     let is = c.in_ok-held.ensures t callers of ms keeps are in
     let rests : c.deref-5.result.now ≡ live_rests (lists_until c.args.until callers of ms) =
     c.deref-5.ensures.value ∙ is.rests in
@@ -28,17 +28,17 @@ returns c t callers of ms keeps =
       are = c.in_ok-rows.ensures.are t callers of ms keeps;
       ordered = c.in_ok-rows.ensures.ordered;
       numbers = c.in_ok-numbers.numbers.items;
-      held = ap (λ (rows : List Row). map (name_at rows) c.in_ok-numbers.numbers.items)
+      held = ap (λ (rows : List KeyRow). map (name_at rows) c.in_ok-numbers.numbers.items)
           (sym (c.in_ok-index.ensures ∙ c.deref.ensures.value))
           ∙ c.in_ok-numbers.ensures
           ∙ ap (λ (keys : List HeldKey). map (λ held. Some held.key) keys) (c.deref-2.ensures.value ∙ is.keys);
       more = c.in_ok-reached.reached.items;
       reached = subst
-          (λ (rows : List Row). TellsReached c.in_ok-moments.moments rows (map (λ held. held.key) (live_keys behind))
-          (live_rests behind) c.in_ok-reached.reached.items)
+          (λ (rows : List KeyRow). TellsReached c.in_ok-moments.moments rows (map (λ held. held.key) (live_keys following))
+          (live_rests following) c.in_ok-reached.reached.items)
           c.deref-6.ensures.value
           (subst (λ (keys : List HeldKey). TellsReached c.in_ok-moments.moments c.deref-6.result.now
-          (map (λ held. held.key) keys) (live_rests behind) c.in_ok-reached.reached.items)
+          (map (λ held. held.key) keys) (live_rests following) c.in_ok-reached.reached.items)
           (c.deref-7.ensures.value ∙ is.keys)
           (subst (λ (rests : List HeldRest). TellsReached c.in_ok-moments.moments c.deref-6.result.now
           (map (λ held. held.key) c.deref-7.result.now) rests c.in_ok-reached.reached.items)

@@ -4,7 +4,7 @@ use Rattle.std.specs.BTreeSet.{contains}
 use Rattle.std.specs.List.Sorted.{IsStableByKey}
 use Rattle.key_names.specs.declared.names.KeyName.{KeyName}
 use Rattle.key_names.specs.contracts.names.KeyNameOrd.TheImpl.{ghosts as names}
-use Rattle.audit_keys.specs.contracts.moments.LineOrd.TheImpl.{ghosts as lines}
+use Rattle.audit_keys.specs.contracts.moments.LineOfOrd.TheImpl.{ghosts as lines}
 use Rattle.key_audit.specs.declared.edges.Edge.{Edge}
 use Rattle.key_audit.specs.declared.reach.Copied.{Copied}
 use Rattle.key_audit.specs.Edges.{IsReached, edges_of}

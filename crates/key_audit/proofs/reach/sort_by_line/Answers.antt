@@ -1,10 +1,10 @@
 use Rattle.std.proofs.Common.{rules}
 use Rattle.std.proofs.lemmas.Fn.{always_returns_same}
-use Rattle.audit_keys.specs.declared.moments.Line.{Line}
+use Rattle.audit_keys.specs.declared.moments.LineOf.{LineOf}
 use Rattle.key_audit.specs.declared.reach.Copied.{Copied}
 use Rattle.key_audit.proofs.reach.sort_by_line.Goals as goal
 
-abbrev line_of : Copied → Line
+abbrev line_of : Copied → LineOf
 line_of one = one.line
 
 pub returns-clause-ordered : goal.returns-clause-ordered

@@ -1,14 +1,14 @@
 use Rattle.std.proofs.Common.{refl, subst, ◌∙◌}
 use Rattle.lane_table.specs.declared.values.LaneState.{LaneState}
 use Rattle.lane_table.specs.Meaning.{ValueRepresents}
-use Rattle.input_pool.proofs.Callers.{PoolStands-mix, crossing-mix, mixed}
+use Rattle.input_pool.proofs.Callers.{PoolConforms-mix, crossing-mix, mixed}
 use Rattle.rng_core.proofs.lane_values.mix_and_credit.Goals as goal
 
 pub returns-clause-made : goal.returns-clause-made
 returns-clause-made c = λ s h. let k = subst (λ (z : LaneState). ValueRepresents 0 z s) c.in-Pool.is h in (
   refl,
   record {
-    pool = PoolStands-mix c.credit.new.self s.pool c.args.text.now c.args.bits
+    pool = PoolConforms-mix c.credit.new.self s.pool c.args.text.now c.args.bits
         (c.credit.ensures.credited (mixed s.pool c.args.text.now) (c.mix.ensures s.pool k.1.pool));
     value = k.1.value;
     timer = k.1.timer;

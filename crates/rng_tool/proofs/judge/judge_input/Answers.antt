@@ -1,7 +1,7 @@
 use Rattle.std.proofs.Common.{arith, length}
 use Rattle.std.proofs.lemmas.List.{length-drop}
 use Rattle.key_names.specs.Texts.ScriptFaults.{front}
-use Rattle.tool_ends.specs.Pairs.{IsNoPair, behind}
+use Rattle.tool_ends.specs.Pairs.{IsNoPair, following}
 use Rattle.tool_ends.proofs.Refusing.{refused_of, said_of}
 use Rattle.rng_tool.specs.JudgeOutcome.{JudgeCalls}
 use Rattle.rng_tool.proofs.Inputs.{judge_is_limited}
@@ -11,7 +11,7 @@ use Rattle.rng_tool.proofs.judge.judge_input.Goals as goal
 pub say_of_text-requires-clause-short : goal.say_of_text-requires-clause-short
 say_of_text-requires-clause-short g c =
     let given = c.in-Ok.ensures.read in (
-      behind given.0,
+      following given.0,
       given.2.holds,
       omega (arith, length-drop (length (front given.0)) given.0, given.2.short),
     )

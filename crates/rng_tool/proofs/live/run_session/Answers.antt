@@ -13,4 +13,4 @@ returns-in-Ok-clause-ends g c =
 pub returns-in-Err-clause-ends : goal.returns-in-Err-clause-ends
 returns-in-Err-clause-ends g c =
     let reads = c.in-Err.ensures.reads in
-    stop_ends _ _ _ _ c.read_all-read.new.self.teller c.close.ensures c.in-Err.stop reads.0 reads.1 reads.2
+    stop_ends _ _ _ _ c.read_all-read.new.self.session_writer c.close.ensures c.in-Err.stop reads.0 reads.1 reads.2

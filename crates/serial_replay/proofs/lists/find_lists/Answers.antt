@@ -11,28 +11,28 @@ returns-in-No c = early_fails c.args.script.now (seen_callers c.args.lines.now) 
 
 pub all_settings-requires-clause-rise : goal.all_settings-requires-clause-rise
 all_settings-requires-clause-rise c =
-    let stand = rw c.in-Stands.is at c.in_ok-clause.ensures in
+    let conform = rw c.in-Conforms.is at c.in_ok-clause.ensures in
     rw c.deref-2.ensures.value
-    (forks_rise c.args.script.now (seen_callers c.args.lines.now) c.in-Stands.parts stand c.requires)
+    (forks_rise c.args.script.now (seen_callers c.args.lines.now) c.in-Conforms.parts conform c.requires)
 
 pub returns-in_default-2 : goal.returns-in_default-2
 returns-in_default-2 c =
     let t : List (List SeenLine) = seen_callers c.args.lines.now in
-    let stand = rw c.in-Stands.is at c.in_ok-clause.ensures in
-    let gathered = rw c.in-Some.is at (c.in_ok-told.ensures.some t stand) in
-    none_replayed c.args.script.now t c.in-Stands.parts stand c.requires (tables_of c.in-Some.told) gathered
+    let conform = rw c.in-Conforms.is at c.in_ok-clause.ensures in
+    let gathered = rw c.in-Some.is at (c.in_ok-inferred.ensures.some t conform) in
+    none_replayed c.args.script.now t c.in-Conforms.parts conform c.requires (tables_of c.in-Some.inferred) gathered
     (λ lists fills lawful. rw c.in_default-2.is at (c.in_ok-lists.ensures.only lists fills lawful))
 
 pub returns : goal.returns
 returns c =
     let t : List (List SeenLine) = seen_callers c.args.lines.now in
-    let stand = rw c.in-Stands.is at c.in_ok-clause.ensures in
-    let gathered = rw c.in-Some.is at (c.in_ok-told.ensures.some t stand) in
+    let conform = rw c.in-Conforms.is at c.in_ok-clause.ensures in
+    let gathered = rw c.in-Some.is at (c.in_ok-inferred.ensures.some t conform) in
     let some = rw c.in-Some-2.is at c.in_ok-lists.ensures.some in
     record {
-      parts = stand;
+      parts = conform;
       settings = rw c.deref.ensures.value at c.in_ok-settings.ensures;
-      told = tables_of c.in-Some.told;
+      inferred = tables_of c.in-Some.inferred;
       gathered = gathered;
       lists = some.0;
       fills = some.1;

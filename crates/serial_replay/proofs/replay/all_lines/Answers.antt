@@ -5,7 +5,7 @@ use Rattle.key_names.specs.Lanes.Book.{list_at}
 use Rattle.key_names.specs.Transcripts.SeenLine.{SeenLine}
 use Rattle.key_names.specs.Texts.TranscriptGrammar.{LastHasLines}
 use Rattle.transcript_text.specs.declared.caller_lines.CallerLines.{CallerLines}
-use Rattle.judge_log.specs.declared.said.Said.{Said}
+use Rattle.judge_log.specs.declared.said.MadeLine.{MadeLine}
 use Rattle.serial_replay.specs.Agreement.{Agrees}
 use Rattle.serial_replay.specs.Remade.{said_lists}
 use Rattle.serial_replay.specs.Written.{MayShow}
@@ -21,7 +21,7 @@ caller_lines-requires c =
     c.deref.ensures.value ∙ said_at c.args.said.now n c.index-said-caller.result low' c.index-said-caller.is in
     let lines : c.caller.result.now.lines ≡ list_at c.args.steps.now n = c.caller.ensures ∙ lines_at c.args.steps.now n in
     subst (λ (ls : List SeenLine). AllByRecursion (Agrees MayShow c.deref.result.now) ls) (sym lines)
-    (subst (λ (s : List Said). AllByRecursion (Agrees MayShow s) (list_at c.args.steps.now n)) (sym said)
+    (subst (λ (s : List MadeLine). AllByRecursion (Agrees MayShow s) (list_at c.args.steps.now n)) (sym said)
     (c.requires.kinds n low))
 
 pub of-requires-clause-few : goal.of-requires-clause-few

@@ -10,13 +10,13 @@ push_made-requires-clause-kind c =
 
 pub loop-number-preserved : goal.loop-number-preserved
 loop-number-preserved c = record {
-  told = rw c.in_ok-push_made.ensures
+  inferred = rw c.in_ok-push_made.ensures
       (line_more c.args.said.now c.args.lines.now.lines c.loop-number.number (seen c.line.result) c.line.ensures.line
-      c.loop-number.told.lines c.loop-number.invariant.told);
+      c.loop-number.inferred.lines c.loop-number.invariant.inferred);
   agree = (agree_more c.args.said.now c.args.lines.now.lines c.loop-number.number (seen c.line.result) c.line.ensures.line
       c.loop-number.invariant.agree).1;
 }
 
 pub returns : goal.returns
-returns c = lines_end c.args.said.now c.args.lines.now.lines c.loop-number.told.lines c.loop-number.number
-    (omega arith) c.loop-number.invariant.told
+returns c = lines_end c.args.said.now c.args.lines.now.lines c.loop-number.inferred.lines c.loop-number.number
+    (omega arith) c.loop-number.invariant.inferred

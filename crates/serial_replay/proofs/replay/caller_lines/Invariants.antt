@@ -6,6 +6,6 @@ use Rattle.serial_replay.proofs.replay.caller_lines.Given as goal
 
 abbrev pub invariant-loop-number : goal.invariant-loop-number
 invariant-loop-number l = record {
-  told : l.told.lines ++ lines_said l.said (drop l.number l.lines.lines) ≡ lines_said l.said l.lines.lines;
+  inferred : l.inferred.lines ++ lines_said l.said (drop l.number l.lines.lines) ≡ lines_said l.said l.lines.lines;
   agree : AllByRecursion (Agrees MayShow l.said) (drop l.number l.lines.lines);
 }

@@ -11,8 +11,8 @@ pub returns-then-not-made : goal.returns-then-not-made
 returns-then-not-made c =
     let a = rw c.in-Made.is at c.in_ok-clause.ensures.made in
     looks_stop c.args.script.now c.args.steps.now c.in-Made.made a
-    (λ stand. let fall : c.in-Made.made.looks_stand ≡ false = c.if-not-made.true in
-    let stands : c.in-Made.made.looks_stand ≡ true = stand in cc)
+    (λ conform. let fall : c.in-Made.made.looks_conform ≡ false = c.if-not-made.true in
+    let conforms : c.in-Made.made.looks_conform ≡ true = conform in cc)
 
 pub all_lines-requires-clause-kinds : goal.all_lines-requires-clause-kinds
 all_lines-requires-clause-kinds c =

@@ -2,7 +2,7 @@ use Rattle.std.proofs.Common.{◌∙◌, ◌≡◌, ◌-◌, [], ap, arith, leng
 use Rattle.std.specs.Prelude.{drop}
 use Rattle.std.proofs.lemmas.List.{length-drop, length-take, take_all}
 use Rattle.key_names.specs.Texts.ScriptFaults.{front}
-use Rattle.tool_ends.specs.Behind.{HoldsText}
+use Rattle.tool_ends.specs.After.{HoldsText}
 use Rattle.tool_ends.proofs.intake.open.Goals as goal
 
 pub returns-clause-opened : goal.returns-clause-opened

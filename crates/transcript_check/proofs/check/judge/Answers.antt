@@ -30,8 +30,8 @@ returns-clause-judged c =
     let answers = rw c.deref.ensures.value at c.if-not-all_agree.ensures in
     let same = rw c.deref-2.ensures.value at c.if-not-all_agree-2.ensures in
     other_looks c.args.script.now c.args.t.now c.requires c.in-Made.made a (answers.0 refl) (same.0 refl)
-    (λ stand. let fall : c.in-Made.made.looks_stand ≡ false = c.if-made.false in
-    let stands : c.in-Made.made.looks_stand ≡ true = stand in cc)
+    (λ conform. let fall : c.in-Made.made.looks_conform ≡ false = c.if-made.false in
+    let conforms : c.in-Made.made.looks_conform ≡ true = conform in cc)
 
 pub returns-then-made-clause-lists : goal.returns-then-made-clause-lists
 returns-then-made-clause-lists c = rw c.in-Made.is at c.in_ok-clause.ensures.basis

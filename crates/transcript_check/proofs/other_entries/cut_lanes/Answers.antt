@@ -4,14 +4,14 @@ use Rattle.std.specs.Global.{Vec}
 use Rattle.std.proofs.lemmas.List.{length_push}
 use Rattle.std.proofs.lemmas.List.Elements.{All-push, All-take, All-get_or}
 use Rattle.judge_log.specs.Tables.{CpuIsWide}
-use Rattle.judge_log.specs.declared.told.ToldCpu.{ToldCpu}
+use Rattle.judge_log.specs.declared.inferred.InferredCpu.{InferredCpu}
 use Rattle.transcript_check.specs.Rows.{AreWide}
 use Rattle.transcript_check.proofs.other_entries.cut_lanes.Goals as goal
 
 pub loop-cpu-preserved : goal.loop-cpu-preserved
 loop-cpu-preserved c =
-    let Wide : List ToldCpu → Type 0 = All (λ (t : ToldCpu). CpuIsWide t.entry) in
-    let Is : Vec ToldCpu → Type 0 = λ lane. Wide lane.items in
+    let Wide : List InferredCpu → Type 0 = All (λ (t : InferredCpu). CpuIsWide t.entry) in
+    let Is : Vec InferredCpu → Type 0 = λ lane. Wide lane.items in
     let n : ℕ = c.loop-cpu.cpu in
     let lane : Is c.index-lanes-cpu.result =
     subst Is (sym c.index-lanes-cpu.is)
@@ -19,7 +19,7 @@ loop-cpu-preserved c =
     let one = c.in_ok-front.ensures in
     let front : Wide c.in_ok-front.field-0.items =
     subst Wide (sym (one.1 ∙ ap (take one.0) c.deref.ensures.value))
-    (All-take (λ (t : ToldCpu). CpuIsWide t.entry) one.0 c.index-lanes-cpu.result.items lane) in
+    (All-take (λ (t : InferredCpu). CpuIsWide t.entry) one.0 c.index-lanes-cpu.result.items lane) in
     record {
       long = ap length c.in_ok-push.ensures.items ∙ length_push c.loop-cpu.cut.items c.in_ok-front.field-0
           ∙ ap (λ m. m + 1) c.loop-cpu.invariant.long;

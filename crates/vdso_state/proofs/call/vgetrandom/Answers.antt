@@ -1,6 +1,6 @@
 use Rattle.std.proofs.Common.{◌≡◌, ℕ, length, subst, arith}
 use Rattle.vdso_state.specs.Host.{doings}
-use Rattle.vdso_state.specs.Places.{BehindPlace, Ends}
+use Rattle.vdso_state.specs.Places.{AfterPlace, Ends}
 use Rattle.vdso_state.proofs.Leading.{then_leads, then_ends, at_leads, still_may}
 use Rattle.vdso_state.proofs.call.vgetrandom.Goals as goal
 
@@ -14,7 +14,7 @@ returns-in-At g c =
     let passes = c.at.ensures.passes in
     let passed = at_leads host g.H.VHost.floor n c.args.flags place buf c.begin.new.st c.at.new.st passes.0
     c.begin.new.host c.at.new.self passes.1 passes.2 c.at.ensures.floor in
-    let ends = subst (λ (k : ℕ). Ends host g.H.VHost.floor (BehindPlace k c.args.flags place buf c.at.new.st)
+    let ends = subst (λ (k : ℕ). Ends host g.H.VHost.floor (AfterPlace k c.args.flags place buf c.at.new.st)
     c.at.new.self c.finish.new.host
     (record { state = c.finish.new.st; result = c.finish.result; buf = c.finish.new.buf })) same
     c.finish.ensures in

@@ -7,10 +7,10 @@ use Rattle.key_names.proofs.Lists.ListFacts.{image_at}
 use Rattle.judge_log.proofs.Loops.{found}
 use Rattle.judge_log.specs.declared.kept.KeptBase.{KeptBase}
 use Rattle.audit_keys.specs.KeptEntries.{base_entries}
-use Rattle.audit_keys.proofs.BaseKeys.{BaseStands, base_after_entry}
+use Rattle.audit_keys.proofs.BaseKeys.{BaseConforms, base_after_entry}
 use Rattle.audit_keys.specs.Lives.{base_births_at, base_endings_at}
-use Rattle.audit_keys.proofs.Along.{told_more, told_all}
-use Rattle.audit_keys.proofs.Stands.{stands_more}
+use Rattle.audit_keys.proofs.Along.{listed_more, listed_all}
+use Rattle.audit_keys.proofs.Conforms.{conforms_more}
 use Rattle.audit_keys.proofs.lives.Lives.base.Goals as goal
 
 pub loop-place-init : goal.loop-place-init
@@ -18,7 +18,7 @@ loop-place-init c = record {
   births = sym (append-nil _);
   endings = sym (append-nil _);
   given_up = refl;
-  stands = record { place_is = refl; key_is = refl };
+  conforms = record { place_is = refl; key_is = refl };
 }
 
 pub loop-place-preserved : goal.loop-place-preserved
@@ -30,21 +30,21 @@ loop-place-preserved c =
     let is = image_at (λ (k : KeptBase). k.entry) c.args.base.now place _
     (found c.args.base.now c.args.base.now place _ refl c.loop-place-test.true) in
     record {
-      births = told_more base_births_at base_step base_start es place _ _ _ _ is h.births
-          (c.in_ok-base_entry.ensures.births s h.stands.place_is);
-      endings = told_more base_endings_at base_step base_start es place _ _ _ _ is h.endings
-          (c.in_ok-base_entry.ensures.endings s h.stands.place_is h.stands.key_is);
+      births = listed_more base_births_at base_step base_start es place _ _ _ _ is h.births
+          (c.in_ok-base_entry.ensures.births s h.conforms.place_is);
+      endings = listed_more base_endings_at base_step base_start es place _ _ _ _ is h.endings
+          (c.in_ok-base_entry.ensures.endings s h.conforms.place_is h.conforms.key_is);
       given_up = c.base_entry.ensures.given_up ∙ h.given_up;
-      stands = stands_more base_step base_start BaseStands es place _ c.key_after-key.result is
-          (base_after_entry s _ place c.loop-place.key c.key_after-key.result h.stands c.key_after-key.ensures);
+      conforms = conforms_more base_step base_start BaseConforms es place _ c.key_after-key.result is
+          (base_after_entry s _ place c.loop-place.key c.key_after-key.result h.conforms c.key_after-key.ensures);
     }
 
 pub returns-clause-births : goal.returns-clause-births
 returns-clause-births c =
-    told_all base_births_at base_step base_start (base_entries c.args.base.now) c.loop-place.place _ _
+    listed_all base_births_at base_step base_start (base_entries c.args.base.now) c.loop-place.place _ _
     (rw length-map c.loop-place-test.false) c.loop-place.invariant.births
 
 pub returns-clause-endings : goal.returns-clause-endings
 returns-clause-endings c =
-    told_all base_endings_at base_step base_start (base_entries c.args.base.now) c.loop-place.place _ _
+    listed_all base_endings_at base_step base_start (base_entries c.args.base.now) c.loop-place.place _ _
     (rw length-map c.loop-place-test.false) c.loop-place.invariant.endings

@@ -6,12 +6,12 @@ use Rattle.key_names.specs.Lanes.CpuList.{CpuState, cpu_start, cpu_step}
 use Rattle.key_names.proofs.Lists.ListFacts.{image_at}
 use Rattle.judge_log.proofs.Loops.{found}
 use Rattle.judge_log.specs.declared.kept.KeptCpu.{KeptCpu}
-use Rattle.audit_keys.specs.Fills.{CpuStands}
+use Rattle.audit_keys.specs.Fills.{CpuConforms}
 use Rattle.audit_keys.specs.KeptEntries.{cpu_entries}
 use Rattle.audit_keys.specs.Lives.{cpu_births_at, cpu_endings_at}
 use Rattle.audit_keys.specs.Rests.{cpu_given_up_at}
-use Rattle.audit_keys.proofs.Along.{told_after, told_more, told_all}
-use Rattle.audit_keys.proofs.Stands.{stands_more}
+use Rattle.audit_keys.proofs.Along.{listed_after, listed_more, listed_all}
+use Rattle.audit_keys.proofs.Conforms.{conforms_more}
 use Rattle.audit_keys.proofs.lives.Lives.cpu.Goals as goal
 
 pub loop-place-init : goal.loop-place-init
@@ -19,7 +19,7 @@ loop-place-init c = λ base. record {
   births = sym (append-nil _);
   endings = sym (append-nil _);
   given_up = sym (append-nil _);
-  stands = record { place_is = refl; key = c.start-keys.ensures.key; fills = c.start-keys.ensures.fills };
+  conforms = record { place_is = refl; key = c.start-keys.ensures.key; fills = c.start-keys.ensures.fills };
 }
 
 pub loop-place-preserved : goal.loop-place-preserved
@@ -32,26 +32,26 @@ loop-place-preserved c = λ base.
     let is = image_at (λ (k : KeptCpu). k.entry) c.args.lane.now place _
     (found c.args.lane.now c.args.lane.now place _ refl c.loop-place-test.true) in
     record {
-      births = told_more (cpu_births_at c.args.cpu) step cpu_start es place _ _ _ _ is h.births
-          (c.cpu_gives_up.ensures.births ∙ c.in_ok-cpu_entry.ensures.births s h.stands.place_is);
-      endings = told_more (cpu_endings_at c.args.cpu) step cpu_start es place _ _ _ _ is h.endings
-          (c.cpu_gives_up.ensures.endings ∙ c.in_ok-cpu_entry.ensures.endings s h.stands.place_is (sym h.stands.key));
-      given_up = told_after (cpu_given_up_at c.args.cpu) step cpu_start es place _ _ _ _ _ is h.given_up
-          c.cpu_entry.ensures.given_up (c.in_ok-cpu_gives_up.ensures.given_up s h.stands);
-      stands = stands_more step cpu_start CpuStands es place _ c.step.new.self is (c.in_ok-step.ensures.after s base h.stands);
+      births = listed_more (cpu_births_at c.args.cpu) step cpu_start es place _ _ _ _ is h.births
+          (c.cpu_gives_up.ensures.births ∙ c.in_ok-cpu_entry.ensures.births s h.conforms.place_is);
+      endings = listed_more (cpu_endings_at c.args.cpu) step cpu_start es place _ _ _ _ is h.endings
+          (c.cpu_gives_up.ensures.endings ∙ c.in_ok-cpu_entry.ensures.endings s h.conforms.place_is (sym h.conforms.key));
+      given_up = listed_after (cpu_given_up_at c.args.cpu) step cpu_start es place _ _ _ _ _ is h.given_up
+          c.cpu_entry.ensures.given_up (c.in_ok-cpu_gives_up.ensures.given_up s h.conforms);
+      conforms = conforms_more step cpu_start CpuConforms es place _ c.step.new.self is (c.in_ok-step.ensures.after s base h.conforms);
     }
 
 pub returns-clause-births : goal.returns-clause-births
 returns-clause-births c = λ base.
-    told_all (cpu_births_at c.args.cpu) (cpu_step base c.args.cpu) cpu_start (cpu_entries c.args.lane.now)
+    listed_all (cpu_births_at c.args.cpu) (cpu_step base c.args.cpu) cpu_start (cpu_entries c.args.lane.now)
     c.loop-place.place _ _ (rw length-map c.loop-place-test.false) (c.loop-place.invariant base).births
 
 pub returns-clause-endings : goal.returns-clause-endings
 returns-clause-endings c = λ base.
-    told_all (cpu_endings_at c.args.cpu) (cpu_step base c.args.cpu) cpu_start (cpu_entries c.args.lane.now)
+    listed_all (cpu_endings_at c.args.cpu) (cpu_step base c.args.cpu) cpu_start (cpu_entries c.args.lane.now)
     c.loop-place.place _ _ (rw length-map c.loop-place-test.false) (c.loop-place.invariant base).endings
 
 pub returns-clause-given_up : goal.returns-clause-given_up
 returns-clause-given_up c = λ base.
-    told_all (cpu_given_up_at c.args.cpu) (cpu_step base c.args.cpu) cpu_start (cpu_entries c.args.lane.now)
+    listed_all (cpu_given_up_at c.args.cpu) (cpu_step base c.args.cpu) cpu_start (cpu_entries c.args.lane.now)
     c.loop-place.place _ _ (rw length-map c.loop-place-test.false) (c.loop-place.invariant base).given_up

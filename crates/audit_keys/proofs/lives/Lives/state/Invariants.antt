@@ -5,20 +5,21 @@ use Rattle.audit_keys.specs.declared.state_uses.StateOf.{StateOf}
 use Rattle.audit_keys.specs.declared.batches.StateBatch.{StateBatch}
 use Rattle.audit_keys.specs.declared.lives.Lives.{Lives}
 use Rattle.audit_keys.specs.Lives.{state_births_at, state_endings_at}
-use Rattle.audit_keys.specs.Rests.{BatchStands, state_given_up_at}
-use Rattle.audit_keys.proofs.Along.{IsTold}
-use Rattle.audit_keys.proofs.Stands.{StandsAt}
+use Rattle.audit_keys.specs.Rests.{BatchConforms, state_given_up_at}
+use Rattle.audit_keys.proofs.Along.{IsListed}
+use Rattle.audit_keys.proofs.Conforms.{ConformsAt}
 use Rattle.audit_keys.proofs.lives.Lives.state.Given as goal
 
--- the results of the entries before a place were added, and batch has the keys and the batch before the place
+-- the results of the entries before `place` were added, and `batch` has the state's keys and batch before the entry
+-- there
 pub record StateSoFar (of : StateOf) (es : List VEntry) (place : ℕ) (old now : Lives) (batch : StateBatch) : Type 0 where
-  pub births : IsTold (state_births_at of) (state_step of.caller of.state) state_start es place
+  pub births : IsListed (state_births_at of) (state_step of.caller of.state) state_start es place
       old.births.items now.births.items
-  pub endings : IsTold (state_endings_at of) (state_step of.caller of.state) state_start es place
+  pub endings : IsListed (state_endings_at of) (state_step of.caller of.state) state_start es place
       old.endings.items now.endings.items
-  pub given_up : IsTold (state_given_up_at of) (state_step of.caller of.state) state_start es place
+  pub given_up : IsListed (state_given_up_at of) (state_step of.caller of.state) state_start es place
       old.given_up.items now.given_up.items
-  pub stands : StandsAt (state_step of.caller of.state) state_start BatchStands es place batch
+  pub conforms : ConformsAt (state_step of.caller of.state) state_start BatchConforms es place batch
 
 abbrev pub invariant-loop-place : goal.invariant-loop-place
 invariant-loop-place l = StateSoFar l.of l.entries l.place l.initial.self l.self l.batch

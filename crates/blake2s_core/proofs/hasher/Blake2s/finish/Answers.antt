@@ -1,12 +1,12 @@
 use Rattle.std.proofs.Common.{◌≡◌, ℕ, ◌-◌, ◌≤◌, length, take, drop, length-drop, replicate, ◌∙◌, arith, sym, rules}
 use Rattle.std.proofs.lemmas.List.{length-take-le}
-use Rattle.blake2s_core.proofs.Finishing.{Stands-blake2s}
+use Rattle.blake2s_core.proofs.Finishing.{Conforms-blake2s}
 use Rattle.blake2s_core.proofs.Words.{put_mid_to_end}
 use Rattle.blake2s_core.proofs.hasher.Blake2s.finish.Goals as goal
 
 pub returns : goal.returns
 returns c = λ key text held.
-    let stands = rw (← c.self.view_is) at held in
+    let conforms = rw (← c.self.view_is) at held in
     let rest = c.self.inside.rest in
     let used : ℕ = c.self.inside.rest_len in
     let len : length rest ≡ 64 = search rules in
@@ -20,4 +20,4 @@ returns c = λ key text held.
     put_mid_to_end used (length rest - used) rest c.fill.new.self (replicate (64 - used) 0) (omega arith) zeros in
     let last = c.hash_last-words.ensures in
     c.write_u32_into.ensures
-    ∙ Stands-blake2s _ key text _ c.hash_last-words.result used stands used_is fits filled last
+    ∙ Conforms-blake2s _ key text _ c.hash_last-words.result used conforms used_is fits filled last

@@ -11,7 +11,7 @@ returns-clause-lawful g c script lines is =
 
 pub returns-clause-line : goal.returns-clause-line
 returns-clause-line g c = record {
-  steps_fit = subst (AllByRecursion StepFits) (sym c.leave.ensures.did.told.trace) c.leave.ensures.did.told.fits;
+  steps_fit = subst (AllByRecursion StepFits) (sym c.leave.ensures.did.recorded.trace) c.leave.ensures.did.recorded.fits;
   shows = rw c.only.ensures tt;
   within = omega arith;
 }

@@ -5,7 +5,7 @@ use Rattle.lane_table.specs.Calls.{plan_of}
 use Rattle.lane_table.proofs.Calls.HandLemmas.{has_new}
 use Rattle.caller_run.specs.Alone.{GoesAlone, first_start}
 use Rattle.caller_run.specs.Says.{most_shown}
-use Rattle.caller_run.specs.declared.caller.Caller.{Caller}
+use Rattle.caller_run.specs.declared.making.caller.Caller.{Caller}
 use Rattle.caller_run.proofs.Forks.AllCallers.{starts_first, starts_whole}
 use Rattle.caller_run.proofs.Forks.Alone.{starts_alone}
 use Rattle.caller_run.proofs.alone.LoneRun.with_room.Goals as goal

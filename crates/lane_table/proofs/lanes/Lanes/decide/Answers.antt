@@ -11,7 +11,7 @@ pub store-requires : goal.store-requires
 store-requires g c = (
   search rules,
   omega arith,
-  rw c.serving_word.ensures (puts _ _ _ c.args.lane c.args.ticket c.args.pass.now.seat.me _ c.args.content c.lay.ensures.seat
+  rw c.serving_word.ensures (puts _ _ _ c.args.lane c.args.ticket c.args.pass.now.seat.me _ c.args.content c.put_content.ensures.seat
       (let p = c.requires.pass in omega arith) (let p = c.requires.pass in omega arith) c.requires.lane.1 _ _
       c.requires.visit c.requires.above c.requires.later c.requires.kind c.requires.fits c.requires.names
       c.requires.replays),
@@ -20,9 +20,9 @@ store-requires g c = (
 pub returns-clause-seat : goal.returns-clause-seat
 returns-clause-seat g c = let i : ℕ = c.args.lane in
     (c.store.ensures.2 i c.serving_word.ensures).0 ∙ (λ k. (
-      after i (filled i (c.requires.visit k) (c.lay.ensures.seat k).0)
-          (c.lay.ensures.seat k).0,
-      rest (c.lay.ensures.seat k).1,
+      after i (filled i (c.requires.visit k) (c.put_content.ensures.seat k).0)
+          (c.put_content.ensures.seat k).0,
+      rest (c.put_content.ensures.seat k).1,
     ))
 
 pub returns-clause-consistent : goal.returns-clause-consistent
@@ -34,10 +34,10 @@ returns-clause-pass g c = let i : ℕ = c.args.lane in let v : View = c.args.pas
     c.args.self.now c.args.pass.now record {
       seat = c.store.new.seat;
       stamp = c.args.content.stamp;
-      caller = c.lay.new.pass.caller;
+      caller = c.put_content.new.pass.caller;
     } c.requires.pass
     (ap (λ (m : Seated). m.0) ((c.store.ensures.2 i c.serving_word.ensures).0
     ∙ (λ k. (
-      after i (filled i (c.requires.visit k) (c.lay.ensures.seat k).0) (c.lay.ensures.seat k).0,
-      rest (c.lay.ensures.seat k).1,
-    )))) (search rules) refl c.lay.ensures.pass.caller
+      after i (filled i (c.requires.visit k) (c.put_content.ensures.seat k).0) (c.put_content.ensures.seat k).0,
+      rest (c.put_content.ensures.seat k).1,
+    )))) (search rules) refl c.put_content.ensures.pass.caller

@@ -6,7 +6,7 @@ pub store-requires : goal.store-requires
 store-requires c = (
   search rules,
   omega arith,
-  rw c.serving_word.ensures (leaves _ _ _ c.args.lane c.args.ticket c.args.pass.now.seat.me _ c.args.content c.lay.ensures.seat
+  rw c.serving_word.ensures (leaves _ _ _ c.args.lane c.args.ticket c.args.pass.now.seat.me _ c.args.content c.put_content.ensures.seat
       (let p = c.requires.pass in omega arith) (let p = c.requires.pass in omega arith) c.requires.lane.1
       c.requires.replays c.requires.free),
 )

@@ -2,7 +2,7 @@ use Rattle.std.proofs.Common.{rules, arith, ap, sym, length, ◌∙◌, ℕ}
 use Rattle.lane_table.specs.WorldRule.{at, known_of}
 use Rattle.lane_table.proofs.Lists.LawfulLists.{base_generation}
 use Rattle.lane_table.proofs.Lists.VisitLists.{raises_few}
-use Rattle.lane_table.proofs.Rule.Looking.{lifts}
+use Rattle.lane_table.proofs.Rule.Looking.{raises_generation}
 use Rattle.lane_table.proofs.Calls.Telling.{raised_is}
 use Rattle.lane_table.proofs.lanes.Lanes.raise.Goals as goal
 
@@ -13,7 +13,7 @@ store-requires c = let p = c.requires.pass in let h = c.requires.held in let v =
     let place = h.place ∙ ap (λ (z : ℕ). length (known_of v z)) c.requires.base in (
       search rules,
       omega arith,
-      lifts _ _ _ c.args._held.now.turn.ticket _ _ (omega arith)
+      raises_generation _ _ _ c.args._held.now.turn.ticket _ _ (omega arith)
           (ap (λ (z : ℕ). (at z v).stage) (sym c.requires.base) ∙ h.stage) c.requires.once (omega arith) (omega arith),
     )
 

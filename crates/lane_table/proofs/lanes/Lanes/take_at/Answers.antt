@@ -11,7 +11,7 @@ held-requires-clause-early g c = let i : ℕ = c.args.lane in let m : Seated = c
     let r : Restages i m c.draw-ticket.new.pass.seat.me =
     restages_to (restages_queued i c.draw-ticket.result m) c.draw-ticket.ensures.drawn in (
       c.draw-ticket.ensures.early,
-      got_early near r c.wait_for.ensures.got c.lift-content.ensures.value c.lift-content.ensures.seat,
+      got_early near r c.wait_for.ensures.got c.take_content-content.ensures.value c.take_content-content.ensures.seat,
       elim c.if-content-ge-LAST.branch [
         | then-content-ge-LAST w ↦
             absurd w.wait_for_ever.ensures
@@ -24,12 +24,12 @@ returns-clause-taken g c = let i : ℕ = c.args.lane in let m : Seated = c.args.
     c.requires.pass in let near : i < length m.0.lanes = omega arith in
     let r : Restages i m c.draw-ticket.new.pass.seat.me =
     restages_to (restages_queued i c.draw-ticket.result m) c.draw-ticket.ensures.drawn in
-    let early : c.lift-content.result.stamp < 2 ^ 62 =
+    let early : c.take_content-content.result.stamp < 2 ^ 62 =
     elim c.if-content-ge-LAST.branch [
       | then-content-ge-LAST w ↦
           absurd w.wait_for_ever.ensures
       | else-content-ge-LAST w ↦ omega arith
     ] in
-    taken_is near r c.wait_for.ensures.got c.lift-content.ensures.value c.lift-content.ensures.seat c.held.result
+    taken_is near r c.wait_for.ensures.got c.take_content-content.ensures.value c.take_content-content.ensures.seat c.held.result
     (ap (λ (z : Seated). z.0.drawn) c.draw-ticket.ensures.drawn) early c.held.ensures.turn c.held.ensures.list
     c.held.ensures.state

@@ -36,7 +36,7 @@ returns-then-content-ge-LAST-clause-tried c = let i : ℕ = c.args.lane in let m
     let p = c.requires.pass in let l = c.requires.lane in let near : i < length m.0.lanes = omega arith in
     let drawn = c.try_draw-ticket.ensures.drawn c.if-ticket-serving.false in
     let r = three i _ _ m _ _ near c.load_serving-serving.ensures.seat c.find_ticket.ensures.seat _ _ drawn in
-    left_tried near r c.turn.ensures.got c.lift-content.ensures.value c.lift-content.ensures.seat l.1
+    left_tried near r c.turn.ensures.got c.take_content-content.ensures.value c.take_content-content.ensures.seat l.1
     (three_drawn i _ _ m _ _ near c.load_serving-serving.ensures.seat c.find_ticket.ensures.seat _ _ drawn)
     c.if-content-ge-LAST.true c.leave.new.pass.seat.me c.leave.ensures.seat
 
@@ -48,7 +48,7 @@ held-requires-clause-early c = let i : ℕ = c.args.lane in let m : Seated = c.a
     let r = three i _ _ m _ _ near c.load_serving-serving.ensures.seat c.find_ticket.ensures.seat _ _
     (c.try_draw-ticket.ensures.drawn c.if-ticket-serving.false) in (
       omega arith,
-      got_early near r c.turn.ensures.got c.lift-content.ensures.value c.lift-content.ensures.seat,
+      got_early near r c.turn.ensures.got c.take_content-content.ensures.value c.take_content-content.ensures.seat,
       omega arith,
     )
 
@@ -57,6 +57,6 @@ returns-clause-taken c = let i : ℕ = c.args.lane in let m : Seated = c.args.pa
     c.requires.pass in let l = c.requires.lane in let near : i < length m.0.lanes = omega arith in
     let drawn = c.try_draw-ticket.ensures.drawn c.if-ticket-serving.false in
     let r = three i _ _ m _ _ near c.load_serving-serving.ensures.seat c.find_ticket.ensures.seat _ _ drawn in
-    taken_is near r c.turn.ensures.got c.lift-content.ensures.value c.lift-content.ensures.seat c.held.result
+    taken_is near r c.turn.ensures.got c.take_content-content.ensures.value c.take_content-content.ensures.seat c.held.result
     (three_drawn i _ _ m _ _ near c.load_serving-serving.ensures.seat c.find_ticket.ensures.seat _ _ drawn)
     c.if-content-ge-LAST.false c.held.ensures.turn c.held.ensures.list c.held.ensures.state

@@ -13,5 +13,5 @@ pub returns : goal.returns
 returns g c = let v = c.visit_base.ensures.visited in record {
   does = does_base _ _ _ _ _ _ c.enter-base.ensures c.visit_base.ensures;
   mark = v.mark;
-  visit = v.told.trace ∙ ap (λ (l : List Step). l ++ Visit v.mark ∷ []) c.enter-base.ensures.trace;
+  visit = v.recorded.trace ∙ ap (λ (l : List Step). l ++ Visit v.mark ∷ []) c.enter-base.ensures.trace;
 }

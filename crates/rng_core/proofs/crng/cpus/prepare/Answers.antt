@@ -4,5 +4,5 @@ use Rattle.rng_core.proofs.crng.cpus.prepare.Goals as goal
 
 pub returns : goal.returns
 returns g c = let a = c.enter-held.ensures in
-    does_map _ _ _ (λ deeds h. record { form = h; answers = refl; shows = refl })
+    does_map _ _ _ (λ effects h. record { form = h; answers = refl; shows = refl })
     (does_cpu _ _ _ _ _ _ _ tt a (visit_at _ _ _ _ _ _ a.holds.lane_is c.visit.ensures))

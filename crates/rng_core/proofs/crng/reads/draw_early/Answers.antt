@@ -10,6 +10,6 @@ visit_base-requires-clause-makes c =
     c.draw-rest.ensures.made _ nothing (lent _ _ _ _ c.state_mut.ensures.value c.requires.holds.value)
 
 pub returns-clause-does : goal.returns-clause-does
-returns-clause-does c = does_map _ _ _ (λ deeds h. record { form = inr h.form; bytes_are = h.bytes_are })
+returns-clause-does c = does_map _ _ _ (λ effects h. record { form = inr h.form; bytes_are = h.bytes_are })
     (serves_base _ _ _ _ _ c.visit_base.ensures
     (c.draw-rest.ensures.rest _ (lent _ _ _ _ c.state_mut.ensures.value c.requires.holds.value)))

@@ -17,6 +17,6 @@ visit_base-requires-clause-makes g c = let e = c.extract-root.ensures in let pla
 
 pub returns-clause-does : goal.returns-clause-does
 returns-clause-does g c = let e = c.extract-root.ensures in
-    does_map _ _ _ (λ deeds h. record { form = inl h.form; bytes_are = h.bytes_are })
+    does_map _ _ _ (λ effects h. record { form = inl h.form; bytes_are = h.bytes_are })
     (serves_rooted _ _ _ (λ (r : ℕ). Draw (Some r) c.args.taken) _ _ _ _ e.same e.room e.visited.1 c.visit_base.ensures
     (c.draw_rooted-rest.ensures.rest ∙ ap (λ (k : List ℕ). taken_bytes k c.args.taken) (sym e.key)))

@@ -11,6 +11,6 @@ returns-then-is_empty g c = does_nothing _ _ c.requires.idle (kernel_none _ c.ar
 
 pub returns : goal.returns
 returns g c = let n = length c.args.buf.now in let some : 0 < n = search rules in
-    does_map _ _ _ (λ deeds h. kernel_some (setting_of c.args.site.now.set) n n c.read_behind.new.buf deeds refl some h)
+    does_map _ _ _ (λ effects h. kernel_some (setting_of c.args.site.now.set) n n c.read_after.new.buf effects refl some h)
     (does_looked (λ set. ReadForm (setting_of set) (Kernel n)) _ _ _ _ _ _ c.look-found.ensures.looked
-    c.read_behind.ensures)
+    c.read_after.ensures)

@@ -1,7 +1,7 @@
 use Rattle.std.proofs.Common.{refl, sym, subst}
 use Rattle.key_names.specs.Callers.Forms.{Cross}
 use Rattle.input_pool.specs.declared.pool.Crossing.{Crossing}
-use Rattle.input_pool.specs.PoolStands.{crossing_of}
+use Rattle.input_pool.specs.PoolConforms.{crossing_of}
 use Rattle.rng_core.specs.Makes.{setting_of}
 use Rattle.rng_core.specs.Sites.{Does}
 use Rattle.rng_core.proofs.SiteLemmas.{does_nothing}

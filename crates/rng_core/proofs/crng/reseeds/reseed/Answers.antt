@@ -8,12 +8,12 @@ use Rattle.rng_core.proofs.crng.reseeds.reseed.Goals as goal
 
 pub returns-then-look-eq0-clause-does : goal.returns-then-look-eq0-clause-does
 returns-then-look-eq0-clause-does g c = does_within 1 3 _ _ (omega arith) (does_map 1 _ _
-    (λ deeds e. reseed_unready (setting_of c.args.site.now.set) c.look.result deeds c.if-look-eq0.true e)
+    (λ effects e. reseed_unready (setting_of c.args.site.now.set) c.look.result effects c.if-look-eq0.true e)
     (does_look _ _ _ c.look.ensures))
 
 pub returns-clause-does : goal.returns-clause-does
-returns-clause-does g c = does_map 3 _ _ (λ deeds h. reseed_ready (setting_of c.args.site.now.set) c.look.result deeds h.rest
-    (let n = c.if-look-eq0.false in omega arith) h.deeds_are h.holds)
+returns-clause-does g c = does_map 3 _ _ (λ effects h. reseed_ready (setting_of c.args.site.now.set) c.look.result effects h.rest
+    (let n = c.if-look-eq0.false in omega arith) h.effects_are h.holds)
     (does_found (λ set. Rooted (setting_of set) (λ (r : ℕ). Reseed r set.now)) 2 c.look.result _ _ _
     c.look.ensures.looked c.reseed_base.ensures.does)
 

@@ -9,7 +9,7 @@ use Rattle.key_names.specs.declared.events.Answer.TheVariants.{Ok as Done}
 use Rattle.key_names.specs.declared.names.Step.{Step}
 use Rattle.key_names.specs.declared.names.Step.TheVariants.{Look}
 use Rattle.key_names.specs.Transcripts.SeenLine.{bytes_or_none}
-use Rattle.key_names.specs.Callers.Deeds.{Deed, looked}
+use Rattle.key_names.specs.Callers.Effects.{Effect, looked}
 use Rattle.key_names.specs.Callers.Forms.{BaseOnly, CpuReadForm, ReadForm}
 use Rattle.rng_core.specs.Makes.{Serving, setting_of}
 use Rattle.rng_core.specs.Sites.{Completes}
@@ -36,8 +36,8 @@ pub returns-then-is_nonblock-clause-does : goal.returns-then-is_nonblock-clause-
 returns-then-is_nonblock-clause-does g c = let good = sym c.are_bad.ensures ∙ c.if-are_bad.false in let must =
     sym c.must_wait.ensures ∙ c.if-must_wait.true in
     does_within 1 _ _ _ (omega arith) (does_map 1 _ _
-    (λ deeds e. sys_again (setting_of c.args.site.now.set) (length c.args.buf.now) c.args.flags c.look-found.result good
-    must (sym c.is_nonblock.ensures ∙ c.if-is_nonblock.true) deeds e) (does_look _ _ _ c.look-found.ensures))
+    (λ effects e. sys_again (setting_of c.args.site.now.set) (length c.args.buf.now) c.args.flags c.look-found.result good
+    must (sym c.is_nonblock.ensures ∙ c.if-is_nonblock.true) effects e) (does_look _ _ _ c.look-found.ensures))
 
 pub returns-in_err-wait_ready-clause-does : goal.returns-in_err-wait_ready-clause-does
 returns-in_err-wait_ready-clause-does g c = let good = sym c.are_bad.ensures ∙ c.if-are_bad.false in let must =
@@ -46,9 +46,9 @@ returns-in_err-wait_ready-clause-does g c = let good = sym c.are_bad.ensures ∙
     let s = c.args.site.now in
     let err = err_from_is_err_and c.from_residual.result c.from_residual.ensures.1 in
     rw (err.1, err.2, w.0) (does_within 3 _ _ _ (omega arith) (does_map 3 _ _
-    (λ deeds h. sys_interrupted (setting_of s.set) (length c.args.buf.now) c.args.flags c.look-found.result good
-    must patient h.holds.first h.holds.rest deeds h.holds.before h.holds.behind
-    (h.deeds_are ∙ ap (λ (l : List Deed). looked c.look-found.result ∷ l) h.holds.deeds_are))
+    (λ effects h. sys_interrupted (setting_of s.set) (length c.args.buf.now) c.args.flags c.look-found.result good
+    must patient h.holds.first h.holds.rest effects h.holds.before h.holds.following
+    (h.effects_are ∙ ap (λ (l : List Effect). looked c.look-found.result ∷ l) h.holds.effects_are))
     (does_found (λ set. After (BaseOnly Wait) (Serving (BaseOnly Interrupt) [])) 2 c.look-found.result _ _ _
     c.look-found.ensures.looked
     (does_then (λ set. Serving (BaseOnly Interrupt) []) 1 1 _ _ _ c.wait.ensures w.1))))
@@ -61,10 +61,10 @@ returns-then-is_empty-clause-does g c = let good = sym c.are_bad.ensures ∙ c.i
     let none : length c.args.buf.now ≡ 0 = search rules in
     subst (λ (z : List ℕ). Completes (4 + waiting_at s) (Read (length c.args.buf.now) c.args.flags) Done
     (bytes_or_none z) s c.wait_ready.new.site) (sym (none_left c.args.buf.now none))
-    (does_within 3 _ _ _ (omega arith) (does_map 3 _ _ (λ deeds h. sys_waited_none (setting_of s.set)
-    (length c.args.buf.now) c.args.flags c.look-found.result good must patient none h.holds.first h.holds.rest deeds
-    h.holds.before h.holds.behind
-    (h.deeds_are ∙ ap (λ (l : List Deed). looked c.look-found.result ∷ l) h.holds.deeds_are))
+    (does_within 3 _ _ _ (omega arith) (does_map 3 _ _ (λ effects h. sys_waited_none (setting_of s.set)
+    (length c.args.buf.now) c.args.flags c.look-found.result good must patient none h.holds.first h.holds.rest effects
+    h.holds.before h.holds.following
+    (h.effects_are ∙ ap (λ (l : List Effect). looked c.look-found.result ∷ l) h.holds.effects_are))
     (does_found (λ set. After (BaseOnly Wait) (Serving (BaseOnly Resume) [])) 2 c.look-found.result _ _ _
     c.look-found.ensures.looked
     (does_then (λ set. Serving (BaseOnly Resume) []) 1 1 _ _ _ c.wait.ensures w.1))))
@@ -77,11 +77,11 @@ returns-then-must_wait-clause-does g c = let good = sym c.are_bad.ensures ∙ c.
     let some : 0 < length c.args.buf.now = search rules in let n = length c.args.buf.now in
     let bytes = c.read_cpu.new.buf in
     let unseen = found_none c.look-found.result _ must in let above = c.look-found.ensures.looked.above in
-    does_within 6 _ _ _ (omega arith) (does_map 6 _ _ (λ deeds h. sys_waited (setting_of s.set) n c.args.flags
-    c.look-found.result good must patient some h.holds.first h.holds.behind.first h.holds.behind.rest deeds _
-    h.holds.before h.holds.behind.before.form h.holds.behind.behind
-    (h.deeds_are ∙ (λ i. looked c.look-found.result
-    ∷ (h.holds.deeds_are ∙ ap (λ (l : List Deed). h.holds.first ++ l) h.holds.behind.deeds_are) i)))
+    does_within 6 _ _ _ (omega arith) (does_map 6 _ _ (λ effects h. sys_waited (setting_of s.set) n c.args.flags
+    c.look-found.result good must patient some h.holds.first h.holds.following.first h.holds.following.rest effects _
+    h.holds.before h.holds.following.before.form h.holds.following.following
+    (h.effects_are ∙ (λ i. looked c.look-found.result
+    ∷ (h.holds.effects_are ∙ ap (λ (l : List Effect). h.holds.first ++ l) h.holds.following.effects_are) i)))
     (does_found (λ set. After (BaseOnly Wait)
     (After (Serving (BaseOnly Resume) []) (Serving (CpuReadForm (setting_of set) (User n)) bytes)))
     5 c.look-found.result _ _ _ c.look-found.ensures.looked
@@ -96,18 +96,18 @@ returns-then-is_empty-2-clause-does g c = let good = sym c.are_bad.ensures ∙ c
     let s = c.args.site.now in
     subst (λ (z : List ℕ). Completes (4 + waiting_at s) (Read (length c.args.buf.now) c.args.flags) Done
     (bytes_or_none z) s c.look-found.new.self) (sym (none_left c.args.buf.now none))
-    (does_within 1 _ _ _ (omega arith) (does_map 1 _ _ (λ deeds e. sys_none (setting_of s.set) (length c.args.buf.now)
-    c.args.flags c.look-found.result good takes none deeds e) (does_look _ _ _ c.look-found.ensures)))
+    (does_within 1 _ _ _ (omega arith) (does_map 1 _ _ (λ effects e. sys_none (setting_of s.set) (length c.args.buf.now)
+    c.args.flags c.look-found.result good takes none effects e) (does_look _ _ _ c.look-found.ensures)))
 
 pub returns-clause-does : goal.returns-clause-does
 returns-clause-does g c = let good = sym c.are_bad.ensures ∙ c.if-are_bad.false in let takes =
     sym c.must_wait.ensures ∙ c.if-must_wait.false in let some : 0 < length c.args.buf.now = search rules in
     let n = length c.args.buf.now in let found = c.look-found.result in
     does_within 4 _ _ _ (omega arith) (does_map 4 _ _
-    (λ deeds h. sys_read (setting_of c.args.site.now.set) n c.args.flags
-    found good takes some h.rest deeds _ h.holds h.deeds_are)
-    (does_found (λ set. Serving (ReadForm (setting_of set) (User n) found) c.read_behind.new.buf) 3 found _ _ _
-    c.look-found.ensures.looked c.read_behind.ensures))
+    (λ effects h. sys_read (setting_of c.args.site.now.set) n c.args.flags
+    found good takes some h.rest effects _ h.holds h.effects_are)
+    (does_found (λ set. Serving (ReadForm (setting_of set) (User n) found) c.read_after.new.buf) 3 found _ _ _
+    c.look-found.ensures.looked c.read_after.ensures))
 
 -- The first step, and the steps left to wait
 
@@ -131,7 +131,7 @@ returns-then-are_bad-clause-begins g c = record {
 
 pub returns-then-is_nonblock-clause-begins : goal.returns-then-is_nonblock-clause-begins
 returns-then-is_nonblock-clause-begins g c = let k = c.look-found.ensures.looked in record {
-  begins = λ good. begun _ c.look-found.result _ k.walked.told.trace;
+  begins = λ good. begun _ c.look-found.result _ k.walked.recorded.trace;
   room = (let a = k.room in let b = k.above in let d = k.known in omega arith);
 }
 
@@ -139,8 +139,8 @@ pub returns-in_err-wait_ready-clause-begins : goal.returns-in_err-wait_ready-cla
 returns-in_err-wait_ready-clause-begins g c = let k = c.look-found.ensures.looked in
     let w = c.in_err-wait_ready.ensures.1 in
     let unseen = found_none c.look-found.result _ (sym c.must_wait.ensures ∙ c.if-must_wait.true) in record {
-      begins = λ good. begun_more _ _ _ _ w.did.told.trace
-          (begun_more _ _ _ _ c.wait.ensures.did.told.trace (begun _ c.look-found.result _ k.walked.told.trace));
+      begins = λ good. begun_more _ _ _ _ w.did.recorded.trace
+          (begun_more _ _ _ _ c.wait.ensures.did.recorded.trace (begun _ c.look-found.result _ k.walked.recorded.trace));
       room = (let a = k.room in let b = k.above in let d = c.wait.ensures.room in let e = w.room in omega arith);
     }
 
@@ -148,8 +148,8 @@ pub returns-then-is_empty-clause-begins : goal.returns-then-is_empty-clause-begi
 returns-then-is_empty-clause-begins g c = let k = c.look-found.ensures.looked in
     let w = c.in_ok-wait_ready.ensures.1 in
     let unseen = found_none c.look-found.result _ (sym c.must_wait.ensures ∙ c.if-must_wait.true) in record {
-      begins = λ good. begun_more _ _ _ _ w.did.told.trace
-          (begun_more _ _ _ _ c.wait.ensures.did.told.trace (begun _ c.look-found.result _ k.walked.told.trace));
+      begins = λ good. begun_more _ _ _ _ w.did.recorded.trace
+          (begun_more _ _ _ _ c.wait.ensures.did.recorded.trace (begun _ c.look-found.result _ k.walked.recorded.trace));
       room = (let a = k.room in let b = k.above in let d = c.wait.ensures.room in let e = w.room in omega arith);
     }
 
@@ -157,21 +157,21 @@ pub returns-then-must_wait-clause-begins : goal.returns-then-must_wait-clause-be
 returns-then-must_wait-clause-begins g c = let k = c.look-found.ensures.looked in
     let w = c.in_ok-wait_ready.ensures in let r = c.read_cpu.ensures in
     let unseen = found_none c.look-found.result _ (sym c.must_wait.ensures ∙ c.if-must_wait.true) in record {
-      begins = λ good. begun_more _ _ _ _ r.did.told.trace (begun_more _ _ _ _ w.1.did.told.trace
-          (begun_more _ _ _ _ c.wait.ensures.did.told.trace (begun _ c.look-found.result _ k.walked.told.trace)));
+      begins = λ good. begun_more _ _ _ _ r.did.recorded.trace (begun_more _ _ _ _ w.1.did.recorded.trace
+          (begun_more _ _ _ _ c.wait.ensures.did.recorded.trace (begun _ c.look-found.result _ k.walked.recorded.trace)));
       room = (let a = k.room in let b = k.above in let d = c.wait.ensures.room in let e = w.1.room in let f = r.room in
           let p = w.0 in let q = did_floor _ _ _ r.did in omega arith);
     }
 
 pub returns-then-is_empty-2-clause-begins : goal.returns-then-is_empty-2-clause-begins
 returns-then-is_empty-2-clause-begins g c = let k = c.look-found.ensures.looked in record {
-  begins = λ good. begun _ c.look-found.result _ k.walked.told.trace;
+  begins = λ good. begun _ c.look-found.result _ k.walked.recorded.trace;
   room = (let a = k.room in let b = k.above in let d = k.known in omega arith);
 }
 
 pub returns-clause-begins : goal.returns-clause-begins
-returns-clause-begins g c = let k = c.look-found.ensures.looked in let r = c.read_behind.ensures in record {
-  begins = λ good. begun_more _ _ _ _ r.did.told.trace (begun _ c.look-found.result _ k.walked.told.trace);
+returns-clause-begins g c = let k = c.look-found.ensures.looked in let r = c.read_after.ensures in record {
+  begins = λ good. begun_more _ _ _ _ r.did.recorded.trace (begun _ c.look-found.result _ k.walked.recorded.trace);
   room = (let a = k.room in let b = k.above in let d = k.known in let e = r.room in
       let q = did_floor _ _ _ r.did in omega arith);
 }

@@ -11,5 +11,5 @@ pub returns-clause-does : goal.returns-clause-does
 returns-clause-does g c = let s = c.args.site.now in let n = c.getrandom.new.site in
     subst (λ (f : ℕ). Completes (4 + waiting_at s) (Dread (length c.args.buf.now) f) (result_answer c.getrandom.result)
     (bytes_or_none (given c.getrandom.result c.getrandom.new.buf)) s n) c.file_flags-flags.ensures
-    (does_map _ s n (λ deeds h. record { form = h.form; answers = h.answers; shows = h.shows })
+    (does_map _ s n (λ effects h. record { form = h.form; answers = h.answers; shows = h.shows })
     c.getrandom.ensures.does)

@@ -18,7 +18,7 @@ returns g c = let a = c.enter-held.ensures in let b = c.look_on-look.ensures in 
         value = kept _ _ _ _ (b.lanes (cpu + 2)) a.holds.value;
         early = (let e = a.holds.early in let f = b.stamp in omega arith);
       });
-      above = (let k = b.above in let f = a.walked.told.went.sees in omega arith);
+      above = (let k = b.above in let f = a.walked.recorded.went.sees in omega arith);
       seen = b.seen;
       small = b.small;
       not_back = subst (λ (s : Setting). (lane_of n (s.cpu + 2)).cpu.cpu.generation ≤ c.look_on-look.result)

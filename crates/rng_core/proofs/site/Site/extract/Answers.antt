@@ -13,7 +13,7 @@ use Rattle.rng_core.specs.declared.setting.Setting.{Setting}
 use Rattle.rng_core.specs.Sites.{HasInHands, lane_of}
 use Rattle.rng_core.proofs.TellLemmas.{visited_is, visited_place}
 use Rattle.rng_core.proofs.SiteLemmas.{same_then}
-use Rattle.rng_core.proofs.SiteVisits.{can_put_naming, named, kept_under, visited_behind}
+use Rattle.rng_core.proofs.SiteVisits.{can_put_naming, named, kept_under, visited_later}
 use Rattle.rng_core.proofs.site.Site.extract.Goals as goal
 
 pub put-requires-clause-pass : goal.put-requires-clause-pass
@@ -59,7 +59,7 @@ returns g c = let k = c.take-pool.ensures in let v = c.put.ensures in let base =
       visited = (
         lane_of n 0,
         visited_place _ _ _ _ _ _ _ _ _ (sym c.place-place.ensures)
-            (visited_behind (λ (s : Setting). Pool (Extract s.hw base.turn.place)) 0 _ _ nothing _ n o k.walked
+            (visited_later (λ (s : Setting). Pool (Extract s.hw base.turn.place)) 0 _ _ nothing _ n o k.walked
             (visited_is _ _ _ _ _ _ _ _ _ (ap (λ (p : ℕ). Pool (Extract n.set.hw p)) c.place.ensures) m.visited)),
       );
     }

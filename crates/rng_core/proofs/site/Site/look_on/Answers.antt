@@ -10,7 +10,7 @@ pub returns : goal.returns
 returns c = let k = c.generation-generation.ensures in record {
   walked = record {
     same = record { lanes = refl; set = refl; pass = refl; trace = refl };
-    told = search rules;
+    recorded = search rules;
   };
   room = one_more _ _ _ c.push.ensures;
   above = search rules;

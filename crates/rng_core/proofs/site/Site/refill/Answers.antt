@@ -13,7 +13,7 @@ use Rattle.rng_core.specs.Sites.{HasInHands, HoldsWith, lane_of}
 use Rattle.lane_table.proofs.Book.BookWhole.{parent_cpu}
 use Rattle.rng_core.proofs.TellLemmas.{visited_is, visited_place}
 use Rattle.rng_core.proofs.SiteLemmas.{same_then}
-use Rattle.rng_core.proofs.SiteVisits.{can_put_naming, named, kept_under, visited_behind}
+use Rattle.rng_core.proofs.SiteVisits.{can_put_naming, named, kept_under, visited_later}
 use Rattle.rng_core.proofs.site.Site.refill.Goals as goal
 
 pub put-requires-clause-pass : goal.put-requires-clause-pass
@@ -72,7 +72,7 @@ returns g c = let k = c.take-base.ensures in let v = c.put.ensures in let cpu = 
       visited = (
         lane_of n 1,
         visited_place _ _ _ _ _ _ _ _ _ (sym c.place-place.ensures)
-            (visited_behind (λ (s : Setting). Base (Refill s.cpu cpu.turn.place)) 1 _ _ nothing _ n o k.walked
+            (visited_later (λ (s : Setting). Base (Refill s.cpu cpu.turn.place)) 1 _ _ nothing _ n o k.walked
             (visited_is _ _ _ _ _ _ _ _ _ (ap (λ (p : ℕ). Base (Refill n.set.cpu p)) c.place.ensures) m.visited)),
       );
     }

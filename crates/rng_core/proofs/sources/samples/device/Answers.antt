@@ -8,5 +8,5 @@ visit_pool-requires-clause-makes g c = c.mix_device.ensures _
     (lent _ _ _ _ c.state_mut.ensures.value c.enter-pool.ensures.holds.value)
 
 pub returns-clause-does : goal.returns-clause-does
-returns-clause-does g c = does_map _ _ _ (λ deeds h. record { form = h; answers = refl; shows = refl })
+returns-clause-does g c = does_map _ _ _ (λ effects h. record { form = h; answers = refl; shows = refl })
     (does_pool _ _ _ _ _ _ c.enter-pool.ensures c.visit_pool.ensures)

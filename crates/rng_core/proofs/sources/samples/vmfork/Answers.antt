@@ -1,6 +1,6 @@
 use Rattle.std.proofs.Common.{◌++◌, List, refl, ap, ◌∙◌}
 use Rattle.key_names.specs.declared.events.Event.TheVariants.{Reseed}
-use Rattle.key_names.specs.Callers.Deeds.{Deed}
+use Rattle.key_names.specs.Callers.Effects.{Effect}
 use Rattle.key_names.specs.Transcripts.SeenLine.{no_data}
 use Rattle.rng_core.specs.Makes.{IsOutcomeOf, setting_of, result_answer}
 use Rattle.rng_core.proofs.SiteLemmas.{does_map, does_then}
@@ -8,13 +8,13 @@ use Rattle.rng_core.proofs.sources.samples.vmfork.Goals as goal
 
 pub returns : goal.returns
 returns g c =
-    does_map _ _ _ (λ deeds h. record {
+    does_map _ _ _ (λ effects h. record {
       form = record {
         pool = h.before.form.pool;
         rest = h.rest;
-        deeds_are = h.deeds_are ∙ ap (λ (l : List Deed). l ++ h.rest) h.before.form.deeds_are;
+        effects_are = h.effects_are ∙ ap (λ (l : List Effect). l ++ h.rest) h.before.form.effects_are;
         mixes = h.before.form.is;
-        reseeds = h.behind.form;
+        reseeds = h.following.form;
       };
       answers = refl;
       shows = refl;

@@ -1,4 +1,4 @@
--- The list gets shorter.
+-- The loop ends, since the list gets shorter.
 use Rattle.std.proofs.Common.{length}
 use Rattle.rng_core.proofs.vdso.acts.+run_acts.Given as goal
 

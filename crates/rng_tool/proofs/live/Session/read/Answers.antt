@@ -9,14 +9,14 @@ pub read_line-requires-clause-at : goal.read_line-requires-clause-at
 read_line-requires-clause-at g c κs within =
     let asked = c.requires in
     let now = c.loop-line.invariant.at None asked.0 asked.1 asked.2 tt in
-    (asked.0 ++ c.loop-line.invariant.done, now.told, now.is)
+    (asked.0 ++ c.loop-line.invariant.done, now.emitted, now.is)
 
 pub returns-in_err-read_line-clause-goes : goal.returns-in_err-read_line-clause-goes
-returns-in_err-read_line-clause-goes g c = λ start text told at before.
+returns-in_err-read_line-clause-goes g c = λ start text emitted at before.
     let i = c.loop-line.invariant in
     let line = c.in-Some.line.now in
-    let now = i.at start text told at before in
-    let stops = c.in_err-read_line.ensures.goes start (text ++ i.done) now.told now.is now.written in
+    let now = i.at start text emitted at before in
+    let stops = c.in_err-read_line.ensures.goes start (text ++ i.done) now.emitted now.is now.written in
     stop_of_piece c.from_residual.result _ start _ text c.args.piece.now (i.done ++ line) c.in-Some.rest.now _
     c.from_residual.ensures.1
     (i.split ∙ ap (λ t. i.done ++ t) c.in-Some.ensures.parts ∙ sym (append_assoc i.done line c.in-Some.rest.now))
@@ -29,10 +29,10 @@ loop-line-preserved g c =
     record {
       done = i.done ++ line;
       split = i.split ∙ ap (λ t. i.done ++ t) c.in-Some.ensures.parts ∙ sym (append_assoc i.done line c.in-Some.rest.now);
-      at = λ start text told at before.
-          let now = i.at start text told at before in
+      at = λ start text emitted at before.
+          let now = i.at start text emitted at before in
           line_read start _ text i.done line _
-          (c.in_ok-read_line.ensures.goes start (text ++ i.done) now.told now.is now.written);
+          (c.in_ok-read_line.ensures.goes start (text ++ i.done) now.emitted now.is now.written);
       counted = c.in_ok-read_line.ensures.counted.not_counted (λ e. cc) ∙ i.counted;
     }
 
@@ -43,23 +43,23 @@ feed-requires g c =
     (asked.0 ++ c.loop-line.invariant.done, now.is.fed)
 
 pub returns-in_err-feed-clause-goes : goal.returns-in_err-feed-clause-goes
-returns-in_err-feed-clause-goes g c = λ start text told at before.
+returns-in_err-feed-clause-goes g c = λ start text emitted at before.
     let i = c.loop-line.invariant in
-    let now = i.at start text told at before in
-    let t = c.loop-line.self.teller in
-    memory_goes c.from_residual-in_err-feed.result start _ (text ++ c.args.piece.now) now.told _
+    let now = i.at start text emitted at before in
+    let t = c.loop-line.self.session_writer in
+    memory_goes c.from_residual-in_err-feed.result start _ (text ++ c.args.piece.now) now.emitted _
     c.from_residual-in_err-feed.ensures.1
-    (piece_part t.is_over t.run text c.args.piece.now i.done c.loop-line.left.now now.told i.split now.is.at) now.written
+    (piece_part t.is_over t.run text c.args.piece.now i.done c.loop-line.left.now now.emitted i.split now.is.at) now.written
 
 pub returns-clause-goes : goal.returns-clause-goes
-returns-clause-goes g c = λ start text told at before.
+returns-clause-goes g c = λ start text emitted at before.
     let i = c.loop-line.invariant in
-    let now = i.at start text told at before in
+    let now = i.at start text emitted at before in
     let free = subst (λ b. (b ≡ true) ⊎ IsPart c.loop-line.left.now) c.is_over.ensures
     (c.next_line.ensures.none (none_of c.next_line.result c.in_default.not-Some)) in
     record {
-      told = now.told;
-      is = piece_over _ text c.args.piece.now i.done c.loop-line.left.now now.told i.split free now.is.at
+      emitted = now.emitted;
+      is = piece_over _ text c.args.piece.now i.done c.loop-line.left.now now.emitted i.split free now.is.at
           (c.in_ok-feed.ensures.fed (text ++ i.done) now.is.fed);
       written = now.written;
     }

@@ -8,8 +8,8 @@ abbrev pub invariant-loop-line : goal.invariant-loop-line
 invariant-loop-line g l = record {
   done : List ℕ;
   split : l.fn.piece ≡ done ++ l.left;
-  at : (start : Option (List ℕ)) (text told : List ℕ) → SessionAt text told l.fn.self
-      → Appends start (g.K.Sink.held l.fn.sink) told
+  at : (start : Option (List ℕ)) (text emitted : List ℕ) → SessionAt text emitted l.fn.self
+      → Appends start (g.K.Sink.held l.fn.sink) emitted
       → StopsBy (λ now. SessionAt (text ++ done) now l.self) (Appends start (g.K.Sink.held l.sink));
   counted : g.K.Sink.faults l.sink ≡ g.K.Sink.faults l.fn.sink;
 }

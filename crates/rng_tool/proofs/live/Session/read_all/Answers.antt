@@ -14,7 +14,7 @@ use Rattle.rng_tool.proofs.live.Session.read_all.Goals as goal
 pub returns-in_default-clause-reads : goal.returns-in_default-clause-reads
 returns-in_default-clause-reads g c =
     let i = c.loop-taken.invariant in
-    let t = c.loop-taken.self.teller in (
+    let t = c.loop-taken.self.session_writer in (
       i.text,
       record {
         taken = record {
@@ -24,8 +24,8 @@ returns-in_default-clause-reads g c =
         long = λ many. absurd (omega (arith, many, i.len, c.loop-taken-test.true));
       },
       record {
-        told = i.at.told;
-        is = tells_all i.text i.at.told t (all_at t.is_over t.run i.text i.at.told i.at.is.at);
+        emitted = i.at.emitted;
+        is = tells_all i.text i.at.emitted t (all_at t.is_over t.run i.text i.at.emitted i.at.is.at);
         written = i.at.written;
       },
     )
@@ -47,7 +47,7 @@ returns-in_err-read-clause-reads g c =
     let buf = c.take.new.buf in
     let old = drop c.min-most.result c.loop-taken.piece in
     let few = c.in-Ok.ensures.bound.0 in
-    let stops = c.in_err-read.ensures.goes _ i.text i.at.told i.at.is i.at.written in
+    let stops = c.in_err-read.ensures.goes _ i.text i.at.emitted i.at.is i.at.written in
     stops_reading c.from_residual.result _ _ _ _ _ (i.text ++ take n (buf ++ old)) _ c.from_residual.ensures.1
     (more_taken _ _ _ i.text (take n (buf ++ old)) i.read
     (subst (Consumes (g.S.Source.left c.loop-taken.source) (g.S.Source.left c.take.new.self))
@@ -71,7 +71,7 @@ pub returns-in_err-read-clause-read_counted : goal.returns-in_err-read-clause-re
 returns-in_err-read-clause-read_counted g c =
     let i = c.loop-taken.invariant in
     read_stops c.from_residual.result _ _ _ _ _ _ _ c.from_residual.ensures.1
-    (c.in_err-read.ensures.goes _ i.text i.at.told i.at.is i.at.written)
+    (c.in_err-read.ensures.goes _ i.text i.at.emitted i.at.is i.at.written)
     (c.in-Ok.ensures.not_counted ∙ i.read_counted)
 
 pub returns-in_err-flush-clause-reads : goal.returns-in_err-flush-clause-reads
@@ -82,8 +82,8 @@ returns-in_err-flush-clause-reads g c =
     let old = drop c.min-most.result c.loop-taken.piece in
     let few = c.in-Ok.ensures.bound.0 in
     let text = i.text ++ take n (buf ++ old) in
-    let t = c.read.new.self.teller in
-    let now = c.in_ok-read.ensures.goes _ i.text i.at.told i.at.is i.at.written in
+    let t = c.read.new.self.session_writer in
+    let now = c.in_ok-read.ensures.goes _ i.text i.at.emitted i.at.is i.at.written in
     stops_reading c.from_residual-in_err-flush.result WriteFault _ _ _ _ text _ c.from_residual-in_err-flush.ensures.1
     (more_taken _ _ _ i.text (take n (buf ++ old)) i.read
     (subst (Consumes (g.S.Source.left c.loop-taken.source) (g.S.Source.left c.take.new.self))
@@ -102,9 +102,9 @@ returns-in_err-flush-clause-reads g c =
       c.loop-taken-test.true,
     )))
     (record {
-      told = now.told;
-      is = tells_part text now.told t (part_at t.is_over t.run text now.told now.is.at);
-      written = AppendsPrefix-of_whole _ _ now.told (appends_kept _ _ _ now.told now.written c.in_err-flush.ensures.kept);
+      emitted = now.emitted;
+      is = tells_part text now.emitted t (part_at t.is_over t.run text now.emitted now.is.at);
+      written = AppendsPrefix-of_whole _ _ now.emitted (appends_kept _ _ _ now.emitted now.written c.in_err-flush.ensures.kept);
     })
 
 pub loop-taken-preserved : goal.loop-taken-preserved
@@ -114,7 +114,7 @@ loop-taken-preserved g c =
     let buf = c.take.new.buf in
     let old = drop c.min-most.result c.loop-taken.piece in
     let few = c.in-Ok.ensures.bound.0 in
-    let now = c.in_ok-read.ensures.goes _ i.text i.at.told i.at.is i.at.written in
+    let now = c.in_ok-read.ensures.goes _ i.text i.at.emitted i.at.is i.at.written in
     record {
       text = i.text ++ take n (buf ++ old);
       read = Consumes-trans _ _ _ i.text (take n (buf ++ old)) i.read
@@ -130,9 +130,9 @@ loop-taken-preserved g c =
       );
       within = search rules;
       at = record {
-        told = now.told;
+        emitted = now.emitted;
         is = now.is;
-        written = appends_kept _ _ _ now.told now.written c.in_ok-flush.ensures.kept;
+        written = appends_kept _ _ _ now.emitted now.written c.in_ok-flush.ensures.kept;
       };
       read_counted = c.in-Ok.ensures.not_counted ∙ i.read_counted;
       counted = c.in_ok-flush.ensures.not_counted ∙ c.in_ok-read.ensures.counted.not_counted (λ e. cc) ∙ i.counted;

@@ -9,7 +9,7 @@ invariant-loop-taken g l = record {
   read : Consumes (g.S.Source.left l.fn.source) (g.S.Source.left l.source) text;
   len : length text ≡ l.taken;
   within : l.taken ≤ 16777217;
-  at : StopsBy (λ told. SessionAt text told l.self) (Appends (g.K.Sink.held l.fn.sink) (g.K.Sink.held l.sink));
+  at : StopsBy (λ emitted. SessionAt text emitted l.self) (Appends (g.K.Sink.held l.fn.sink) (g.K.Sink.held l.sink));
   read_counted : g.S.Source.faults l.source ≡ g.S.Source.faults l.fn.source;
   counted : g.K.Sink.faults l.sink ≡ g.K.Sink.faults l.fn.sink;
 }

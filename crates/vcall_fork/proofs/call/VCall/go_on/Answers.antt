@@ -22,6 +22,6 @@ returns-in-At-clause-came g c =
     let call = c.args.self.now in
     subst (λ (stage : Stage). CameTo host g.H.VHost.floor
     (RestOfCall stage call.len call.flags c.args.buf.now c.args.st.now) call.len call.flags
-    (published_or 0 stage) c.behind.result
-    c.args.host.now c.behind.new.host c.behind.new.st c.behind.new.buf) (sym c.in-At.is)
-    (rw c.requires.length at c.behind.ensures.came)
+    (published_or 0 stage) c.resume.result
+    c.args.host.now c.resume.new.host c.resume.new.st c.resume.new.buf) (sym c.in-At.is)
+    (rw c.requires.length at c.resume.ensures.came)

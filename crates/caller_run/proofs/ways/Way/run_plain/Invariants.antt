@@ -1,9 +1,0 @@
-use Rattle.std.proofs.Common.{length}
-use Rattle.caller_run.specs.Ways.{RanPlain}
-use Rattle.caller_run.proofs.ways.Way.run_plain.Given as goal
-
-abbrev pub invariant-loop-event : goal.invariant-loop-event
-invariant-loop-event g l = RanPlain l.shared.lanes.now l.fn.events l.fn.self l.rest l.self
-
-abbrev pub decreases-loop-event : goal.decreases-loop-event
-decreases-loop-event g l = length l.rest

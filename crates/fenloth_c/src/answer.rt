@@ -1,0 +1,41 @@
+//! The answers of the C functions, and the number of each.
+ghost use Rattle.std.specs.Prelude.{◌≡◌};
+ghost use Rattle.fenloth_c.specs.Answers.{code_of};
+
+use judge_lines::clause::Clause;
+
+/// The answer of a C function.
+#[derive(Clone, Copy)]
+pub enum Answer {
+    /// The transcript is lawful, or its lines were made again.
+    Yes,
+    /// The text is no transcript's.
+    NoTranscript,
+    /// This clause is the first that fails.
+    Fails(Clause),
+    /// The script has a fault.
+    NoScript,
+    /// There is no memory for the answer.
+    NoMemory,
+    /// The transcript has more than 2^31 bytes.
+    TooLong,
+    /// The buffer is too short for the transcript.
+    NoRoom,
+}
+
+impl Answer {
+    /// The number that C sees: the one of `examples/clients/fenloth_texts.h`.
+    pub(crate) fn code(self) -> u32
+        ensures { result ≡ code_of self }
+    {
+        match self {
+            Answer::Yes => 0,
+            Answer::NoTranscript => 1,
+            Answer::Fails(clause) => u32::from(clause.number()),
+            Answer::NoScript => 8,
+            Answer::NoMemory => 9,
+            Answer::TooLong => 10,
+            Answer::NoRoom => 11,
+        }
+    }
+}

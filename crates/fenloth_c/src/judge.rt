@@ -1,0 +1,26 @@
+//! The answer of the check.
+ghost use Rattle.fenloth_c.specs.Answers.{IsChecked};
+
+use crate::answer::Answer;
+use crate::texts::{read_script, read_transcript};
+use std::alloc::Global;
+use transcript_check::check::{Verdict, check};
+
+/// Whether the transcript is lawful for the script.
+pub(crate) fn answer(alloc: Global, script: &[u8], transcript: &[u8]) -> Answer
+    ensures { IsChecked script.now transcript.now result }
+{
+    let read = match read_script(alloc, script) {
+        Ok(read) => read,
+        Err(answer) => return answer,
+    };
+    let lines = match read_transcript(alloc, transcript) {
+        Ok(lines) => lines,
+        Err(answer) => return answer,
+    };
+    match check(alloc, &read, &lines) {
+        Ok(Verdict::Yes) => Answer::Yes,
+        Ok(Verdict::No(clause)) => Answer::Fails(clause),
+        Err(_) => Answer::NoMemory,
+    }
+}

@@ -1,0 +1,76 @@
+//! The check and the replay of transcripts, as C functions over texts in the caller's memory: a static library. C calls
+//! them by `examples/clients/fenloth_texts.h`.
+//!
+//! # Example
+//!
+//! ```rust
+//! match check(alloc, &read, &lines) {
+//!     Ok(Verdict::Yes) => Answer::Yes,
+//!     Ok(Verdict::No(clause)) => Answer::Fails(clause),
+//!     Err(_) => Answer::NoMemory,
+//! }
+//! ```
+//!
+//! From `crates/fenloth_c/src/judge.rt`.
+//!
+//! # Proved
+//!
+//! - [`fenloth_check`]: the result is the number of an [`answer::Answer`] that is true of the two texts. 0 means all that
+//!   `transcript_check` proves of a lawful transcript.
+//! - [`fenloth_replay`]: the same for the transcript made again. With 0 the buffer begins with its text; with 11 the
+//!   text is longer than the buffer. With any other result the buffer and `made` keep their values.
+//!
+//! Only "no memory" is always allowed.
+//!
+//! # Tested only
+//!
+//! The calls from C and from Python, by `.ci/client_checks`. That C passes a pointer to as many bytes as it says is the
+//! caller's duty.
+#![tactic(auto)]
+
+ghost use Rattle.std.specs.Prelude.{◌≡◌, ◌≢◌};
+ghost use Rattle.fenloth_c.specs.declared.answer.Answer.{Answer as Answered};
+ghost use Rattle.fenloth_c.specs.Answers.{IsChecked, IsRemade, code_of};
+
+pub mod answer;
+mod judge;
+mod remake;
+mod sink;
+mod texts;
+
+use std::alloc::Global;
+
+/// Whether a transcript is lawful for a script.
+///
+/// The result is the number of an [`answer::Answer`] that is true of the two texts: 0 if the transcript is lawful, 1 if
+/// the text is no transcript's, 2 to 7 for the first clause that fails, 8 if the script has a fault, 9 if memory ran
+/// out, 10 if the transcript has more than 2^31 bytes.
+#[unsafe(no_mangle)]
+pub extern "C" fn fenloth_check(alloc: Global, script: &[u8], transcript: &[u8]) -> u32
+    ensures { (answer : Answered) × (result ≡ code_of answer) × IsChecked script.now transcript.now answer }
+{
+    judge::answer(alloc, script, transcript).code()
+}
+
+/// Makes the answers and data of a transcript again, from its words and steps alone. Writes the text of the resulting
+/// transcript to the start of `buffer`, and its number of bytes to `made`.
+///
+/// The result is the number of an [`answer::Answer`] that is true of the two texts: 0 if the transcript was made, and
+/// 1 to 10 as for [`fenloth_check`], but never 5 and 6. It is 11 if the text is longer than the buffer; `made` is its
+/// number of bytes then too. The buffer keeps its bytes unless the result is 0, and `made` keeps its value unless the
+/// result is 0 or 11.
+#[unsafe(no_mangle)]
+pub extern "C" fn fenloth_replay(
+    alloc: Global,
+    script: &[u8],
+    transcript: &[u8],
+    buffer: &mut [u8],
+    made: &mut u64,
+) -> u32
+    ensures answer { (answer : Answered) × (result ≡ code_of answer)
+        × IsRemade script.now transcript.now buffer.old buffer.new made.new answer }
+    ensures buffer_kept { result ≢ 0 → buffer.new ≡ buffer.old }
+    ensures made_kept { result ≢ 0 → result ≢ 11 → made.new ≡ made.old }
+{
+    remake::answer(alloc, script, transcript, buffer, made).code()
+}

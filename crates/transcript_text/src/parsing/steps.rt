@@ -1,0 +1,89 @@
+//! Reading steps.
+ghost use Rattle.std.specs.Prelude.{◌≡◌, ◌<◌, ◌≤◌, ◌^◌, length, MatchOption};
+ghost use Rattle.std.specs.List.{AllByRecursion};
+ghost use Rattle.std.specs.Option.{option_map};
+ghost use Rattle.key_names.specs.Texts.TranscriptGrammar.{lane_text, mark_text, step_text, steps_text, LaneFits, MarkFits, StepFits};
+ghost use Rattle.event_script.specs.ValueFronts.{IsFront, NoFront};
+ghost use Rattle.transcript_text.specs.Reading.{Reads, StepsFit};
+
+use crate::parsing::lexing::{MOST_U32, is_dash};
+use event_script::numbers::number_front;
+use key_names::trace::MOST_STEPS;
+use key_names::{LaneId, Mark, Step, Trace};
+
+/// Generations, places and stamps are at most this.
+const MOST_NUMBER: u64 = (1 << 63) - 1;
+
+/// The lane at the start of a text, and the text after it.
+fn lane_front(text: &[u8]) -> Option<(LaneId, &[u8])>
+    ensures { MatchOption result (NoFront lane_text LaneFits text.now)
+        (λ both. IsFront lane_text LaneFits text.now both.0 both.1.now) }
+{
+    match text {
+        [] => None,
+        [b'p', rest @ ..] => Some((LaneId::Pool, rest)),
+        [b'b', rest @ ..] => Some((LaneId::Base, rest)),
+        [b'c', digits @ ..] => {
+            let (cpu, rest) = number_front(MOST_U32, digits)?;
+            Some((LaneId::Cpu(cpu as u32), rest))
+        }
+        _ => None,
+    }
+}
+
+/// The visit at the start of a text, and the text after it.
+fn mark_front(text: &[u8]) -> Option<(Mark, &[u8])>
+    ensures { MatchOption result (NoFront mark_text MarkFits text.now)
+        (λ both. IsFront mark_text MarkFits text.now both.0 both.1.now) }
+{
+    let (lane, after_lane) = lane_front(text)?;
+    let [b':', places @ ..] = after_lane else {
+        return None;
+    };
+    let (place, after_place) = number_front(MOST_NUMBER, places)?;
+    let [b'@', stamps @ ..] = after_place else {
+        return None;
+    };
+    let (stamp, rest) = number_front(MOST_NUMBER, stamps)?;
+    Some((Mark { lane, place, stamp }, rest))
+}
+
+/// The step at the start of a text, and the text after it.
+fn step_front(text: &[u8]) -> Option<(Step, &[u8])>
+    ensures { MatchOption result (NoFront step_text StepFits text.now)
+        (λ both. IsFront step_text StepFits text.now both.0 both.1.now) }
+{
+    match text {
+        [] => None,
+        [b'~', digits @ ..] => {
+            let (generation, rest) = number_front(MOST_NUMBER, digits)?;
+            Some((Step::Look(generation), rest))
+        }
+        _ => {
+            let (mark, rest) = mark_front(text)?;
+            Some((Step::Visit(mark), rest))
+        }
+    }
+}
+
+/// The steps that a text spells: a dash for none, otherwise at most 20 with commas between them. They replace the
+/// content of the trace.
+pub(crate) fn steps_of<'t>(text: &[u8], trace: &'t mut Trace) -> Option<&'t [Step]>
+    ensures { Reads steps_text StepsFit text.now (option_map (λ steps. steps.now) result) }
+{
+    trace.clear();
+    if is_dash(text) {
+        return Some(trace.steps());
+    }
+    let mut rest = text;
+    for _ in 0..MOST_STEPS {
+        let (step, following) = step_front(rest)?;
+        trace.push(step);
+        match following {
+            [] => return Some(trace.steps()),
+            [b',', next @ ..] => rest = next,
+            _ => return None,
+        }
+    }
+    None
+}
