@@ -353,7 +353,7 @@ module _ (lists : Lists) (n flags : ℕ) (acts : List BoundAct) (steps : List St
           by_call x false false p q (λ bad none. called)
 
   pub by_ways : VreadMeans n flags acts m → Leaves m l (vread_left n flags acts l steps)
-  by_ways v = go (length acts == 0) (n == 0) (is_bad flags) refl refl refl v.ways
+  by_ways v = go (length acts == 0) (n == 0) (is_bad flags) refl refl refl v.done_by
     where
       go : (a z b : Bool) → (length acts == 0) ≡ a → (n == 0) ≡ z → is_bad flags ≡ b →
           MatchBool (a && (not z && not b)) (Looked (LocalOrCall n flags acts m) m.own.effects)

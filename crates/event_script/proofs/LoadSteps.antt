@@ -21,7 +21,7 @@ one_more_call start callers count caller =
     (map-range_with_len_more (call start caller) 0 count count (omega arith))
     ∙ sym (append_assoc (opening callers caller) (On caller ∷ calls) (call start caller count ∷ []))
 
--- a caller's events with `count` calls, and then the next call, are the caller's events with one more call
+-- a caller's events with `count` calls, followed by its next call, are its events with `count + 1` calls
 pub pushed_call : (start callers count caller : ℕ) (items new : List Event) (event : Event) →
     new ≡ items ++ event ∷ [] →
     items ≡ load_events start callers count caller → event ≡ call start caller count →

@@ -66,7 +66,7 @@ use Rattle.rng_core.proofs.Hosting.{published_more}
 use Rattle.rng_core.specs.Traces.{knowing}
 use Rattle.fork_runs.specs.Stretches.{FinishedOver}
 use Rattle.fork_runs.specs.Runs.{DidAll, RanBy, ReachedStop, ForkedOver}
-use Rattle.fork_runs.specs.TableForks.{AreForkedBytes, IsEnd, ShowsNamed, Way, call_entries, marks_of, stamps_of, two_states}
+use Rattle.fork_runs.specs.TableForks.{AreForkedBytes, IsEnd, ShowsNamed, CallsUpTo, call_entries, marks_of, stamps_of, two_states}
 use Rattle.fork_runs.proofs.HostPaths.{path_did, path_calls}
 use Rattle.fork_runs.proofs.Joining.{child_at, floor_child, joined_floor, whole_again}
 use Rattle.fork_runs.proofs.Lines.{apart, begun, fronts, lawful, line_named, rekeyed_counts, start_holds}
@@ -124,7 +124,7 @@ module _ (lanes : ℕ) (visits : ℕ → List Visit) (callers : StateLists) wher
 
   way_in : (n : ℕ) (turn : Turn) (point : Point) (before : List HostStep) (v w : View) (calls : List (List Step)) →
       RanBy (first_setting 0) n 0 wiped_state turn point before v calls w → Continues lanes w visits →
-      Way book n turn point before calls
+      CallsUpTo book n turn point before calls
   way_in n First point before v w calls k c = (k.0, k.1, shown_in (first_setting 0) v w k.0 k.2 c)
   way_in n Second point before v w calls k c =
       let following = before_call (first_setting 0) k.following w k.more k.shown_more c in
@@ -185,7 +185,7 @@ module _ (lists : Lists) (n : ℕ) where
       key_reads lists (setting_of (first_setting 0)) steps (effects_of lists own) (all_there lists own) shows
 
   reads_on_way : (turn : Turn) (point : Point) (before : List HostStep) (calls : List (List Step)) →
-      Way lists n turn point before calls → KeyReads (cpu_list lists) before
+      CallsUpTo lists n turn point before calls → KeyReads (cpu_list lists) before
   reads_on_way First point before calls k = own_reads before k.0 k.2
   reads_on_way Second point before calls k = subst (KeyReads (cpu_list lists)) (sym k.before_is)
       (reads_both (cpu_list lists) k.earlier.before (at_point Serve false ∷ k.later.before)
@@ -202,7 +202,7 @@ module _ (lists : Lists) (n : ℕ) where
         )
 
     takes_on_way : (turn : Turn) (point : Point) (before : List HostStep) (calls : List (List Step)) →
-        Way lists n turn point before calls → step_takes c p before ≤ calls_have (CpuLane c) p calls
+        CallsUpTo lists n turn point before calls → step_takes c p before ≤ calls_have (CpuLane c) p calls
     takes_on_way First point before calls k =
         let have : calls_have (CpuLane c) p calls ≡ mark_takes (CpuLane c) p k.0 + 0 =
         ap (calls_have (CpuLane c) p) k.1 in
@@ -440,8 +440,8 @@ module _ (turn : Turn) (point : Point) (n : ℕ) (p q w x : View) (left : Stage)
 
     -- The parts of the call
 
-    abbrev the_way : Way lists n turn point reached.stop.before reached.calls
-    the_way = way_in (length x.lanes) (known_of x) callers n turn point reached.stop.before q w reached.calls reached.ran
+    abbrev the_calls : CallsUpTo lists n turn point reached.stop.before reached.calls
+    the_calls = way_in (length x.lanes) (known_of x) callers n turn point reached.stop.before q w reached.calls reached.ran
         stop_goes
 
     way_good : GoodAfter lists 0 0 reached.stop.before
@@ -449,7 +449,7 @@ module _ (turn : Turn) (point : Point) (n : ℕ) (p q w x : View) (left : Stage)
         reached.ran stop_goes
 
     way_reads : KeyReads (cpu_list lists) reached.stop.before
-    way_reads = reads_on_way lists n turn point reached.stop.before reached.calls the_way
+    way_reads = reads_on_way lists n turn point reached.stop.before reached.calls the_calls
 
     parent_good : Good lists parent_is.steps
     parent_good = good_here (length x.lanes) (known_of x) callers (first_setting 0) (halved mid) over.parent_end over.parents
@@ -507,7 +507,7 @@ module _ (turn : Turn) (point : Point) (n : ℕ) (p q w x : View) (left : Stage)
           parents,
           childs,
           step_append c p reached.stop.before (at_point point false ∷ parent_is.steps),
-          takes_on_way lists n c p turn point reached.stop.before reached.calls the_way,
+          takes_on_way lists n c p turn point reached.stop.before reached.calls the_calls,
           own_takes lists n c p parent_is.steps parent_is.own parent_is.shown,
           own_takes lists n c p child_is.steps child_is.own child_is.shown,
           marked_once (CpuLane c) p,
@@ -578,7 +578,7 @@ module _ (turn : Turn) (point : Point) (n : ℕ) (p q w x : View) (left : Stage)
       adds = shown_in (length x.lanes) (known_of x) callers (first_setting 0) p q sampled.0 sampled.1 sample_goes;
       stop = reached.stop;
       calls = reached.calls;
-      way = the_way;
+      came_by = the_calls;
       forked = over.forked;
       forks = shown_in (length x.lanes) (known_of x) callers (first_setting 0) w mid over.forked over.forks fork_goes;
       parent_end = parent_is;

@@ -36,7 +36,7 @@ IsShown lists caller steps own = Shows (setting_of (first_setting caller)) steps
 
 -- a stop in the second attempt: the call was also stopped at the point Serve of the first one, the core was reseeded
 -- there, and the call went on
-pub record WayBySecond (lists : Lists) (n : ℕ) (point : Point) (before : List HostStep) (calls : List (List Step))
+pub record CallsUpToSecond (lists : Lists) (n : ℕ) (point : Point) (before : List HostStep) (calls : List (List Step))
     : Type 0 where
   pub earlier : Stop (IsCall n 0 wiped_state) n 0 First Serve
   pub later : Stop (AfterPlace n 0 earlier.place earlier.held earlier.state) n 0 Second point
@@ -50,9 +50,9 @@ pub record WayBySecond (lists : Lists) (n : ℕ) (point : Point) (before : List 
   pub shown_more : IsShown lists 0 later.before more
 
 -- the calls that the parent made up to a stop; `before` has the steps of the vgetrandom call's host before the stop
-abbrev pub Way : Lists → ℕ → Turn → Point → List HostStep → List (List Step) → Type 0
-Way lists n First point before calls = (own : List Step) × (calls ≡ own ∷ []) × IsShown lists 0 before own
-Way lists n Second point before calls = WayBySecond lists n point before calls
+abbrev pub CallsUpTo : Lists → ℕ → Turn → Point → List HostStep → List (List Step) → Type 0
+CallsUpTo lists n First point before calls = (own : List Step) × (calls ≡ own ∷ []) × IsShown lists 0 before own
+CallsUpTo lists n Second point before calls = CallsUpToSecond lists n point before calls
 
 -- one end of the call: from the stop on, with this buffer and this state, a caller ran the call to its end by the
 -- caller's own steps, and the call gave these bytes
@@ -104,7 +104,7 @@ pub record AreForkedBytes (turn : Turn) (point : Point) (n : ℕ) (parent child 
       (effects_of (lists_of book) added)
   pub stop : Stop (IsCall n 0 wiped_state) n 0 turn point
   pub calls : List (List Step)
-  pub way : Way (lists_of book) n turn point stop.before calls
+  pub came_by : CallsUpTo (lists_of book) n turn point stop.before calls
   pub forked : List Step
   pub forks : BaseOnly (Fork 1) (effects_of (lists_of book) forked)
   pub parent_end : IsEnd (lists_of book) 0 n stop.place stop.held stop.state parent

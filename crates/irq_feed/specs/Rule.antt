@@ -6,8 +6,8 @@ use mathlib.Core.Option.{some}
 use lib.ListN.{get_elem?}
 use Rattle.irq_feed.specs.declared.samples.Sample.{Sample}
 use Rattle.irq_feed.specs.declared.known.Ended.{Ended}
-use Rattle.irq_feed.specs.declared.known.Desk.{Desk}
-use Rattle.irq_feed.specs.declared.known.Post.{Post}
+use Rattle.irq_feed.specs.declared.known.WorkerKnowledge.{WorkerKnowledge}
+use Rattle.irq_feed.specs.declared.known.FeederKnowledge.{FeederKnowledge}
 use Rattle.irq_feed.specs.declared.known.Known.{Known}
 use Rattle.irq_feed.specs.declared.known.Known.TheVariants.{Worker, Feeder, Nobody}
 use Rattle.irq_feed.specs.Feeds.{Numbers, numbers}
@@ -15,10 +15,10 @@ use Rattle.irq_feed.specs.Samples.{sample, first_samples, of_feeder}
 
 -- Views
 
-abbrev pub desk : Numbers → List Sample → ℕ → List Ended → Desk
+abbrev pub desk : Numbers → List Sample → ℕ → List Ended → WorkerKnowledge
 desk feeds taken next ended = record { feeds = feeds; taken = taken; next = next; ended = ended }
 
-abbrev pub post : Numbers → ℕ → ℕ → Post
+abbrev pub post : Numbers → ℕ → ℕ → FeederKnowledge
 post feeds number pushed = record { feeds = feeds; number = number; pushed = pushed }
 
 abbrev pub ended : ℕ → ℕ → Ended
@@ -32,7 +32,7 @@ HasEnded next seat pushed e = (e.feeder < next) × (seat e.feeder ≡ None) × (
 
 -- the worker's knowledge is right: the feeds, the samples that it took, and the feeders that ended. No feeder has the
 -- next number or a higher one
-pub record IsDesk (feeds : Numbers) (seat : ℕ → Option ℕ) (pushed : ℕ → ℕ) (taken : List Sample) (d : Desk)
+pub record IsWorkerKnowledge (feeds : Numbers) (seat : ℕ → Option ℕ) (pushed : ℕ → ℕ) (taken : List Sample) (d : WorkerKnowledge)
     : Type 0 where
   pub feeds_are : d.feeds ≡ feeds
   pub took : d.taken ≡ taken
@@ -40,14 +40,14 @@ pub record IsDesk (feeds : Numbers) (seat : ℕ → Option ℕ) (pushed : ℕ �
   pub ends : AllByRecursion (HasEnded d.next seat pushed) d.ended
 
 -- a feeder's knowledge is right, and `pass` is the pass that has the feeder's number
-pub record IsPost (feeds : Numbers) (seat : ℕ → Option ℕ) (pushed : ℕ → ℕ) (pass : ℕ) (p : Post) : Type 0 where
+pub record IsFeederKnowledge (feeds : Numbers) (seat : ℕ → Option ℕ) (pushed : ℕ → ℕ) (pass : ℕ) (p : FeederKnowledge) : Type 0 where
   pub feeds_are : p.feeds ≡ feeds
   pub mine : seat p.number ≡ Some pass
   pub count : pushed p.number ≡ p.pushed
 
 abbrev pub Fits : Numbers → ℕ → (ℕ → Option ℕ) → (ℕ → ℕ) → List Sample → ℕ → Known → Type 0
-Fits feeds worker seat pushed taken pass (Worker d) = (pass ≡ worker) × IsDesk feeds seat pushed taken d
-Fits feeds worker seat pushed taken pass (Feeder p) = IsPost feeds seat pushed pass p
+Fits feeds worker seat pushed taken pass (Worker d) = (pass ≡ worker) × IsWorkerKnowledge feeds seat pushed taken d
+Fits feeds worker seat pushed taken pass (Feeder p) = IsFeederKnowledge feeds seat pushed pass p
 Fits feeds worker seat pushed taken pass Nobody = ⊤
 
 -- `seat` maps each feeder to its pass, if it has one, and `pushed` to the number of samples that it pushed; `taken`
@@ -128,7 +128,7 @@ begun feeds = Worker (desk feeds [] 0 [])
 
 -- The worker's knowledge of the queue at any moment
 
-pub record Learned (d : Desk) (items : List Sample) : Type 0 where
+pub record Learned (d : WorkerKnowledge) (items : List Sample) : Type 0 where
   pub pushed : ℕ → ℕ
   pub ordered : (feeder : ℕ) → of_feeder feeder (d.taken ++ items) ≡ first_samples d.feeds feeder (pushed feeder)
   pub bounded : (feeder : ℕ) → pushed feeder ≤ d.feeds.each

@@ -10,7 +10,7 @@ pub struct Ended {
 }
 
 /// The knowledge of the worker: the samples that it took, the number of the next feeder, and the feeders that ended.
-pub struct Desk {
+pub struct WorkerKnowledge {
     pub feeds: Feeds,
     pub taken: LinkedList<Sample>,
     pub next: u32,
@@ -18,7 +18,7 @@ pub struct Desk {
 }
 
 /// The knowledge of a feeder: its number, and how many samples it pushed.
-pub struct Post {
+pub struct FeederKnowledge {
     pub feeds: Feeds,
     pub number: u32,
     pub pushed: u32,
@@ -26,7 +26,7 @@ pub struct Post {
 
 /// The knowledge of a pass.
 pub enum Known {
-    Worker(Desk),
-    Feeder(Post),
+    Worker(WorkerKnowledge),
+    Feeder(FeederKnowledge),
     Nobody,
 }

@@ -13,7 +13,7 @@ use crate::feeder::{Call, Feeder, FeederResult, Feeders, NOBODY, push_all};
 use crate::intake::FeedIntake;
 use crate::mixed::Mixed;
 use crate::queue::FeedPass;
-use crate::worker::{Hand, drain, mix_directly};
+use crate::worker::{WorkerState, drain, mix_directly};
 use io_edges::{Gate, NoMemory};
 use lane_table::Pass;
 use std::alloc::Global;
@@ -94,12 +94,12 @@ pub fn feed_by<'a, R: Threads + Wait + Sync, G: Gate>(
         feeders,
         handed_back: AtomicU32::new(NOBODY),
     };
-    let hand = Hand {
+    let hand = WorkerState {
         worker,
         mixed,
         owed: 0,
     };
-    let Hand {
+    let WorkerState {
         worker,
         mut mixed,
         ..
@@ -113,8 +113,8 @@ fn drain_feeders<R: Threads + Wait + Sync, G: Gate>(
     rt: &R,
     call: &Call<G>,
     pass: &mut Pass,
-    hand: Hand,
-) -> Hand
+    hand: WorkerState,
+) -> WorkerState
     requires mix { CanMix call.now.intake.now.lanes.now call.now.intake.now.set pass.old }
     requires start { CanStart call.now.intake.now.queue.now call.now.intake.now.feeds.now 0 hand.owed hand.worker
         hand.mixed }
@@ -125,7 +125,7 @@ fn drain_feeders<R: Threads + Wait + Sync, G: Gate>(
     let (back, hand) = thread::scope(
         thread::scope_env(),
         rt,
-        move |scope| -> (&mut Pass, Hand)
+        move |scope| -> (&mut Pass, WorkerState)
             requires { IsSync R.row × CanMix call.now.intake.now.lanes.now call.now.intake.now.set pass.now
                 × CanStart call.now.intake.now.queue.now call.now.intake.now.feeds.now 0 hand.owed hand.worker
                 hand.mixed }
@@ -151,7 +151,7 @@ fn start_rest<'s, E, R: Threads + Wait + Sync, G: Gate>(
     scope: &Scope<'s, E>,
     call: &'s Call<'s, G>,
     pass: &mut Pass,
-    hand: &mut Hand,
+    hand: &mut WorkerState,
     number: u32,
 )
     requires mix { CanMix call.now.intake.now.lanes.now call.now.intake.now.set pass.old }
@@ -201,7 +201,7 @@ fn start_rest<'s, E, R: Threads + Wait + Sync, G: Gate>(
 }
 
 // Takes in the pass of a feeder that got no thread. If that feeder pushed nothing, the worker has to mix its samples.
-fn take_back<G: Gate>(intake: &FeedIntake<G>, hand: &mut Hand, number: u32, fed: FeederResult)
+fn take_back<G: Gate>(intake: &FeedIntake<G>, hand: &mut WorkerState, number: u32, fed: FeederResult)
     requires start { CanTakeBack intake.now.queue.now intake.now.feeds.now number hand.old.owed hand.old.worker
         hand.old.mixed }
     requires fed { IsFeeder intake.now.queue.now intake.now.feeds.now number fed.pushed fed.pass }

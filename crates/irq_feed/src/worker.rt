@@ -21,7 +21,7 @@ use std::sync::Wait;
 
 /// The worker's state.
 #[derive(Drop)]
-pub(crate) struct Hand {
+pub(crate) struct WorkerState {
     pub(crate) worker: FeedPass,
     pub(crate) mixed: Mixed,
     /// The number of samples that come through the queue from the feeders started so far.
@@ -82,7 +82,7 @@ pub(crate) fn drain<R: Wait, G: Gate>(
     rt: &R,
     intake: &FeedIntake<G>,
     pass: &mut Pass,
-    hand: &mut Hand,
+    hand: &mut WorkerState,
 )
     requires has { HoldsLanes intake.now.lanes.now intake.now.set.caller [] pass.old }
     requires set { (intake.now.set.cpu < intake.now.lanes.now.cpus) × (intake.now.set.now < 2 ^ 40) }

@@ -25,15 +25,15 @@ use Rattle.input_pool.specs.declared.pool.Crossing.TheVariants.{None as CrossedN
 use Rattle.judge_lines.specs.Rows.{IsRow, IsActRow, IsEnd, cpu_for}
 use Rattle.judge_log.specs.declared.kept.Lists.{Lists as KeptLists}
 use Rattle.judge_vread.specs.Recipe.{Recipe, no_recipe, user_recipe, kernel_recipe, int_recipe}
-use Rattle.judge_log.specs.declared.met.Met.{Met}
-use Rattle.judge_log.specs.declared.met.Met.TheVariants.{Looked, InPool, InBase, InCpu, Nothing}
+use Rattle.judge_log.specs.declared.met.KeptStep.{KeptStep}
+use Rattle.judge_log.specs.declared.met.KeptStep.TheVariants.{Looked, InPool, InBase, InCpu, Nothing}
 use Rattle.judge_log.specs.declared.said.MadeLine.{MadeLine}
 use Rattle.judge_log.specs.declared.said.ShownRecipe.{ShownRecipe}
 use Rattle.judge_log.specs.declared.said.ShownRecipe.TheVariants.{Nothing as ShowsNothing, Count, Served}
 use Rattle.judge_log.specs.Met.{met_in, kinds_met}
 
 -- the crossing of the first visit of the pool, if there is one
-abbrev pub first_crossing : List Met → Crossing
+abbrev pub first_crossing : List KeptStep → Crossing
 first_crossing [] = CrossedNothing
 first_crossing (InPool kept ∷ met) = kept.crossing
 first_crossing (Looked g ∷ met) = first_crossing met
@@ -61,45 +61,45 @@ cpu_recipe (Int look refill width filled) (Some key) count = batch_recipe key wi
 cpu_recipe _ _ _ = no_recipe
 
 -- the bytes that a visit serves
-abbrev pub recipe_met : Met → Recipe
+abbrev pub recipe_met : KeptStep → Recipe
 recipe_met (Looked g) = no_recipe
 recipe_met (InPool kept) = no_recipe
 recipe_met (InBase kept) = base_recipe kept.entry kept.key
 recipe_met (InCpu on kept) = cpu_recipe kept.entry kept.source.key kept.source.served
 recipe_met Nothing = no_recipe
 
-abbrev pub recipe_or_none : Option Met → Recipe
+abbrev pub recipe_or_none : Option KeptStep → Recipe
 recipe_or_none None = no_recipe
 recipe_or_none (Some met) = recipe_met met
 
 -- the bytes of a read are those of its last visit
-abbrev pub last_recipe : List Met → Recipe
+abbrev pub last_recipe : List KeptStep → Recipe
 last_recipe met = recipe_or_none (slice_get met (length met - 1))
 
 -- ---- the answers
 
-abbrev pub found_unready : List Met → Bool
+abbrev pub found_unready : List KeptStep → Bool
 found_unready (Looked g ∷ met) = g == 0
 found_unready _ = false
 
-abbrev pub was_interrupted : List Met → Bool
+abbrev pub was_interrupted : List KeptStep → Bool
 was_interrupted (Looked g ∷ InBase wait ∷ InBase ended ∷ []) = is_interrupt ended.entry
 was_interrupted _ = false
 
-abbrev pub system_says : ℕ → List Met → Answer
+abbrev pub system_says : ℕ → List KeptStep → Answer
 system_says flags met =
     if is_bad flags then Invalid
     else (if found_unready met && (is_nonblock flags && not (is_insecure flags)) then Again
     else (if was_interrupted met then Interrupted else Done))
 
-abbrev pub reseed_says : List Met → Answer
+abbrev pub reseed_says : List KeptStep → Answer
 reseed_says met = if found_unready met then NoData else Done
 
-abbrev pub tick_says : List Met → Answer
+abbrev pub tick_says : List KeptStep → Answer
 tick_says (InBase kept ∷ []) = Idle
 tick_says _ = Fired
 
-abbrev pub event_says : Event → List Met → Answer
+abbrev pub event_says : Event → List KeptStep → Answer
 event_says (Read len flags) met = system_says flags met
 event_says (Dread len flag) met = system_says flag met
 event_says Reseed met = reseed_says met
@@ -107,11 +107,11 @@ event_says Tick met = tick_says met
 event_says _ met = Done
 
 -- the pool's bits before the visit that reads them
-abbrev pub bits_shown : List Met → ShownRecipe
+abbrev pub bits_shown : List KeptStep → ShownRecipe
 bits_shown (InPool kept ∷ []) = Count kept.before
 bits_shown _ = ShowsNothing
 
-abbrev pub event_shows : Event → List Met → ShownRecipe
+abbrev pub event_shows : Event → List KeptStep → ShownRecipe
 event_shows Bits met = bits_shown met
 event_shows (Read len flags) met = Served (last_recipe met)
 event_shows (Dread len flag) met = Served (last_recipe met)
@@ -123,7 +123,7 @@ event_shows Int32 met = Served (last_recipe met)
 event_shows Int64 met = Served (last_recipe met)
 event_shows _ met = ShowsNothing
 
-abbrev pub act_says : InsideAct → List Met → MadeLine
+abbrev pub act_says : InsideAct → List KeptStep → MadeLine
 act_says WipeAct met = record { answer = Done; shows = ShowsNothing }
 act_says (VreadAct n) met = record { answer = system_says 0 met; shows = Served (last_recipe met) }
 act_says ReseedAct met = record { answer = reseed_says met; shows = ShowsNothing }

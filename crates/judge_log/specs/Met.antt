@@ -16,36 +16,36 @@ use Rattle.judge_log.specs.declared.kept.Lists.{Lists as KeptLists}
 use Rattle.judge_vread.specs.declared.seen.SeenStep.{SeenStep}
 use Rattle.judge_vread.specs.declared.seen.SeenStep.TheVariants.{Unready, Ready, Pool, Base, Resumed, Cpu, Elsewhere}
 use Rattle.judge_vread.specs.Seen.{seen_kind}
-use Rattle.judge_log.specs.declared.met.Met.{Met}
-use Rattle.judge_log.specs.declared.met.Met.TheVariants.{Looked, InPool, InBase, InCpu, Nothing}
+use Rattle.judge_log.specs.declared.met.KeptStep.{KeptStep}
+use Rattle.judge_log.specs.declared.met.KeptStep.TheVariants.{Looked, InPool, InBase, InCpu, Nothing}
 
-abbrev pub pool_met : Option KeptPool → Met
+abbrev pub pool_met : Option KeptPool → KeptStep
 pool_met None = Nothing
 pool_met (Some kept) = InPool kept
 
-abbrev pub base_met : Option KeptBase → Met
+abbrev pub base_met : Option KeptBase → KeptStep
 base_met None = Nothing
 base_met (Some kept) = InBase kept
 
-abbrev pub cpu_met : ℕ → Option KeptCpu → Met
+abbrev pub cpu_met : ℕ → Option KeptCpu → KeptStep
 cpu_met cpu None = Nothing
 cpu_met cpu (Some kept) = InCpu cpu kept
 
-abbrev pub lane_met : ℕ → ℕ → Option (Vec KeptCpu) → Met
+abbrev pub lane_met : ℕ → ℕ → Option (Vec KeptCpu) → KeptStep
 lane_met cpu place None = Nothing
 lane_met cpu place (Some lane) = cpu_met cpu (slice_get lane.items place)
 
-abbrev pub mark_met : KeptLists → LaneId → ℕ → Met
+abbrev pub mark_met : KeptLists → LaneId → ℕ → KeptStep
 mark_met kept PoolLane place = pool_met (slice_get kept.pool.items place)
 mark_met kept BaseLane place = base_met (slice_get kept.base.items place)
 mark_met kept (CpuLane cpu) place = lane_met cpu place (slice_get kept.cpus.items cpu)
 
 -- a step with the data kept of its visit
-abbrev pub met_at : KeptLists → Step → Met
+abbrev pub met_at : KeptLists → Step → KeptStep
 met_at kept (Look found) = Looked found
 met_at kept (Marked mark) = mark_met kept mark.lane mark.place
 
-abbrev pub met_in : KeptLists → List Step → List Met
+abbrev pub met_in : KeptLists → List Step → List KeptStep
 met_in kept steps = map (met_at kept) steps
 
 abbrev pub look_seen : ℕ → SeenStep
@@ -60,18 +60,18 @@ cpu_seen true key = Cpu key
 cpu_seen false key = Elsewhere
 
 -- the seen step; `cpu` is the line's CPU
-abbrev pub seen_of : ℕ → Met → SeenStep
+abbrev pub seen_of : ℕ → KeptStep → SeenStep
 seen_of cpu (Looked g) = look_seen g
 seen_of cpu (InPool kept) = Pool
 seen_of cpu (InBase kept) = base_seen (is_resume kept.entry) (unwrap_or kept.key zero_key)
 seen_of cpu (InCpu on kept) = cpu_seen (on == cpu) (unwrap_or kept.source.key zero_key)
 seen_of cpu Nothing = Elsewhere
 
-abbrev pub seen_in : ℕ → List Met → List SeenStep
+abbrev pub seen_in : ℕ → List KeptStep → List SeenStep
 seen_in cpu met = map (seen_of cpu) met
 
-abbrev pub kind_met : ℕ → Met → Kind
+abbrev pub kind_met : ℕ → KeptStep → Kind
 kind_met cpu one = seen_kind (seen_of cpu one)
 
-abbrev pub kinds_met : ℕ → List Met → List Kind
+abbrev pub kinds_met : ℕ → List KeptStep → List Kind
 kinds_met cpu met = map (kind_met cpu) met

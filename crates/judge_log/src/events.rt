@@ -6,7 +6,7 @@ ghost use Rattle.judge_log.specs.EventSays.{recipe_met, last_recipe, found_unrea
 ghost use Rattle.judge_log.specs.EventSays.{reseed_says, tick_says, event_says, bits_shown, event_shows, act_says};
 ghost use Rattle.judge_log.specs.EventSays.{unused, IsAloneSaid, IsActSaid, EndConforms};
 
-use crate::met::{LineSpace, Met, put_kinds, put_met};
+use crate::met::{LineSpace, KeptStep, put_kinds, put_met};
 use crate::said::{MadeLine, ShownRecipe};
 use crate::{KeptBase, KeptCpu, Lists};
 use input_pool::Crossing;
@@ -17,11 +17,11 @@ use key_names::{Answer, BaseEntry, CpuEntry, Event, InsideAct, Step, Taken, flag
 use std::alloc::AllocError;
 
 // The crossing of the first visit of the pool, if there is one.
-fn first_crossing(met: &[Met]) -> Crossing
+fn first_crossing(met: &[KeptStep]) -> Crossing
     ensures { result ≡ first_crossing met.now }
 {
     for one in met {
-        if let Met::InPool(kept) = one {
+        if let KeptStep::InPool(kept) = one {
             return kept.crossing;
         }
     }
@@ -68,18 +68,18 @@ fn cpu_served(kept: &KeptCpu) -> Served
     }
 }
 
-fn visit_served(met: &Met) -> Served
+fn visit_served(met: &KeptStep) -> Served
     ensures { result ≡ recipe_met met.now }
 {
     match met {
-        Met::InBase(kept) => base_served(kept),
-        Met::InCpu(_, kept) => cpu_served(kept),
-        Met::Looked(_) | Met::InPool(_) | Met::Nothing => Served::none(),
+        KeptStep::InBase(kept) => base_served(kept),
+        KeptStep::InCpu(_, kept) => cpu_served(kept),
+        KeptStep::Looked(_) | KeptStep::InPool(_) | KeptStep::Nothing => Served::none(),
     }
 }
 
 // The bytes of a read, which are those of its last visit.
-fn last_served(met: &[Met]) -> Served
+fn last_served(met: &[KeptStep]) -> Served
     ensures { result ≡ last_recipe met.now }
 {
     match met.last() {
@@ -88,18 +88,18 @@ fn last_served(met: &[Met]) -> Served
     }
 }
 
-fn found_unready(met: &[Met]) -> bool
+fn found_unready(met: &[KeptStep]) -> bool
     ensures { result ≡ found_unready met.now }
 {
-    matches!(met, [Met::Looked(0), ..])
+    matches!(met, [KeptStep::Looked(0), ..])
 }
 
 // Whether a read's wait was interrupted.
-fn was_interrupted(met: &[Met]) -> bool
+fn was_interrupted(met: &[KeptStep]) -> bool
     ensures { result ≡ was_interrupted met.now }
 {
     match met {
-        [Met::Looked(_), Met::InBase(_), Met::InBase(ended)] => matches!(
+        [KeptStep::Looked(_), KeptStep::InBase(_), KeptStep::InBase(ended)] => matches!(
             ended.entry,
             BaseEntry::Interrupt
         ),
@@ -108,7 +108,7 @@ fn was_interrupted(met: &[Met]) -> bool
 }
 
 // The answer of a system call with these flags (getrandom(2)).
-fn system_says(flags: u32, met: &[Met]) -> Answer
+fn system_says(flags: u32, met: &[KeptStep]) -> Answer
     ensures { result ≡ system_says flags met.now }
 {
     if flags::are_bad(flags) {
@@ -122,7 +122,7 @@ fn system_says(flags: u32, met: &[Met]) -> Answer
     }
 }
 
-fn reseed_says(met: &[Met]) -> Answer
+fn reseed_says(met: &[KeptStep]) -> Answer
     ensures { result ≡ reseed_says met.now }
 {
     if found_unready(met) {
@@ -133,16 +133,16 @@ fn reseed_says(met: &[Met]) -> Answer
 }
 
 // A tick fired if it extracted a root.
-fn tick_says(met: &[Met]) -> Answer
+fn tick_says(met: &[KeptStep]) -> Answer
     ensures { result ≡ tick_says met.now }
 {
     match met {
-        [Met::InBase(_)] => Answer::Idle,
+        [KeptStep::InBase(_)] => Answer::Idle,
         _ => Answer::Fired,
     }
 }
 
-fn event_says(event: &Event, met: &[Met]) -> Answer
+fn event_says(event: &Event, met: &[KeptStep]) -> Answer
     ensures { result ≡ event_says event.now met.now }
 {
     match event {
@@ -154,16 +154,16 @@ fn event_says(event: &Event, met: &[Met]) -> Answer
 }
 
 // The pool's bits before the visit that reads them.
-fn bits_shown(met: &[Met]) -> ShownRecipe
+fn bits_shown(met: &[KeptStep]) -> ShownRecipe
     ensures { result ≡ bits_shown met.now }
 {
     match met {
-        [Met::InPool(kept)] => ShownRecipe::Count(kept.before),
+        [KeptStep::InPool(kept)] => ShownRecipe::Count(kept.before),
         _ => ShownRecipe::Nothing,
     }
 }
 
-fn event_shows(event: &Event, met: &[Met]) -> ShownRecipe
+fn event_shows(event: &Event, met: &[KeptStep]) -> ShownRecipe
     ensures { result ≡ event_shows event.now met.now }
 {
     match event {
@@ -215,7 +215,7 @@ pub fn alone_said(
     }))
 }
 
-fn act_says(act: InsideAct, met: &[Met]) -> MadeLine
+fn act_says(act: InsideAct, met: &[KeptStep]) -> MadeLine
     ensures { result ≡ act_says act met.now }
 {
     match act {

@@ -14,7 +14,7 @@ use std::alloc::{AllocError, Global};
 
 /// A step with the data kept of its visit.
 #[derive(Clone, Copy)]
-pub enum Met {
+pub enum KeptStep {
     Looked(u64),
     InPool(KeptPool),
     InBase(KeptBase),
@@ -24,41 +24,41 @@ pub enum Met {
     Nothing,
 }
 
-fn pool_met(lane: &[KeptPool], place: u64) -> Met
+fn pool_met(lane: &[KeptPool], place: u64) -> KeptStep
     ensures { result ≡ pool_met (slice_get lane.now place) }
 {
     match lane.get(place as usize) {
-        Some(kept) => Met::InPool(*kept),
-        None => Met::Nothing,
+        Some(kept) => KeptStep::InPool(*kept),
+        None => KeptStep::Nothing,
     }
 }
 
-fn base_met(lane: &[KeptBase], place: u64) -> Met
+fn base_met(lane: &[KeptBase], place: u64) -> KeptStep
     ensures { result ≡ base_met (slice_get lane.now place) }
 {
     match lane.get(place as usize) {
-        Some(kept) => Met::InBase(*kept),
-        None => Met::Nothing,
+        Some(kept) => KeptStep::InBase(*kept),
+        None => KeptStep::Nothing,
     }
 }
 
-fn cpu_met(lanes: &[Vec<KeptCpu>], cpu: u32, place: u64) -> Met
+fn cpu_met(lanes: &[Vec<KeptCpu>], cpu: u32, place: u64) -> KeptStep
     ensures { result ≡ lane_met cpu place (slice_get lanes.now cpu) }
 {
     let Some(lane) = lanes.get(cpu as usize) else {
-        return Met::Nothing;
+        return KeptStep::Nothing;
     };
     match lane.get(place as usize) {
-        Some(kept) => Met::InCpu(cpu, *kept),
-        None => Met::Nothing,
+        Some(kept) => KeptStep::InCpu(cpu, *kept),
+        None => KeptStep::Nothing,
     }
 }
 
-fn met_at(lists: &Lists, step: Step) -> Met
+fn met_at(lists: &Lists, step: Step) -> KeptStep
     ensures { result ≡ met_at lists.now step }
 {
     let mark = match step {
-        Step::Look(found) => return Met::Looked(found),
+        Step::Look(found) => return KeptStep::Looked(found),
         Step::Visit(mark) => mark,
     };
     match mark.lane {
@@ -71,7 +71,7 @@ fn met_at(lists: &Lists, step: Step) -> Met
 /// Memory for one line at a time: the kept data, the seen steps and the kinds of its steps.
 #[derive(Drop)]
 pub struct LineSpace {
-    pub met: Vec<Met>,
+    pub met: Vec<KeptStep>,
     pub seen: Vec<SeenStep>,
     pub kinds: Vec<Kind>,
 }
@@ -96,7 +96,7 @@ impl LineSpace {
 /// # Errors
 ///
 /// `AllocError` if there is no memory for them.
-pub fn put_met(met: &mut Vec<Met>, lists: &Lists, steps: &[Step]) -> Result<(), AllocError>
+pub fn put_met(met: &mut Vec<KeptStep>, lists: &Lists, steps: &[Step]) -> Result<(), AllocError>
     ensures { OnOk result (met.new.items ≡ met_in lists.now steps.now) }
 {
     met.clear();
@@ -116,16 +116,16 @@ fn base_seen(kept: &KeptBase) -> SeenStep
 }
 
 // The seen step; `cpu` is the line's CPU.
-fn seen_of(cpu: u32, met: &Met) -> SeenStep
+fn seen_of(cpu: u32, met: &KeptStep) -> SeenStep
     ensures { result ≡ seen_of cpu met.now }
 {
     match met {
-        Met::Looked(0) => SeenStep::Unready,
-        Met::Looked(found) => SeenStep::Ready(*found),
-        Met::InPool(_) => SeenStep::Pool,
-        Met::InBase(kept) => base_seen(kept),
-        Met::InCpu(on, kept) if *on == cpu => SeenStep::Cpu(kept.source.key.unwrap_or([0; 32])),
-        Met::InCpu(..) | Met::Nothing => SeenStep::Elsewhere,
+        KeptStep::Looked(0) => SeenStep::Unready,
+        KeptStep::Looked(found) => SeenStep::Ready(*found),
+        KeptStep::InPool(_) => SeenStep::Pool,
+        KeptStep::InBase(kept) => base_seen(kept),
+        KeptStep::InCpu(on, kept) if *on == cpu => SeenStep::Cpu(kept.source.key.unwrap_or([0; 32])),
+        KeptStep::InCpu(..) | KeptStep::Nothing => SeenStep::Elsewhere,
     }
 }
 
@@ -134,7 +134,7 @@ fn seen_of(cpu: u32, met: &Met) -> SeenStep
 /// # Errors
 ///
 /// `AllocError` if there is no memory for them.
-pub fn put_seen(seen: &mut Vec<SeenStep>, cpu: u32, met: &[Met]) -> Result<(), AllocError>
+pub fn put_seen(seen: &mut Vec<SeenStep>, cpu: u32, met: &[KeptStep]) -> Result<(), AllocError>
     ensures { OnOk result (seen.new.items ≡ seen_in cpu met.now) }
 {
     seen.clear();
@@ -154,16 +154,16 @@ fn base_kind(entry: BaseEntry) -> Kind
 }
 
 // The kind of a step. No key is copied for it.
-fn kind_met(cpu: u32, met: &Met) -> Kind
+fn kind_met(cpu: u32, met: &KeptStep) -> Kind
     ensures { result ≡ kind_met cpu met.now }
 {
     match met {
-        Met::Looked(0) => Kind::Unready,
-        Met::Looked(_) => Kind::Ready,
-        Met::InPool(_) => Kind::Pool,
-        Met::InBase(kept) => base_kind(kept.entry),
-        Met::InCpu(on, _) if *on == cpu => Kind::Cpu,
-        Met::InCpu(..) | Met::Nothing => Kind::OtherCpu,
+        KeptStep::Looked(0) => Kind::Unready,
+        KeptStep::Looked(_) => Kind::Ready,
+        KeptStep::InPool(_) => Kind::Pool,
+        KeptStep::InBase(kept) => base_kind(kept.entry),
+        KeptStep::InCpu(on, _) if *on == cpu => Kind::Cpu,
+        KeptStep::InCpu(..) | KeptStep::Nothing => Kind::OtherCpu,
     }
 }
 
@@ -172,7 +172,7 @@ fn kind_met(cpu: u32, met: &Met) -> Kind
 /// # Errors
 ///
 /// `AllocError` if there is no memory for them.
-pub fn put_kinds(kinds: &mut Vec<Kind>, cpu: u32, met: &[Met]) -> Result<(), AllocError>
+pub fn put_kinds(kinds: &mut Vec<Kind>, cpu: u32, met: &[KeptStep]) -> Result<(), AllocError>
     ensures { OnOk result (kinds.new.items ≡ kinds_met cpu met.now) }
 {
     kinds.clear();

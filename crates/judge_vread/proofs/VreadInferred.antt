@@ -229,7 +229,7 @@ module _ (cf : LaneFacts) (set : Setting) (n flags : ℕ) (first : Sign) where
           )
 
 pub vread_inferred : VreadIsInferred
-vread_inferred c n flags acts m v fit = go (tries_local n flags acts) v.ways
+vread_inferred c n flags acts m v fit = go (tries_local n flags acts) v.done_by
   where
     called : ByVgetrandom n flags acts m →
         AllFill (FillsPart c m.before.setting (User 32) (User n) (first_sign m.own.effects)) nowhere nowhere m.own.effects
@@ -248,6 +248,6 @@ vread_inferred c n flags acts m v fit = go (tries_local n flags acts) v.ways
 
     go : (b : Bool) → MatchBool b (Looked (LocalOrCall n flags acts m) m.own.effects) (ByVgetrandom n flags acts m) →
         AllFill (FillsPart c m.before.setting (User 32) (User n) (first_sign m.own.effects)) nowhere nowhere m.own.effects
-    go true (g, rest, is, ways) =
-        by_copy g rest is (serves_locally (published_by g) (current_state m.before) n) ways
+    go true (g, rest, is, done_by) =
+        by_copy g rest is (serves_locally (published_by g) (current_state m.before) n) done_by
     go false k = called k

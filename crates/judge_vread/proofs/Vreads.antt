@@ -264,15 +264,15 @@ vread_of_followed cf n flags acts before effects seen f ms sees fits fill e insi
         MatchBool t (Looked (LocalOrCall n flags acts m) (effects_in before.setting.cpu seen w.0))
         (ByVgetrandom n flags acts m)
 
-    ways : (a z b : Bool) → (length acts == 0) ≡ a → is_bad flags ≡ b →
+    done_by : (a z b : Bool) → (length acts == 0) ≡ a → is_bad flags ≡ b →
         (if not a || (z || b) then by_vgetrandom n flags (inside_of acts) (current_state before) seen
         else copy_or_call n flags (inside_of acts) (current_state before) seen) ≡ Some f →
         (entries : List VEntry) × Ways (a && (not z && not b)) entries
-    ways true false false none good e =
+    done_by true false false none good e =
         tried_is cf n flags acts before ms seen w.0 f fits fill' good none inside e
-    ways true false true none good e = called e
-    ways true true b none good e = called e
-    ways false z b none good e = called e
+    done_by true false true none good e = called e
+    done_by true true b none good e = called e
+    done_by false z b none good e = called e
 
     go : (r : Bool) → rises 0 seen ≡ r →
         (if r then (if (inside_of acts).any || (n == 0 || is_bad flags)
@@ -281,12 +281,12 @@ vread_of_followed cf n flags acts before effects seen f ms sees fits fill e insi
         (entries : List VEntry) × VreadMeans n flags acts
         (meaning_of before (effects_in before.setting.cpu seen w.0) ms entries f)
     go true r e =
-        let k = ways (length acts == 0) (n == 0) (is_bad flags) refl refl e in (
+        let k = done_by (length acts == 0) (n == 0) (is_bad flags) refl refl e in (
           k.0,
           record {
             looks = without_zero 0 (looks_of (effects_in before.setting.cpu seen w.0))
                 (rise_looks before.setting.cpu 0 seen w.0 r);
-            ways = k.1;
+            done_by = k.1;
           },
         )
     go false r e = absurd cc
@@ -403,7 +403,7 @@ followed_of_vread cf n flags acts m seen v sees fits fit =
     let w = shaped m.before.setting.cpu seen m.own.effects sees in
     let P : List Effect → Type 0 = λ d. NeverFall (looks_of d) in
     by_ways cf n flags acts m v.looks fit seen sees fits (looks_rise m.before.setting.cpu 0 seen w.0
-    (from_zero (looks_of (effects_in m.before.setting.cpu seen w.0)) (subst P w.1 v.looks))) v.ways
+    (from_zero (looks_of (effects_in m.before.setting.cpu seen w.0)) (subst P w.1 v.looks))) v.done_by
 
 -- ---- the rest
 

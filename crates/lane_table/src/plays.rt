@@ -40,9 +40,9 @@ impl Play<Slot, View> for DrawTicket {
 }
 
 /// An exchange of the ticket word that also keeps the number it found.
-pub struct Try;
+pub struct TryTicket;
 
-impl Play<Slot, View> for Try {
+impl Play<Slot, View> for TryTicket {
     ghost use Rattle.lane_table.specs.Steps.{tries};
 
     ghost then = { tries };

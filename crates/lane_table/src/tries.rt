@@ -8,7 +8,7 @@ ghost use Rattle.lane_table.specs.LaneNumbers.{index_of};
 ghost use Rattle.lane_table.specs.Calls.{view, slots, count_of, IsPassOf, IsSamePass, IsAway, Taken, Tried, Unspent, Refused};
 
 use crate::lanes::{Held, Lanes, Pass, TakeFault, index_of, serving_word, ticket_word};
-use crate::plays::{Find, Leave, LoadServing, Serve, Try};
+use crate::plays::{Find, Leave, LoadServing, Serve, TryTicket};
 use crate::takes::{LAST, held};
 use crate::view::Content;
 use key_names::LaneId;
@@ -48,7 +48,7 @@ impl Lanes {
     {
         self.table
             .shared
-            .compare_exchange::<Try>(&mut pass.seat, ticket_word(lane), ticket, ticket + 1)
+            .compare_exchange::<TryTicket>(&mut pass.seat, ticket_word(lane), ticket, ticket + 1)
     }
 
     // Gets the lane at once: the pass's ticket is the serving number that it loaded.

@@ -281,7 +281,7 @@ module _ {R : Type 0} {h last : LaneHost R} {finish : Finish} (n flags : ℕ) (s
           looks = subst NeverFall (sym (same_looks book own.made_steps))
               (never_fall (floor (view h.site.pass.now)) (looks_in own.made_steps) (floor (view last.site.pass.now))
               own.rises);
-          ways = match_false _ _ (tries_local n flags (bound_acts set asks zs))
+          done_by = match_false _ _ (tries_local n flags (bound_acts set asks zs))
               (no_local n flags set (view last.site.pass.now) asks zs
               (let e = length-map h.acts.now ask_of in omega arith)
               meant) by_call;

@@ -179,7 +179,7 @@ module _ (lists : Lists) (set : CallSetting) (n flags : ℕ) (acts : List BoundA
       (λ serves by. served following.0 following.1 (wants_bytes lists 0 0 (let low : 0 < 16 = omega arith in low) n flags acts tries) serves by)
       (λ not_served by. called means.looks by) following.3)
       (λ no by. called means.looks by)
-      means.ways
+      means.done_by
 
 -- a use of a state leaves the state after it and its entries (`Leaves`), in the book `lists`
 abbrev UseLeaves : Lists → OwnUse → Type 0

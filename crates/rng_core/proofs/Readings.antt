@@ -171,7 +171,7 @@ module _ (n flags : ℕ) (s t : VgetrandomState) (out : List ℕ) (set : Setting
       recorded = k.recorded;
       conforms = λ lanes visits callers c. λ before set_is state_is. record {
         looks = tt;
-        ways = match_true _ _ (tries_local n flags []) k.tries (
+        done_by = match_true _ _ (tries_local n flags []) k.tries (
           k.found,
           [],
           refl,
@@ -231,16 +231,16 @@ module _ (n flags : ℕ) (s t : VgetrandomState) (answer : Answer) (shown : Show
                 refused.refuses) by_call,
           )
 
-      ways : (b : Bool) → tries_local n flags [] ≡ b →
+      done_by : (b : Bool) → tries_local n flags [] ≡ b →
           MatchBool b (Looked (LocalOrCall n flags [] meant) effects) (ByVgetrandom n flags [] meant)
-      ways false e = by_call
-      ways true e = after_look (left.tried e) (subst (λ (b : Bool). MatchBool b (BySystem n flags s k.steps k.outcome)
+      done_by false e = by_call
+      done_by true e = after_look (left.tried e) (subst (λ (b : Bool). MatchBool b (BySystem n flags s k.steps k.outcome)
           (FromLook n flags s k.steps k.outcome)) (good_flags (not (n == 0)) (is_bad flags) e) k.is_call)
 
       line : VreadMeans n flags [] meant
       line = record {
         looks = never_fall (floor m.view) (looks_of effects) (floor o.view) rise;
-        ways = ways (tries_local n flags []) refl;
+        done_by = done_by (tries_local n flags []) refl;
       }
 
     called_did : Makes (VreadLine (setting_of set) n flags s t answer shown k.outcome.entries) set m o

@@ -1,5 +1,5 @@
 //! The message on standard error for a transcript that is not lawful: the first line at which its clause fails, and
-//! what was expected there. No function here has a clause, so all of it is only tested.
+//! what was expected there. No function here has a contract, so all of it is only tested.
 
 use crate::messages::{MOST_SHOWN, shown_line};
 use event_script::{Script, read_front};
@@ -129,7 +129,7 @@ fn expected_text(
         Expected::CpuBelow(cpus) => format!(in alloc; "a CPU below {cpus}"),
         Expected::Entry(mark) => {
             let mark = mark_text(alloc, *mark)?;
-            format!(in alloc; "other steps neighbours {mark}")
+            format!(in alloc; "other steps around {mark}")
         }
         Expected::Steps => format!(in alloc; "other steps"),
         Expected::Answer(answer) => {

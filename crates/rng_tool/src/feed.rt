@@ -10,7 +10,7 @@ use irq_feed::{FeedSums, feed_on_new_table};
 use std::alloc::Global;
 use std::sync::Wait;
 use std::thread::Threads;
-use tool_ends::numbers::Form;
+use tool_ends::numbers::CommandForm;
 use tool_ends::short_lines::{ShortLine, add_number};
 use tool_ends::{Status, put_line};
 
@@ -34,7 +34,7 @@ pub(crate) fn feed_of(words: &[String]) -> Option<Feed>
     ensures only { (start feeders samples : ℕ) → IsFeed words.now start feeders samples
         → result ≡ Some (record { start = start; feeders = feeders; samples = samples }) }
 {
-    let form = Form {
+    let form = CommandForm {
         name: "feed",
         first: (0, u32::MAX),
         second: (1, MOST_FEEDERS),

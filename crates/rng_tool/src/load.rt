@@ -15,7 +15,7 @@ use key_names::Data;
 use std::alloc::Global;
 use std::sync::Wait;
 use std::thread::Threads;
-use tool_ends::numbers::Form;
+use tool_ends::numbers::CommandForm;
 use tool_ends::short_lines::{ShortLine, add_number};
 use tool_ends::{Status, put_line};
 use transcript_check::check::{Verdict, check};
@@ -42,7 +42,7 @@ pub(crate) fn load_of(words: &[String]) -> Option<LoadRequest>
     ensures only { (start callers events : ℕ) → IsLoad words.now start callers events
         → result ≡ Some (record { start = start; callers = callers; events = events }) }
 {
-    let form = Form {
+    let form = CommandForm {
         name: "load",
         first: (0, u32::MAX),
         second: (1, MOST_CALLERS),

@@ -68,7 +68,7 @@ fn name_of(kind: FaultKind) -> &'static str {
         FaultKind::BadFork => "a fork of a number too low or taken",
         FaultKind::Unforked => "a caller not forked, or without its block",
         FaultKind::TooMany => "too many events, read bytes or waiting acts",
-        FaultKind::Unfinished => "no line end, or no line feed following the last line",
+        FaultKind::Unfinished => "no line end, or no line feed after the last line",
     }
 }
 

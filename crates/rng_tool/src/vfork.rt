@@ -12,7 +12,7 @@ use hex::encode_to_slice;
 use io_edges::{NoMemory, Sink};
 use std::alloc::Global;
 use std::sync::Wait;
-use tool_ends::numbers::Form;
+use tool_ends::numbers::CommandForm;
 use tool_ends::{Status, put_answer};
 
 /// The most bytes that each end of the fork gives out.
@@ -48,7 +48,7 @@ pub(crate) fn vfork_of(words: &[String]) -> Option<Vfork>
     ensures only { (point : Point) (attempt : Turn) (n : ℕ) → IsVfork words.now point attempt n
         → result ≡ Some (record { point = point; attempt = attempt; len = n }) }
 {
-    let form = Form {
+    let form = CommandForm {
         name: "vfork",
         first: (1, 4),
         second: (1, 2),

@@ -158,19 +158,19 @@ module _ (at : ℕ → MadeLine → Type 0) (n flags : ℕ) (line : SeenLine) (a
   )
 
   vread_kind : VreadMeans n flags acts m → Kind line m.own × EachAct Kind acts m.acts
-  vread_kind v = ways (tries_local n flags acts) v.ways
+  vread_kind v = done_by (tries_local n flags acts) v.done_by
     where
       local : (g : ℕ) (rest : List Effect) (b : Bool) → MatchBool b (ByLocalCopy n rest m) (ByVgetrandom n flags acts m) →
           Kind line m.own × EachAct Kind acts m.acts
       local g rest true copied = by_copy rest copied
       local g rest false called = by_call called
 
-      ways : (b : Bool) →
+      done_by : (b : Bool) →
           MatchBool b (Looked (LocalOrCall n flags acts m) m.own.effects) (ByVgetrandom n flags acts m) →
           Kind line m.own × EachAct Kind acts m.acts
-      ways true look =
+      done_by true look =
           local look.0 look.1 (serves_locally (published_by look.0) (current_state m.before) n) look.3
-      ways false called = by_call called
+      done_by false called = by_call called
 
 call_kind : (at : ℕ → MadeLine → Type 0) (call : Call) (m : CallMeaning) → WordIs call → EachOfCall (SaysIt at) call m →
     Means call m → EachOfCall Kind call m

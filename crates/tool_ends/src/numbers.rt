@@ -18,14 +18,14 @@ pub fn number_in(least: u32, most: u32, word: &str) -> Option<u32>
 
 /// A command with three numbers: its name, and the least and the most that each number may be.
 #[derive(Drop)]
-pub struct Form<'a> {
+pub struct CommandForm<'a> {
     pub name: &'a str,
     pub first: (u32, u32),
     pub second: (u32, u32),
     pub third: (u32, u32),
 }
 
-impl Form<'_> {
+impl CommandForm<'_> {
     // The numbers of a command of four words.
     fn numbers_by(
         &self,

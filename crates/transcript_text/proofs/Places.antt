@@ -10,7 +10,7 @@ use Rattle.key_names.proofs.Lists.ListFacts.{found_dropped}
 use Rattle.transcript_text.specs.Heads.{head_text}
 use Rattle.transcript_text.specs.Lines.{text_of}
 use Rattle.transcript_text.specs.Places.{HasShown, IsFrom, IsIn, callers_left, callers_text, data_left, left_from, line_left, lines_left, most_pieces, text_left}
-use Rattle.transcript_text.specs.declared.printing.place.Coming.TheVariants.{Head}
+use Rattle.transcript_text.specs.declared.printing.place.TextAfter.TheVariants.{Head}
 use Rattle.transcript_text.specs.declared.printing.place.TextPosition.{TextPosition}
 use Rattle.transcript_text.specs.Views.{seen, seen_shown}
 use Rattle.transcript_text.specs.declared.view.LineView.{LineView}

@@ -6,8 +6,8 @@ use Rattle.key_names.specs.Transcripts.SeenLine.{SeenLine, Shown, bytes_in}
 use Rattle.key_names.specs.Texts.TranscriptGrammar.{shown_text, transcript_text}
 use Rattle.transcript_text.specs.Lines.{text_of, whole_line}
 use Rattle.transcript_text.specs.declared.printing.place.TextPosition.{TextPosition}
-use Rattle.transcript_text.specs.declared.printing.place.Coming.{Coming}
-use Rattle.transcript_text.specs.declared.printing.place.Coming.TheVariants.{Head, Lines, Nothing}
+use Rattle.transcript_text.specs.declared.printing.place.TextAfter.{TextAfter}
+use Rattle.transcript_text.specs.declared.printing.place.TextAfter.TheVariants.{Head, Lines, Nothing}
 
 -- the text of the callers' lines from a caller on, and the last line
 abbrev pub callers_text : List (List SeenLine) → List ℕ
@@ -43,7 +43,7 @@ abbrev pub HasShownOf : ℕ → ℕ → List (List SeenLine) → Type 0
 HasShownOf line shown [] = (line ≡ 0) × (shown ≡ 0)
 HasShownOf line shown (lines ∷ callers) = (line ≤ length lines) × HasShown shown (drop line lines)
 
-abbrev pub left_from : Coming → TextPosition → List (List SeenLine) → List ℕ
+abbrev pub left_from : TextAfter → TextPosition → List (List SeenLine) → List ℕ
 left_from Head place callers = transcript_text callers
 left_from Lines place callers = callers_left place.line place.shown (drop place.caller callers)
 left_from Nothing place callers = []
@@ -53,7 +53,7 @@ abbrev pub text_left : TextPosition → List (List SeenLine) → List ℕ
 text_left place callers = left_from place.coming place callers
 
 -- the place is in the text of this transcript
-abbrev pub IsFrom : Coming → TextPosition → List (List SeenLine) → Type 0
+abbrev pub IsFrom : TextAfter → TextPosition → List (List SeenLine) → Type 0
 IsFrom Head place callers = (place.caller ≡ 0) × (place.line ≡ 0) × (place.shown ≡ 0)
 IsFrom Lines place callers = (place.caller ≤ length callers)
     × HasShownOf place.line place.shown (drop place.caller callers)

@@ -148,14 +148,14 @@ never_fall [] = Some tt
 never_fall (a ∷ []) = Some tt
 never_fall (a ∷ b ∷ rest) = found_both (λ p q. (p, q)) (found (at_most a b)) (never_fall (b ∷ rest))
 
--- `m` is a meaning of the vread. `Way` is the vread's kind: a copy, or a vgetrandom call.
+-- `m` is a meaning of the vread. `DoneBy` is the vread's kind: a copy, or a vgetrandom call.
 pub record WayFound (lists : Lists) (before : CallerState) (acts : List BoundAct) (line : SeenLine)
-    (Way : CallMeaning → Type 0) : Type 0 where
+    (DoneBy : CallMeaning → Type 0) : Type 0 where
   pub m : CallMeaning
   pub begins : m.before ≡ before
   pub own_effects : After lists line m.own
   pub act_effects : EachAct (After lists) acts m.acts
-  pub way : Way m
+  pub done_by : DoneBy m
 
 abbrev by_vgetrandom : (lists : Lists) (before : CallerState) (n flags : ℕ) (acts : List BoundAct) (line : SeenLine) →
     Option (WayFound lists before acts line (ByVgetrandom n flags acts))
@@ -181,7 +181,7 @@ by_vgetrandom lists before n flags acts line =
       begins = refl;
       own_effects = refl;
       act_effects = a.effects;
-      way = record {
+      done_by = record {
         steps = h.steps;
         outcome = h.outcome;
         is_call = h.leads;
@@ -223,7 +223,7 @@ by_local_copy lists before n [] line rest = found_by (λ none. record {
   begins = refl;
   own_effects = refl;
   act_effects = tt;
-  way = record { no_more = none; answer = refl; shown = refl; no_acts = refl; entries = refl; after = refl };
+  done_by = record { no_more = none; answer = refl; shown = refl; no_acts = refl; entries = refl; after = refl };
 }) (no_steps rest)
 by_local_copy lists before n (act ∷ acts) line rest = None
 
@@ -244,7 +244,7 @@ served_test lists before n flags acts line l w = (
   l.rest,
   sym w.own_effects ∙ l.is,
   (let same = ap (λ (s : CallerState). serves_locally (published_by l.look) (current_state s) n) (sym w.begins) in
-      subst (λ (b : Bool). MatchBool b (ByLocalCopy n l.rest w.m) (ByVgetrandom n flags acts w.m)) same w.way),
+      subst (λ (b : Bool). MatchBool b (ByLocalCopy n l.rest w.m) (ByVgetrandom n flags acts w.m)) same w.done_by),
 )
 
 abbrev looked_way : (lists : Lists) (before : CallerState) (n flags : ℕ) (acts : List BoundAct) (line : SeenLine) →
@@ -256,7 +256,7 @@ looked_way lists before n flags acts line (Some l) = found_by (λ w. record {
   begins = w.begins;
   own_effects = w.own_effects;
   act_effects = w.act_effects;
-  way = served_test lists before n flags acts line l w;
+  done_by = served_test lists before n flags acts line l w;
 }) (way_by_test (serves_locally (published_by l.look) (current_state before) n)
     (by_local_copy lists before n acts line l.rest) (by_vgetrandom lists before n flags acts line))
 
@@ -273,7 +273,7 @@ vread_found lists before n flags line acts = by_way (way_by_test (tries_local n 
     by_way (Some w) = found_by (λ looks. record {
       m = w.m;
       begins = w.begins;
-      means = record { looks = looks; ways = w.way };
+      means = record { looks = looks; done_by = w.done_by };
       effects = (w.own_effects, w.act_effects);
     }) (never_fall (looks_of w.m.own.effects))
 

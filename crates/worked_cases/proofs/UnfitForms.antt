@@ -135,14 +135,14 @@ no_attempt set rest n flags s outcome attempt shows =
 wiped_needs_a_key : (m : CallMeaning) → current_state m.before ≡ wiped_state → looked 1 ∷ [] ≡ m.own.effects →
     VreadMeans 40 0 [] m → ⊥
 wiped_needs_a_key m wiped effects means =
-    let ways : Looked (LocalOrCall 40 0 [] m) m.own.effects = means.ways in
-    let begins : looked ways.0 ∷ ways.1 ≡ looked 1 ∷ [] = sym ways.2 ∙ sym effects in
-    let look : ways.0 ≡ 1 = cc in
-    let serves : serves_locally (published_by ways.0) (current_state m.before) 40 ≡ false =
+    let done_by : Looked (LocalOrCall 40 0 [] m) m.own.effects = means.done_by in
+    let begins : looked done_by.0 ∷ done_by.1 ≡ looked 1 ∷ [] = sym done_by.2 ∙ sym effects in
+    let look : done_by.0 ≡ 1 = cc in
+    let serves : serves_locally (published_by done_by.0) (current_state m.before) 40 ≡ false =
     ap (λ g. serves_locally (published_by g) (current_state m.before) 40) look
     ∙ ap (λ s. serves_locally 2 s 40) wiped in
     let call : ByVgetrandom 40 0 [] m = subst
-    (λ b. MatchBool b (ByLocalCopy 40 ways.1 m) (ByVgetrandom 40 0 [] m)) serves ways.3 in
+    (λ b. MatchBool b (ByLocalCopy 40 done_by.1 m) (ByVgetrandom 40 0 [] m)) serves done_by.3 in
     let from : FromLook 40 0 wiped_state call.steps call.outcome =
     subst (λ (s : VgetrandomState). IsCall 40 0 s call.steps call.outcome) wiped call.is_call in
     let shown = subst (λ (h : List HostStep). Shows m.before.setting h (looked 1 ∷ [])) from.steps_are

@@ -82,7 +82,7 @@ module _ (fast : ℕ → ℕ → FastPool) where
         go false k = by_call_quiet k
 
     pub vread_quiet : VreadMeans n flags acts m → Quiet m.own.effects
-    vread_quiet k = go (tries_local n flags acts) k.ways
+    vread_quiet k = go (tries_local n flags acts) k.done_by
       where
         go : (b : Bool) → MatchBool b (Looked (LocalOrCall n flags acts m) m.own.effects) (ByVgetrandom n flags acts m) →
             Quiet m.own.effects

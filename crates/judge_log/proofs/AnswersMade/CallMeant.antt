@@ -33,7 +33,7 @@ use Rattle.judge_vread.specs.Inside.{includes}
 use Rattle.judge_vread.specs.Laws.{meaning_of}
 use Rattle.judge_vread.proofs.Vreads.{vread_of_followed}
 use Rattle.key_names.proofs.Lists.Each.{each_parts}
-use Rattle.judge_log.specs.declared.met.Met.{Met}
+use Rattle.judge_log.specs.declared.met.KeptStep.{KeptStep}
 use Rattle.judge_log.specs.declared.said.MadeLine.{MadeLine}
 use Rattle.judge_log.specs.declared.said.ShownRecipe.TheVariants.{Nothing as ShowsNothing, Served}
 use Rattle.judge_log.specs.Met.{met_in, seen_in, kinds_met}
@@ -213,7 +213,7 @@ module _ (kept : KeptLists) (book : Lists) (keeps : Keeps kept book) (lawful : L
           ds : List Effect
           ds = effects_of book steps
 
-          met : List Met
+          met : List KeptStep
           met = met_in kept steps
 
           by : (act : InsideAct) → ActForm set act ds → ActMeans set act (record {

@@ -38,8 +38,8 @@ use Rattle.judge_log.specs.Kept.{KeepsPool, KeepsCpu, Keeps, source_in, source_o
 use Rattle.judge_vread.specs.Recipe.{bytes_made, no_recipe, int_recipe}
 use Rattle.judge_vread.specs.Seen.{ServesBy}
 use Rattle.judge_vread.proofs.CalledSays.{user_bytes}
-use Rattle.judge_log.specs.declared.met.Met.{Met}
-use Rattle.judge_log.specs.declared.met.Met.TheVariants.{Looked, InPool, InBase, InCpu, Nothing}
+use Rattle.judge_log.specs.declared.met.KeptStep.{KeptStep}
+use Rattle.judge_log.specs.declared.met.KeptStep.TheVariants.{Looked, InPool, InBase, InCpu, Nothing}
 use Rattle.judge_log.specs.Met.{lane_met, mark_met, met_at, met_in}
 use Rattle.judge_log.specs.EventSays.{taken_recipe, base_recipe, cpu_recipe}
 
@@ -117,7 +117,7 @@ module _ (book : Lists) (c : ℕ) (fills : ℕ → Option Fill) (place : ℕ) wh
 -- ---- a step
 
 -- the kept data are those of this step's look or visit
-abbrev pub IsMet : Met → Effect → Type 0
+abbrev pub IsMet : KeptStep → Effect → Type 0
 IsMet (Looked g) (looked found) = g ≡ found
 IsMet (InPool k) (at_pool v) = KeepsPool k v
 IsMet (InBase k) (at_base v) = MetBase k v
@@ -125,7 +125,7 @@ IsMet (InCpu on k) (at_cpu v) = (on ≡ v.cpu) × MetCpu k v
 IsMet Nothing nothing_there = ⊤
 IsMet _ _ = ⊥
 
-abbrev pub AreMet : List Met → List Effect → Type 0
+abbrev pub AreMet : List KeptStep → List Effect → Type 0
 AreMet [] [] = ⊤
 AreMet (m ∷ met) (d ∷ effects) = IsMet m d × AreMet met effects
 AreMet _ _ = ⊥

@@ -31,8 +31,8 @@ use Rattle.judge_vread.specs.declared.seen.SeenStep.TheVariants.{Unready, Ready}
 use Rattle.judge_vread.specs.Recipe.{bytes_made}
 use Rattle.judge_vread.specs.Seen.{seen_kind, IsSeen, AllSeen, LookFits}
 use Rattle.judge_vread.proofs.SeenShapes.{kinds_seen}
-use Rattle.judge_log.specs.declared.met.Met.{Met}
-use Rattle.judge_log.specs.declared.met.Met.TheVariants.{Looked, InPool, InBase, InCpu, Nothing}
+use Rattle.judge_log.specs.declared.met.KeptStep.{KeptStep}
+use Rattle.judge_log.specs.declared.met.KeptStep.TheVariants.{Looked, InPool, InBase, InCpu, Nothing}
 use Rattle.judge_log.specs.Met.{pool_met, base_met, cpu_met, lane_met, mark_met, met_at, met_in, base_seen}
 use Rattle.judge_log.specs.Met.{cpu_seen, seen_of, seen_in, kinds_met}
 use Rattle.judge_log.specs.EventSays.{first_crossing, recipe_met, recipe_or_none, last_recipe, found_unready}
@@ -56,29 +56,29 @@ pub record OfCpu (on : ℕ) (k : KeptCpu) : Type 0 where
   pub same : on ≡ v.cpu
   pub met : MetCpu k v
 
-abbrev pub One : Met → Type 0
+abbrev pub One : KeptStep → Type 0
 One (Looked g) = ⊤
 One (InPool k) = OfPool k
 One (InBase k) = OfBase k
 One (InCpu on k) = OfCpu on k
 One Nothing = ⊤
 
-abbrev pub effect : (m : Met) → One m → Effect
+abbrev pub effect : (m : KeptStep) → One m → Effect
 effect (Looked g) p = looked g
 effect (InPool k) p = at_pool p.v
 effect (InBase k) p = at_base p.v
 effect (InCpu on k) p = at_cpu p.v
 effect Nothing p = nothing_there
 
-abbrev pub Shape : List Met → Type 0
+abbrev pub Shape : List KeptStep → Type 0
 Shape [] = ⊤
 Shape (m ∷ met) = One m × Shape met
 
-abbrev pub effects_in : (met : List Met) → Shape met → List Effect
+abbrev pub effects_in : (met : List KeptStep) → Shape met → List Effect
 effects_in [] s = []
 effects_in (m ∷ met) s = effect m s.0 ∷ effects_in met s.1
 
-one : (m : Met) (d : Effect) → IsMet m d → (p : One m) × (d ≡ effect m p)
+one : (m : KeptStep) (d : Effect) → IsMet m d → (p : One m) × (d ≡ effect m p)
 one (Looked g) (looked found) h = (tt, ap looked (sym h))
 one (InPool k) (at_pool v) h = (record { v = v; keeps = h }, refl)
 one (InBase k) (at_base v) h = (record { v = v; met = h }, refl)
@@ -89,7 +89,7 @@ one _ _ h = absurd h
 both : (x y : Effect) (xs ys : List Effect) → x ≡ y → xs ≡ ys → x ∷ xs ≡ y ∷ ys
 both x y xs ys p q = cc
 
-pub shaped : (met : List Met) (ds : List Effect) → AreMet met ds → (s : Shape met) × (ds ≡ effects_in met s)
+pub shaped : (met : List KeptStep) (ds : List Effect) → AreMet met ds → (s : Shape met) × (ds ≡ effects_in met s)
 shaped [] [] h = (tt, refl)
 shaped [] (d ∷ ds) h = absurd h
 shaped (m ∷ met) [] h = absurd h
@@ -114,7 +114,7 @@ module _ (cpu : ℕ) where
   cpu_is on k p true h = (let e : on ≡ cpu = grind (arith, nat_tests) in sym p.same ∙ e, p.met.serves)
   cpu_is on k p false h = ap (λ c. c == cpu) (sym p.same) ∙ h
 
-  one_seen : (m : Met) (p : One m) → IsSeen cpu (seen_of cpu m) (effect m p)
+  one_seen : (m : KeptStep) (p : One m) → IsSeen cpu (seen_of cpu m) (effect m p)
   one_seen (Looked g) p = look_is g (g == 0) refl
   one_seen (InPool k) p = tt
   one_seen (InBase k) p =
@@ -122,16 +122,16 @@ module _ (cpu : ℕ) where
   one_seen (InCpu on k) p = cpu_is on k p (on == cpu) refl
   one_seen Nothing p = tt
 
-  shape_seen : (met : List Met) (s : Shape met) → AllSeen cpu (seen_in cpu met) (effects_in met s)
+  shape_seen : (met : List KeptStep) (s : Shape met) → AllSeen cpu (seen_in cpu met) (effects_in met s)
   shape_seen [] s = tt
   shape_seen (m ∷ met) s = (one_seen m s.0, shape_seen met s.1)
 
-  pub all_seen : (met : List Met) (ds : List Effect) → AreMet met ds → AllSeen cpu (seen_in cpu met) ds
+  pub all_seen : (met : List KeptStep) (ds : List Effect) → AreMet met ds → AllSeen cpu (seen_in cpu met) ds
   all_seen met ds h =
       let s = shaped met ds h in
       let P : List Effect → Type 0 = λ xs. AllSeen cpu (seen_in cpu met) xs in subst P (sym s.1) (shape_seen met s.0)
 
-  pub kinds_are : (met : List Met) (ds : List Effect) → AreMet met ds → kinds_met cpu met ≡ kinds_of cpu ds
+  pub kinds_are : (met : List KeptStep) (ds : List Effect) → AreMet met ds → kinds_met cpu met ≡ kinds_of cpu ds
   kinds_are met ds h = sym (map-map seen_kind (seen_of cpu) met) ∙ sym (kinds_seen cpu (seen_in cpu met) ds (all_seen met ds h))
 
   -- ---- looks
@@ -179,7 +179,7 @@ module _ (cpu : ℕ) where
 
 -- ---- answers and data
 
-crossing_in : (met : List Met) (s : Shape met) → crossing_of (first_crossing met) ≡ facts.first_crossing (effects_in met s)
+crossing_in : (met : List KeptStep) (s : Shape met) → crossing_of (first_crossing met) ≡ facts.first_crossing (effects_in met s)
 crossing_in [] s = refl
 crossing_in (InPool k ∷ met) s = s.0.keeps.crosses
 crossing_in (Looked g ∷ met) s = crossing_in met s.1
@@ -187,7 +187,7 @@ crossing_in (InBase k ∷ met) s = crossing_in met s.1
 crossing_in (InCpu on k ∷ met) s = crossing_in met s.1
 crossing_in (Nothing ∷ met) s = crossing_in met s.1
 
-pub crossing_is : (met : List Met) (ds : List Effect) → AreMet met ds →
+pub crossing_is : (met : List KeptStep) (ds : List Effect) → AreMet met ds →
     crossing_of (first_crossing met) ≡ facts.first_crossing ds
 crossing_is met ds h = let s = shaped met ds h in crossing_in met s.0 ∙ ap facts.first_crossing (sym s.1)
 
@@ -199,43 +199,43 @@ crossings_known c (at_base v ∷ ds) fit = (tt, crossings_known c ds fit.1)
 crossings_known c (at_cpu v ∷ ds) fit = (tt, crossings_known c ds fit.1)
 crossings_known c (nothing_there ∷ ds) fit = (tt, crossings_known c ds fit.1)
 
-unready_in : (met : List Met) (s : Shape met) → found_unready met ≡ answers.found_unready (effects_in met s)
+unready_in : (met : List KeptStep) (s : Shape met) → found_unready met ≡ answers.found_unready (effects_in met s)
 unready_in [] s = refl
 unready_in (Looked g ∷ met) s = refl
 unready_in _ s = refl
 
-interrupted_in : (met : List Met) (s : Shape met) → was_interrupted met ≡ answers.was_interrupted (effects_in met s)
+interrupted_in : (met : List KeptStep) (s : Shape met) → was_interrupted met ≡ answers.was_interrupted (effects_in met s)
 interrupted_in (Looked g ∷ InBase k ∷ InBase l ∷ []) s = ap answers.is_interrupt s.1.1.0.met.entry
 interrupted_in _ s = refl
 
-tick_in : (met : List Met) (s : Shape met) → tick_says met ≡ answers.tick_answer (effects_in met s)
+tick_in : (met : List KeptStep) (s : Shape met) → tick_says met ≡ answers.tick_answer (effects_in met s)
 tick_in [] s = refl
 tick_in (InBase k ∷ []) s = refl
 tick_in _ s = refl
 
-bits_in : (met : List Met) (s : Shape met) → shown_by (bits_shown met) ≡ answers.bits_read (effects_in met s)
+bits_in : (met : List KeptStep) (s : Shape met) → shown_by (bits_shown met) ≡ answers.bits_read (effects_in met s)
 bits_in (InPool k ∷ []) s = ap count s.0.keeps.before
 bits_in _ s = refl
 
-visit_bytes : (m : Met) (p : One m) → bytes_made (recipe_met m) ≡ answers.effect_bytes (effect m p)
+visit_bytes : (m : KeptStep) (p : One m) → bytes_made (recipe_met m) ≡ answers.effect_bytes (effect m p)
 visit_bytes (Looked g) p = refl
 visit_bytes (InPool k) p = refl
 visit_bytes (InBase k) p = p.met.bytes
 visit_bytes (InCpu on k) p = p.met.bytes
 visit_bytes Nothing p = refl
 
-last_later : (m n : Met) (met : List Met) → last_recipe (m ∷ n ∷ met) ≡ last_recipe (n ∷ met)
+last_later : (m n : KeptStep) (met : List KeptStep) → last_recipe (m ∷ n ∷ met) ≡ last_recipe (n ∷ met)
 last_later m n met =
     let a : length (m ∷ n ∷ met) - 1 ≡ suc (length met) = omega arith in
     let b : length (n ∷ met) - 1 ≡ length met = omega arith in
     ap (λ i. recipe_or_none (slice_get (m ∷ n ∷ met) i)) a ∙ sym (ap (λ i. recipe_or_none (slice_get (n ∷ met) i)) b)
 
-bytes_in : (met : List Met) (s : Shape met) → bytes_made (last_recipe met) ≡ answers.served_bytes (effects_in met s)
+bytes_in : (met : List KeptStep) (s : Shape met) → bytes_made (last_recipe met) ≡ answers.served_bytes (effects_in met s)
 bytes_in [] s = refl
 bytes_in (m ∷ []) s = visit_bytes m s.0
 bytes_in (m ∷ n ∷ met) s = ap bytes_made (last_later m n met) ∙ bytes_in (n ∷ met) s.1
 
-module _ (met : List Met) (s : Shape met) where
+module _ (met : List KeptStep) (s : Shape met) where
   abbrev ds : List Effect
   ds = effects_in met s
 
@@ -266,7 +266,7 @@ module _ (met : List Met) (s : Shape met) where
   event_in Tick = (sym (tick_in met s), refl)
   event_in _ = (refl, refl)
 
-module _ (met : List Met) (ds : List Effect) (h : AreMet met ds) where
+module _ (met : List KeptStep) (ds : List Effect) (h : AreMet met ds) where
   shape : (s : Shape met) × (ds ≡ effects_in met s)
   shape = shaped met ds h
 

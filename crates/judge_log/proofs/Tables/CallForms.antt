@@ -97,7 +97,7 @@ module _ (lists : Lists) (lawful : LawfulLanes lists) where
 
   vread_left : (n flags : ℕ) (acts : List BoundAct) (m : CallMeaning) → EachAct After acts m.acts →
       VreadMeans n flags acts m → VreadLeft acts m
-  vread_left n flags acts m following v = go (tries_local n flags acts) v.ways
+  vread_left n flags acts m following v = go (tries_local n flags acts) v.done_by
     where
       after_look : (rest : List Effect) (b : Bool) → MatchBool b (ByLocalCopy n rest m) (ByVgetrandom n flags acts m) →
           VreadLeft acts m

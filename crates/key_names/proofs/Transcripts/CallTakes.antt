@@ -118,7 +118,7 @@ module _ (c p : ℕ) where
       (copy_takes c p (current_state m.before) 0 n))
       (λ not_served by. omega (arith, vgetrandom_within lists n flags acts line m effects.0 by)) looked.3)
       (λ no by. omega (arith, vgetrandom_within lists n flags acts line m effects.0 by))
-      means.ways
+      means.done_by
   call_within lists (unbound bound) m effects means = none_taken m.entries [] (mark_takes (CpuLane c) p bound.line.steps)
       means.entries refl
   call_within lists (ending line) m effects means = none_taken m.entries [] (mark_takes (CpuLane c) p line.steps) means.entries refl

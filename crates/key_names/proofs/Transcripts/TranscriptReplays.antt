@@ -146,7 +146,7 @@ module _ (lists : Lists) (caller k : ℕ) (below : k < 16) where
       (λ serves by. local_holds x n looked.1 m (wants_bytes n flags acts tries) len h by)
       (λ not_served by. vgetrandom_holds x n flags acts m len h there means.looks by) looked.3)
       (λ no by. vgetrandom_holds x n flags acts m len h there means.looks by)
-      means.ways
+      means.done_by
 
   pub there_in : (line : SeenLine) (m : LineMeaning) → effects_of lists line.steps ≡ m.effects → AllThere lists m.effects
   there_in line m is = let P : List Effect → Type 0 = λ ds. AllThere lists ds in subst P is (all_there lists line.steps)

@@ -173,7 +173,7 @@ module _ (lists : Lists) (caller k : ℕ) (below : k < 16) where
       (λ serves by. local_leaves t n looked.0 looked.1 m len h serves by)
       (λ not_served by. vgetrandom_leaves t n flags acts m len h there by) looked.3)
       (λ no by. vgetrandom_leaves t n flags acts m len h there by)
-      means.ways
+      means.done_by
 
   there_in : (line : SeenLine) (m : LineMeaning) → effects_of lists line.steps ≡ m.effects → AllThere lists m.effects
   there_in line m is = let P : List Effect → Type 0 = λ ds. AllThere lists ds in subst P is (all_there lists line.steps)

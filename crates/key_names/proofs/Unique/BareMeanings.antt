@@ -148,9 +148,9 @@ module _ (n flags : ℕ) (acts others : List BoundAct) (e : map bare_act acts �
   reads_alike : VreadMeans n flags acts m → VreadMeans n flags others m
   reads_alike r = record {
     looks = r.looks;
-    ways = both_ways (tries_local n flags acts) (tries_local n flags others)
+    done_by = both_ways (tries_local n flags acts) (tries_local n flags others)
         (ap (λ (k : ℕ). k == 0 && (not (n == 0) && not (is_bad flags))) long_same)
-        (λ w. (w.0, w.1, w.2, local w.0 w.1 w.3)) by_call r.ways;
+        (λ w. (w.0, w.1, w.2, local w.0 w.1 w.3)) by_call r.done_by;
   }
     where
       local : (look : ℕ) (rest : List Effect) → LocalOrCall n flags acts m look rest → LocalOrCall n flags others m look rest

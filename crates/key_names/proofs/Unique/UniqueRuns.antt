@@ -154,7 +154,7 @@ module _ (book book' : Book) (samples : LawfulSamples book) (samples' : LawfulSa
       (λ is c c'. vgetrandom_alike n flags line acts m m' same p p' before v.looks c c')
       x.3 y.3)
       (λ no x y. vgetrandom_alike n flags line acts m m' same p p' before v.looks x y)
-      v.ways v'.ways
+      v.done_by v'.done_by
 
   meaning_alike : (call : Call) (m m' : CallMeaning) → OfCall Same call → EachOfCall First call m →
       EachOfCall Second call m' → SameCaller H m.before m'.before → Means call m → Means call m' → Alike call m m'

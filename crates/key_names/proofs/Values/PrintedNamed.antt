@@ -111,7 +111,7 @@ module _ (lists : Lists) (named : VisitsServeNamed lists) (caller : ℕ) where
       (serves_locally (published_by looked.0) (current_state m.before) n)
       (λ serves by. none_inside own acts m.acts by.no_acts effects.1)
       (λ not_served by. by_call by) looked.3)
-      (λ no by. by_call by) means.ways
+      (λ no by. by_call by) means.done_by
     where
       by_call : ByVgetrandom n flags acts m →
           (oss : List (List Origin)) × LinesPrint lists own (map (λ (bound : BoundAct). bound.line) acts) oss
@@ -161,7 +161,7 @@ module _ (lists : Lists) (named : VisitsServeNamed lists) (caller : ℕ) where
       (serves_locally (published_by looked.0) (current_state m.before) n)
       (λ serves by. subst (λ (s : CallerState). s.current < 16) (sym by.after) below)
       (λ not_served by. subst (λ (s : CallerState). s.current < 16) (sym by.after) below) looked.3)
-      (λ no by. subst (λ (s : CallerState). s.current < 16) (sym by.after) below) means.ways
+      (λ no by. subst (λ (s : CallerState). s.current < 16) (sym by.after) below) means.done_by
   stays version cpus (unbound bound) m range means below =
       subst (λ (s : CallerState). s.current < 16) (sym means.after) below
   stays version cpus (ending line) m range means below =

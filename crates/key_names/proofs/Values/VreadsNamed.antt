@@ -109,7 +109,7 @@ module _ (lists : Lists) (caller k : ℕ) (below : k < 16) where
       (walk.wants_bytes lists caller k below n flags acts tries) h fronts serves by)
       (λ not_served by. vgetrandom_ends x n flags acts m h there means.looks fronts by) looked.3)
       (λ no by. vgetrandom_ends x n flags acts m h there means.looks fronts by)
-      means.ways
+      means.done_by
 
   -- VreadEnds holds for a vread of this state, after these entries
   abbrev pub CallEnds : Both → Call → CallMeaning → Type 0

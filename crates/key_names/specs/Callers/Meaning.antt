@@ -176,7 +176,7 @@ LocalOrCall n flags acts m look rest =
 -- the meaning of a vread of n bytes with these flags
 pub record VreadMeans (n flags : ℕ) (acts : List BoundAct) (m : CallMeaning) : Type 0 where
   pub looks : NeverFall (looks_of m.own.effects)
-  pub ways : MatchBool (tries_local n flags acts) (Looked (LocalOrCall n flags acts m) m.own.effects)
+  pub done_by : MatchBool (tries_local n flags acts) (Looked (LocalOrCall n flags acts m) m.own.effects)
       (ByVgetrandom n flags acts m)
 
 -- the meanings that a call may have

@@ -8,7 +8,7 @@ ghost use Rattle.transcript_text.specs.Views.{seen};
 
 use crate::parsing::head::append_head;
 use crate::printing::line_buffer::Piece;
-use crate::printing::place::{Coming, TextPosition};
+use crate::printing::place::{TextAfter, TextPosition};
 use crate::view::LineView;
 use io_edges::{Failed, Sink, put_all};
 
@@ -51,7 +51,7 @@ impl LineWriter {
         self.piece.clear();
         append_head(&mut self.piece, line);
         let mut place = TextPosition {
-            coming: Coming::Lines,
+            coming: TextAfter::Lines,
             caller: 0,
             line: 0,
             shown: 0,

@@ -14,7 +14,7 @@ use crate::view::Shown;
 
 /// The part of the text after a place.
 #[derive(Clone, Copy)]
-pub(crate) enum Coming {
+pub(crate) enum TextAfter {
     /// The first line of the text.
     Head,
     /// The rest of a caller's lines, and the lines of later callers.
@@ -25,7 +25,7 @@ pub(crate) enum Coming {
 /// A place in the text of a transcript, between two of its pieces.
 #[derive(Clone, Copy)]
 pub(crate) struct TextPosition {
-    pub(crate) coming: Coming,
+    pub(crate) coming: TextAfter,
     // The caller of the next lines, the number of this caller's next line, and how many bytes of that line's data were
     // put. If the line was begun, at least one byte was put.
     pub(crate) caller: u32,
@@ -41,7 +41,7 @@ impl TextPosition {
         ensures within { (callers : List (List SeenLine)) → IsIn result callers }
     {
         TextPosition {
-            coming: Coming::Head,
+            coming: TextAfter::Head,
             caller: 0,
             line: 0,
             shown: 0,
@@ -54,7 +54,7 @@ impl TextPosition {
         ensures { (callers : List (List SeenLine)) → MatchBool result (text_left self callers ≡ [])
             (0 < length (text_left self callers)) }
     {
-        matches!(self.coming, Coming::Nothing)
+        matches!(self.coming, TextAfter::Nothing)
     }
 
     // Puts a line up to its data, unless the line was begun before.
@@ -156,14 +156,14 @@ impl TextPosition {
         requires caller { self.old.caller ≤ length t.now }
         requires within { HasShownOf self.old.line self.old.shown (drop self.old.caller t.now) }
         requires empty { piece.old ≡ [] }
-        requires lines { self.old.coming ≡ Coming.Lines }
+        requires lines { self.old.coming ≡ TextAfter.Lines }
         ensures text { text_left self.old t.now ≡ piece.new ++ text_left self.new t.now }
         ensures within { IsIn self.new t.now }
         ensures fewer { most_pieces self.new t.now < most_pieces self.old t.now }
     {
         if self.caller == t.callers() {
             piece.append(b"end\n");
-            self.coming = Coming::Nothing;
+            self.coming = TextAfter::Nothing;
             return;
         }
         let lines = t.caller(self.caller);
@@ -187,16 +187,16 @@ impl TextPosition {
     {
         piece.clear();
         match self.coming {
-            Coming::Head => {
+            TextAfter::Head => {
                 piece.append(b"rngtranscript 1\n");
-                self.coming = Coming::Lines;
+                self.coming = TextAfter::Lines;
                 true
             }
-            Coming::Lines => {
+            TextAfter::Lines => {
                 self.next_of_callers(t, piece);
                 true
             }
-            Coming::Nothing => false,
+            TextAfter::Nothing => false,
         }
     }
 }

@@ -1,6 +1,6 @@
 use Rattle.std.proofs.Common.{◌≡◌, ◌++◌, [], List, ℕ, length, ap, arith, refl, ◌∙◌}
 use Rattle.std.specs.Prelude.{codes}
-use Rattle.transcript_text.specs.declared.printing.place.Coming.TheVariants.{Lines}
+use Rattle.transcript_text.specs.declared.printing.place.TextAfter.TheVariants.{Lines}
 use Rattle.transcript_text.proofs.Places.{fewer_pieces, head_done}
 use Rattle.transcript_text.proofs.printing.place.TextPosition.go_on.Goals as goal
 
