@@ -1,6 +1,6 @@
 /*
  * client_calls PROGRAM|- SCRIPT TRANSCRIPT [SCRIPT TRANSCRIPT]: makes the calls of examples/clients/fenloth.h that standard
- * input asks for, and prints what each returned.
+ * input asks for, and prints the result of each.
  *
  * An input line is CORE CALL ARGUMENTS. CORE is 0, or 1 for the second pair of files; bytes are in hexadecimal. The
  * answer is a number, with the bytes if the call gives some; or the name of the errno, and for EIO also core->problem.
@@ -13,9 +13,9 @@ enum { MOST_BYTES = 3 << 20 };
 static unsigned char bytes[MOST_BYTES];
 static char line[2 * MOST_BYTES + 64], hex[2 * MOST_BYTES + 1];
 
-static void fail(const char *what)
+static void fail(const char *fault)
 {
-    fprintf(stderr, "client_calls: %s\n", what);
+    fprintf(stderr, "client_calls: %s\n", fault);
     exit(2);
 }
 

@@ -38,7 +38,7 @@ fetch() {
     for name in rng_tool key_audit; do
         choose "$name"
         if [ "$(released "program $name")  -" != "$(sha256sum <"$room/$name")" ]; then
-            say "$1 is damaged: $name has another sum than its RELEASE says"
+            say "$1 is damaged: $name has another sum than in its RELEASE"
             exit 3
         fi
         if [ "$(released "sources $name")  -" != "$(sum_of_sources)" ]; then
@@ -61,7 +61,7 @@ keep_fetched() {
         cp "$room/$name" "${program:?}.new"
         chmod 755 "$program.new"
         mv "$program.new" "$program"
-        stands_for "$(sum_of_sources)"
+        is_built_from "$(sum_of_sources)"
         say "$name: ${elsewhere:?}"
     done
     say "they are in $top/$fetched, and are used if none was proved here; ./rng prove proves them here and compares"
@@ -94,7 +94,7 @@ compare() {
     elif cmp -s "$program" "$other"; then
         say "$name: proved here, and the release has the same bits"
     else
-        say "$name: the release has OTHER BITS than what is proved here: $(cmp "$program" "$other" 2>&1 || :)"
+        say "$name: the release has OTHER BITS than the program that was proved here: $(cmp "$program" "$other" 2>&1 || :)"
         rm -f "$other".stands_for*
         mv "$other" "$other.other_bits"
         say "$program was proved here and is used; the other program is now $other.other_bits, and is not"

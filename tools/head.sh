@@ -1,7 +1,7 @@
 # The help of a script is the comment at its head. The scripts of bench/ and .ci/, and some of tools/, read this.
 # shellcheck shell=sh
 
-# refuse_words SCRIPT FAULT: ends with a line that says what is wrong with the words.
+# refuse_words SCRIPT FAULT: ends with a line that names this fault of the words.
 refuse_words() {
     printf '%s: %s; --help shows the words\n' "${1##*/}" "$2" >&2
     exit 2

@@ -4,7 +4,7 @@
 # A tree with all proofs has 6.5 GB in crates/*/out, of which the two programs need 6.
 needed=6000000
 
-# What is kept, in kB.
+# The disk room that the prover's files take, in kB.
 kept_room() {
     du -sk "${top:?}"/crates/*/out 2>/dev/null | awk '{ sum += $1 } END { print sum + 0 }'
 }
@@ -21,7 +21,7 @@ need_room() {
     exit 70
 }
 
-# Removes what the prover kept. The programs stay, since they were built from the present sources.
+# Removes the prover's files. The programs stay, since they were built from the present sources.
 clean() {
     before=$(kept_room)
     for folder in "$top"/crates/*/out; do

@@ -1,13 +1,13 @@
-# Which sources the built program was made from. ./rng and .ci/run read this, and set top, the repository's folder.
+# The sources that the built program was made from. ./rng and .ci/run read this, and set top, the repository's folder.
 #
 # The stamp has three parts. `sum` has the hash of the sources, and that of the program that was proved and built from
-# them. `folders` is a line of shell that sets `sources`, the source folders of the crates that the program stands on;
+# them. `folders` is a line of shell that sets `sources`, the source folders of the crates that the program is built from;
 # `read` would take the list byte by byte, which costs most of a millisecond. `seen` is a short cut: its time is that of
-# the last look that found the sum right. As long as no source, no folder of sources and no program was changed since,
+# the last check that found the sum right. As long as no source, no folder of sources and no program was changed since,
 # nothing is read. Every edit, checkout or copy sets the time of a file's last change to the clock, whatever time the
-# file itself is given. Once something is newer, the sum decides, so a file that was only touched costs one look.
+# file itself is given. Once something is newer, the sum decides, so a file that was only touched costs one check.
 #
-# An installed copy has no sources: its programs lie beside ./rng, and the file RELEASE there describes them.
+# An installed copy has no sources: its programs are beside ./rng, and the file RELEASE there describes them.
 # A program that `./rng fetch` took from a release has its own stamp in out/fetched, and is used only if none was proved
 # here.
 # shellcheck shell=sh
@@ -31,7 +31,7 @@ use() {
 }
 choose rng_tool
 
-# The crates that the program stands on, each after those that it needs itself, and the program last.
+# The crates that the program is built from, each after those that it needs itself, and the program last.
 crates_in_order() {
     awk -F: -v built="$built" '
         function visit(name,    i, n, deps) {
@@ -74,8 +74,8 @@ seems_current() {
     [ -z "$(cd "$top" && LC_ALL=C find "$own" crates.txt ${sources:?} -newercm "$own.stands_for.seen" -print -quit 2>&1)" ]
 }
 
-# Whether the program is of the present sources, by all their bytes. What changes after the look began is newer than
-# `seen`.
+# Whether the program is of the present sources, by all their bytes. A file that changes after the check began is newer
+# than `seen`.
 is_current() {
     [ -x "$program" ] && [ -f "$stamp" ] || return 1
     { : >"$stamp.$$" && { sleep 0.02 || sleep 1; }; } 2>/dev/null || :
@@ -87,8 +87,9 @@ is_current() {
     fi
 }
 
-# stands_for SUM: records that the program was proved and built from sources with this sum, if they still have it.
-stands_for() {
+# is_built_from SUM: records that the program was proved and built from sources with this sum. Fails if the sources have
+# another sum by now.
+is_built_from() {
     [ "$(sum_of_sources)" = "$1" ] || return 1
     printf '%s %s\n' "$1" "$(sha256sum <"$program")" >"$stamp"
     is_current
@@ -108,13 +109,13 @@ is_fetched() {
     seems_current || is_current
 }
 
-# What `rt ci` proves, tries and builds.
+# The sum of all files that `rt ci` proves, tries and builds.
 sum_of_crates() (
     cd "$top" || return
     find crates crates.txt HANDLES -name out -prune -o -type f -exec sha256sum {} + | LC_ALL=C sort | sha256sum
 )
 
-# All files of the tree, and which of them are executable. What .gitignore names is left out.
+# The sum of all files of the tree, with a list of the executable ones. Files that .gitignore names are left out.
 sum_of_tree() (
     cd "$top" || return
     {
@@ -129,7 +130,7 @@ files_of_tree() {
         -type f ! -name '*.log' "$@"
 }
 
-# What the last gate passed, as .ci/run writes it: lines `crates SUM` and `tree SUM`, and `kit` with rt's version.
+# The record of the last gate that passed, as .ci/run writes it: lines `crates SUM` and `tree SUM`, and `kit` with rt's version.
 gate=out/gate
 
 # passed NAME: the sum, or the other text, that the gate's record has under this name. Fails if there is none.

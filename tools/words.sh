@@ -1,4 +1,4 @@
-# What the words of ./rng ask for, and what is wrong with them. ./rng reads this for all words but run, live, check and
+# Reads the words of ./rng, and reports a fault in them. ./rng reads this for all words but run, live, check and
 # replay alone; it sets top, usage and say.
 # shellcheck shell=sh
 
@@ -6,7 +6,7 @@ self=./rng
 ! is_installed || self=rng
 audit_usage='usage: rng audit keys | rng audit live T | rng audit live C.E | rng audit line C.E'
 
-# refuse TEXT: prints what is wrong, and then the usage line.
+# refuse TEXT: prints this text, and then the usage line.
 refuse() {
     say "$(printf '%s' "$1" | LC_ALL=C tr -c ' -~' '?')"
     printf '%s\n' "${usage:?}" >&2
@@ -127,7 +127,7 @@ read_words() {
     esac
 }
 
-# need_sources WORDS..: an installed copy has nothing to build from.
+# need_sources WORDS..: refuses words that need sources in an installed copy, which has none.
 need_sources() {
     case ${1-} in
     try | clean | fetch | prove)
@@ -138,7 +138,7 @@ need_sources() {
 
 # read_own WORDS..: exits if these are not words of ./rng itself that build or keep programs.
 read_own() {
-    [ "${way:?}" = prove ] || refuse "$1 does not follow try"
+    [ "${mode:?}" = prove ] || refuse "$1 does not follow try"
     case $1 in
     clean | prove) [ $# -eq 1 ] || refuse "$1 takes no other words" ;;
     fetch) [ $# -eq 2 ] || refuse 'fetch takes one file, the archive of a release' ;;
@@ -156,7 +156,7 @@ show() {
     done
 }
 
-# hint FILE: why a script may have been refused, by its first lines. Standard input cannot be read again.
+# hint FILE: prints why a script may have been refused, by its first lines. Standard input cannot be read again.
 hint() {
     [ "$1" != - ] || return 0
     first=$(show "$1" | head -c 100 | LC_ALL=C tr -d '\0' | sed q)
