@@ -5,7 +5,7 @@ function strip(title, cells) {
   return make("div", { class: "strip" }, make("p", { class: "quiet" }, title), make("div", { class: "cells" }, cells));
 }
 
-// A cell's width follows the number of its bytes, within bounds. A word says what its pattern means.
+// A cell's width follows the number of its bytes, within bounds. A word names the meaning of its pattern.
 function cell(kind, length, hue, range, fate, more) {
   return make("div", { class: `cell ${kind}`, grow: Math.max(14, Math.min(length, 96)), hue },
     make("span", {}, make("span", { class: "mono" }, range), " ", fate), make("small", { class: "mono" }, more || ""));
@@ -13,21 +13,21 @@ function cell(kind, length, hue, range, fate, more) {
 
 // The bytes of the line that came from these bytes of a key.
 function shownBytes(model, key, use) {
-  const line = use.kind === ">" && model.byId.get(use.what);
+  const line = use.kind === ">" && model.byId.get(use.target);
   if (!line) return "";
   let at = 0;
   for (const part of line.parts) {
     if (part.key === key.index && part.from === use.from) return cut(line.data.slice(at * 2, (at + part.length) * 2), 26);
     at += part.length;
   }
-  return "handed to nobody";
+  return "not handed out";
 }
 
 function streamCell(model, key, use) {
-  const next = model.byName.get(use.what), range = `${use.from}–${use.end}`;
+  const next = model.byName.get(use.target), range = `${use.from}–${use.end}`;
   if (use.kind === "=") return cell("key-cell", use.length, hueOf(next), range, fateOf(model, key, use), "never shown");
   if (use.kind === "batch") return cell("given", 96, null, range, "a batch, served piece by piece");
-  if (use.kind === ">") return cell("given", use.length, null, range, `line ${use.what}`, shownBytes(model, key, use));
+  if (use.kind === ">") return cell("given", use.length, null, range, `line ${use.target}`, shownBytes(model, key, use));
   return cell("unused", use.length, null, range, fateOf(model, key, use), "never shown");
 }
 
@@ -52,8 +52,8 @@ function streamsAt(model, at) {
 
 function pieceCell(model, batch, piece, at, isOver) {
   const range = `${piece.from - batch.start}–${piece.end - batch.start}`;
-  if (piece.kind === ">" && piece.at < at) return cell("zeros", piece.length, null, range, `served on line ${piece.what}`, "now zeros");
-  if (piece.kind === ">" && piece.at === at) return cell("given", piece.length, null, range, `served now, line ${piece.what}`, shownBytes(model, batch.key, piece));
+  if (piece.kind === ">" && piece.at < at) return cell("zeros", piece.length, null, range, `served on line ${piece.target}`, "now zeros");
+  if (piece.kind === ">" && piece.at === at) return cell("given", piece.length, null, range, `served now, line ${piece.target}`, shownBytes(model, batch.key, piece));
   if (isOver) return cell("zeros", piece.length, null, range, "given up", "erased, never served");
   return cell("left", piece.length, hueOf(batch.key), range, "not served yet", "in memory");
 }

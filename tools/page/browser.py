@@ -133,7 +133,7 @@ class Chromium(Browser):
             file.write(base64.b64decode(shot["data"]))
 
     def complaints(self):
-        """What the page wrote to the console, what it threw, and its network requests."""
+        """The page's lines on the console, its exceptions, and its network requests."""
         for event in self.events:
             method, said = event.get("method"), event.get("params", {})
             if method == "Runtime.exceptionThrown":

@@ -29,7 +29,7 @@ def home_of_kit():
 
 
 def linked_toolchain(home, room):
-    """Makes a toolchain folder in `room`; returns it, and where its clang leaves the module."""
+    """Makes a toolchain folder in `room`; returns it, and the file in which its clang leaves the module."""
     tools, module = f"{room}/toolchain", f"{room}/module.bc"
     os.makedirs(f"{tools}/bin")
     os.symlink(f"{home}/toolchain/lib", f"{tools}/lib")
@@ -52,7 +52,7 @@ def words_for(home, folder, log):
     crate = rtlib.Crate(folder, rtlib.root_above(folder) or folder, {})
     left = [below for below in crate.below() if not below.is_built()]
     for number, below in enumerate(left, 1):
-        print(f"page: the library {below.name} is built from what its proof kept, {number} of {len(left)}", file=sys.stderr, flush=True)
+        print(f"page: the library {below.name} is built from the files that its proof kept, {number} of {len(left)}", file=sys.stderr, flush=True)
         below.out = log
         if below.build_rlib(["--jobs", "1"], anew=False):
             sys.exit(f"page: the crate {below.name} is not proved")

@@ -9,7 +9,7 @@ TABLE, ELEMENTS, HEADER = 4, 9, 8
 
 
 def number(module, at):
-    """A number as WebAssembly writes it, seven bits a byte, and what comes after it."""
+    """A number as WebAssembly writes it, seven bits a byte, and the place after it."""
     value = shift = 0
     while True:
         byte = module[at]

@@ -1,6 +1,6 @@
 "use strict";
-// Finds where a transcript fails the clause that `check` names. If the program itself says the place, that is used.
-// Otherwise the place is searched here: by the grammar, by the script, or by running the program on changed texts.
+// Finds where a transcript fails the clause that `check` names. If the program itself names the place, that is used.
+// Otherwise this searches the place: by the grammar, by the script, or by running the program on changed texts.
 // `ask` runs `rng` on words and an input.
 
 const CLAUSES = {
@@ -76,8 +76,8 @@ function replayFault(script, transcript, clause, ask) {
   return at < 0 ? {} : { row: at + 1, wanted: wanted[at].split(" ")[field] };
 }
 
-// The first events of a script of one caller, and their lines, with the last line as it would be after these events.
-function frontOf(script, transcript, count) {
+// The first events of a script of one caller and their lines, with the last line that follows these events.
+function prefixOf(script, transcript, count) {
   const [head, cpus, caller, ...events] = script.split("\n"), [first, ...lines] = transcript.split("\n").slice(0, count + 1);
   const marks = lines.flatMap(line => line.split(" ")[3].split(",")).filter(step => step.includes("@"));
   const stamps = marks.map(mark => Number(mark.split("@")[1])), place = marks.filter(mark => mark[0] === "b").length;
@@ -86,30 +86,30 @@ function frontOf(script, transcript, count) {
 }
 
 // The shortest prefix of a script of one caller that fails this clause. Its last line is the place.
-function frontFault(script, transcript, clause, ask) {
+function prefixFault(script, transcript, clause, ask) {
   const callers = readScript(script), lines = readTranscript(transcript);
   if (callers.length !== 1) return {};
   const cuts = lines.filter(line => line.word !== "inside" && line.word !== "end").map(line => line.event + 1);
-  const says = count => ask([["check"], frontOf(script, transcript, count)]).out.trim();
+  const verdictOf = count => ask([["check"], prefixOf(script, transcript, count)]).out.trim();
   let [low, high] = [0, cuts.length];
   while (low < high) {
     const middle = (low + high) >> 1;
-    if (says(cuts[middle]) === "yes") low = middle + 1;
+    if (verdictOf(cuts[middle]) === "yes") low = middle + 1;
     else high = middle;
   }
   if (low === cuts.length) return { row: lines.length + 1 };
-  return says(cuts[low]) === `no ${clause}` ? { row: cuts[low] + 1 } : {};
+  return verdictOf(cuts[low]) === `no ${clause}` ? { row: cuts[low] + 1 } : {};
 }
 
-// What the program itself says about the place, on standard error.
-function toldFault(err) {
-  const told = err.match(/transcript line (\d+), clause \d+, \w+: (.*)$/);
-  return told ? { row: Number(told[1]), told: told[2] } : null;
+// The place by the program's own message on standard error.
+function reportedFault(err) {
+  const found = err.match(/transcript line (\d+), clause \d+, \w+: (.*)$/);
+  return found ? { row: Number(found[1]), message: found[2] } : null;
 }
 
 function faultIn(script, transcript, { verdict, err }, ask) {
   const clause = Number(verdict.split(" ")[1]);
   const searches = { 1: textFault, 2: linesFault, 3: marksFault, 5: replayFault, 6: replayFault };
-  const place = toldFault(err) || (searches[clause] || frontFault)(script, transcript, clause, ask);
+  const place = reportedFault(err) || (searches[clause] || prefixFault)(script, transcript, clause, ask);
   return { clause, name: CLAUSES[clause][0], says: CLAUSES[clause][1], ...place };
 }

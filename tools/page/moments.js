@@ -1,9 +1,9 @@
 "use strict";
-// The moments of a run, in the order in which they are shown. A moment is a visit of a lane, or something that a caller
-// does by itself and no visit shows: a vgetrandom call's copy out of its batch, a wipe, or an answer without a visit.
+// The moments of a run, in the order in which they are shown. A moment is a visit of a lane, or an act of a caller that no
+// visit shows: a vgetrandom call's copy out of its batch, a wipe, or an answer without a visit.
 //
-// The moments of one caller are in the caller's own order. Between callers the stamps decide. What a caller does by
-// itself has the stamp of the caller's last visit before, and comes after the visits with that stamp.
+// The moments of one caller are in the caller's own order. Between callers the stamps decide. An act
+// without a visit has the stamp of the caller's last visit before, and comes after the visits with that stamp.
 
 const BATCH = 96, BLOCK = 64, KEY = 32, STATES = 16;
 const SETTINGS = ["at", "on", "hw", "state"];
@@ -33,9 +33,9 @@ class Walk {
   }
 
   // An entry in the list of the current state.
-  entry(moment, what, more) {
+  entry(moment, kind, more) {
     const state = this.states[this.current];
-    moment.entries.push({ what, by: `v${this.caller}.${this.current}:${state.count++}`, ...more });
+    moment.entries.push({ kind, by: `v${this.caller}.${this.current}:${state.count++}`, ...more });
     moment.state = `${this.caller}.${this.current}`;
   }
 
@@ -180,7 +180,7 @@ function placeKeys(keys, moments) {
 }
 
 // The pieces of keys that a line shows, in the order of its bytes. If an attempt of a vgetrandom call did not hold, it
-// also copied bytes, which nobody got. So the line shows the last pieces.
+// also copied bytes, which no caller got. So the line shows the last pieces.
 function partsOf(line, pieces) {
   let left = /^([0-9a-f]{2})+$/.test(line.data) && line.word !== "bits" ? line.data.length / 2 : 0;
   const parts = [];
@@ -195,7 +195,7 @@ function partsOf(line, pieces) {
 function placeParts(lines, keys) {
   const pieces = new Map(lines.map(line => [line.id, []]));
   for (const key of keys) {
-    for (const use of key.uses) if (use.kind === ">") pieces.get(use.what).push({ key: key.index, from: use.from, length: use.length });
+    for (const use of key.uses) if (use.kind === ">") pieces.get(use.target).push({ key: key.index, from: use.from, length: use.length });
   }
   for (const line of lines) line.parts = partsOf(line, pieces.get(line.id));
 }
@@ -211,7 +211,7 @@ function modelOf(script, transcript, rows) {
 
 // ---- Memory between two stamps -------------------------------------------------------------------------------------
 
-// Whether this is the last moment of its stamp. After that moment `key_audit live` says what is in memory.
+// Whether this is the last moment of its stamp. After that moment `key_audit live` lists the content of memory.
 const endsStamp = (model, at) => at === 0 || at === model.moments.length || model.moments[at].stamp > model.moments[at - 1].stamp;
 
 // A vgetrandom call is over with the last moment of its line. From then on the content of its state counts.
@@ -224,8 +224,8 @@ function statesAt(model, at) {
   return over;
 }
 
-// The content of memory after a moment that ends a call but not its stamp. For the lanes it is what `live` says for the
-// stamp, and for each vgetrandom state what its calls have left so far. What can be computed follows from the rows.
+// The content of memory after a moment that ends a call but not its stamp. For the lanes `live` lists it for the stamp.
+// For each vgetrandom state it is the rest that its calls have left so far. The rows show which bytes can be computed.
 function memoryAfter(model, at, live) {
   const isState = it => it.holder.startsWith("state");
   const memory = { held: live.held.filter(it => !isState(it)), rests: live.rests.filter(it => !isState(it)), lines: {} };
@@ -255,9 +255,9 @@ function batchesOf(model, holder) {
   const batches = [], ends = [...endsOfBatches(model, holder), model.moments.length + 1];
   for (const key of model.keys.filter(it => it.holder === holder)) {
     for (const use of key.uses.filter(it => it.kind === "=")) {
-      const next = byName.get(use.what), start = use.from - BATCH;
+      const next = byName.get(use.target), start = use.from - BATCH;
       const pieces = key.uses.filter(it => it.from >= start && it.end <= use.from && it.kind !== "=").map(it => ({
-        ...it, at: it.kind === ">" ? lineOf.get(it.what).last : Infinity }));
+        ...it, at: it.kind === ">" ? lineOf.get(it.target).last : Infinity }));
       batches.push({ key, next, start, end: use.from, from: next.from, to: firstAbove(ends, next.from), pieces });
     }
   }
@@ -266,7 +266,7 @@ function batchesOf(model, holder) {
 
 // The moments at which a state lost its batch, because the batch was replaced or wiped.
 function endsOfBatches(model, holder) {
-  const isEnd = entry => entry.what !== "serve" && entry.what !== "blocks";
+  const isEnd = entry => entry.kind !== "serve" && entry.kind !== "blocks";
   return model.moments.filter(it => it.entries.length && `state${it.state}` === holder && it.entries.some(isEnd)).map(it => it.at);
 }
 
@@ -285,12 +285,12 @@ function firstAbove(numbers, other) {
 function reachOf(model, memory) {
   const known = new Set(memory.held.map(it => it.key)), lines = {};
   for (const key of model.keys) {
-    if (known.has(key.name)) key.uses.forEach(use => use.kind === "=" && known.add(use.what));
+    if (known.has(key.name)) key.uses.forEach(use => use.kind === "=" && known.add(use.target));
   }
   for (const key of model.keys) {
     for (const use of key.uses.filter(it => it.kind === ">")) {
       const isLeft = memory.rests.some(rest => rest.key === key.name && rest.from <= use.from && use.from < rest.end);
-      if (known.has(key.name) || isLeft) (lines[use.what] = lines[use.what] || []).push({ ...use, what: key.name });
+      if (known.has(key.name) || isLeft) (lines[use.target] = lines[use.target] || []).push({ ...use, target: key.name });
     }
   }
   return lines;

@@ -1,5 +1,5 @@
 "use strict";
-// The page: what the user chooses, what is shown, and what the worker is asked.
+// The page: the user's choices, the parts that are shown, and the questions to the worker.
 
 const data = JSON.parse($("data").textContent);
 const state = { model: null, script: "", transcript: "", at: 0, hot: "", pinned: "", zoom: 0, linesFrom: 0, keysFrom: 0, live: new Map(), visit: -1 };
@@ -56,7 +56,7 @@ function showFault(answer) {
   const refused = answer.out.match(/^refused (\d+) (\d+)/), row = refused ? Number(refused[1]) : 0;
   scriptEditor.mark(row);
   say("script-says", make("b", { class: "no" }, row ? `✗ Line ${row}: ` : "✗ No script: "), answer.err.replace(/^\w+: (line \d+, )?/, "") || answer.out,
-    state.model ? make("span", { class: "quiet" }, " The picture still shows what ran before.") : "");
+    state.model ? make("span", { class: "quiet" }, " The picture still shows the run before.") : "");
 }
 
 function take(script, answer, milliseconds) {
@@ -98,7 +98,7 @@ function check() {
 function showClause({ verdict, fault }) {
   transcriptEditor.mark(fault.row || 0);
   say("check-says", make("b", { class: "no" }, `✗ ${verdict}: `), `clause ${fault.clause}, ${fault.name}: ${fault.says}. `,
-    fault.row ? bold(`Line ${fault.row} of the text. `) : "", fault.told || (fault.wanted ? ["Here has to be: ", code(cut(fault.wanted, 120))] : ""));
+    fault.row ? bold(`Line ${fault.row} of the text. `) : "", fault.message || (fault.wanted ? ["Here has to be: ", code(cut(fault.wanted, 120))] : ""));
   say("script-says");
 }
 
@@ -134,7 +134,7 @@ function step(by) {
   go(column < 0 ? 0 : column >= columns.length ? state.model.moments.length : columns[column].to);
 }
 
-// What `key_audit live` is asked for a moment: its stamp; or its line, if a call ends there between two stamps.
+// The word of `key_audit live` for a moment: its stamp; or its line, if a call ends there between two stamps.
 function questionsOf(at) {
   const { model } = state, moment = model.moments[at - 1], line = moment && model.byId.get(moment.within || moment.line);
   const isUnderWay = Boolean(line) && line.word === "vread" && line.last !== at;
@@ -144,16 +144,16 @@ function questionsOf(at) {
 
 const NOTHING = { held: [], rests: [], lines: {} };
 
-// The content of memory after a moment, and whether the program said so; null if the program was not asked yet.
+// The content of memory after a moment, and its source; null if the program did not answer yet.
 function memoryAt(at) {
   const { stamp, line, isUnderWay } = questionsOf(at), { live, model } = state;
   if (stamp === "0") return { memory: NOTHING, source: "No visit so far." };
-  const told = live.get(line || stamp);
-  if (told) {
-    const source = `As key_audit live ${line || stamp} says.`;
-    return { memory: told, source: isUnderWay ? `${source} A vgetrandom state counts as it stood before the call that is under way.` : source };
+  const found = live.get(line || stamp);
+  if (found) {
+    const source = `By key_audit live ${line || stamp}.`;
+    return { memory: found, source: isUnderWay ? `${source} A vgetrandom state counts as it was before the call that is under way.` : source };
   }
-  if (told === undefined || !live.get(stamp)) return null;
+  if (found === undefined || !live.get(stamp)) return null;
   return { memory: memoryAfter(model, at, live.get(stamp)), source: "Between two calls of one stamp: worked out by this page from the rows of key_audit." };
 }
 
@@ -239,7 +239,7 @@ function show() {
   say("where", `${at} of ${model.moments.length}`, moment ? `, stamp ${moment.stamp}` : "");
   $("first").disabled = $("back").disabled = at === 0;
   $("next").disabled = at === model.moments.length;
-  say("told", foldedWords(), tell(model, at));
+  say("moment-text", foldedWords(), momentWords(model, at));
   $("streams").replaceChildren(...streamsAt(model, at));
   $("batch").replaceChildren(...[batchAt(model, picture.batches, at)].filter(Boolean));
   showLines(showMemory());

@@ -1,5 +1,5 @@
 "use strict";
-// The panels beside the picture: the transcript, the content of memory, what can be computed from it, and the table of
+// The panels beside the picture: the transcript, the content of memory, the bytes that follow from it, and the table of
 // keys.
 
 const LINES_AT_ONCE = 100, KEYS_AT_ONCE = 50, LONGEST_HEX = 96;
@@ -64,7 +64,7 @@ function reachPanel(model, memory, at) {
     make("p", {}, tag("leak", "in reach"), names.length ? ` ${list}, whose bytes come from this memory.` : " No answer of this run."),
     make("p", {}, tag("safe", "out of reach"), ` ${plural(past, "earlier answer")}`,
       later ? `, and ${plural(later, "later one")}, whose keys come from elsewhere` : "", "."),
-    make("p", { class: "quiet" }, "Proved: no byte of a key in this memory was used before. That nobody computes a key from its own stream is what is believed of ChaCha20. The pool's own memory is not counted: a thief who has it too can follow a reseed that mixes in nothing new."),
+    make("p", { class: "quiet" }, "Proved: no byte of a key in this memory was used before. It is believed of ChaCha20 that nobody computes a key from its own stream. The pool's own memory is not counted: a thief that has it too can follow a reseed that mixes in nothing new."),
   ];
 }
 

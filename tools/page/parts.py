@@ -51,7 +51,7 @@ def read(*path):
 
 
 def sources_of(tree, crate):
-    """The sum of the sources that a program stands on, as tools/stamp.sh has it."""
+    """The sum of the sources that a program is built from, by tools/stamp.sh."""
     script = 'top=.; . tools/stamp.sh; choose "$1"; sum_of_sources'
     ran = subprocess.run(["sh", "-c", script, "sh", crate], cwd=tree, capture_output=True, text=True, check=False)
     if ran.returncode or not re.match(r"[0-9a-f]{64}\b", ran.stdout):

@@ -1,5 +1,5 @@
 "use strict";
-// The picture: a row for each lane and each caller, a column for each moment. Only what is in view is drawn.
+// The picture: a row for each lane and each caller, a column for each moment. Only the part in view is drawn.
 
 const ZOOMS = [60, 34, 16, 7, 3, 1];
 const EDGE = 10, HEAD = 24, LABELLED = 30, DETAILED = 7, SHORTEST_FOLD = 4, FOLDS_FROM = 120, MOST_ROWS = 16;
@@ -244,7 +244,7 @@ class Picture {
   }
 
   useFlow(row, key, use) {
-    const next = this.model.byName.get(use.what), line = use.kind === ">" && this.model.byId.get(use.what);
+    const next = this.model.byName.get(use.target), line = use.kind === ">" && this.model.byId.get(use.target);
     const bottom = row.middle + (row.lane === "b" ? 19 : row.lane[0] === "v" ? 2 : 11);
     if (use.kind === "=" && next && next.holder !== key.holder && this.isSeen(next.from, next.from)) {
       const to = this.row.get(laneOf(next.holder));

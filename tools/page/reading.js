@@ -37,8 +37,8 @@ function readMoment(text, line) {
 }
 
 function readUse(text) {
-  const [, from, length, kind, what] = text.match(/^(\d+)\+(\d+)([=>!?])(.*)$/);
-  return { from: Number(from), length: Number(length), end: Number(from) + Number(length), kind, what };
+  const [, from, length, kind, target] = text.match(/^(\d+)\+(\d+)([=>!?])(.*)$/);
+  return { from: Number(from), length: Number(length), end: Number(from) + Number(length), kind, target };
 }
 
 function readKey(text, index) {

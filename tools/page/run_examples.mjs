@@ -1,7 +1,7 @@
 // usage: node run_examples.mjs PAGE.html EXAMPLES: runs every script in the page's own modules, and compares.
 //
-// Of one caller the transcript has to be the recorded one. `check` has to say yes to every pair, and what the page works
-// out of memory has to be what `key_audit live` says. It ends with a line of sums, and with status 1 if anything differs.
+// Of one caller the transcript has to be the recorded one. `check` has to print yes for every pair, and the page's own
+// view of memory has to be that of `key_audit live`. It ends with a line of sums, and with status 1 if anything differs.
 import fs from "fs";
 import path from "path";
 import vm from "vm";
@@ -16,17 +16,17 @@ for (const [name, { gzip }] of Object.entries(data.modules)) modules[name] = new
 
 const differs = [];
 let same = 0;
-function compare(what, found, wanted) {
+function compare(name, found, wanted) {
   if (found === wanted) same++;
-  else differs.push(what);
+  else differs.push(name);
 }
 
 const asText = live => JSON.stringify([
   live.held.map(it => it.key + it.holder).sort(), live.rests.map(it => it.key + it.holder + it.from + "+" + it.length).sort(),
-  Object.entries(live.lines).map(([line, pieces]) => [line, pieces.map(it => `${it.from}+${it.length}<${it.what}`)]).sort(),
+  Object.entries(live.lines).map(([line, pieces]) => [line, pieces.map(it => `${it.from}+${it.length}<${it.target}`)]).sort(),
 ]);
 
-// Where every call is over, the page's own view of memory is the program's. Of a long run some stamps are looked at.
+// If every call is over, the page's own view of memory is the program's. Of a long run some stamps are compared.
 function compareMemory(name, pair, model) {
   const every = Math.ceil(model.moments.length / 60);
   for (const moment of model.moments.filter(it => it.at % every === 0 && shared.endsStamp(model, it.at))) {
@@ -43,9 +43,9 @@ function compareMemory(name, pair, model) {
 function compareBetween(name, pair, model) {
   for (const moment of model.moments.filter(it => ["copy", "wipe"].includes(it.kind) && !it.within && it.stamp)) {
     if (model.lines.find(line => line.id === moment.line).last !== moment.at) continue;
-    const told = shared.runProgram(modules.key_audit, ["live", moment.line], pair);
+    const answer = shared.runProgram(modules.key_audit, ["live", moment.line], pair);
     const live = shared.readLive(shared.runProgram(modules.key_audit, ["live", String(moment.stamp)], pair).out);
-    if (told.status === 0) compare(`${name}: memory after ${moment.line}`, asText(shared.memoryAfter(model, moment.at, live)), asText(shared.readLive(told.out)));
+    if (answer.status === 0) compare(`${name}: memory after ${moment.line}`, asText(shared.memoryAfter(model, moment.at, live)), asText(shared.readLive(answer.out)));
   }
 }
 
@@ -69,6 +69,6 @@ for (const name of scriptsIn(examples)) {
     differs.push(`${name}: ${fault}`);
   }
 }
-differs.slice(0, 20).forEach(what => console.log(`differs: ${what}`));
+differs.slice(0, 20).forEach(name => console.log(`differs: ${name}`));
 console.log(`examples: ${same} same, ${differs.length} differ`);
 process.exitCode = differs.length || !same ? 1 : 0;

@@ -31,10 +31,10 @@ async function selfTest() {
   let same = 0, sum = 2166136261;
   const differs = [];
   for (const one of cases) {
-    for (const [what, found, wanted] of await answersTo(one)) {
+    for (const [name, found, wanted] of await answersTo(one)) {
       sum = addTo(sum, found);
       if (wanted === undefined || found === wanted) same++;
-      else differs.push(`${what} of ${one.name}`);
+      else differs.push(`${name} of ${one.name}`);
     }
     say("share-says", `self test: ${same} answers …`);
   }

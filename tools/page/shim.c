@@ -3,7 +3,7 @@
 //
 // The page is the host: it gives standard input, takes standard output and standard error, and sets the words of the
 // command line before it calls `page_main`. There is one thread, and starting another fails with EAGAIN. If a caller's
-// thread cannot be started, the caller runs in its parent's thread, as docs/SCRIPT.md says.
+// thread cannot be started, the caller runs in its parent's thread, as docs/SCRIPT.md describes.
 typedef unsigned char u8;
 typedef unsigned long long u64;
 typedef long long i64;
@@ -95,8 +95,8 @@ void free(void *pointer) {
     freed[class] = block;
 }
 
-// What the programs' allocator calls: it returns whether there was memory, and where. A block of no bytes has a place
-// too.
+// The programs' allocator calls this. It returns whether there was memory, and its place. A block of no bytes has a
+// place too.
 typedef struct {
     u64 is_there;
     u64 at;

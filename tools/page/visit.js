@@ -17,14 +17,14 @@ const STEPS = [
     picture: "Samples of 32 bytes go into the input pool, which has 256 bits and is ready." },
   { at: 4, title: "A root key comes out",
     says: ["The kernel makes two hashes of the pool. One is the pool's own next state. The other is {Root(1)}, and it becomes the base key, from which all other keys come. A key's name says where it was made: {Root(1)} by visit 1 of the pool, where visits count from 0.",
-      "Nobody knows a way back from a hash to what was hashed. So {Root(1)} does not give the pool away."],
+      "Nobody knows how to compute the hashed bytes from a hash. So {Root(1)} does not give the pool away."],
     picture: "The pool gives Root(1) to the base key." },
   { at: 5, title: "The base key makes a key for the CPU, and erases itself",
     says: ["A key has 32 bytes. The cipher ChaCha20 makes a stream of bytes from it, as long as one likes. The first 32 bytes of the stream of {Root(1)} overwrite {Root(1)} itself: they are the new base key, {Base(1)}. The next 32 bytes go to CPU 0 as its key, {Call(Base,1)}.",
       "So {Root(1)} is nowhere in memory any more."],
     picture: "Bytes 0 to 32 of Root(1)'s stream replace it as Base(1), and bytes 32 to 64 go to CPU 0. Root(1) is erased." },
   { at: 6, title: "The first answer",
-    says: ["A program asks for 16 bytes. The CPU's key does what the base key did: bytes 0 to 32 of its stream overwrite it, and are the new key {Cpu(0,0)}. Bytes 32 to 48 are the answer, which is line 0.2 of the transcript.",
+    says: ["A program asks for 16 bytes. The CPU's key is used as the base key was: bytes 0 to 32 of its stream overwrite it, and are the new key {Cpu(0,0)}. Bytes 32 to 48 are the answer, which is line 0.2 of the transcript.",
       "So the key that made the answer is gone before the program has the answer. This is called fast key erasure."],
     picture: "CPU 0's key is replaced by Cpu(0,0), and 16 bytes go to the program. The key that made them is erased." },
   { at: 7, title: "The second answer",
@@ -34,7 +34,7 @@ const STEPS = [
   { at: 7, title: "The memory is stolen",
     says: ["Now a thief copies the memory of the base and of the CPU. The copy has {Base(1)} and {Cpu(0,1)}, and no byte of their streams has been used. Both answers so far came from keys that are gone: they are out of reach.",
       "The next answer, line 0.4, is in reach, since {Cpu(0,1)} will make it. In line 0.5 the kernel reseeds: the keys come from the pool again, whose memory is not in this copy. So line 0.6 is out of reach."],
-    sum: "What was handed out came from keys that no longer exist, and what is in memory has handed out nothing yet. The second half is proved of every run, at every stamp. (Stamps number the visits in their order.)",
+    sum: "The answers so far came from keys that no longer exist, and the keys in memory have handed out nothing yet. The second half is proved of every run, at every stamp. (Stamps number the visits in their order.)",
     picture: "The thief has Base(1) and Cpu(0,1). Lines 0.2 and 0.3 are out of reach, line 0.4 is in reach, and line 0.6 is out of reach." },
 ];
 
@@ -115,7 +115,7 @@ function answersScene(model, number, at, memory, [x, top]) {
   })];
 }
 
-// A frame around what the thief has: around both keys, or around each of them.
+// A frame around the keys that the thief has: around both, or around each of them.
 function thiefScene({ base, cpu }) {
   const frame = ([x, top], width) => [shape("rect", { x: x - 12, y: top - 58, width: width + 24, height: 109, rx: 10, class: "thief" }),
     sceneText(x + width / 2, top - 40, width > BOX ? "the stolen memory image" : "in the stolen image", "thief-word")];
@@ -142,6 +142,6 @@ function visitPanel(model, number, memory, go, close) {
     scene(model, number, memory),
     make("div", { class: "words", "aria-live": "polite" }, step.says.map(text => make("p", {}, stepWords(model, text))),
       step.sum ? make("p", { class: "sum" }, bold("In one sentence: "), step.sum) : null,
-      make("p", { class: "quiet" }, isLast ? "Change the script, and see what the thief gets then." : "The picture below shows the same moment in full.")),
+      make("p", { class: "quiet" }, isLast ? "Change the script, and see which keys the thief gets then." : "The picture below shows the same moment in full.")),
   ];
 }

@@ -23,7 +23,7 @@ const code = text => make("code", {}, text);
 const plural = (count, word) => `${count.toLocaleString("en")} ${word}${count === 1 ? "" : "s"}`;
 const cut = (text, most) => text.length > most ? `${text.slice(0, most - 1)}…` : text;
 
-// Neighbouring keys in a lane get different colours. A colour says nothing that a name does not say too.
+// Neighbouring keys in a lane get different colours. A colour shows nothing that a name does not show too.
 const hueOf = key => Math.round(key.index * 137.5 + 210) % 360;
 
 const LANES = { p: "input pool", b: "base key", call: "one long read" };
@@ -74,13 +74,13 @@ const span = use => `bytes ${use.from} to ${use.end}`;
 
 // The fate of a piece of a key's keystream.
 function fateOf(model, key, use) {
-  const next = model.byName.get(use.what);
+  const next = model.byName.get(use.target);
   if (use.kind === "=" && next) {
     const isNext = use.from === 0 || key.holder.startsWith("state");
     return [isNext && next.holder === key.holder ? "the next key, " : "a key of ", isNext && next.holder === key.holder ? "" :
-      next.holder === "call" ? "this read alone, " : `${laneName(laneOf(next.holder))}, `, keyName(model, use.what)];
+      next.holder === "call" ? "this read alone, " : `${laneName(laneOf(next.holder))}, `, keyName(model, use.target)];
   }
-  if (use.kind === ">") return [`handed out on line ${use.what}`];
+  if (use.kind === ">") return [`handed out on line ${use.target}`];
   return [use.kind === "!" ? "given up: never handed out" : "left in a batch"];
 }
 
@@ -89,7 +89,7 @@ function piecesOf(key) {
   const served = key.uses.filter(use => use.kind !== "=");
   if (served.length <= 3) return key.uses;
   const [first, last] = [served[0], served[served.length - 1]];
-  const batch = { from: first.from, end: last.end, length: last.end - first.from, kind: "batch", what: "" };
+  const batch = { from: first.from, end: last.end, length: last.end - first.from, kind: "batch", target: "" };
   return [...key.uses.filter(use => use.kind === "="), batch].sort((one, other) => one.from - other.from);
 }
 
@@ -124,7 +124,7 @@ function quietVisit(model, moment, line) {
   if (line.word === "fork") return forkWords(model, moment, line);
   if (QUIET[line.word]) return [QUIET[line.word]];
   if (line.word.startsWith("int")) return ["The integer comes out of the CPU's batch. The key stays."];
-  return [moment.lane === "b" && line.answer === "EINTR" ? "It waits, and nobody is left who could make the core ready." :
+  return [moment.lane === "b" && line.answer === "EINTR" ? "It waits, and no caller is left that could make the core ready." :
     "No key is used."];
 }
 
@@ -146,16 +146,16 @@ function visitWords(model, moment, line) {
 }
 
 function copyWords(model, moment) {
-  const serve = moment.entries.filter(entry => entry.what === "serve"), refill = moment.entries.find(entry => entry.what === "refill");
-  const says = [];
-  for (const key of model.goneAt.get(moment.at) || []) says.push(...endOfKey(model, key));
-  if (refill) says.push("96 bytes of the stream become the state's new batch, and the 32 after them its next key. ");
+  const serve = moment.entries.filter(entry => entry.kind === "serve"), refill = moment.entries.find(entry => entry.kind === "refill");
+  const words = [];
+  for (const key of model.goneAt.get(moment.at) || []) words.push(...endOfKey(model, key));
+  if (refill) words.push("96 bytes of the stream become the state's new batch, and the 32 after them its next key. ");
   const bytes = serve.reduce((sum, entry) => sum + entry.length, 0);
-  if (bytes) says.push(`${plural(bytes, "byte")} of the batch ${bytes === 1 ? "is" : "are"} served, and overwritten with zeros. `);
-  if (!refill) says.push("No lock, no system call: the state's own memory is enough. ");
-  if (!moment.holds) says.push(bold("But the generation is not the state's any more"),
-    ": what was copied is not handed out, and the call tries again.");
-  return says;
+  if (bytes) words.push(`${plural(bytes, "byte")} of the batch ${bytes === 1 ? "is" : "are"} served, and overwritten with zeros. `);
+  if (!refill) words.push("No lock, no system call: the state's own memory is enough. ");
+  if (!moment.holds) words.push(bold("But the generation is not the state's any more"),
+    ": the copied bytes are not handed out, and the call tries again.");
+  return words;
 }
 
 function wipeWords(model, moment) {
@@ -179,11 +179,11 @@ function effectOf(model, moment, line) {
   return [ANSWERS[line.answer] || "It takes nothing, and visits nothing."];
 }
 
-function tell(model, at) {
+function momentWords(model, at) {
   if (at === 0) return ["Nothing has happened yet. Press ", bold("step"), " or the right arrow key. Each step is one visit of the pool, of the base key or of a CPU's key, or one thing that a caller does by itself."];
   const moment = model.moments[at - 1], line = model.byId.get(moment.line), event = cut(eventOf(model, line), 48);
-  const where = { visit: [" visits ", bold(placeName(moment.lane || "p"))], copy: [" copies from ", bold(`vDSO state ${moment.state}`)],
+  const action = { visit: [" visits ", bold(placeName(moment.lane || "p"))], copy: [" copies from ", bold(`vDSO state ${moment.state}`)],
     wipe: [" wipes ", bold(`vDSO state ${moment.state}`)], answer: [" ends at once"] }[moment.kind];
-  const who = model.callers.length > 1 ? `Caller ${moment.caller}, line ${line.id}: ` : `Line ${line.id}: `;
-  return [who, code(event), ...where, moment.within ? ` (inside line ${moment.within})` : "", ". ", ...effectOf(model, moment, line)];
+  const subject = model.callers.length > 1 ? `Caller ${moment.caller}, line ${line.id}: ` : `Line ${line.id}: `;
+  return [subject, code(event), ...action, moment.within ? ` (inside line ${moment.within})` : "", ". ", ...effectOf(model, moment, line)];
 }

@@ -13,9 +13,9 @@ async function load(data) {
 
 const say = text => postMessage({ progress: text });
 
-// A lawful transcript with everything that is shown of it. The programs' answers about it are kept for later questions.
+// A lawful transcript with everything that the page shows of it. The programs' answers about it are kept for later questions.
 function shown(script, transcript) {
-  say("asking key_audit for the life of each key");
+  say("key_audit lists the life of each key");
   const rows = runProgram(modules.key_audit, ["keys"], script + transcript);
   if (rows.status !== 0) return { status: rows.status, out: rows.out, err: rows.err };
   pair = script + transcript;
@@ -42,7 +42,7 @@ function run(script) {
   return { ...shown(script, ran.out), verdict: checked.out.trim() };
 }
 
-// A transcript checked against a script: the verdict, and what was expected if that can be said.
+// A transcript checked against a script: the verdict, and the expected text if that is known.
 function judge(script, transcript) {
   say("checking the transcript");
   const checked = runProgram(modules.rng, ["check"], script + transcript);
@@ -52,10 +52,10 @@ function judge(script, transcript) {
   return answer;
 }
 
-// The content of memory after a stamp or an event; null if the program does not say.
+// The content of memory after a stamp or an event; null if the program has no answer.
 function live(moment) {
-  const told = runProgram(modules.key_audit, ["live", moment], pair);
-  return { live: told.status === 0 ? readLive(told.out) : null };
+  const answer = runProgram(modules.key_audit, ["live", moment], pair);
+  return { live: answer.status === 0 ? readLive(answer.out) : null };
 }
 
 const ANSWERS = {
