@@ -1,5 +1,5 @@
 #!/usr/bin/env python3
-"""Replays a recorded boot, and compares what the program hands out with what the kernel did.
+"""Replays a recorded boot, and compares the values that the program and the kernel hand out.
 
     compare.py SCRIPT VALUES        every value has to be equal; else the first that differs is printed, with status 1
     compare.py -c SCRIPT VALUES     the same with one digit of the first sample changed: every value of four bytes or
@@ -35,7 +35,7 @@ def text_of(path):
 
 def values_of(text):
     """The numbers of events, and the digits that were handed out in each. For some also how many bytes of the event's
-    answer come before those, and for longer ones the SHA-256 of all bytes."""
+    answer come before these, and for longer ones the SHA-256 of all bytes."""
     values = []
     for place, line in enumerate(text.splitlines(), 1):
         found = VALUE.fullmatch(line)
@@ -91,7 +91,7 @@ def compare(values, transcript):
     return equal, [place for place in range(len(values)) if place not in kept]
 
 
-def told(values, transcript, place):
+def difference(values, transcript, place):
     number, digits, before = (*values[place], 0)[:3]
     fields = transcript[number]
     return (
@@ -106,7 +106,7 @@ def arguments():
     parser.add_argument("-c", dest="is_changed", action="store_true",
                         help="change one digit of the first sample: no value of four bytes or more may be equal then")
     parser.add_argument("script", metavar="SCRIPT", help="the script of a boot, as convert.py writes it")
-    parser.add_argument("values", metavar="VALUES", help="what the kernel handed out, as convert.py writes it")
+    parser.add_argument("values", metavar="VALUES", help="the kernel's values, as convert.py writes them")
     return parser.parse_args()
 
 
@@ -116,7 +116,7 @@ def verdict(name, values, transcript, is_changed=False):
     line = f"{name}: {len(equal)} of {len(values)} equal{', with one digit changed' if is_changed else ''}"
     if is_changed:
         return bool(values) and all(len(values[place][1]) < SURELY for place in equal), line
-    return bool(values) and not other, f"{line}\n{told(values, transcript, other[0])}" if other else line
+    return bool(values) and not other, f"{line}\n{difference(values, transcript, other[0])}" if other else line
 
 
 def main():

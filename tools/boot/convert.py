@@ -3,10 +3,11 @@
 
     convert.py RECORD CPUS SCRIPT VALUES [EVENTS] [--who WHO]
 
-RECORD is what recorder.py wrote, on a machine of so many CPUS. The script has one caller, which goes from CPU to CPU.
+RECORD is a file of recorder.py, from a machine with CPUS processors. The script has one caller, which goes from CPU to CPU.
 VALUES gets a line for each value: the number of its event in the script, and the bytes in hexadecimal, or the first
-4,096 of a longer one. Two more fields follow where they are needed: how many bytes of the event's answer come before
-the value, and the SHA-256 of all bytes of a longer one. WHO gets a line for each call, with who made it (who reads it).
+4,096 of a longer one. Two more fields follow if they are needed: how many bytes of the event's answer come before
+the value, and the SHA-256 of all bytes of a longer one. WHO gets a line for each call, with its caller; the command
+`who` reads this file.
 The script ends after EVENTS events, or after 65,536 if that is left out. Files with names that end in .gz are
 compressed.
 
@@ -39,10 +40,10 @@ def events_of(stops):
 
 
 def read(stops):
-    """As events_of, with the reader's notes: how often each thing was met, and what could not be told."""
+    """As events_of, with the reader's notes: how often each kind was found, and which calls could not be shown."""
     for is_cut in (False, True):
         reader, used = whole_reader(stops, is_cut)
-        reader.tell()
+        reader.show_calls()
         events = reader.order.sort()
         without, _ = number_states(events)
         if not without:
@@ -50,7 +51,7 @@ def read(stops):
     while without:
         for event in [it for it in events if getattr(it, "memory", None) in without]:
             reader.forget(event)
-            reader.note("not told: more states at once than a caller has")
+            reader.note("not shown: more states at once than a caller has")
         events = reader.order.sort()
         without, _ = number_states(events)
     return events, used, reader.notes
@@ -147,13 +148,13 @@ def cpus_of(text):
 def arguments():
     parser = argparse.ArgumentParser(
         prog="convert.py", description="Makes a script out of a recorded boot, and the list of the kernel's values.")
-    parser.add_argument("record", metavar="RECORD", help="what recorder.py wrote")
+    parser.add_argument("record", metavar="RECORD", help="the record, by recorder.py")
     parser.add_argument("cpus", metavar="CPUS", type=cpus_of, help="CPUs of that machine, 1 to 64")
     parser.add_argument("script", metavar="SCRIPT", help="the script to write")
     parser.add_argument("values", metavar="VALUES", help="the list of values to write")
     parser.add_argument("events", metavar="EVENTS", type=int, nargs="?", default=LIMIT,
                         help=f"cut the script off after so many events; {LIMIT} if none is given")
-    parser.add_argument("--who", metavar="WHO", help="the list of who made each call, to write")
+    parser.add_argument("--who", metavar="WHO", help="the list of the callers to write, for the command who")
     return parser.parse_args()
 
 
@@ -172,8 +173,8 @@ def main():
         write_rows(given.who, script.who)
     cut = f", the last {len(stops) - used} cut off" if used < len(stops) else ""
     print(f"{len(stops)} stops{cut}, {len(script.lines)} events, {len(script.values)} values")
-    for what, count in sorted(notes.items()):
-        print(f"{count:7} {what}")
+    for text, count in sorted(notes.items()):
+        print(f"{count:7} {text}")
     return 0
 
 

@@ -1,6 +1,6 @@
 """Makes events from the steps of a kernel's random core that recorder.py noted. A part of convert.py.
 
-Each call of the kernel becomes one event, and the record shows where it took which lock. Two events that took the same
+Each call of the kernel becomes one event, and the record shows each lock that it took, and when. Two events that took the same
 lock are ordered as they took it. A read that used a generation comes after the reseed that made this generation, and
 before the reseed that made the next. convert.py looks for an order in which all of this holds, and refuses a record
 that has none. The values play no part in it.
@@ -27,7 +27,7 @@ class Call:
         self.name, self.pointer, self.stop, self.event = name, pointer, stop, event
 
     def is_source(self):
-        """Whether it only shows where a user's read comes from."""
+        """Whether it only shows the source of a user's read."""
         return self.name in SOURCES
 
     def ends_at(self, pointer):
@@ -35,22 +35,22 @@ class Call:
 
 
 class Event:
-    """What becomes one event of the script: its steps that were seen, and the value that it handed out."""
+    """An event of the script, with its steps that were seen, and the value that it handed out."""
 
     def __init__(self, word, stop=None):
         self.word, self.stop = word, stop
         self.place = None  # its place among all events, by their first steps
         self.first = None  # the place of its first step in the record
         self.steps = []
-        self.cpu = None  # where a read or an integer was served
+        self.cpu = None  # the CPU on which a read or an integer was served
         self.hardware = None  # the words that its extraction got
         self.generation = None  # the generation that it used
         self.crossed = None  # the steps that a credit may take
         self.is_over = False
-        self.is_told = True  # whether the script has it
+        self.is_shown = True  # whether the script has it
         self.part_of = None  # the event that includes it
         self.setting = []  # lines that prepare it
-        self.acts = []  # what happens within it, as triples of a point, a word and an answer
+        self.acts = []  # the acts within it, as triples of a point, a word and an answer
         self.answer = Answer()
         self.thread = None  # the thread whose call it is, if that thread has no other open call
 
@@ -64,13 +64,13 @@ class Event:
         return [f"on {self.cpu}"] * moves + self.setting + [f"hw {self.hardware}"] * bool(self.hardware) + acts + [self.word]
 
     def answers(self):
-        """What was handed out, with the number of lines from there to the event's last one."""
+        """The values that were handed out, with the number of lines from each to the event's last one."""
         inner = [(len(self.acts) - it, answer) for it, (_, _, answer) in enumerate(self.acts) if answer is not None]
         return [*inner, (0, self.answer)]
 
 
 class Answer:
-    """The value that a call handed out, and to whom."""
+    """The value that a call handed out, and its caller."""
 
     def __init__(self, value=None, who=None, since=None, function=None):
         self.value = value  # the first bytes in hexadecimal, or None
@@ -78,11 +78,11 @@ class Answer:
         self.digest = None  # the SHA-256 of all bytes, if only the first are kept
         self.who = who  # moment, process, thread, what the CPU does, and the task's name
         self.since = since  # the moment at which a call began that may have waited
-        self.function = function  # the kernel's function that asked
+        self.function = function  # the kernel's function that made the call
 
 
 class Order:
-    """Which event has to come after which others.
+    """The order of events: for each, the others that have to come after it.
 
     It is noted while the record is read, and worked out after that: only then is it known which calls make up one event
     together.
@@ -117,7 +117,7 @@ class Order:
             event.place = None
         for _, event in self.taken:
             event = event.whole()
-            if event.is_told and event.place is None:
+            if event.is_shown and event.place is None:
                 event.place = len(found)
                 found.append(event)
         return found
@@ -132,7 +132,7 @@ class Order:
 
         for lock, event in self.taken:
             event = event.whole()
-            if event.is_told:
+            if event.is_shown:
                 put(holders.get(lock), event)
                 holders[lock] = event
         makers = [None if it is None else it.whole() for it in self.makers]
@@ -236,7 +236,7 @@ class Reader:
             calls.append(Call(name, pointer, stop, self.event_of(stop, calls)))
 
     def event_of(self, stop, calls):
-        """The event that a call belongs to: that of the call around it, or a new one."""
+        """The event that a call belongs to: that of the enclosing call, or a new one."""
         name, outer = stop["call"], calls[-1] if calls else None
         if name == "uread":
             if outer is None or not outer.is_source() or not 0 <= outer.pointer - stop["pointer"] < FRAME:
@@ -275,7 +275,7 @@ class Reader:
             check(event)
 
     def at_answer(self, stop):
-        """A user's call that found the core not ready, and would not wait: it only looked, and made no step."""
+        """A user's call that found the core not ready, and did not wait: it has a look, and no step."""
         calls = self.stacks.get(stop["stack"], [])
         if not calls or not calls[-1].is_source() or calls[-1].pointer != stop["pointer"]:
             raise Refused(f"an answer that belongs to no call that was seen: {stop}")
@@ -355,7 +355,7 @@ class Reader:
 
 
 def crossed(before, after):
-    """The effects of a credit: the steps that it may take."""
+    """The steps that a credit may take."""
     if before < FULL <= after:
         return {("credit", "extract", "install")}
     if before < EARLY <= after:

@@ -1,4 +1,4 @@
-"""Records what the random core of a Linux kernel does while it boots. Run by gdb, attached to QEMU's stub.
+"""Records the steps of the random core of a Linux kernel while it boots. Run by gdb, attached to QEMU's stub.
 
 `record` starts QEMU halted and then this file. It waits until the kernel's text is in memory, looks up in it the places
 where a step of the core is committed, and notes each time that a CPU comes there: one line of JSON for each stop.
@@ -7,12 +7,12 @@ A step is noted where it is committed: after it took its lock, and before it rel
 order in which the locks were taken, and nothing has to be moved afterwards. Calls are also noted where they begin and
 end, for their arguments and for the values that they hand out, but that order decides nothing.
 
-The places are found by what they do (after the call of a lock, after the load of the generation, before a return), in
+The places are found by the instructions near them (after the call of a lock, after the load of the generation, before a return), in
 functions that are found by their names. If one is not found exactly as expected, nothing is recorded.
 
-Each value has a note of who got it: the task that ran there, and for an integer the function that asked for it.
+Each value has a note of its receiver: the task that ran there, and for an integer the function that called for it.
 
-The environment has: BOOT_STUB, where QEMU's stub listens; BOOT_SYMBOLS, the lines of /proc/kallsyms of the same
+The environment has: BOOT_STUB, the address of QEMU's stub; BOOT_SYMBOLS, the lines of /proc/kallsyms of the same
 kernel; BOOT_RECORD, the file to write; BOOT_VALUES, after how many values to stop; BOOT_VGETRANDOM, 1 if the calls of
 vgetrandom in user memory are noted too (vdso_places.py).
 """
@@ -44,7 +44,7 @@ KERNEL_HALF = 2**63  # addresses from here on are the kernel's
 TASK_AT_MOST = 12288  # bytes of a task that are searched for its numbers and name
 NAME = 16  # bytes of a task's name
 CALL = 5  # bytes of a call instruction
-SOFT, HARD = 0x100, 0xFF0000  # bits of the count that says whether a CPU handles an interrupt
+SOFT, HARD = 0x100, 0xFF0000  # bits of the count of interrupts that a CPU handles
 
 
 class Symbols:
@@ -72,7 +72,7 @@ class Symbols:
             raise LookupError(f"{name} is {found} in the symbols")
         return found[0]
 
-    def around(self, address):
+    def function_at(self, address):
         """The name of the function that an address lies in."""
         return self.names[bisect.bisect_right(self.starts, address) - 1]
 
@@ -116,37 +116,37 @@ class Code:
         architecture = gdb.selected_frame().architecture()
         self.lines = [(it["addr"], it["asm"]) for it in architecture.disassemble(self.start, self.end - 1)]
 
-    def one(self, found, what):
+    def one(self, found, place):
         if len(found) != 1:
-            raise LookupError(f"{self.name} has {len(found)} places {what}")
+            raise LookupError(f"{self.name} has {len(found)} places {place}")
         return found[0]
 
-    def behind(self, pattern, what):
+    def after(self, pattern, place):
         """The address after the one instruction that fits, and the match."""
         found = []
-        for (_, text), (after, _) in zip(self.lines, self.lines[1:]):
+        for (_, text), (following, _) in zip(self.lines, self.lines[1:]):
             match = re.match(pattern, text)
             if match:
-                found.append((after, match))
-        return self.one(found, what)
+                found.append((following, match))
+        return self.one(found, place)
 
-    def behind_call(self, name):
+    def after_call(self, name):
         target = f"0x{self.symbols.address(name):x}"
-        return self.behind(rf"call +{target}\b", f"behind the call of {name}")[0]
+        return self.after(rf"call +{target}\b", f"after the call of {name}")[0]
 
-    def behind_load(self, address):
+    def after_load(self, address):
         """The address after the load from a fixed address, and the register that was loaded."""
-        place, match = self.behind(rf"mov +[^ ]*\(%rip\),%(\w+) +# 0x{address:x}$", f"behind a load of {address:x}")
+        place, match = self.after(rf"mov +[^ ]*\(%rip\),%(\w+) +# 0x{address:x}$", f"after a load of {address:x}")
         return place, match.group(1)
 
     def returns(self):
-        """Where the function returns, or jumps to another function instead."""
+        """The addresses at which the function returns, or jumps to another function instead."""
         thunk = f"0x{self.symbols.address('__x86_return_thunk'):x}"
         found = [at for at, text in self.lines if re.match(rf"ret|jmp +{thunk}\b", text)]
         for at, text in self.lines:
             jump = re.match(r"jmp +0x([0-9a-f]+)", text)
             target = int(jump.group(1), 16) if jump else self.start
-            if not self.start <= target < self.end and self.symbols.around(target).startswith(("_raw_", "_printk")):
+            if not self.start <= target < self.end and self.symbols.function_at(target).startswith(("_raw_", "_printk")):
                 found.append(at)
         if not found:
             raise LookupError(f"{self.name} has no end")
@@ -165,7 +165,7 @@ class Code:
 
 
 class Tasks:
-    """Who runs on a CPU.
+    """The task that runs on a CPU.
 
     The offsets of a task's numbers and name are found in the first task, while it is alone: it is its own parent, twice
     in a row, with the two numbers and one word of 8 bytes before; and its name is `swapper`.
@@ -181,20 +181,20 @@ class Tasks:
         self.name = self.only(task, b"swapper\0", "name")
         self.start, self.end = min(self.parent - 16, self.name), max(self.parent, self.name + NAME)
         if self.here()[0] != first or memory(first + self.parent - 16, 8) != bytes(8):
-            raise LookupError("the first task is not where it is expected")
+            raise LookupError("the first task is not at the expected place")
         self.first_tick = number(self.ticks)
         self.ticks_of_a_second, rest = divmod(2**32 - self.first_tick, 300)  # ticks start five minutes before they wrap
         if rest or self.ticks_of_a_second not in (100, 250, 300, 1000):
             raise LookupError(f"the first tick is {self.first_tick}")
 
-    def only(self, task, what, words):
-        places = [at for at in range(0, len(task), 8) if task.startswith(what, at)]
+    def only(self, task, content, words):
+        places = [at for at in range(0, len(task), 8) if task.startswith(content, at)]
         if len(places) != 1:
             raise LookupError(f"the first task has {len(places)} places of its {words}")
         return places[0]
 
     def here(self):
-        """The task on this CPU, and the count that says whether an interrupt is handled."""
+        """The task on this CPU, and its count of interrupts that are handled."""
         base = register("gs_base")
         base = base if base >= KERNEL_HALF else register("k_gs_base")
         both = memory(base + self.current, 12)
@@ -205,7 +205,7 @@ class Tasks:
         return (number(self.ticks) - self.first_tick) * 1000 // self.ticks_of_a_second
 
     def who(self):
-        """The moment, process, thread, what the CPU does, and the task's name."""
+        """The moment, process, thread, kind of context (task, softirq or interrupt), and the task's name."""
         task, count = self.here()
         held_there = memory(task + self.start, self.end - self.start)
         at = self.parent - 16 - self.start
@@ -232,7 +232,7 @@ class Place(gdb.Breakpoint):
 
 
 class Recorder:
-    """The places, and what is noted at each of them."""
+    """The places, and the notes that are made at each of them."""
 
     def __init__(self, symbols, record, values):
         self.symbols, self.record, self.left = symbols, record, values
@@ -260,8 +260,8 @@ class Recorder:
         return Place(self, address, note)
 
     def caller(self):
-        """The function that called the present one; to be asked at its first instruction."""
-        return self.symbols.around(number(register("rsp")))
+        """The function that called the present one; to be called at its first instruction."""
+        return self.symbols.function_at(number(register("rsp")))
 
     # Calls, from their first instruction to their return.
 
@@ -301,7 +301,7 @@ class Recorder:
         self.begin_read("uread", buffer, number(iterator + 24))
 
     def system_read(self):
-        registers = memory(register("rdi"), 160)  # struct pt_regs: arguments, and what the program had
+        registers = memory(register("rdi"), 160)  # struct pt_regs: arguments, and the program's registers
         wanted, buffer, ip, pointer = (int.from_bytes(registers[at : at + 8], "little") for at in (104, 112, 128, 152))
         flags = int.from_bytes(registers[96:100], "little")
         self.enter_source("getrandom", flags=flags, wanted=wanted, buffer=buffer, ip=ip, sp=pointer, mm=register("cr3") >> 12)
@@ -325,7 +325,7 @@ class Recorder:
             place.delete()
         self.early_places = []
 
-    # Steps, where they are committed.
+    # Steps, at the places where they are committed.
 
     def hashed(self):
         """Bytes that go into the pool, or the block with the hardware's words that an extraction hashes."""
@@ -369,7 +369,7 @@ class Recorder:
         """The function that a call was made in; the call instruction is just before the return address."""
         if address not in self.callers:
             is_call = address >= KERNEL_HALF and memory(address - CALL, 1) == b"\xe8"
-            self.callers[address] = self.symbols.around(address) if is_call else None
+            self.callers[address] = self.symbols.function_at(address) if is_call else None
         return self.callers[address]
 
     def place_calls(self):
@@ -399,9 +399,9 @@ class Recorder:
         self.frames[BELOW] = Code(self.symbols, BELOW).frame()
         for width in WIDTHS:
             code = Code(self.symbols, f"get_random_u{width}")
-            generation = code.behind_load(self.base + GENERATION)[1]
+            generation = code.after_load(self.base + GENERATION)[1]
             self.frames[code.name] = code.frame()
-            place, match = code.behind(r"mov\w* +[-0-9a-fx]*\(%\w+,%\w+(?:,\d)?\),%(\w+)$", "behind a load from a list")
+            place, match = code.after(r"mov\w* +[-0-9a-fx]*\(%\w+,%\w+(?:,\d)?\),%(\w+)$", "after a load from a list")
             self.at(place, lambda width=width, value=match.group(1), generation=generation, frame=self.frames[code.name]:
                     self.taken(width, value, generation, frame))
 
@@ -410,11 +410,11 @@ class Recorder:
         self.at(address("blake2s_update"), self.hashed)
         self.at(address("crng_fast_key_erasure"), self.erased)
         reseed = Code(self.symbols, "crng_reseed")
-        self.at(reseed.behind_call("_raw_spin_lock_irqsave"),
+        self.at(reseed.after_call("_raw_spin_lock_irqsave"),
                 lambda: self.commit("install", generation=number(self.base + GENERATION) + 1))
         credit = Code(self.symbols, "_credit_init_bits")
-        self.at(credit.behind(r"lock cmpxchg .*", "behind a compare and exchange")[0], self.credited)
-        self.at(credit.behind_call("_raw_spin_lock_irqsave"),
+        self.at(credit.after(r"lock cmpxchg .*", "after a compare and exchange")[0], self.credited)
+        self.at(credit.after_call("_raw_spin_lock_irqsave"),
                 lambda: self.commit("early", phase=number(address("crng_init"), 4)))
         self.at(address("random_prepare_cpu"), lambda: self.put(stop="prepare", of=register("rdi")))
         self.at(address("random_online_cpu"), lambda: self.put(stop="online", of=register("rdi")))
@@ -450,7 +450,7 @@ def attach(stub):
             return
         except gdb.error:
             time.sleep(0.2)
-    raise TimeoutError(f"nobody listens at {stub}")
+    raise TimeoutError(f"nothing listens at {stub}")
 
 
 def recorder_class():
@@ -470,7 +470,7 @@ def recorder_class():
 
 
 def main():
-    # Unless told to leave them, gdb removes all places at each stop and puts them back: 120 packets a stop.
+    # Without `always-inserted` gdb removes all places at each stop and puts them back: 120 packets a stop.
     for setting in ("architecture i386:x86-64", "pagination off", "confirm off", "breakpoint always-inserted on"):
         gdb.execute(f"set {setting}")
     attach(os.environ["BOOT_STUB"])

@@ -17,8 +17,8 @@ class Compared(unittest.TestCase):
     def test_call_that_failed_is_not_equal(self):
         self.assertEqual(compare.compare([(2, "")], TRANSCRIPT), ([], [0]))
 
-    def test_first_that_differs_is_told(self):
-        said = compare.told([(1, "01020305")], TRANSCRIPT, 0)
+    def test_first_that_differs_is_printed(self):
+        said = compare.difference([(1, "01020305")], TRANSCRIPT, 0)
         self.assertIn("event 1, int32", said)
         self.assertIn("01020305", said)
         self.assertIn("01020304", said)

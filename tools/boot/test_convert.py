@@ -38,7 +38,7 @@ def ready(generation=1):
 
 
 def reseed(generation, cpu=0, between=()):
-    """A reseed, with what others do between its two steps."""
+    """A reseed, with other stops between its two steps."""
     first, last = step("extract", cpu, hw=HARDWARE), step("install", cpu, generation=generation)
     return [enter("reseed", RESEED, cpu), first, *between, last, leave("reseed", RESEED, cpu)]
 
@@ -108,7 +108,7 @@ class Words(unittest.TestCase):
 class Places(unittest.TestCase):
     """The order comes from locks and generations."""
 
-    def test_sample_between_extraction_and_install_is_behind_the_reseed(self):
+    def test_sample_between_extraction_and_install_is_after_the_reseed(self):
         stops = [*ready(), *reseed(2, between=[mix("61", cpu=1)])]
         self.assertEqual(converted(stops)[0][2:], [f"hw {HARDWARE}", "reseed", "write 61"])
 
@@ -119,7 +119,7 @@ class Places(unittest.TestCase):
         self.assertEqual(lines[2:], ["on 1", "kread 4", f"hw {HARDWARE}", "reseed"])
         self.assertEqual(values, [(3, "0a")])
 
-    def test_integer_by_the_new_generation_is_behind_the_reseed(self):
+    def test_integer_by_the_new_generation_is_after_the_reseed(self):
         fill = kernel_read(2, None, cpu=1, steps=("refill", "serve"), count=96, by="get_random_u32")
         stops = [*ready(), *reseed(2), *fill, take(2, "0a0b0c0d", cpu=1)]
         self.assertEqual(converted(stops)[0][2:], [f"hw {HARDWARE}", "reseed", "on 1", "int32"])
@@ -132,7 +132,7 @@ class Places(unittest.TestCase):
 
 
 class Rest(unittest.TestCase):
-    """What was seen twice, or cut off, or has no place."""
+    """Calls that were seen twice or cut off, and records that have no order."""
 
     def test_calls_that_are_met_twice(self):
         begun, served, ended = kernel_read(1, "0a")

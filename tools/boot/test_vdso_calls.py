@@ -42,7 +42,7 @@ class Program:
                 *noted, leave("uread", 800, 0, stack, value=value)]
 
     def key(self, generation=1, second=False):
-        """The parts of an attempt that takes a key, up to where it has it."""
+        """The parts of an attempt that takes a key, until it has the key."""
         return [self.point("vkey", generation + 1, second), *self.system("key", 32, self.state + 96, generation=generation),
                 self.point("vnew", generation + 1, second)]
 
@@ -74,7 +74,7 @@ def converted(stops):
 
 
 class Whole(unittest.TestCase):
-    """Calls that one event shows, with everything that they did."""
+    """Calls that one event shows, with all their acts."""
 
     def test_key_and_batch(self):
         it = Program()
@@ -106,7 +106,7 @@ class Whole(unittest.TestCase):
         lines, values, notes, _ = converted(stops)
         self.assertEqual(lines, [f"hw {HARDWARE}", "inside 3 reseed", "vread 40 0"])
         self.assertEqual(values, [(2, VALUE)])
-        self.assertEqual(notes["told inside: reseed at point 3"], 1)
+        self.assertEqual(notes["shown inside: reseed at point 3"], 1)
 
     def test_nested_call(self):
         it, inner = Program(), Program(pointer=TOP - 2000)
@@ -139,7 +139,7 @@ class Parts(unittest.TestCase):
         lines, values, notes, _ = converted(stops)
         self.assertEqual(lines, ["read 32 0", f"hw {HARDWARE}", "reseed", f"hw {HARDWARE}", "reseed", "vread 168 0"])
         self.assertEqual(values, [(0, KEY), (5, VALUE, 128)])
-        self.assertEqual(notes["told as the end of a longer read"], 1)
+        self.assertEqual(notes["shown as the end of a longer read"], 1)
 
     def test_long_values_have_a_digest(self):
         it = Program()
@@ -163,11 +163,11 @@ class Parts(unittest.TestCase):
         lines, values, notes, _ = converted(stops)
         self.assertEqual([it for it in lines if it[:2] != "hw"], ["read 32 0", "reseed", "read 32 0", "reseed", "read 40 0"])
         self.assertEqual(values[-1][1], VALUE)
-        self.assertEqual(notes, {"told as the reads that it made: no attempt held": 1})
+        self.assertEqual(notes, {"shown as the reads that it made: no attempt held": 1})
 
 
 class LeftOut(unittest.TestCase):
-    """What a script cannot show is counted."""
+    """Calls that a script cannot show are counted."""
 
     def test_call_inside_on_a_wiped_state(self):
         it, inner = Program(), Program(pointer=TOP - 2000)
@@ -176,8 +176,8 @@ class LeftOut(unittest.TestCase):
                  it.begin(8, wiped=False, generation=2, pos=40), it.look(2, 2), it.point("vserve", 2), it.end(2, 2), it.leave("0c" * 8)]
         lines, _, notes, _ = converted(stops)
         self.assertEqual(lines, ["read 32 0", "read 32 0"])
-        self.assertEqual(notes, {"not told: one inside another on a state that had been wiped": 2,
-                                 "not told: what its state holds is not known": 1})
+        self.assertEqual(notes, {"not shown: one inside another on a state that had been wiped": 2,
+                                 "not shown: the content of its state is not known": 1})
 
     def test_more_states_than_a_caller_has(self):
         all_of = [Program(state=PAGE + 144 * it) for it in range(17)]
@@ -187,7 +187,7 @@ class LeftOut(unittest.TestCase):
         for it in all_of:
             stops += [it.begin(8, wiped=False, generation=2, pos=40), it.look(2, 2), it.point("vserve", 2), it.end(2, 2), it.leave("0c" * 8)]
         lines, _, notes, _ = converted(stops)
-        self.assertEqual(notes["not told: more states at once than a caller has"], 2)
+        self.assertEqual(notes["not shown: more states at once than a caller has"], 2)
         self.assertEqual(lines.count("read 32 0"), 1)
         self.assertEqual(lines.count("vread 40 0"), 16)
 

@@ -4,7 +4,7 @@
 transcript.py RECORD CPUS SCRIPT TRANSCRIPT
 rng check SCRIPT TRANSCRIPT
 
-RECORD is what recorder.py wrote, on a machine of so many CPUS. Nothing is moved: each visit of a lane has its place and
+RECORD is a file of recorder.py, from a machine with CPUS processors. Nothing is moved: each visit of a lane has its place and
 stamp by the order of the record, which is that of the locks, and the bytes are those that were handed out. So `rng check`
 judges the recorded run. A caller has calls of the kernel on one CPU that come one after another. A call inside another
 one, as from an interrupt, belongs to a further caller. Each vgetrandom state is a caller too, with the calls on it. All
@@ -12,8 +12,8 @@ are forked at the start.
 
 A record has the first bytes of vgetrandom's answers, and a SHA-256. The other bytes are computed from the answer's key,
 as the vDSO does, and must have this sum. Three things are not in a record: the base's visits of the lines `fork` and
-`end`, which come first and last; the looks that only ask whether the core is ready, each of which finds what the next
-look of its call finds; and the first look of a vgetrandom call, which finds what the call's first attempt finds.
+`end`, which come first and last; the looks that only check whether the core is ready, each of which finds the same as the
+next look of its call; and the first look of a vgetrandom call, which finds the same as the call's first attempt.
 """
 
 import argparse
@@ -36,7 +36,7 @@ LATE = "early"  # an early key is made while the base is locked: the root is tak
 
 
 class Visit:
-    """A visit of a lane, with where it is in the record."""
+    """A visit of a lane, with its place in the record."""
 
     def __init__(self, at, lane, step=None):
         self.at, self.lane, self.step = at, lane, step
@@ -60,7 +60,7 @@ class Line:
 
 
 class StepReader(UserReader):
-    """Keeps for each event its visits, and on which CPU it began."""
+    """Keeps for each event its visits, and the CPU on which it began."""
 
     def __init__(self):
         super().__init__()
@@ -150,7 +150,7 @@ class StateCaller:
         if not first.needs_key and not first.blocks and not first.holds:
             return "a batch alone that did not hold"
         if self.state is None and not first.needs_key and not call.stop["wiped"]:
-            return "what its state holds is not known"
+            return "the content of its state is not known"
         return None
 
     def add(self, call, reader, made):
@@ -274,7 +274,7 @@ def reader_of(stops):
 def arguments():
     parser = argparse.ArgumentParser(
         prog="transcript.py", description="Makes a script of several callers out of a record, and the transcript of the recorded run itself.")
-    parser.add_argument("record", metavar="RECORD", help="what recorder.py wrote")
+    parser.add_argument("record", metavar="RECORD", help="the record, by recorder.py")
     parser.add_argument("cpus", metavar="CPUS", type=convert.cpus_of, help="CPUs of that machine, 1 to 64")
     parser.add_argument("script", metavar="SCRIPT", help="the script to write")
     parser.add_argument("transcript", metavar="TRANSCRIPT", help="the transcript to write")

@@ -1,7 +1,7 @@
 """Makes events from the calls of vgetrandom that vdso_places.py noted. A part of convert.py.
 
 A call through the vDSO becomes one `vread`. Its system calls, for a key or for all its bytes, are found by their stack
-and by the instruction that made them. What another part of the program does inside a call is an act of the call, or an
+and by the instruction that made them. If another part of the program acts inside a call, this is an act of the call, or an
 event of its own if the locks were taken in an order that an act cannot show. A state is known by its memory, and is a
 new state if it is found full of zeros. So a child of fork has states of its own.
 
@@ -24,7 +24,7 @@ FRAME = 512  # a system call's stack pointer is at most this far below that of i
 EAGAIN, EINVAL = -11, -22
 NONBLOCK, RANDOM, INSECURE = 1, 2, 4
 READY = -1  # a look at any generation of a ready core
-COPY = "not told: a child's copy of the answer that its parent got"
+COPY = "not shown: a child's copy of the answer that its parent got"
 # The point of an act, by how far the call is: entered, looked, asks for a key, has one, copies; and 6: its attempt
 # holds. There are no acts at 5 (a second attempt, or before it) and at 7 (after an attempt that does not hold).
 POINTS = {0: 1, 1: 1, 2: 2, 3: 3, 4: 4, 6: 4}
@@ -54,7 +54,7 @@ class UserCall(Event):
         super().__init__("vread")
         self.stop, self.where, self.is_child = stop, where, is_child
         self.begun = now  # where in the record it begins, or begins with its state
-        self.is_told = False
+        self.is_shown = False
         self.point = 0
         self.attempts = []
         self.asked = None  # the stop at which a system call for all its bytes began
@@ -62,15 +62,15 @@ class UserCall(Event):
         self.inside = []  # events inside the first attempt, as pairs of a point and a call or a reseed
         self.later = []  # events inside the second attempt
         self.is_inside = False  # whether it was made inside another call on the same state, which was marked as in use
-        self.is_mixed = False  # whether a call inside it took its state, or it took the state of a call around it
+        self.is_mixed = False  # whether a call inside it took its state, or it took the state of the call that it is inside
         self.result = None
         self.memory = None
 
-    def note_inside(self, what):
+    def note_inside(self, event):
         if self.point in (5, 7):
-            self.later.append(what)
+            self.later.append(event)
         else:
-            self.inside.append((POINTS[self.point], what))
+            self.inside.append((POINTS[self.point], event))
 
     def blocks_of(self, is_wiped):
         """The blocks that its first attempt makes, from the state's batch, or from that of a wiped state."""
@@ -97,8 +97,8 @@ class UserReader(Reader):
         self.lanes = []  # the events that took the base or a CPU, in the order of the record
         self.places = {}  # for each of them, its places in that list
 
-    def note(self, what):
-        self.notes[what] = self.notes.get(what, 0) + 1
+    def note(self, text):
+        self.notes[text] = self.notes.get(text, 0) + 1
 
     # Calls in user memory
 
@@ -127,20 +127,20 @@ class UserReader(Reader):
             return
         if stop["size"] != SIZE or stop["state"] % PAGE + SIZE > PAGE:
             asks = stop["size"] == 2**64 - 1 and not stop["count"]
-            self.note("asked for the size of a state" if asks else "no state: its system call is told as a read")
+            self.note("asked for the size of a state" if asks else "no state: its system call is shown as a read")
             self.ended.add(key)
             return
-        around = [it for it in self.open.values() if it.where == self.where(stop)]
+        enclosing = [it for it in self.open.values() if it.where == self.where(stop)]
         thread = stop["who"][2]
         is_first = not any(it.stop.get("who", (0, 0, None))[2] == thread for it in self.open.values())
         call = self.begin(stop)
         if is_first:
             self.order.take(f"thread {thread}", call)
-        if around and stop.get("mark"):
+        if enclosing and stop.get("mark"):
             call.is_inside = True
-            around[-1].note_inside(call)
-        elif around and 1 <= around[-1].point <= 5:  # else the other one has not begun with the state, or is through with it
-            call.is_mixed = around[-1].is_mixed = True
+            enclosing[-1].note_inside(call)
+        elif enclosing and 1 <= enclosing[-1].point <= 5:  # else the other one has not begun with the state, or is through with it
+            call.is_mixed = enclosing[-1].is_mixed = True
 
     def call_of(self, stop):
         """The call that a stop belongs to. If it is not known, it began in the parent of its process."""
@@ -270,39 +270,39 @@ class UserReader(Reader):
 
     # How the calls become events
 
-    def tell(self):
+    def show_calls(self):
         """Makes an event of each call that a script can show."""
         self.lanes = [event for lock, event in self.order.taken if lock == "base" or lock.startswith("cpu")]
         for place, event in enumerate(self.lanes):
             self.places.setdefault(event, []).append(place)
         for call in sorted(self.calls, key=lambda it: it.begun):
-            self.tell_call(call)
+            self.show_call(call)
 
     def fresh(self, where):
         self.count += 1
         self.memories[where] = self.count
         return self.count
 
-    def tell_call(self, call):
+    def show_call(self, call):
         if call.is_mixed:
-            self.leave_out(call, "not told: one inside another on a state that had been wiped")
+            self.leave_out(call, "not shown: one inside another on a state that had been wiped")
         elif call.result is None:
-            self.leave_out(call, "not told: its end was not seen")
+            self.leave_out(call, "not shown: its end was not seen")
         elif not call.attempts:
-            self.tell_without_attempt(call)
+            self.show_without_attempt(call)
         elif call.stop["flags"] & (RANDOM | INSECURE) == RANDOM | INSECURE:
-            self.leave_out(call, "not told: flags that are chosen otherwise")
+            self.leave_out(call, "not shown: flags that are chosen otherwise")
         elif not call.attempts[-1].holds:
             is_copy = call.is_child and call.attempts[-1].found is None
-            self.leave_out(call, COPY if is_copy else "told as the reads that it made: no attempt held")
+            self.leave_out(call, COPY if is_copy else "shown as the reads that it made: no attempt held")
         else:
-            self.tell_attempts(call)
+            self.show_attempts(call)
 
     def leave_out(self, call, why):
         self.note(why)
         self.memories[call.where] = None
 
-    def tell_without_attempt(self, call):
+    def show_without_attempt(self, call):
         """Nothing was served from the state, and it is as it was."""
         call.memory = self.memories.get(call.where)
         flags, count = call.stop["flags"], call.stop["count"]
@@ -310,45 +310,45 @@ class UserReader(Reader):
         if call.part_of is not None:
             return
         if call.is_inside:
-            self.note("inside another one, told as a read")
+            self.note("inside another one, shown as a read")
         elif call.result == EINVAL:
-            call.is_told = True
+            call.is_shown = True
         elif call.asked is None and not count:
-            call.is_told = True
+            call.is_shown = True
             self.order.looks.append((call, READY))
         elif call.system is not None and ("draw" in call.system.steps or call.result == EAGAIN):
-            call.is_told, call.system.part_of = True, call
+            call.is_shown, call.system.part_of = True, call
             call.hardware = call.system.hardware
             self.order.looks.append((call, 0))
         else:
             is_early = call.asked is not None and call.asked.get("early")
-            self.note("told as the read that it made" + (": the core was not ready when it began" if is_early else ""))
+            self.note("shown as the read that it made" + (": the core was not ready when it began" if is_early else ""))
 
-    def tell_attempts(self, call):
+    def show_attempts(self, call):
         first = call.attempts[0]
         if not call.is_child:
             if first.needs_key and (call.stop["wiped"] or self.is_cut):
                 self.fresh(call.where)
             if self.memories.get(call.where) is None:
                 if not first.needs_key:
-                    self.leave_out(call, "not told: what its state holds is not known")
+                    self.leave_out(call, "not shown: the content of its state is not known")
                     return
                 self.fresh(call.where)
         why = self.why_not_whole(call)
         if not why:
-            self.tell_as(call, call.attempts, 0)
+            self.show_as(call, call.attempts, 0)
         elif not call.attempts[-1].needs_key or call.attempts[-1].looked is None:
-            self.leave_out(call, "not told: its second attempt went on with a state that another call had renewed")
+            self.leave_out(call, "not shown: its second attempt went on with a state that another call had renewed")
         elif call.stop["count"] + BLOCK * call.attempts[-1].before() > LONGEST:
-            self.leave_out(call, "not told: a longer read would be too long")
+            self.leave_out(call, "not shown: a longer read would be too long")
         else:
-            self.note(f"told as the end of a longer read: {why}")
+            self.note(f"shown as the end of a longer read: {why}")
             self.fresh(call.where)
             call.acts, call.hardware = [], None
-            self.tell_as(call, call.attempts[-1:], BLOCK * call.attempts[-1].before())
+            self.show_as(call, call.attempts[-1:], BLOCK * call.attempts[-1].before())
 
-    def tell_as(self, call, attempts, before):
-        call.is_told, call.memory = True, self.memories[call.where]
+    def show_as(self, call, attempts, before):
+        call.is_shown, call.memory = True, self.memories[call.where]
         call.word = f"vread {call.stop['count'] + before} {call.stop['flags']}"
         call.answer.before = before
         for attempt in attempts:
@@ -356,7 +356,7 @@ class UserReader(Reader):
             if attempt.key is not None:
                 attempt.key.part_of = call
                 call.cpu = attempt.key.cpu
-        self.note(f"told with {len(attempts)} attempt{'s' * (len(attempts) > 1)}" if not before else "told as the end of a longer read")
+        self.note(f"shown with {len(attempts)} attempt{'s' * (len(attempts) > 1)}" if not before else "shown as the end of a longer read")
 
     def why_not_whole(self, call):
         """The reason why the call is not shown with all its attempts, or None; then the call has its acts."""
@@ -400,7 +400,7 @@ class UserReader(Reader):
                     acts.append((point, f"vread {it.stop['count']}", it.answer))
         call.acts = sorted(acts, key=lambda it: it[0])
         for point, word, _ in acts:
-            self.note(f"told inside: {word.split(' ')[0]} at point {point}")
+            self.note(f"shown inside: {word.split(' ')[0]} at point {point}")
 
     def is_alone(self, own):
         """Whether no other event has a step of the base or a CPU between the first and the last of these steps."""
@@ -409,7 +409,7 @@ class UserReader(Reader):
 
     def forget(self, call):
         """Drops the call: its reads of keys become events of their own."""
-        call.is_told = False
+        call.is_shown = False
         for attempt in call.attempts:
             if attempt.key is not None and attempt.key.part_of is call:
                 attempt.key.part_of = None

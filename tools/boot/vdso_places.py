@@ -1,7 +1,7 @@
 """Notes the calls of vgetrandom in user memory. A part of recorder.py, which gdb runs.
 
 vgetrandom is a function of the vDSO, a small shared object that the kernel carries and maps into each program. The
-places to note are found in its machine code by what it does there, once for all programs: in each program they have the
+places to note are found in its machine code by the instructions there, once for all programs: in each program they have the
 same distance from the vDSO's start. If one is missing or there are two, nothing is recorded.
 
 | Stop | Where the call is |
@@ -31,9 +31,9 @@ LONGEST = 64  # bytes of an answer that are kept; of a longer one a digest of al
 NAME = b"__vdso_getrandom\0"
 
 
-def only(found, what):
+def only(found, place):
     if len(found) != 1:
-        raise LookupError(f"vgetrandom has {len(found)} places {what}")
+        raise LookupError(f"vgetrandom has {len(found)} places {place}")
     return found[0]
 
 
@@ -62,7 +62,7 @@ class Listing:
         # For a key the system call has no flags, and the position is then set to the end of the batch.
         key = only([it for it in self.numbers(r"syscall") if any(re.match(r"xor +%edx,%edx", text) for text in text_of[it - 4 : it])],
                    "of a call for a key")
-        new = only(self.numbers(rf"movb +\$0x60,{POSITION:#x}\(%{state}\)", key, 6), "behind a key")
+        new = only(self.numbers(rf"movb +\$0x60,{POSITION:#x}\(%{state}\)", key, 6), "after a key")
         last = only(self.numbers(rf"mov +{GENERATION:#x}\(%{state}\),%rdx"), "of a last look")
         end = only(self.numbers(r"cmp +%rax,%rdx", last, 4), "of a last comparison")
         blocks, returns = self.numbers(rf"call +{self.chacha:x}$"), self.numbers(r"ret\b")
@@ -96,11 +96,11 @@ class Vgetrandom:
     def __init__(self, machine, recorder):
         self.machine, self.recorder = machine, recorder
         self.register, self.memory, self.number, self.held = machine.register, machine.memory, machine.number, machine.held
-        self.vdsos = set()  # where programs have the vDSO
+        self.vdsos = set()  # the addresses at which programs have the vDSO
         self.open, self.last = {}, {}  # buffer, length and flags of calls, by memory and stack pointer, and by that alone
 
     def mm(self):
-        """Which program's memory is in use."""
+        """The program memory that is in use."""
         return self.register("cr3") >> 12
 
     def place(self):
@@ -117,7 +117,7 @@ class Vgetrandom:
             at = image + self.number(header + 8)
             while self.number(header, 4) == DYNAMIC and self.number(at):
                 words[self.number(at)], at = self.number(at + 8), at + 16
-        names, symbol = image + words[STRINGS], image + words[SYMBOLS]  # the symbols lie before their names
+        names, symbol = image + words[STRINGS], image + words[SYMBOLS]  # the symbols are before their names
         while self.memory(names + self.number(symbol, 4), len(NAME)) != NAME:
             symbol += 24
             if symbol >= names:

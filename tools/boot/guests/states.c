@@ -1,9 +1,9 @@
-/* The first program of a machine whose memory is kept. It asks what is left of vgetrandom's states in user memory.
+/* The first program of a machine whose memory is kept. It shows the bytes of vgetrandom's states that are left in user memory.
  *
  * It shows the unserved bytes and the key of each state on the console, byte by byte, so that no other copy of them is
  * in memory. At each `moment` it calls sync(2) and sleeps. One child dumps core, and the core is searched for the
  * child's state. If it is not the first process, it shows one state and waits for a debugger. tools/boot/initrd
- * compiles it, and docs/MEMORY.md describes what it shows. */
+ * compiles it, and docs/MEMORY.md describes the result. */
 #include "vgetrandom.h"
 #include <fcntl.h>
 #include <signal.h>

@@ -1,5 +1,5 @@
-/* The first program of a machine that is recorded: it calls vgetrandom in many ways, on states of its own, and switches
- * off.
+/* The first program of a machine that is recorded: it makes many kinds of calls of vgetrandom, on states of its own,
+ * and switches off.
  *
  * Do not run it on a machine that is in use. It needs no library that uses vgetrandom: it finds the function in the
  * vDSO, and maps states as the function's parameters say. tools/boot/initrd compiles it; docs/RECORDING.md describes
@@ -59,7 +59,7 @@ static int child(const char *name)
     return it == 0;
 }
 
-/* Before the core is ready: one process does not wait, one takes what there is, one waits, and one makes it ready. */
+/* Before the core is ready: one process does not wait, one takes the bytes of an unready core, one waits, and one makes it ready. */
 static void not_ready(void *state)
 {
     struct {
@@ -149,7 +149,7 @@ static void *worker(void *number)
     return 0;
 }
 
-/* Their states lie in one page, as the states of a C library do. */
+/* Their states are in one page, as the states of a C library do. */
 static void threads(int count)
 {
     pthread_t all[28];

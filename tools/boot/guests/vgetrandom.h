@@ -24,7 +24,7 @@ static void die(const char *why)
     reboot(RB_POWER_OFF);
 }
 
-/* The function's address, from the vDSO's symbol table, which lies before the symbols' names. */
+/* The function's address, from the vDSO's symbol table, which is before the symbols' names. */
 static vgetrandom_t find(void)
 {
     char *base = (char *)getauxval(AT_SYSINFO_EHDR), *names = 0;
