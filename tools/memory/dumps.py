@@ -6,9 +6,9 @@ planted or the kernel is mended. The record gets a line for each dump, between t
 
     {"stop": "dump", "name": "03_sync", "seconds": 14.4, "registers": {..}}
 
-A dump is made once no call of the random core is open on any CPU, since inside a call keys are on their way.
+A dump is made once no call of the random core is open on any CPU, since inside a call keys are on their way to their holders.
 
-The environment says: MEMORY_DUMPS, the folder for the dumps; MEMORY_FILE, the file that is the machine's memory;
+The environment has: MEMORY_DUMPS, the folder for the dumps; MEMORY_FILE, the file that is the machine's memory;
 MEMORY_AFTER, after how many values to dump, as `1,10,1000`; MEMORY_AT, the system calls at which to dump, as
 `sync,reboot`; MEMORY_EVERY, after how many stops to dump again; MEMORY_CHANGE, `plant` or `mend`.
 """
@@ -52,7 +52,7 @@ def with_dumps(recorder, base):
             self.folder, self.file = os.environ["MEMORY_DUMPS"], os.environ["MEMORY_FILE"]
             self.after, self.every = set(numbers_of("MEMORY_AFTER")), (numbers_of("MEMORY_EVERY") or [0])[0]
             self.seen = self.written = self.made = 0
-            self.inside, self.wanted = set(), []  # open calls of the core, and words for dumps that were asked for
+            self.inside, self.wanted = set(), []  # open calls of the core, and words for dumps that are due
 
         # Moments
 
@@ -63,7 +63,7 @@ def with_dumps(recorder, base):
                 self.want(f"stop{self.written}")
 
         def want(self, word):
-            """Asks for a dump, which is made at the next moment at which no call is open."""
+            """Notes that a dump is due. It is made at the next moment at which no call is open."""
             self.wanted.append(word)
 
         def dump_wanted(self):

@@ -15,7 +15,7 @@
 #include <time.h>
 #include <unistd.h>
 
-enum { PART = 1 << 22, MOST_THREADS = 64, FAULT = 2, TELL_AFTER = 2, MARGIN = 1 << 16 };
+enum { PART = 1 << 22, MOST_THREADS = 64, FAULT = 2, REPORT_AFTER = 2, MARGIN = 1 << 16 };
 
 static const char *image_program;
 
@@ -29,7 +29,7 @@ static __attribute__((noreturn, format(printf, 1, 2))) void fail(const char *for
     exit(FAULT);
 }
 
-// There are MARGIN bytes of zeros before the image and after it, so a search need not look where it ends.
+// There are MARGIN bytes of zeros before the image and after it, so a search need not check the end.
 struct image {
     const uint8_t *bytes;
     size_t size;
@@ -79,13 +79,13 @@ static void *take_parts(void *unused) {
     return unused;
 }
 
-static void tell_progress(void) {
+static void report_progress(void) {
     struct timespec pause = {0, 50000000};
-    time_t began = time(NULL), told = began;
+    time_t began = time(NULL), reported = began;
     size_t whole = work.to - work.from, done;
     while ((done = __atomic_load_n(&work.done, __ATOMIC_ACQUIRE)) < whole) {
-        if (time(NULL) - told >= TELL_AFTER) {
-            told = time(NULL);
+        if (time(NULL) - reported >= REPORT_AFTER) {
+            reported = time(NULL);
             fprintf(stderr, "%s: %zu of %zu MiB\n", image_program, done >> 20, whole >> 20);
         }
         nanosleep(&pause, NULL);
@@ -100,19 +100,19 @@ static void search_all(const struct image *image, size_t from, size_t to, int th
         count++;
     if (!count)
         take_parts(NULL);
-    tell_progress();
+    report_progress();
     while (count)
         pthread_join(each[--count], NULL);
 }
 
 // ---- Words of a command ------------------------------------------------------------------------------------------
 
-static size_t number_of(const char *word, const char *what) {
+static size_t number_of(const char *word, const char *name) {
     char *end;
     errno = 0;
     unsigned long long number = strtoull(word, &end, 0);
     if (errno || end == word || *end || *word == '-' || *word == ' ')
-        fail("%s is no number: %s", what, word);
+        fail("%s is no number: %s", name, word);
     return (size_t)number;
 }
 

@@ -1,7 +1,7 @@
-"""What a place in the memory of an x86-64 Linux machine is: a symbol, a per-CPU variable, a task's stack, a slab, a page.
+"""Labels for places in the memory of an x86-64 Linux machine: a symbol, a per-CPU variable, a task's stack, a slab, a page.
 
 It reads the kernel's own tables in the dump: page tables, the list of tasks, struct page. The fields' offsets come from
-the BTF that the kernel carries. The place of this BTF shows where the kernel is in physical memory, and the kernel's
+the BTF that the kernel carries. The place of this BTF shows the kernel's place in physical memory, and the kernel's
 page tables show how far KASLR moved it. So symbols of a boot with `nokaslr` are valid for any boot of that kernel. A
 label is for the reader: no finding depends on one. If a table cannot be read, there are fewer labels.
 """
@@ -26,7 +26,7 @@ PAGES = {0xF0: "free page", 0xF1: "offline page", 0xF2: "page table", 0xF3: "gua
 
 
 class Unknown(Exception):
-    """A table of the kernel is not where it should be."""
+    """A table of the kernel is not at its place."""
 
 
 class Types:
@@ -99,7 +99,7 @@ class Kernel:
         self.find_stacks()
 
     def find_image(self):
-        """Where the image is in physical memory, by the only place at which its BTF is in it."""
+        """The image's place in physical memory, by the only place of its BTF."""
         start, end = self.address["__start_BTF"], self.address["__stop_BTF"]
         magic, at = struct.pack("<HBB", BTF_MAGIC, 1, 0), self.memory.bytes.find(struct.pack("<HBB", BTF_MAGIC, 1, 0))
         while at >= 0:
@@ -159,7 +159,7 @@ class Kernel:
     # CPUs and tasks
 
     def find_cpus(self):
-        """Where each CPU's variables are, and which tasks run."""
+        """The places of each CPU's variables, and the tasks that run."""
         count = min(self.number(self.in_image("nr_cpu_ids"), 4), MOST_CPUS)
         first = self.in_image("__per_cpu_offset")
         offsets = [self.number(first + 8 * cpu) for cpu in range(count)]
@@ -176,38 +176,38 @@ class Kernel:
         self.stacks = {}
 
         def add(task):
-            where = self.at(task)
-            base = self.number(where + stack)
-            name = self.memory.read(where + comm, 16).split(b"\0")[0].decode(errors="replace")
-            about = (f"{self.number(where + pid, 4)} {name}", base, self.number(where + pointer), task in self.running)
+            start = self.at(task)
+            base = self.number(start + stack)
+            name = self.memory.read(start + comm, 16).split(b"\0")[0].decode(errors="replace")
+            about = (f"{self.number(start + pid, 4)} {name}", base, self.number(start + pointer), task in self.running)
             for page in range(0, STACK, PAGE):
                 place = self.physical(base + page)
                 if place is not None:
                     self.stacks[place // PAGE] = (about, page)
-            return where
+            return start
 
         first = task = self.address["init_task"] + self.slide
         for _ in range(MOST_TASKS):
-            where = add(task)
-            threads = self.number(where + signal) + head
+            start = add(task)
+            threads = self.number(start + signal) + head
             thread = self.number(self.at(threads))
             while thread != threads:
                 add(thread - node)
                 thread = self.number(self.at(thread))
-            task = self.number(where + tasks) - tasks
+            task = self.number(start + tasks) - tasks
             if task == first:
                 return
         raise Unknown("the list of tasks")
 
-    # What a place is
+    # The label of a place
 
     def page(self, at):
         offset = self.types.offset
-        where = self.physical(self.pages + at // PAGE * self.types.size("page"))
-        if where is None:
+        place = self.physical(self.pages + at // PAGE * self.types.size("page"))
+        if place is None:
             return "no page of the kernel"
-        head = self.number(where + offset("page", "compound_head"))
-        first = self.at(head - 1) if head & 1 else where
+        head = self.number(place + offset("page", "compound_head"))
+        first = self.at(head - 1) if head & 1 else place
         kind = self.number(first + offset("page", "page_type"), 4) >> 24
         if PAGES.get(kind) == "slab":
             cache = self.at(self.number(first + offset("slab", "slab_cache")))
@@ -226,7 +226,7 @@ class Kernel:
         bounds = [(self.address.get(first), self.address.get(last)) for first, last in GIVEN_BACK]
         return any(first is not None and last is not None and first <= at < last for first, last in bounds)
 
-    def where(self, at):
+    def label(self, at):
         if self.address["_text"] <= at + self.shift < self.address["_end"]:
             given = self.page(at) if self.is_given_back(at + self.shift) else USED
             return "image " + nearest(self.image, at + self.shift) if given == USED else given
@@ -266,12 +266,12 @@ def reader(memory, symbols):
         except (Unknown, KeyError, struct.error, ValueError) as fault:
             why = f" (no labels: {fault} was not found)"
 
-    def where(at):
+    def label(at):
         if kernel is None:
             return f"{at:#x}{why}"
         try:
-            return f"{at:#x}, {kernel.where(at)}"
+            return f"{at:#x}, {kernel.label(at)}"
         except (Unknown, KeyError, struct.error):
             return f"{at:#x}"
 
-    return where
+    return label

@@ -1,4 +1,4 @@
-"""Every value that a replayed boot made in its core, by the names of docs/AUDIT.md, and what each is computed from.
+"""Every value that a replayed boot made in its core, by the names of docs/AUDIT.md, and the value that each is computed from.
 
 Roots and the pool's content come from a replay of the pool (tools/replay.py). Every other key comes from the rows of
 the key audit alone: a row says which bytes of which key's keystream the key is. Both ways must give the served bytes of
@@ -183,8 +183,8 @@ class Values:
                                 "tools/memory, or the transcript is of another script")
 
     def given_by(self, name, stamp, stamps):
-        """What a reader of the key can compute up to a stamp: the keys, the lines as numbers of events, and the
-        bytes."""
+        """The keys, the lines (as numbers of events) and the number of bytes that a reader of the key can compute up to
+        a stamp."""
         known, lines, count = {name}, set(), 0
         for row in self.rows:
             if row.name not in known:
