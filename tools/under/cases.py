@@ -1,4 +1,4 @@
-"""The cases of rng-under --sweep: what each does to the core and to the requests, as lines of a prologue.
+"""The cases of rng-under --sweep: the effects of each on the core and on the requests, as lines of a prologue.
 
 A case is a name, as `empty`, or a name with the number of a request, as `late:2`. `rng-under --prologue late:2` runs a
 program in that case alone.
@@ -83,7 +83,7 @@ def lines_of(name):
     return case and case.lines()
 
 
-# ---- Which cases a program gets ----------------------------------------------------------------------------------
+# ---- The cases of a program -------------------------------------------------------------------------------------
 
 def is_first_of_process(requests, at):
     return at > 0 and all(it.process != requests[at].process for it in requests[:at])

@@ -1,5 +1,5 @@
 """Checks of rng-under, with programs of this folder and of the system. Prints a line for each, and ends non-zero if one
-fails. Checks that this machine lacks something for, or does not allow, are skipped with a message."""
+fails. A check that this machine does not allow, or for which it lacks something, is skipped with a message."""
 
 import errno
 import fcntl
@@ -20,7 +20,7 @@ CALLER, STATIC, ZEROED = (os.path.join(ROOM, name) for name in ("caller", "calle
 FAILED = []
 
 
-def tell(name, problem=""):
+def report(name, problem=""):
     if problem:
         FAILED.append(name)
     print(f"FAILED  {name}: {problem}" if problem else f"ok      {name}", flush=True)
@@ -60,7 +60,7 @@ def check_sources():
             ("still.so", "still.c", "-fPIC", "-shared", "-ldl"),
             ("caller", "callers/caller.c"), ("zeroed", "callers/zeroed.c")):
         status, out, err = compile_one(name, source, *options)
-        tell(f"{source} compiles without a warning", out + err if status else "")
+        report(f"{source} compiles without a warning", out + err if status else "")
 
 
 def ways():
@@ -111,7 +111,7 @@ def problem_of_check(path):
     for script, transcript in records_of(path):
         status, out, err = run([RNG, "check"], (script + transcript).encode())
         if status or out != "yes\n":
-            return "rng check says " + out + err
+            return "rng check printed " + out + err
     return problem_of_seams(path)
 
 
@@ -128,7 +128,7 @@ def problem_of_record(path):
 
 
 def mixed_of(path):
-    """What the caller's way `mixed` prints if it was given the bytes of the record."""
+    """The output of the caller's word `mixed` if it got the bytes of the record."""
     lines, total = [], 0
     for event, its in events_of(path):
         if event.startswith("read "):
@@ -153,7 +153,7 @@ LATE = ["EINTR", "EAGAIN", "EINTR", "16", "EINVAL", "EINVAL", "16", "0", "16", "
 
 
 def shown(out):
-    """What the caller printed for each request: its errno or length, and its bytes."""
+    """For each request, as the caller printed it: its errno or length, and its bytes."""
     fields = [line.split(" ") for line in out.splitlines()]
     return [(it[-1], "-") if "-1" in it else (next(f for f in it[1:] if f.isdecimal()), it[-1] if len(it[-1]) > 2 else "-")
             for it in fields]
@@ -174,7 +174,7 @@ def check_errnos(name, words, caller):
         for (answer, data), (said, bytes_said) in zip(served, got):
             if data != bytes_said or answer != ("ok" if said.isdecimal() else said):
                 problem = problem or f"printed {said} {bytes_said}, and the record has {answer} {data}"
-        tell(f"{name}: each errno and byte, {state}", problem or problem_of_record(path))
+        report(f"{name}: each errno and byte, {state}", problem or problem_of_record(path))
 
 
 def check_calls(name, words, caller):
@@ -189,11 +189,11 @@ def check_calls(name, words, caller):
         if first[1] == other[1]:
             problem = problem or "the same output for another seed"
         with open(asked) as file:
-            who = {line.split(" ")[1] for line in file}
+            callers = {line.split(" ")[1] for line in file}
         wanted = {"threads": {f"0.{it}" for it in range(8)}, "forks": {f"{it}.0" for it in range(5)}}.get(way, set())
-        if not wanted <= who:
-            problem = problem or f"those who asked were {sorted(who)}"
-        tell(f"{name}: {way}, twice the same", problem or problem_of_record(path))
+        if not wanted <= callers:
+            problem = problem or f"the requests are of {sorted(callers)}"
+        report(f"{name}: {way}, twice the same", problem or problem_of_record(path))
 
 
 PROGRAMS = {
@@ -223,13 +223,13 @@ def check_programs(name, words):
             problem = problem or f"{first[1]!r} and then {second[1]!r}"
         if first[1] == other[1]:
             problem = problem or "the same output for another seed"
-        tell(f"{name}: {program}, twice the same", problem or problem_of_record(path))
+        report(f"{name}: {program}, twice the same", problem or problem_of_record(path))
         count += 1
     if shutil.which("ssh-keygen"):
         keys = [os.path.join(ROOM, f"key{name}{at}") for at in range(2)]
         ran = [under(*words, "ssh-keygen", "-q", "-t", "ed25519", "-N", "", "-C", "x", "-f", key) for key in keys]
         texts = [open(key).read() for key in keys if os.path.exists(key)]
-        tell(f"{name}: ssh-keygen, the same key twice", "" if len(texts) == 2 and texts[0] == texts[1] else str(ran))
+        report(f"{name}: ssh-keygen, the same key twice", "" if len(texts) == 2 and texts[0] == texts[1] else str(ran))
 
 
 def check_python():
@@ -243,11 +243,11 @@ def check_python():
     path = os.path.join(ROOM, "record")
     ran = under("--prologue", prologue("wait 30", "credit 256"), "--record", path, sys.executable, "-I", "-c", code)
     is_well = ran[0] == 0 and ran[1].startswith("True\nTrue 8 ") and not ran[2]
-    tell("Python: EINVAL, EAGAIN and then bytes", problem_of_record(path) if is_well else str(ran))
+    report("Python: EINVAL, EAGAIN and then bytes", problem_of_record(path) if is_well else str(ran))
     blocked = "import os; print(len(os.getrandom(8)))"
     ran = under("--prologue", prologue("wait 30", "credit 256"), "--record", path, sys.executable, "-I", "-c", blocked)
     is_well = ran == (0, "8\n", "") and ("EINTR", "-") in drawn(path)
-    tell("Python: goes on after EINTR", problem_of_record(path) if is_well else str(ran))
+    report("Python: goes on after EINTR", problem_of_record(path) if is_well else str(ran))
 
 
 def check_prologue():
@@ -256,28 +256,28 @@ def check_prologue():
     ran = under("--prologue", made, "--record", path, "head", "-c", "16", "/dev/urandom")
     lengths = [len(data) // 2 for _, data in drawn(path)]
     problem = problem_of_record(path) if ran[0] == 0 and lengths[-4:-1] != [] and 5 in lengths and 7 in lengths else str(ran)
-    tell("short reads of a file, a reseed and another CPU between", problem)
-    for lines, where in ((["add 00 256", "", "nonsense"], "line 3"), (["wait"], "line 1"), (["fork 1"], "as a whole"),
+    report("short reads of a file, a reseed and another CPU between", problem)
+    for lines, place in ((["add 00 256", "", "nonsense"], "line 3"), (["wait"], "line 1"), (["fork 1"], "as a whole"),
                          (["cpus 1", "inside 1 wipe"], "line 2"),
                          (["credit 07"], "line 1"), (["short 0"], "line 1")):
         status, out, err = under("--prologue", prologue(*lines), "true")
-        tell(f"a prologue is refused: {lines[-1]}", "" if (status, out) == (125, "") and where in err else err)
+        report(f"a prologue is refused: {lines[-1]}", "" if (status, out) == (125, "") and place in err else err)
     status, out, err = under("--prologue", "/nowhere", "true")
-    tell("a prologue that is not there", "" if (status, out) == (125, "") and "/nowhere" in err else err)
+    report("a prologue that is not there", "" if (status, out) == (125, "") and "/nowhere" in err else err)
 
 
 def check_faulty():
     """The worked example of docs/CALLERS.md: a caller that uses its zeros."""
     outs = [under("--prologue", it, "--seed", seed, ZEROED)[1] for it in ("empty", "ready") for seed in "ab"]
     is_caught = outs[0] == outs[1] == "0" * 32 + "\n" and len(set(outs)) == 3
-    tell("a caller that ignores EAGAIN is caught", "" if is_caught else str(outs))
+    report("a caller that ignores EAGAIN is caught", "" if is_caught else str(outs))
 
 
 def check_statuses(name, words):
     for its, wanted in ((["true"], 0), (["sh", "-c", "exit 7"], 7), (["sh", "-c", "kill -9 $$"], 137),
                         (["/nowhere/nonesuch"], 127), ([HERE], 126)):
         status = under(*words, *its)[0]
-        tell(f"{name}: status of {' '.join(its)[:20]}", "" if status == wanted else f"{status}")
+        report(f"{name}: status of {' '.join(its)[:20]}", "" if status == wanted else f"{status}")
 
 
 def is_there(number):
@@ -319,12 +319,12 @@ def check_left_behind(name, words):
     if goes_on:
         os.kill(number, signal.SIGKILL)
     is_well = waits and status == 3 and goes_on == (name == "preloaded")
-    tell(f"{name}: one signal, and what was left is not waited for", "" if is_well else f"{waits} {status} {goes_on}")
+    report(f"{name}: one signal, and the processes that are left are not waited for", "" if is_well else f"{waits} {status} {goes_on}")
 
 
 def check_limits(name, words, caller):
     status, _, err = under(*words, "--prologue", "empty", "--most", "50", caller, "retry")
-    tell(f"{name}: ended after 50 requests", "" if status == 125 and "after 50 requests" in err else f"{status} {err}")
+    report(f"{name}: ended after 50 requests", "" if status == 125 and "after 50 requests" in err else f"{status} {err}")
 
 
 def count_of(stats, word):
@@ -339,7 +339,7 @@ def check_speed(name, words, caller):
         status, _, err = under(*words, "--stats", caller, "many", str(count), str(size))
         spent = time.monotonic() - began
         each = float(err.split(" ms each")[0].split(" ")[-1]) if status == 0 else most
-        tell(f"{name}: {count} requests of {size} bytes, {each:.4f} ms each, {spent:.2f} s in all",
+        report(f"{name}: {count} requests of {size} bytes, {each:.4f} ms each, {spent:.2f} s in all",
              "" if each < most and count_of(err, "records") == 1 else f"status {status}, {err}")
 
 
@@ -360,11 +360,11 @@ def check_cuts(name, words, caller):
         problem = "" if ran[0] == 0 and answers[0] == answers[1] else f"{ran}, not {answers[0]}"
         if count_of(ran[2], "records") < 2 or ran[2].count("\n") != 1:
             problem = problem or ran[2]
-        tell(f"{name}: errnos over cut records, {state}", problem or problem_of_record(path))
-    for what, limits in (("events", cut(700)), ("bytes", cut(65536, 9000)), ("text", cut(65536, 1 << 24, 6000))):
+        report(f"{name}: errnos over cut records, {state}", problem or problem_of_record(path))
+    for subject, limits in (("events", cut(700)), ("bytes", cut(65536, 9000)), ("text", cut(65536, 1 << 24, 6000))):
         ran = under(*words, "--stats", "--record", path, caller, "many", "1000", "16", env=limits)
         problem = "" if ran[0] == 0 and count_of(ran[2], "records") == 2 else str(ran)
-        tell(f"{name}: {what} of a record run out", problem or problem_of_record(path))
+        report(f"{name}: {subject} of a record run out", problem or problem_of_record(path))
 
 
 def check_many_records():
@@ -379,12 +379,12 @@ def check_many_records():
         problem = problem or "requests are missing from the list"
     if len({its[4] for event, its in events_of(path) if event == "read 16 0"}) != count:
         problem = problem or "bytes were served twice"
-    tell(f"{count} requests over records of 3,000 events", problem or problem_of_check(path))
+    report(f"{count} requests over records of 3,000 events", problem or problem_of_check(path))
     ran = under("--stats", "--record", path, CALLER, "many", "17", "1048576")
     problem = "" if ran[0] == 0 and count_of(ran[2], "records") == 2 else str(ran)
-    tell("17 MiB, more than a script has", problem or problem_of_check(path))
+    report("17 MiB, more than a script has", problem or problem_of_check(path))
     ran = under(CALLER, "many", "2", "300", env=cut(20, 300))
-    tell("a request that no record has room for", "" if ran[0] == 125 and "more room than a record" in ran[2] else str(ran))
+    report("a request that no record has room for", "" if ran[0] == 125 and "more room than a record" in ran[2] else str(ran))
 
 
 # ---- Writes and control ---------------------------------------------------------------------------------------------
@@ -405,7 +405,7 @@ def may_control():
 
 
 def controls_wanted(is_ready, may):
-    """What the caller's way `controls` prints, and its events."""
+    """The output of the caller's word `controls`, and its events."""
     first, second = (256, 256) if is_ready else (0, 213)
     head = f"RNDGETENTCNT 0\n{first}\n"
     tail = "unknown EINVAL\nanother file's ENOTTY\n"
@@ -420,17 +420,17 @@ def controls_wanted(is_ready, may):
 
 def check_controls(name, words, caller):
     path = os.path.join(ROOM, "record")
-    ways_to_run = [("", [], may_control())]
+    users = [("", [], may_control())]
     if not os.geteuid() and shutil.which("setpriv") and name != "static":  # setpriv is not static
-        ways_to_run.append((" without rights", ["setpriv", "--reuid", "65534", "--clear-groups"], False))
-    for who, before, may in ways_to_run:
+        users.append((" without rights", ["setpriv", "--reuid", "65534", "--clear-groups"], False))
+    for suffix, before, may in users:
         for state in ("empty", "ready"):
             wanted, events = controls_wanted(state == "ready", may)
             ran = under(*words, "--prologue", state, "--record", path, *before, caller, "controls")
             got = [event for event, _ in events_of(path)][0 if state == "empty" else 1:]
             got = [event for event in got if event != "read 8 1"]  # malloc's
             problem = "" if ran == (0, wanted, "") and got == events else f"{ran}, not {wanted!r}, and {got}"
-            tell(f"{name}: ioctls of the devices, {state}{who}", problem or problem_of_record(path))
+            report(f"{name}: ioctls of the devices, {state}{suffix}", problem or problem_of_record(path))
 
 
 def check_writes(name, words, caller):
@@ -440,7 +440,7 @@ def check_writes(name, words, caller):
     wanted = ["write 8 3132333435363738", "pwrite 1 39", "writev 5 6162636465", "nothing 0", "closed -1 EBADF", "fclose 0"]
     events = [event for event, _ in events_of(path) if event.startswith("write ")]
     is_well = ran[0] == 0 and lines[1:-1] == wanted and events == WRITTEN
-    tell(f"{name}: writes to the devices", problem_of_record(path) if is_well else f"{ran} {events}")
+    report(f"{name}: writes to the devices", problem_of_record(path) if is_well else f"{ran} {events}")
     code = ("printf abc | dd of=/dev/urandom bs=3 2>/dev/null; printf def >/dev/random; env printf ghi >/dev/urandom\n"
             "od -An -tx1 -N8 /dev/urandom")
     ran = under(*words, "--record", path, "sh", "-c", code)
@@ -448,10 +448,10 @@ def check_writes(name, words, caller):
     other = under(*words, "sh", "-c", code.replace("abc", "abd"))
     is_well = ran[0] == 0 and events == ["write 616263", "write 646566", "write 676869"]
     problem = problem_of_record(path) if is_well else f"{ran} {events}"
-    tell(f"{name}: a shell's writes to the devices", problem or ("" if other[0] == 0 and other[1] == ran[1] else str(other)))
+    report(f"{name}: a shell's writes to the devices", problem or ("" if other[0] == 0 and other[1] == ran[1] else str(other)))
     long = "import os; f = os.open('/dev/urandom', os.O_WRONLY); print(os.write(f, bytes(3 << 20)))"
     ran = under(*words, "--record", path, sys.executable, "-I", "-c", long)
-    tell(f"{name}: a long write is cut at 1 MiB", problem_of_check(path) if ran[:2] == (0, "1048576\n") else str(ran))
+    report(f"{name}: a long write is cut at 1 MiB", problem_of_check(path) if ran[:2] == (0, "1048576\n") else str(ran))
 
 
 def check_prologue_between():
@@ -465,24 +465,24 @@ def check_prologue_between():
         problem = problem_of_record(path) if ran[0] == 0 else str(ran[2])
         if not problem and name == "preloaded" and ran[1] != mixed_of(path):
             problem = "the program got other bytes than the record has"
-        tell(f"{name}: reads of all lengths over a long prologue", problem)
+        report(f"{name}: reads of all lengths over a long prologue", problem)
 
 
 def check_unserved():
     """If the library was not loaded into a program, this is no success."""
     if os.path.exists(STATIC):
         status, _, err = under("--preload", STATIC, "forks")
-        tell("a static program is not left unserved", "" if status == 125 and "--supervise" in err else f"{status} {err}")
+        report("a static program is not left unserved", "" if status == 125 and "--supervise" in err else f"{status} {err}")
     spaced = os.path.join(ROOM, "a b")
     shutil.copytree(HERE, os.path.join(spaced, "tools/under"), ignore=shutil.ignore_patterns("__pycache__"))
     shutil.copy(os.path.join(os.path.dirname(HERE), "command.py"), os.path.join(spaced, "tools"))
     ran = run([os.path.join(spaced, "tools/under/rng-under"), CALLER, "retry"], env=dict(os.environ, RNG=RNG))
-    tell("from a folder with a space in its name", "" if ran[:2] == under(CALLER, "retry")[:2] else str(ran))
+    report("from a folder with a space in its name", "" if ran[:2] == under(CALLER, "retry")[:2] else str(ran))
 
 
 def fake_core(name, script, environment=os.environ):
-    """A program that is called in place of rng. Its script does what `rng live` does; rng itself does everything
-    else."""
+    """A program that is called in place of rng. Its script takes the place of `rng live`; rng itself runs for all other
+    words."""
     path = os.path.join(ROOM, name)
     with open(path, "w") as file:
         file.write(f"#!/bin/sh\nrng='{RNG}'\n[ \"$1\" = live ] || exec \"$rng\" \"$@\"\n{script}\n")
@@ -500,13 +500,13 @@ def check_wrong_cores():
             ("another event's line", """"$rng" live | sed -u 's/^0.2 /0.3 /'""", "its line"),
             ("no session", "exit 2", "live ended with status 2")):
         status, _, err = under(CALLER, "forks", env=fake_core("fake", script))
-        tell(f"a core with {name} is found out", "" if status == 125 and wanted in err else f"status {status}, {err}")
+        report(f"a core with {name} is found out", "" if status == 125 and wanted in err else f"status {status}, {err}")
     script = """"$rng" live | sed -u 's/kread ok \\([^ ]*\\) ./kread ok \\1 0/'"""
     status, _, err = under(CALLER, "many", "40", "16", env=fake_core("fake", script, cut(20)))
-    tell("a wrong seed is found out", "" if status == 125 and "does not confirm" in err else f"status {status}, {err}")
+    report("a wrong seed is found out", "" if status == 125 and "does not confirm" in err else f"status {status}, {err}")
     status, _, err = under("--prologue", "empty", CALLER, "retry", env=fake_core("fake", script, cut(20)))
     is_well = status == 125 and "does not confirm" in err
-    tell("a program that asks for ever ends if a record is not confirmed", "" if is_well else f"status {status}, {err}")
+    report("a program that asks for ever ends if a record is not confirmed", "" if is_well else f"status {status}, {err}")
 
 
 def check_page():
@@ -517,7 +517,7 @@ def check_page():
         for its in ("\n" + block).split("\n$ ")[1:]:
             command, _, wanted = its.partition("\n")
             ran = run(["sh", "-c", command.replace("/tmp/", ROOM + "/").replace("./rng ", RNG + " ")], cwd=TOP)
-            tell(f"page: {command}", "" if (ran[1] + ran[2]).strip("\n") == wanted.strip("\n") else str(ran))
+            report(f"page: {command}", "" if (ran[1] + ran[2]).strip("\n") == wanted.strip("\n") else str(ran))
 
 
 def main():
@@ -547,7 +547,7 @@ def main():
     check_page()
     if len(all_ways) > 1:
         ran = under("--supervise", CALLER, "droppable")
-        tell("supervised: no memory for vgetrandom", "" if ran == (0, "not droppable\n", "") else str(ran))
+        report("supervised: no memory for vgetrandom", "" if ran == (0, "not droppable\n", "") else str(ran))
     print(f"programs on the core: {len(FAILED)} failed")
     return 1 if FAILED else 0
 

@@ -9,7 +9,7 @@ import sys
 import time
 
 import checks
-from checks import CALLER, HERE, ROOM, UNDER, is_there, problem_of_record, prologue, run, skip, tell, under
+from checks import CALLER, HERE, ROOM, UNDER, is_there, problem_of_record, prologue, report, run, skip, under
 
 EDGES = os.path.join(ROOM, "edges")
 LEFT = "setsid sleep 1234.5 </dev/null >/dev/null 2>&1 & echo $!; exec sleep 1234.5"
@@ -33,16 +33,16 @@ def folder(name):
 def check_signals():
     wanted = "".join(f"{way} 0 of 20000 failed\n" for way in ("file", "device", "getrandom")) + "signals came\n"
     status, out, err = under("--supervise", EDGES, "interrupted", "20000")
-    tell(f"supervised: 60,000 calls while signals come, {', '.join(err.split(chr(10))[:3])}",
+    report(f"supervised: 60,000 calls while signals come, {', '.join(err.split(chr(10))[:3])}",
          "" if (status, out) == (0, wanted) else out + err)
     ran = under("--supervise", EDGES, "wait")
-    tell("supervised: a signal that is ignored ends no wait", "" if ran[1] == "epoll_wait waited on\n" else str(ran))
+    report("supervised: a signal that is ignored ends no wait", "" if ran[1] == "epoll_wait waited on\n" else str(ran))
 
 
 def check_open_modes(name, words):
     """A descriptor that is not open for reading answers as it does without rng-under."""
     ran, alone = under(*words, EDGES, "modes"), run([EDGES, "modes"])
-    tell(f"{name}: descriptors of the devices in each mode", "" if ran[:2] == alone[:2] else f"{ran}, not {alone}")
+    report(f"{name}: descriptors of the devices in each mode", "" if ran[:2] == alone[:2] else f"{ran}, not {alone}")
 
 
 # ---- Daemons --------------------------------------------------------------------------------------------------------
@@ -53,14 +53,14 @@ def check_daemons(name, words):
     steps = prologue("add 616263 256", *["wait 100", "reseed"] * 11)
     ran = under(*words, "--prologue", steps, "--record", path, EDGES, "daemon")
     problem = problem_of_record(path) if ran[0] == 0 and ran[1].count("\n") == 4 else str(ran)
-    tell(f"{name}: a daemon without descriptors, root folder and rights", problem)
+    report(f"{name}: a daemon without descriptors, root folder and rights", problem)
     if os.geteuid() or not shutil.which("setpriv"):
         return skip(f"{name}: a program that is started without rights", "this user cannot give them up")
     nobody = ["setpriv", "--reuid", "65534", "--clear-groups"]
     ran = under(*words, "--record", path, *nobody, "head", "-c", "16", "/dev/urandom")
     with open(path) as file:
         is_served = "\nuread 16\n" in file.read()
-    tell(f"{name}: a program that is started without rights", "" if ran[0] == 0 and is_served else str(ran))
+    report(f"{name}: a program that is started without rights", "" if ran[0] == 0 and is_served else str(ran))
     return None
 
 
@@ -70,23 +70,23 @@ def check_left_root(can_trace):
     there = folder("there")
     shutil.copy(checks.STATIC, there)
     status, _, err = under("chroot", there, "/caller_static", "forks")
-    is_told = status == 0 and "changed its root folder" in err and "--supervise" in err
-    tell("preloaded: a program in another root folder is told", "" if is_told else f"{status} {err}")
+    is_reported = status == 0 and "changed its root folder" in err and "--supervise" in err
+    report("preloaded: a program in another root folder is reported", "" if is_reported else f"{status} {err}")
     path = os.path.join(ROOM, "record")
     if can_trace:
         ran = under("--supervise", "--record", path, "chroot", there, "/caller_static", "forks")
-        tell("supervised: a program in another root folder", problem_of_record(path) if ran[0] == 0 else str(ran))
+        report("supervised: a program in another root folder", problem_of_record(path) if ran[0] == 0 else str(ran))
     return None
 
 
 # ---- Ends -----------------------------------------------------------------------------------------------------------
 
 def check_kill(name, words):
-    """If rng-under is killed, what it started ends too, even if its caller blocked signals; the next run removes its
-    folder."""
+    """If rng-under is killed, the processes that it started end too, even if its caller blocked signals; the next run
+    removes its folder."""
     above = folder(f"killed{name}")
-    where = dict(os.environ, TMPDIR=above)
-    began = subprocess.Popen([UNDER, *words, "sh", "-c", LEFT], stdout=subprocess.PIPE, env=where,
+    environment = dict(os.environ, TMPDIR=above)
+    began = subprocess.Popen([UNDER, *words, "sh", "-c", LEFT], stdout=subprocess.PIPE, env=environment,
                              preexec_fn=lambda: signal.pthread_sigmask(signal.SIG_BLOCK, {signal.SIGUSR1}))
     left = int(began.stdout.readline())
     with open(f"/proc/{left}/stat") as file:
@@ -96,34 +96,34 @@ def check_kill(name, words):
     began.wait()
     is_ended = wait_until(lambda: not is_there(left) and not is_there(first) and not checks.processes_with(above))
     problem = "" if is_ended and count > 4 else f"{left}, {first} or {checks.processes_with(above)} of {count} go on"
-    tell(f"{name}: killed, it leaves no process", problem)
+    report(f"{name}: killed, it leaves no process", problem)
     for one in (left, first, *checks.processes_with(above)):
         if is_there(one):
             os.kill(one, signal.SIGKILL)
     before = os.listdir(above)
-    status, _, err = under("true", env=where)
+    status, _, err = under("true", env=environment)
     after = os.listdir(above)
-    tell(f"{name}: the next run clears its folder", "" if status == 0 and before and not after else f"{after} {err}")
+    report(f"{name}: the next run clears its folder", "" if status == 0 and before and not after else f"{after} {err}")
 
 
 def check_others_folder():
     """The folder of a run that goes on stays, and so does one that only has such a name."""
     above = folder("others")
-    where = dict(os.environ, TMPDIR=above)
+    environment = dict(os.environ, TMPDIR=above)
     began = subprocess.Popen([UNDER, "sh", "-c", "echo; read _; exec head -c 16 /dev/urandom"], stdin=subprocess.PIPE,
-                             stdout=subprocess.PIPE, env=where)
+                             stdout=subprocess.PIPE, env=environment)
     began.stdout.readline()
     os.makedirs(os.path.join(above, "rng-under.new"))
-    ran = under("true", env=where)
+    ran = under("true", env=environment)
     out, _ = began.communicate(b"\n")
     is_well = ran[0] == began.returncode == 0 and len(out) == 16 and os.listdir(above) == ["rng-under.new"]
-    tell("a run leaves the folder of another one alone", "" if is_well else f"{ran} {len(out)} {os.listdir(above)}")
+    report("a run leaves the folder of another one alone", "" if is_well else f"{ran} {len(out)} {os.listdir(above)}")
 
 
 def check_nothing_asked(name, words):
     status, _, err = under(*words, "true")
-    is_told = status == 0 and "nothing was asked for" in err
-    tell(f"{name}: a run in which nothing was asked says so", "" if is_told else f"{status} {err}")
+    is_reported = status == 0 and "nothing was asked for" in err
+    report(f"{name}: a run without a request is reported", "" if is_reported else f"{status} {err}")
 
 
 def check_killed_server(name, words):
@@ -141,7 +141,7 @@ def check_killed_server(name, words):
             err = b"no end"
         left = checks.processes_with(above)
         is_well = began.returncode == 125 and said in err.decode() and not left and not os.listdir(above)
-        tell(f"{name}: the {'core' if at else 'server'} is killed", "" if is_well else f"{began.returncode} {err} {left}")
+        report(f"{name}: the {'core' if at else 'server'} is killed", "" if is_well else f"{began.returncode} {err} {left}")
 
 
 def found(above):
@@ -166,7 +166,7 @@ def check_killed_clients(name, words):
     with open(asked) as file:
         count = sum(1 for _ in file)
     is_well = ran == (0, "all were killed\n", "") and count > 30000
-    tell(f"{name}: 80 processes are killed amid {count} requests", checks.problem_of_check(path) if is_well else str(ran))
+    report(f"{name}: 80 processes are killed amid {count} requests", checks.problem_of_check(path) if is_well else str(ran))
 
 
 def check_room_runs_out():
@@ -177,7 +177,7 @@ def check_room_runs_out():
     if ran[0] in (1, 77):
         return skip("a temporary folder that gets full", "no file system can be mounted")
     is_well = ran[:2] == (125, "") and "No space left" in ran[2] and "TMPDIR" in ran[2]
-    return tell("a temporary folder that gets full", "" if is_well else str(ran))
+    return report("a temporary folder that gets full", "" if is_well else str(ran))
 
 
 def check_orphans(name, words):
@@ -186,17 +186,17 @@ def check_orphans(name, words):
             "left=$(cat /proc/[0-9]*/stat 2>/dev/null | awk -v mine=$PPID '$4 == mine && $3 == \"Z\"' | wc -l)\n"
             "[ $left -ne 0 ] || break; done; echo $left")
     status, out, err = under(*words, "sh", "-c", code)
-    tell(f"{name}: orphans are waited for as they end", "" if (status, out) == (0, "0\n") else f"{status} {out} {err}")
+    report(f"{name}: orphans are waited for as they end", "" if (status, out) == (0, "0\n") else f"{status} {out} {err}")
 
 
-# ---- What cannot be done is reported before the program starts -----------------------------------------------------
+# ---- Faults that are reported before the program starts ------------------------------------------------------------
 
 def refused(name, words, said, **more):
     """The command ends with status 125 and a line that has these words, and does not start the program."""
     mark = os.path.join(ROOM, "started")
     status, out, err = under(*words, "touch", mark, **more)
     is_well = status == 125 and not out and all(it in err for it in said) and "Traceback" not in err
-    tell(f"refused: {name}", "" if is_well and not os.path.exists(mark) else f"status {status}, {err}")
+    report(f"refused: {name}", "" if is_well and not os.path.exists(mark) else f"status {status}, {err}")
     if os.path.exists(mark):
         os.unlink(mark)
 
@@ -212,13 +212,13 @@ def check_refusals():
     refused("a list in no folder", ["--asked", "/nowhere/asked"], ["/nowhere/asked: No such file"])
     refused("a file is too large for this user", [], ["MiB are needed", "TMPDIR"], preexec_fn=limit_files)
     status, _, err = run([UNDER])
-    tell("refused: no program", "" if status == 125 and "usage: " in err else f"{status} {err}")
+    report("refused: no program", "" if status == 125 and "usage: " in err else f"{status} {err}")
     path = os.path.join(ROOM, "made")
     under("--prologue", "empty", "--most", "5", "--record", path, CALLER, "retry")
     is_kept = os.path.exists(path) and os.path.getsize(path) > 0
     os.unlink(path)
     under("--record", path, "--asked", "/nowhere/asked", "true")
-    tell("a file that got no record is not left", "" if is_kept and not os.path.exists(path) else "it is there")
+    report("a file that got no record is not left", "" if is_kept and not os.path.exists(path) else "it is there")
 
 
 def limit_files():
@@ -234,26 +234,26 @@ def check_full_folder():
     if ran[0] in (1, 77):
         return skip("a temporary folder without room", "no file system can be mounted")
     is_well = ran[:2] == (125, "") and "MiB are needed" in ran[2]
-    return tell("a temporary folder without room", "" if is_well else str(ran))
+    return report("a temporary folder without room", "" if is_well else str(ran))
 
 
 def check_seeds_and_folders():
     path = os.path.join(ROOM, "record")
     ran = under("--seed", b"\xff\x01 \n", "--record", path, CALLER, "forks")
-    tell("a seed of any bytes", problem_of_record(path) if ran[0] == 0 else str(ran))
+    report("a seed of any bytes", problem_of_record(path) if ran[0] == 0 else str(ran))
     long = folder(os.path.join(*["n" * 100] * 8))
     ran = under("--record", path, CALLER, "forks", env=dict(os.environ, TMPDIR=long))
-    tell("a temporary folder with a long name", problem_of_record(path) if ran[0] == 0 else str(ran))
+    report("a temporary folder with a long name", problem_of_record(path) if ran[0] == 0 else str(ran))
     ran = under(CALLER, "forks", env=dict(os.environ, TMPDIR="/nowhere"))
-    tell("a temporary folder that is not there", "" if "Traceback" not in ran[2] and ran[0] in (0, 125) else str(ran))
-    for what in ("count", "word"):
-        status, _, err = under(EDGES, "damage", what)
+    report("a temporary folder that is not there", "" if "Traceback" not in ran[2] and ran[0] in (0, 125) else str(ran))
+    for part in ("count", "word"):
+        status, _, err = under(EDGES, "damage", part)
         is_well = status == 125 and "was damaged" in err and "Traceback" not in err
-        tell(f"a damaged memory is told: {what}", "" if is_well else f"{status} {err}")
+        report(f"a damaged memory is reported: {part}", "" if is_well else f"{status} {err}")
 
 
 def check_modes():
-    """Whatever the umask is and whatever was there, nobody else can write what is loaded into programs."""
+    """Whatever the umask is and whatever was there, no other user can write the files that are loaded into programs."""
     tools = os.path.join(folder("modes"), "tools/under")
     shutil.copytree(HERE, tools, ignore=shutil.ignore_patterns("out", "__pycache__"))
     shutil.copy(os.path.join(os.path.dirname(HERE), "command.py"), os.path.dirname(tools))
@@ -267,13 +267,13 @@ def check_modes():
             problem = problem or f"{step}: {ran} {modes}"
         for name in modes:
             os.chmod(os.path.join(out, name), 0o777)
-    tell("no other user can write what is compiled", problem)
+    report("no other user can write the compiled files", problem)
 
 
 def main():
     for name, source in (("edges", "callers/edges.c"), ("caller", "callers/caller.c")):
         status, out, err = checks.compile_one(name, source)
-        tell(f"{source} compiles without a warning", out + err if status else "")
+        report(f"{source} compiles without a warning", out + err if status else "")
     if checks.FAILED:
         return 1
     ways = [(name, words) for name, words, _ in checks.ways()]

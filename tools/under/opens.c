@@ -1,5 +1,5 @@
 // For LD_PRELOAD, beside shim.c: calls that open a file. If a call would open a random device, it fails if the prologue
-// says so. All other calls are the C library's.
+// has an error for it. All other calls are the C library's.
 #define _GNU_SOURCE
 #include <dlfcn.h>
 #include <errno.h>

@@ -72,7 +72,7 @@ class Prologue:
         """A second error directly below the first one answers the request after it."""
         if not rest or rest[0] not in (*ANSWERS, *OPENS) or (rest[1:] and not is_kept):
             kinds = ", ".join((*ANSWERS, *OPENS))
-            self.fail(number, f"fault wants one of {kinds}, and may have always behind it")
+            self.fail(number, f"fault wants one of {kinds}, and may have always after it")
         kind = rest[0]
         is_of_opens = kind in OPENS
         if is_of_opens in self.kinds:
@@ -93,15 +93,15 @@ class Prologue:
         """The line in the file, for a line of the script in which `rng run` finds a fault."""
         line = fault.split("line ")[-1].split(",")[0]
         at = int(line) - 4 if line.isdecimal() else -1
-        where = f"line {self.places[at]}" if 0 <= at < len(self.places) else "as a whole"
-        return f"{self.path}, {where}: {fault}"
+        place = f"line {self.places[at]}" if 0 <= at < len(self.places) else "as a whole"
+        return f"{self.path}, {place}: {fault}"
 
     def check(self, run):
-        """Checks all of it before the program starts. `run` returns what `rng run` says against a script."""
+        """Checks all of it before the program starts. `run` returns the message of `rng run` about a faulty script."""
         fault = run(self.script())
         if fault:
             raise Failed(self.problem_of(fault))
         for number, event in zip(self.places, self.events):
             word = event.split(" ")[0]
             if word in NOT_LIVE:
-                self.fail(number, f"{word} is no event of rng live, whose caller is alone")
+                self.fail(number, f"{word} is no event of rng live, which has one caller")

@@ -143,7 +143,7 @@ class Server:
                 record, event, process, thread, word, asked, flags, answer = line.split()
                 one = processes.setdefault(process, len(processes))
                 own = threads.setdefault(process, {})
-                who = f"{one}.{own.setdefault(thread, len(own))}"
+                caller = f"{one}.{own.setdefault(thread, len(own))}"
                 place = "-" if event == "-" else f"0.{event}" if record == "1" else f"{record}:0.{event}"
                 said = errno.errorcode[-int(answer)] if int(answer) < 0 else answer
-                yield f"{place} {who} {word} {asked} {flags} {said}\n".encode()
+                yield f"{place} {caller} {word} {asked} {flags} {said}\n".encode()

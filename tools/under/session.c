@@ -87,7 +87,7 @@ static int keep(FILE *file, const char *name, const char *text, size_t length) {
 }
 
 // Writes a text to the core and to the script.
-static int tell(const char *text, size_t length) {
+static int send_text(const char *text, size_t length) {
     now.text += length;
     if (keep(now.script, "script", text, length))
         return -1;
@@ -103,7 +103,7 @@ static int tell(const char *text, size_t length) {
 
 // Takes the next line into `now.line`, without its line feed. The core writes one line, and then waits for the next
 // event.
-static int hear(void) {
+static int receive_line(void) {
     size_t length = 0;
     while (!length || now.line[length - 1] != '\n') {
         if (length == sizeof now.line)
@@ -144,7 +144,7 @@ static void keep_setting(const char *event) {
 }
 
 static int make(const char *event, uint32_t bytes, struct line *line) {
-    if (tell(event, strlen(event)) || hear() || read_line(event, line))
+    if (send_text(event, strlen(event)) || receive_line() || read_line(event, line))
         return -1;
     now.events++;
     now.bytes += bytes;
@@ -171,7 +171,7 @@ static int begin(unsigned number) {
             return give_up("%s: %s", path, strerror(errno));
     }
     int length = snprintf(head, sizeof head, "rngscript 3\ncpus %s\ncaller 0\n", cpus);
-    if (start_core() || tell(head, (size_t)length) || hear())
+    if (start_core() || send_text(head, (size_t)length) || receive_line())
         return -1;
     return strcmp(now.line, "rngtranscript 1") ? give_up("%s live began with another line", program) : 0;
 }
@@ -249,7 +249,7 @@ static int close_files(void) {
 int session_end(void) {
     ssize_t got;
     int status = -1;
-    if (*fault || tell("end\n", 4))
+    if (*fault || send_text("end\n", 4))
         return -1;
     close(now.to);
     while ((got = read(now.from, now.line, sizeof now.line)) > 0 || (got < 0 && errno == EINTR))

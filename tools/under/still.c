@@ -1,4 +1,4 @@
-// For LD_PRELOAD: clocks stand still, and processes are numbered in the order in which they first asked. So the output
+// For LD_PRELOAD: clocks are stopped, and processes are numbered in the order in which they first asked. So the output
 // that a program makes from clock and process numbers is the same at each run. The numbers are above those of the
 // kernel, so none belongs to another process; a call that takes such a number gets the kernel's number here.
 #define _GNU_SOURCE
@@ -78,7 +78,8 @@ int sigqueue(pid_t process, int number, const union sigval value) {
 
 // ---- Clocks ------------------------------------------------------------------------------------------------------
 
-// A monotonic clock stands early, so that a program that waits for a moment by it does not wait longer than otherwise.
+// A monotonic clock shows an early time, so that a program that waits for a moment by it does not wait longer than
+// otherwise.
 int clock_gettime(clockid_t clock, struct timespec *now) {
     int is_date = clock == CLOCK_REALTIME || clock == CLOCK_REALTIME_COARSE || clock == CLOCK_TAI;
     now->tv_sec = is_date ? SECOND : 1;

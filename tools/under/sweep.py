@@ -1,7 +1,7 @@
-"""rng-under --sweep: runs a program again and again, in each case into which a kernel can bring it, and reports what it
-did.
+"""rng-under --sweep: runs a program again and again, in each case into which a kernel can bring it, and judges each
+run.
 
-docs/CALLERS.md says what the cases and the verdicts are; man/rng-under.1 is the short form.
+docs/CALLERS.md describes the cases and the verdicts; man/rng-under.1 is the short form.
 """
 
 import collections
@@ -16,7 +16,7 @@ import time
 
 import cases
 import verdicts
-from sweep_runs import Lanes, Program, be_reaper, some
+from sweep_runs import Runner, Program, be_reaper, some
 
 WELL_DONE, IS_BAD, OWN, INTERRUPTED = 0, 1, 125, 130
 POINTS = 24
@@ -42,7 +42,7 @@ def add_arguments(parser):
 
 
 def problem_of(given):
-    """What is wrong with the options."""
+    """The fault of the options, or an empty text."""
     named = vars(given)
     if not given.sweep:
         wrong = [it for it in WITHOUT_SWEEP if named[it] is not None]
@@ -59,10 +59,10 @@ def problem_of(given):
     return ""
 
 
-# ---- What is told ------------------------------------------------------------------------------------------------
+# ---- The report -------------------------------------------------------------------------------------------------
 
 def as_text(data):
-    """What a program wrote, on one line."""
+    """A program's output, on one line."""
     text = data.decode(errors="backslashreplace").rstrip("\n")
     return "".join(it if it.isprintable() else repr(it)[1:-1] for it in text)
 
@@ -74,7 +74,7 @@ class Report:
         self.program, self.command, self.json_file = program, command, json_file
         self.is_terminal = sys.stderr.isatty()
         self.began = time.monotonic()
-        self.count, self.findings, self.told = 0, [], 0
+        self.count, self.findings, self.printed = 0, [], 0
 
     def begin(self, base, chosen, points):
         self.order = [it.name for it in chosen]
@@ -93,7 +93,7 @@ class Report:
             print("its output is another one at each run, so bytes are only counted")
         if not base.is_steady:
             print("it asks for more bytes at one run than at another, so fewer bytes are no verdict")
-        self.save({"program": self.program.words, "requests": [it.told() for it in base.requests],
+        self.save({"program": self.program.words, "requests": [it.text() for it in base.requests],
                    "tried": points, "bytes": base.served, "still": base.is_still,
                    "depends": base.depends, "repeatable": base.is_repeatable})
         self.show_progress()
@@ -102,17 +102,17 @@ class Report:
         self.findings.append(finding)
         self.save(self.fields(finding))
         done = {it.case.name: it for it in self.findings}
-        while self.told < self.count and self.order[self.told] in done:
-            self.row(done[self.order[self.told]])
-            self.told += 1
+        while self.printed < self.count and self.order[self.printed] in done:
+            self.row(done[self.order[self.printed]])
+            self.printed += 1
         self.show_progress()
 
     def row(self, finding):
         self.clear()
-        number, what = finding.request()
+        number, text = finding.request()
         is_odd = number and finding.runs[0].requests[number - 1].is_odd()
-        what = f"request {number}: {what}; {finding.why}" if is_odd else finding.why
-        print(f"{finding.case.name:16} {finding.word:8} {what}", flush=True)
+        text = f"request {number}: {text}; {finding.why}" if is_odd else finding.why
+        print(f"{finding.case.name:16} {finding.word:8} {text}", flush=True)
 
     def show_progress(self):
         if not self.is_terminal or len(self.findings) == self.count:
@@ -140,9 +140,9 @@ class Report:
         return ("d=$(mktemp -d); " if has_folder else "") + " ".join([*map(shlex.quote, words), *program])
 
     def fields(self, finding):
-        number, what = finding.request()
+        number, text = finding.request()
         return {"case": finding.case.name, "group": finding.case.group, "verdict": finding.word, "why": finding.why,
-                "request": number, "met": what, "command": self.shown_again(finding),
+                "request": number, "met": text, "command": self.shown_again(finding),
                 "runs": [{"seed": it.seed, "status": it.status, "requests": len(it.requests), "bytes": it.served,
                           "unready": it.unready, "output": as_text(it.shown), "error": it.err[-400:],
                           "seconds": round(it.seconds, 2)} for it in finding.runs]}
@@ -161,11 +161,11 @@ class Report:
             print(f"    and on standard error: {said}")
 
     def end(self, is_whole):
-        """Prints the remaining rows and how to see each again; returns the exit status."""
+        """Prints the remaining rows, and the command for each bad one; returns the exit status."""
         self.clear()
         place = {name: at for at, name in enumerate(self.order)} if self.count else {}
         found = sorted(self.findings, key=lambda it: place[it.case.name])
-        for finding in found[self.told:] if not is_whole else []:
+        for finding in found[self.printed:] if not is_whole else []:
             self.row(finding)
         for finding in found:
             if finding.word != verdicts.WELL:
@@ -196,8 +196,8 @@ def say(text):
     print(f"rng-under: {text}", file=sys.stderr, flush=True)
 
 
-def swept(given, program, lanes, report):
-    base, hindrance = next(lanes.results([verdicts.tried(program)]))
+def swept(given, program, runner, report):
+    base, hindrance = next(runner.results([verdicts.tried(program)]))
     if not base:
         say(hindrance)
         return OWN
@@ -207,22 +207,22 @@ def swept(given, program, lanes, report):
         say(f"--only {given.only}: no such case")
         return OWN
     report.begin(base, chosen, points)
-    for finding in lanes.results(verdicts.judged(it, base, program) for it in chosen):
+    for finding in runner.results(verdicts.judged(it, base, program) for it in chosen):
         report.add(finding)
     return report.end(is_whole=True)
 
 
 def sweep_in(room, given, command, json_file):
     program = Program(given, command, room)
-    lanes = Lanes(given.jobs or len(os.sched_getaffinity(0)))
+    runner = Runner(given.jobs or len(os.sched_getaffinity(0)))
     report = Report(program, command, json_file)
     try:
-        return swept(given, program, lanes, report)
+        return swept(given, program, runner, report)
     except Stopped:
-        lanes.stop()
+        runner.stop()
         return report.end(is_whole=False)
     finally:
-        lanes.stop()
+        runner.stop()
 
 
 def main(given, command, room):

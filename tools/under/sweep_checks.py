@@ -11,7 +11,7 @@ import sys
 import time
 
 import checks
-from checks import CALLER, FAILED, HERE, ROOM, UNDER, compile_one, prologue, run, skip, tell, under
+from checks import CALLER, FAILED, HERE, ROOM, UNDER, compile_one, prologue, report, run, skip, under
 
 OWN, INTERRUPTED = 125, 130
 TEMPORARY = os.path.join(ROOM, "t")
@@ -32,7 +32,7 @@ WANTED = {
     "crash": {"empty": "CRASH"},
     "hangs": {"empty": "HANGS"},
 }
-# Where the supervisor sees it too, the C library's malloc asks first, so a request's number is one higher there.
+# A supervisor also sees the first request, of the C library's malloc, so the other requests' numbers are one higher then.
 SUPERVISED = {
     "well": {"early": "WELL", "no-device": "WELL", "EPERM": "REFUSES"},
     "refuses": {"empty": "REFUSES"},
@@ -52,7 +52,7 @@ BAD = {"LESS", "ASKS-ON", "HANGS", "CRASH", "WITHOUT", "UNREADY", "FIXED"}
 def compile_callers():
     for name in (*WANTED, "killed"):
         status, out, err = compile_one(name, f"callers/judged/{name}.c")
-        tell(f"callers/judged/{name}.c compiles without a warning", out + err if status else "")
+        report(f"callers/judged/{name}.c compiles without a warning", out + err if status else "")
 
 
 def caller(name):
@@ -71,7 +71,7 @@ def findings_of(path):
 # ---- Verdicts ----------------------------------------------------------------------------------------------------
 
 def problem_of_verdicts(words, name, cases):
-    """What is wrong with the verdicts on a caller, in the table, in JSON and in the status."""
+    """The fault of the verdicts on a caller, in the table, in JSON and in the status."""
     path = os.path.join(ROOM, name + ".json")
     seconds = "6" if name == "hangs" else "60"
     status, out, err = sweep(*words, "--jobs", "2", "--seconds", seconds, "--json", path, "--only", ",".join(cases),
@@ -87,18 +87,18 @@ def check_verdicts(way, words, wanted):
     with concurrent.futures.ThreadPoolExecutor(4) as pool:
         problems = pool.map(lambda it: problem_of_verdicts(words, *it), wanted.items())
         for name, problem in zip(wanted, problems):
-            tell(f"{way}: sweep of {name}", problem)
+            report(f"{way}: sweep of {name}", problem)
 
 
 def check_wrong_one():
-    """A caller whose output has the usual length, and differs at each run, does not count as well because of that."""
+    """A caller whose output has the usual length, and differs at each run, is not judged WELL because of that."""
     path = os.path.join(ROOM, "json")
     sweep("--json", path, caller("mixes"))
     found = {case: it["verdict"] for case, it in findings_of(path).items()}
-    tell("sweep: a wrong caller whose output always differs", "" if "UNREADY" in found.values() else str(found))
+    report("sweep: a wrong caller whose output always differs", "" if "UNREADY" in found.values() else str(found))
 
 
-def check_told_command():
+def check_shown_command():
     """The command that the sweep shows for a case makes its run again."""
     path = os.path.join(ROOM, "json")
     for name, case in (("fixed", "empty"), ("unready", "early"), ("cut_short", "cut:1"), ("well", "EPERM")):
@@ -107,7 +107,7 @@ def check_told_command():
         status, out, _ = run(["sh", "-c", finding["command"]])
         one = finding["runs"][0]
         is_well = status == one["status"] and out.strip()[:300] == one["output"][:300]
-        tell(f"sweep: {case} of {name} again by its command", "" if is_well else f"{status} {out}, and not {one}")
+        report(f"sweep: {case} of {name} again by its command", "" if is_well else f"{status} {out}, and not {one}")
 
 
 def check_folder():
@@ -118,28 +118,28 @@ def check_folder():
     found = findings_of(path)
     is_well = status == 1 and [found[it]["verdict"] for it in ("empty", "reseed:1")] == ["FIXED", "WELL"]
     again = run(["sh", "-c", found["empty"]["command"]])
-    tell("sweep: files in {dir}", "" if is_well and again[0] == 0 else f"{status} {err} {again}")
+    report("sweep: files in {dir}", "" if is_well and again[0] == 0 else f"{status} {err} {again}")
 
 
 def check_many():
-    """If there are many requests, this is said, and the sample has the first, the last, and the first of each
-    process."""
+    """If there are many requests, the sweep lists those that it tries: the first, the last, and the first of each
+    process are among them."""
     path = os.path.join(ROOM, "json")
     status, out, err = sweep("--only", "fork:*", CALLER, "many", "3", "16")
-    tell("sweep: no fork, no case", "" if status == 125 and "no such case" in err else f"{status} {out} {err}")
+    report("sweep: no fork, no case", "" if status == 125 and "no such case" in err else f"{status} {out} {err}")
     status, out, err = sweep("--only", "reseed:*", "--json", path, CALLER, "many", "300", "16")
     with open(path, encoding="utf-8") as file:
         points = json.loads(file.readline())["tried"]
     is_well = points[0] == 1 and points[-1] == 300 and 12 <= len(points) <= 24 and "requests tried: 1, " in out
-    tell("sweep: many requests are sampled", "" if is_well and status == 0 else f"{status} {points} {err}")
+    report("sweep: many requests are sampled", "" if is_well and status == 0 else f"{status} {points} {err}")
     status, out, err = sweep("--only", "reseed:*", "--json", path, CALLER, "writes")
     with open(path, encoding="utf-8") as file:
         points = json.loads(file.readline())["tried"]
     is_well = status == 0 and points == [1, 6]
-    tell("sweep: of reads and writes only reads are tried", "" if is_well else f"{status} {points} {err}")
+    report("sweep: of reads and writes only reads are tried", "" if is_well else f"{status} {points} {err}")
     status, out, err = sweep("--only", "fork:*", CALLER, "forks")
     is_well = status == 0 and out.count("\nfork:") == 4
-    tell("sweep: a case for each process that asks", "" if is_well else f"{status} {out} {err}")
+    report("sweep: a case for each process that asks", "" if is_well else f"{status} {out} {err}")
 
 
 def check_refusals():
@@ -150,9 +150,9 @@ def check_refusals():
                           (["--json", "/nowhere/x", caller("well")], "/nowhere/x")):
         status, _, err = sweep(*words)
         problem = "" if status == OWN and wanted in err and "Traceback" not in err else f"{status} {err}"
-        tell(f"sweep: refuses {' '.join(words)[:40]}", problem)
+        report(f"sweep: refuses {' '.join(words)[:40]}", problem)
     status, _, err = under("--only", "empty", "true")
-    tell("an option of --sweep without it", "" if status == OWN and "--sweep" in err else f"{status} {err}")
+    report("an option of --sweep without it", "" if status == OWN and "--sweep" in err else f"{status} {err}")
 
 
 # ---- Ends --------------------------------------------------------------------------------------------------------
@@ -168,7 +168,7 @@ def start_sweep(*words):
 
 
 def check_interrupt():
-    """One signal ends a sweep with what was found so far, and no process goes on."""
+    """One signal ends a sweep with the findings so far, and no process goes on."""
     for number in (signal.SIGINT, signal.SIGTERM):
         began = start_sweep("--only", "reseed:1,late:1", caller("hangs"))
         first = [began.stdout.readline()]
@@ -181,7 +181,7 @@ def check_interrupt():
             out, err = "no end", ""
         is_well = began.returncode == INTERRUPTED and "interrupted, after " in out
         problem = str(left_behind() or "") if is_well else f"{began.returncode} {first} {out} {err}"
-        tell(f"sweep: ended by {number.name}", problem)
+        report(f"sweep: ended by {number.name}", problem)
 
 
 def check_killed_children(way, words):
@@ -191,7 +191,7 @@ def check_killed_children(way, words):
     status, _, err = sweep(*words, "--only", "empty,reseed:1,reseed:2", "--json", path, caller("killed"))
     found = {case: it["verdict"] for case, it in findings_of(path).items()}
     is_well = len(found) == 3 and set(found.values()) <= {"WELL", "LESS"} and status in (0, 1)
-    tell(f"{way}: sweep of one whose children are killed", "" if is_well else f"{status} {found} {err}")
+    report(f"{way}: sweep of one whose children are killed", "" if is_well else f"{status} {found} {err}")
 
 
 def check_killed_sweep():
@@ -205,7 +205,7 @@ def check_killed_sweep():
         time.sleep(0.1)
     left = [it for it in left_behind() if it.startswith("process")]
     under("true", env=dict(os.environ, TMPDIR=TEMPORARY))
-    tell("sweep: is killed", str(left or left_behind() or ""))
+    report("sweep: killed, it leaves no process", str(left or left_behind() or ""))
 
 
 def runs_of(process):
@@ -231,7 +231,7 @@ def check_killed_run():
         time.sleep(0.05)
     out, err = began.communicate(timeout=60)
     is_well = began.returncode == OWN and killed and "Traceback" not in err
-    tell("sweep: its own runs are killed", str(left_behind() or "") if is_well else f"{began.returncode} {out} {err}")
+    report("sweep: its own runs are killed", str(left_behind() or "") if is_well else f"{began.returncode} {out} {err}")
 
 
 # ---- Faults and --still ------------------------------------------------------------------------------------------
@@ -248,13 +248,13 @@ def check_faults(way, words):
             lines = [line for line in file if line.startswith("- ") and " read 8 1 " not in line]
         faults = [line.split(" ", 2)[2].strip() for line in lines]
         is_well = status == 0 and len(faults) == count and faults[0] == first
-        tell(f"{way}: fault {kind}", checks.problem_of_record(path) if is_well else f"{status} {faults} {err}")
+        report(f"{way}: fault {kind}", checks.problem_of_record(path) if is_well else f"{status} {faults} {err}")
     for kind, wanted in (("ENOENT", "No such file"), ("EMFILE", "Too many open files")):
         made = prologue(READY, f"fault {kind} always")
         ran = under(*words, "--prologue", made, "head", "-c", "8", "/dev/urandom")
-        tell(f"{way}: fault {kind} always, of who opens a device", "" if ran[0] == 1 and wanted in ran[2] else str(ran))
+        report(f"{way}: fault {kind} always, for a program that opens a device", "" if ran[0] == 1 and wanted in ran[2] else str(ran))
         ran = under(*words, "--prologue", made, "head", "-c", "8", os.path.join(HERE, "shim.c"))
-        tell(f"{way}: and other files open", "" if ran[:2] == (0, "// For L") else str(ran))
+        report(f"{way}: and other files open", "" if ran[:2] == (0, "// For L") else str(ran))
 
 
 def check_fault_words():
@@ -264,36 +264,36 @@ def check_fault_words():
     with open(asked, encoding="ascii") as file:
         got = [line.split()[-1] for line in file]
     wanted = ["EINTR", "EAGAIN", "3", "3", "EINVAL", "EINVAL", "3", "0", "3", "3", "3"]
-    tell("two faults, and short answers always", "" if got == wanted else str(got))
+    report("two faults, and short answers always", "" if got == wanted else str(got))
     for line in ("fault", "fault NONSENSE", "fault EINTR sometimes", "fault EINTR always always", "wait 3 always",
                  "short 3 now"):
         status, out, err = under("--prologue", prologue(READY, line), "true")
-        tell(f"a prologue is refused: {line}", "" if (status, out) == (OWN, "") and "line 2" in err else err)
+        report(f"a prologue is refused: {line}", "" if (status, out) == (OWN, "") and "line 2" in err else err)
     made = prologue(READY, "fault ENOSYS always", "fault ENOENT always")
     status, _, err = under("--prologue", made, CALLER, "library")
     is_well = status in (1, 134)
-    tell("getentropy and arc4random end where nothing serves them", "" if is_well else f"{status} {err}")
+    report("getentropy and arc4random end if nothing serves them", "" if is_well else f"{status} {err}")
 
 
 def check_still(way, words):
     said = ["sh", "-c", "echo $$; date +%s%N; sh -c 'echo $$ $PPID'"]
     first, second = under(*words, "--still", *said), under(*words, "--still", *said)
-    tell(f"{way}: --still holds clock and process numbers", "" if first == second and first[0] == 0 else f"{first} {second}")
+    report(f"{way}: --still holds clock and process numbers", "" if first == second and first[0] == 0 else f"{first} {second}")
     ran = under(*words, "--still", "sh", "-c", "kill -9 $$; echo goes on")
-    tell(f"{way}: --still, a process that ends itself", "" if ran[:2] == (137, "") else str(ran))
+    report(f"{way}: --still, a process that ends itself", "" if ran[:2] == (137, "") else str(ran))
 
 
 def check_static():
-    """The clock of a static program goes on, and this is said; such a program's verdict is another one."""
+    """The clock of a static program goes on, and this is reported; such a program's verdict is another one."""
     if compile_one("fixed_static", "callers/judged/fixed.c", "-static")[0]:
         return skip("sweep of a static program", "none can be linked")
     ran = under("--still", caller("fixed_static"))
-    tell("--still tells what it does not hold", "" if ran[0] == 0 and "static" in ran[2] else str(ran))
+    report("--still reports a static program", "" if ran[0] == 0 and "static" in ran[2] else str(ran))
     path = os.path.join(ROOM, "json")
     status, out, err = sweep("--only", "empty,reseed:1", "--json", path, caller("fixed_static"))
     found = {case: it["verdict"] for case, it in findings_of(path).items()}
     is_well = status == 1 and found in ({"empty": "WITHOUT", "reseed:1": "WELL"}, {"empty": "FIXED", "reseed:1": "WELL"})
-    return tell("sweep of a static program", "" if is_well else f"{status} {out} {err}")
+    return report("sweep of a static program", "" if is_well else f"{status} {out} {err}")
 
 
 def main():
@@ -308,7 +308,7 @@ def main():
         check_verdicts("supervised", ["--supervise"], SUPERVISED)
         check_static()
     check_wrong_one()
-    check_told_command()
+    check_shown_command()
     check_folder()
     check_many()
     check_refusals()
@@ -320,7 +320,7 @@ def main():
     check_interrupt()
     check_killed_run()
     check_killed_sweep()
-    tell("sweep: nothing is left behind", str(left_behind() or ""))
+    report("sweep: nothing is left behind", str(left_behind() or ""))
     print(f"sweeps: {len(FAILED)} failed")
     return 1 if FAILED else 0
 

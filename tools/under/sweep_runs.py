@@ -1,5 +1,5 @@
 """Runs of a program for rng-under --sweep: rng-under makes each run. Runs are side by side, have a time limit, and all
-processes that they left behind are ended."""
+processes that they left are ended."""
 
 import ctypes
 import hashlib
@@ -31,8 +31,8 @@ class Request:
     """A line of --asked, and whether its bytes are those of a core that was not ready."""
 
     def __init__(self, line, unready):
-        event, who, self.word, asked, flags, self.answer = line.split()
-        self.process = who.partition(".")[0]
+        event, caller, self.word, asked, flags, self.answer = line.split()
+        self.process = caller.partition(".")[0]
         self.flags, self.is_fault = int(flags), event == "-"
         self.is_read = self.word in READS
         self.asked = int(asked) if self.is_read else 0
@@ -47,14 +47,14 @@ class Request:
         return self.waits() and self.answer == "EINTR" and not self.is_fault
 
     def is_mallocs(self):
-        """Whether this is how the C library's malloc asks for a key of its own."""
+        """Whether this is the request of the C library's malloc for a key of its own."""
         return (self.word, self.asked, self.flags) == ("read", 8, GRND_NONBLOCK)
 
     def is_odd(self):
         """Whether the request got no bytes, fewer than it asked for, or those of a core that was not ready."""
         return self.is_fault or self.is_unready or self.served < self.asked
 
-    def told(self):
+    def text(self):
         if not self.is_read:
             return f"{CONTROLS[self.word]}: {self.answer}"
         if self.word in DEVICES:
@@ -66,7 +66,7 @@ class Request:
 
 
 class Program:
-    """What is swept: the words, and how each run of it is made."""
+    """The program that is swept: its words, and the options of each run."""
 
     def __init__(self, given, under, room):
         self.words, self.under, self.room, self.seconds = given.words, under, room, given.seconds
@@ -84,7 +84,7 @@ class Program:
 
 
 class Run:
-    """One run of the program, and what it left."""
+    """One run of the program, and its output."""
 
     def __init__(self, program, folder, case, seed, is_still, most, steps):
         self.program, self.folder, self.case, self.seed = program, folder, case, seed
@@ -126,7 +126,7 @@ class Run:
             self.process.wait()
         return self.process.returncode is not None
 
-    # ---- What it left
+    # ---- The files of the run
 
     def read(self, name):
         try:
@@ -136,7 +136,7 @@ class Run:
             return b""
 
     def gather(self):
-        """Takes in what the run left, and removes the run's folder."""
+        """Reads the files of the run, and removes the run's folder."""
         self.seconds, self.status = time.monotonic() - self.began, self.process.returncode
         out = self.read("out")
         self.err = self.read("err").decode(errors="replace").strip()
@@ -162,7 +162,7 @@ class Run:
                 yield [record + line.split(" ")[0], *line.split(" ")[1:]]
 
     def own_fault(self):
-        """What rng-under itself said if it failed or ended the program, or nothing."""
+        """The last message of rng-under itself if it failed or ended the program, or nothing."""
         said = [line[len("rng-under: "):] for line in self.err.splitlines() if line.startswith("rng-under: ")]
         return said[-1] if said and self.status == OWN else ""
 
@@ -170,7 +170,7 @@ class Run:
 # ---- Side by side ------------------------------------------------------------------------------------------------
 
 def end_with_parent():
-    """In the new process: it is killed if the sweep is, and its supervisor ends what it ran."""
+    """In the new process: it is killed if the sweep is, and its supervisor ends the processes that it ran."""
     ctypes.CDLL(None).prctl(PR_SET_PDEATHSIG, signal.SIGKILL, 0, 0, 0)
 
 
@@ -191,15 +191,15 @@ def children():
     return found
 
 
-class Course:
+class Task:
     """A generator that yields lists of runs to make, and is sent them when they are over. Finally it returns a
     result."""
 
     def __init__(self, steps):
         self.steps, self.runs, self.result, self.is_done = steps, [], None, False
-        self.go_on(None)
+        self.resume(None)
 
-    def go_on(self, runs):
+    def resume(self, runs):
         try:
             self.runs = self.steps.send(runs)
         except StopIteration as end:
@@ -209,35 +209,35 @@ class Course:
         return any(it.process is None or it.process.returncode is None for it in self.runs)
 
 
-class Lanes:
+class Runner:
     """Makes runs, so many side by side."""
 
     def __init__(self, jobs):
-        self.jobs, self.running, self.courses = jobs, [], []
+        self.jobs, self.running, self.tasks = jobs, [], []
 
     def results(self, generators):
         """The generators' results, in the order in which they come to an end."""
         left = iter(generators)
         is_more = True
-        while is_more or self.courses:
-            while is_more and len(self.courses) < self.jobs:
+        while is_more or self.tasks:
+            while is_more and len(self.tasks) < self.jobs:
                 steps = next(left, None)
                 is_more = steps is not None
                 if is_more:
-                    self.courses.append(Course(steps))
+                    self.tasks.append(Task(steps))
             self.start()
             self.wait()
-            for course in [it for it in self.courses if not it.is_waiting()]:
-                for run in course.runs:
+            for task in [it for it in self.tasks if not it.is_waiting()]:
+                for run in task.runs:
                     run.gather()
-                if not course.is_done:
-                    course.go_on(course.runs)
-                if course.is_done:
-                    self.courses.remove(course)
-                    yield course.result
+                if not task.is_done:
+                    task.resume(task.runs)
+                if task.is_done:
+                    self.tasks.remove(task)
+                    yield task.result
 
     def start(self):
-        fresh = [it for course in self.courses for it in course.runs if it.process is None]
+        fresh = [it for task in self.tasks for it in task.runs if it.process is None]
         for run in fresh[:self.jobs - len(self.running)]:
             run.start()
             self.running.append(run)
@@ -267,7 +267,7 @@ class Lanes:
                     pass
 
     def stop(self):
-        """Ends all that runs."""
+        """Ends all runs."""
         for run in self.running:
             run.process.kill()
             run.process.wait()

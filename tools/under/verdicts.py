@@ -1,4 +1,4 @@
-"""The verdict that a case of rng-under --sweep gives on a program, by what the program's runs did and wrote.
+"""The verdict that a case of rng-under --sweep gives on a program, by the ends and the output of the program's runs.
 
 Each case runs with two seeds. If fewer bytes were served than without the case, or bytes of a core that was not ready,
 further runs find out whether the output depends on those bytes. Such a run changes the bytes of one request and no
@@ -29,10 +29,10 @@ class Finding:
         self.case, self.word, self.why, self.runs, self.point = case, word, why, runs, point
 
     def request(self):
-        """The number of the request and what happened at it; 0 and nothing if there is none."""
+        """The number of the request and its description; 0 and nothing if there is none."""
         rows = self.runs[0].requests
         at = self.point or self.case.point
-        return (at, rows[at - 1].told()) if 0 < at <= len(rows) else (0, "")
+        return (at, rows[at - 1].text()) if 0 < at <= len(rows) else (0, "")
 
 
 class Base:
@@ -60,7 +60,7 @@ STILL = "rng-under: --still"
 
 
 def not_held(run):
-    """What rng-under says that it cannot hold still."""
+    """The messages of rng-under about things that it cannot hold still."""
     return [it[len("rng-under: "):] for it in run.err.splitlines() if it.startswith(STILL)]
 
 
@@ -70,12 +70,12 @@ def last_line(run):
 
 
 def first_odd(run):
-    """The number of the first request that did not get what a ready core gives."""
+    """The number of the first request that did not get the answer of a ready core."""
     return next((at for at, it in enumerate(run.requests, 1) if it.is_odd()), 0)
 
 
 def waits(run):
-    """Whether the program calls again and again what would wait in the kernel."""
+    """Whether the program repeats a call that would wait in the kernel."""
     tail = run.requests[-TAIL:]
     return len(tail) == TAIL and all(it.is_interrupted_wait() for it in tail)
 
@@ -110,8 +110,8 @@ def name_of_signal(number):
 
 
 def worse(ends):
-    told = [it for it in ends if it]
-    return max(told, key=lambda it: len(ORDER) if it[0] == FAILED else ORDER.index(it[0])) if told else None
+    found = [it for it in ends if it]
+    return max(found, key=lambda it: len(ORDER) if it[0] == FAILED else ORDER.index(it[0])) if found else None
 
 
 # ---- Which bytes were used ---------------------------------------------------------------------------------------
@@ -144,15 +144,15 @@ def weight_of(case, one, compares, run_of):
 
 def uses_unready(case, one, two, compares, run_of):
     """The reason why bytes of a core that was not ready were used, or nothing if they were not."""
-    what = f"the output depends on bytes of an unready core, {one.unready} of {one.served}"
+    reason = f"the output depends on bytes of an unready core, {one.unready} of {one.served}"
     if not compares:
         if not sum(it.served for it in one.requests if it.is_unready and not it.is_mallocs()):
             return ""
         return f"bytes of an unready core, {one.unready} of {one.served}; whether the output depends on them does not show"
     if one.unready == one.served or not any(line == cases.EARLY for _, line in case.steps):
-        return what if one.digest != two.digest else ""
+        return reason if one.digest != two.digest else ""
     other, = yield [run_of(case, SEEDS[0], other_early_bytes(case.steps))]
-    return what if other.digest != one.digest else ""
+    return reason if other.digest != one.digest else ""
 
 
 # ---- The verdict -------------------------------------------------------------------------------------------------
@@ -168,7 +168,7 @@ def judged(case, base, program, is_still=True):
     runs = (one, two)
     end = worse([by_its_end(one), by_its_end(two)])
     if end and end[0] in (HANGS, ASKS_ON) and is_still:
-        # If time is held still, a clock may be what it waits for.
+        # If time is held still, the program may wait for a clock.
         return (yield from judged(case, base, program, is_still=False))
     if end:
         return Finding(case, *end, runs, first_odd(one))
@@ -205,7 +205,7 @@ def judged_by_bytes(case, base, runs, run_of):
 
 
 def tried(program):
-    """The steps to a Base, or to what prevents one: with clock and process numbers held still, and else without."""
+    """The steps to a Base, or to the reason why there is none: with clock and process numbers held still, and else without."""
     for is_still in (True, False):
         runs = yield [program.run(cases.READY_CASE, seed, is_still, 65535) for seed in (*SEEDS, SEEDS[0])]
         end = worse([by_its_end(it) for it in runs])

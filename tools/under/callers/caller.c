@@ -1,5 +1,5 @@
-// Draws random bytes in one of the ways that a program can, for the checks. If the bytes are the same at each run, so
-// is the output.
+// Draws random bytes by one kind of call that a program can make, for the checks. If the bytes are the same at each
+// run, so is the output.
 #define _GNU_SOURCE
 #include <errno.h>
 #include <fcntl.h>
@@ -138,7 +138,7 @@ static void forks(void) {
     }
 }
 
-// Asks as a careful program does, and prints what happened on the way.
+// Asks as a careful program does, and prints each answer.
 static void retry(void) {
     unsigned char bytes[16];
     long got;

@@ -1,4 +1,4 @@
-// What the callers of this folder share: each asks for random bytes in a way of its own, and writes them.
+// Shared by the callers of this folder: each draws random bytes by its own calls, and writes them.
 #ifndef JUDGED_H
 #define JUDGED_H
 
