@@ -1,8 +1,8 @@
 #!/bin/sh
 # The cost of checking and of replaying a transcript, beside that of the run that wrote it. Run by hand. Instructions
 # are counted (valgrind --tool=callgrind). Seconds are medians of runs in turn, on a machine that does nothing else: the
-# run writes to /dev/null, to a pipe and to a file, the check reads the pair from a file, and its one line goes where
-# the run's output goes. BENCH_RUNS is the number of runs, and BENCH_RNG names another build of the program.
+# run writes to /dev/null, to a pipe and to a file, the check reads the pair from a file, and its one line goes to
+# the same place as the run's output. BENCH_RUNS is the number of runs, and BENCH_RNG names another build of the program.
 set -eu
 cd "$(dirname "$0")/.."
 . bench/built.sh
@@ -46,8 +46,8 @@ alone() {
     }'
 }
 
-# of_second PROGRAM: a script of two callers, of which the second makes the events of events(). Its check goes by the
-# clauses.
+# of_second PROGRAM: a script of two callers, of which the second makes the events of events(). Its check compares
+# by the clauses.
 of_second() {
     awk "$1"'
     BEGIN {
@@ -104,7 +104,7 @@ counted() {
     }'
 }
 
-# timed NAME FILE: the milliseconds of a run and of a check, and their ratio, for each way that the run's output can go.
+# timed NAME FILE: the milliseconds of a run and of a check, and their ratio, for each target of the run's output.
 timed() {
     for out in null pipe "$room/out"; do
         "$room/interleaved" "$runs" "$2" "$out" "$program" run -- "$program" check -- "$2.pair"
@@ -127,7 +127,7 @@ each_pair() {
     "$1" 'short events by 8 callers' "$room/short_of_8"
 }
 
-# pair NAME FILE: a script with its transcript, for which the check has to say yes.
+# pair NAME FILE: a script with its transcript, for which the check has to print yes.
 pair() {
     "$program" run <"$2" >"$room/transcript"
     cat "$2" "$room/transcript" >"$2.pair"

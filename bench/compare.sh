@@ -149,8 +149,8 @@ a script of 16 MiB:$room/long_script
 END
 }
 
-# beside NAME SCRIPT OTHER: `rng run` beside another program. Prints the ratio of instructions, and for each way out the
-# ratios of the median wall seconds and of the median processor seconds, of 15 runs in turn.
+# beside NAME SCRIPT OTHER: `rng run` beside another program. Prints the ratio of instructions, and for each target of
+# the output the ratios of the median wall seconds and of the median processor seconds, of 15 runs in turn.
 beside() {
     printf '%-34s %6s' "$1" "$(echo "$(instructions "$program" run <"$2")" \
         "$(instructions "$3" <"$2")" | awk '{ printf "%.2f", $1 / $2 }')"
@@ -175,7 +175,7 @@ beside_duties() {
     beside "$1" "$2" "$room/duties"
 }
 
-# cost_of_duties SCRIPT: what each duty costs plain_core itself, and what both cost, to /dev/null.
+# cost_of_duties SCRIPT: the cost of each duty for plain_core itself, and that of both, to /dev/null.
 cost_of_duties() {
     for duty in reads_first locks duties; do
         "$room/interleaved" 15 "$1" null "$room/$duty" -- "$room/plain_core" |
@@ -281,10 +281,10 @@ printf '%-52s %12s\n' "the least seconds of five runs of two events" \
     "seconds of 16 reads of 1 MiB" "$(of_run %e "$room/large_reads")" \
     "seconds of $events small events" "$(of_run %e "$room/small_events")"
 
-what='instructions; wall and processor seconds to /dev/null, a pipe, a file'
-echo "rng run to plain_core: $what"
+units='instructions; wall and processor seconds to /dev/null, a pipe, a file'
+echo "rng run to plain_core: $units"
 whole_runs | while IFS=: read -r name text; do beside_plain "$name" "$text"; done
-echo "rng run to plain_core with all events read first, and a lock for each visit: $what"
+echo "rng run to plain_core with all events read first, and a lock for each visit: $units"
 whole_runs | while IFS=: read -r name text; do beside_duties "$name" "$text"; done
 echo "plain_core with one of these duties, or both, to plain_core: interrupts, wall and processor seconds to /dev/null"
 cost_of_duties "$room/interrupts"
@@ -293,7 +293,7 @@ cost_of_duties "$room/interrupts"
 
 kernel=tools/kernel/out/harness
 if [ -x "$kernel" ]; then
-    echo "rng run to the kernel's own code in user space, which writes no steps: $what"
+    echo "rng run to the kernel's own code in user space, which writes no steps: $units"
     whole_runs | while IFS=: read -r name text; do beside_kernel "$name" "$text"; done
 else
     echo "beside the kernel's own code: not measured, since tools/kernel/run has not made $kernel"

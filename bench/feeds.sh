@@ -1,5 +1,5 @@
 #!/bin/sh
-# Interrupt samples of feeders in threads. Run by hand. The words name what is run; without words both are:
+# Interrupt samples of feeders in threads. Run by hand. The words name the runs; without words both are made:
 #   same    `rng feed 0 16 10000` 200 times, beside BENCH_LOOPS busy loops, by default twice as many as processors; it
 #           ends non-zero if a run writes another line, fails, or has 20 MB resident
 #   speed   160,000 samples of 16 feeders through the queue, and the same by one caller without it, in turn

@@ -1,15 +1,15 @@
 #!/usr/bin/env python3
-"""Runs the gate, or another command, and tells where its processor time went, crate by crate.
+"""Runs the gate, or another command, and prints the processor time of each crate.
 
-    bench/gate_times.py [--page FILE] [COMMAND..]        `rt ci` where no command is given
+    bench/gate_times.py [--page FILE] [COMMAND..]        `rt ci` if no command is given
 
-Every half second it reads from /proc what each process below the command has used so far, and asks its command line
-which crate it works for and whether that is a proof, a test's proof, or a wrong edit. What a process uses in its last
-half second is lost; the system's own sum stands behind the table. The table has processor minutes, the dearest crate
-first. The command's status is the answer.
+Every half second it reads from /proc the time that each process below the command has used so far. The process's
+command line shows its crate, and its kind: a proof, a test's proof, or a wrong edit. The time that a process uses in
+its last half second is lost; the system's own sum follows the table. The table has processor minutes, the crate with
+the most first. The command's status is the result.
 
 `--page` puts the table into a page, bench/GATE.md, between its two lines `gate times`. A crate's budget there is kept; a
-crate that has none gets what it took and a fifth more. Crates over their budgets are named. If nothing was done for a
+crate that has none gets its own time and a fifth more. Crates over their budgets are named. If nothing was done for a
 crate of the page, since a kit kept an earlier run's results, the page stays as it is and the status is 1. A crate of which
 a part was kept shows too little, and that is not noticed.
 """
@@ -64,7 +64,7 @@ def work_of(pid):
 
 
 class Sums:
-    """What each process had used when it was last seen, and for what."""
+    """The time of each process when it was last seen, and its work."""
 
     def __init__(self, root):
         self.root, self.used, self.work = root, {}, {}
@@ -78,7 +78,7 @@ class Sums:
             if chain[-1] != self.root:
                 continue
             key = pid, found[pid][1]
-            # One that was just forked has its parent's command line still, so it is asked again.
+            # A process that was just forked still has its parent's command line, so this is read again.
             if self.work.get(key, OTHER) == OTHER:
                 works = (work_of(it) for it in chain[:-1])
                 self.work[key] = next((it for it in works if it), OTHER)
@@ -97,7 +97,7 @@ def whole(row):
     return sum(row.values())
 
 
-def dearest(rows):
+def by_time(rows):
     return sorted(rows.items(), key=lambda it: -whole(it[1]))
 
 
@@ -105,49 +105,49 @@ def total_of(rows):
     return {kind: sum(row[kind] for row in rows.values()) for kind in KINDS}
 
 
-def tell(rows, ending):
+def print_table(rows, ending):
     print('\n%-18s %8s %8s %8s %8s %8s' % ('processor minutes', 'whole', *KINDS))
-    for name, row in [*dearest(rows), ('all', total_of(rows))]:
+    for name, row in [*by_time(rows), ('all', total_of(rows))]:
         print('%-18s' % name, *('%8.1f' % minutes for minutes in (whole(row), *row.values())))
     print(ending)
 
 
 def budgets_of(text):
-    """What the rows of a page's table grant each crate, in minutes."""
+    """The budgets of the crates in a page's table, in minutes."""
     return {row[1]: int(row[2]) for row in re.finditer(r'^\| `(\w+)` \|.*\| (\d+) \|$', text, flags=re.M)}
 
 
 def page_table(rows, budgets, ending):
     lines = ['| Crate | Proof | Its tests | Edits | Whole | Budget |', '|---|---|---|---|---|---|']
     crates = {name: row for name, row in rows.items() if name != OTHER[0]}
-    for name, row in dearest(crates):
+    for name, row in by_time(crates):
         minutes = ['%.1f' % it if it >= 0.05 else '' for it in (row['proof'], row['tests'], row['edits'], whole(row))]
         lines.append('| `%s` | %s | %d |' % (name, ' | '.join(minutes), budgets[name]))
     sums = total_of(rows)
     minutes = ' | '.join('%.0f' % it for it in (sums['proof'], sums['tests'], sums['edits'], whole(sums)))
-    lines.append('| all, and what is no crate\'s | %s | %d |' % (minutes, sum(budgets[name] for name in crates)))
+    lines.append('| all, and other work | %s | %d |' % (minutes, sum(budgets[name] for name in crates)))
     return '\n'.join(lines) + '\n\n' + ending[0].upper() + ending[1:] + '.\n'
 
 
 def into_page(path, rows, ending):
-    """Puts the table into the page, and tells which crates are over the budgets that stood there."""
+    """Puts the table into the page, and prints the crates that are over the budgets that it had."""
     text = read(path)
-    front, first, rest = text.partition(MARKS[0])
+    head, first, rest = text.partition(MARKS[0])
     old, last, back = rest.partition(MARKS[1])
     if not last:
         sys.exit('%s has no lines %s and %s' % (path, *map(str.strip, MARKS)))
-    granted = budgets_of(old)
+    budgeted = budgets_of(old)
     with open('crates.txt', encoding='utf-8') as file:
         listed = {line.split(':')[0].split()[0] for line in file if re.match(r'\w+[^:]*:', line)}
-    kept = sorted((set(granted) & listed) - set(rows))
+    kept = sorted((set(budgeted) & listed) - set(rows))
     if kept:
         sys.exit('%s is left as it is, since nothing was done for %s' % (path, ', '.join(kept)))
-    budgets = {name: granted.get(name, int(whole(row) * 1.2) + 1) for name, row in rows.items()}
+    budgets = {name: budgeted.get(name, int(whole(row) * 1.2) + 1) for name, row in rows.items()}
     with open(path, 'w', encoding='utf-8') as file:
-        file.write(front + first + page_table(rows, budgets, ending) + last + back)
-    for name, row in dearest(rows):
-        if name in granted and whole(row) > granted[name]:
-            print('over its budget: %s, %.1f of %d minutes' % (name, whole(row), granted[name]))
+        file.write(head + first + page_table(rows, budgets, ending) + last + back)
+    for name, row in by_time(rows):
+        if name in budgeted and whole(row) > budgeted[name]:
+            print('over its budget: %s, %.1f of %d minutes' % (name, whole(row), budgeted[name]))
 
 
 def main():
@@ -170,7 +170,7 @@ def main():
     ending = '%.1f minutes by the clock on %d processors, and %.1f processor minutes by the system\'s own sum' % (
         (time.monotonic() - began) / 60, len(os.sched_getaffinity(0)), (used.ru_utime + used.ru_stime) / 60)
     rows = sums.table()
-    tell(rows, ending)
+    print_table(rows, ending)
     if page and gate.returncode == 0:
         into_page(page, rows, ending)
     return gate.returncode

@@ -2,10 +2,9 @@
  * interleaved RUNS SCRIPT OUT FIRST.. -- SECOND.. [-- INPUT]: how long two commands take on a script, each run RUNS times,
  * in turn. If there is an INPUT, the second command reads that file in place of the script.
  *
- * Their output goes to /dev/null, to a pipe that is read at once, or to a file, as OUT says: null, pipe or a file's
- * name. It prints the medians of each command's wall seconds, then those of their processor seconds (user and system),
- * and the most KiB that each had resident. If the machine has other work to do, processor seconds tell more about a
- * pair of commands.
+ * Their output goes to /dev/null, to a pipe that is read at once, or to a file: OUT is null, pipe or a file's name. It
+ * prints the medians of each command's wall seconds, then those of their processor seconds (user and system), and the
+ * most KiB that each had resident. If the machine has other work to do, processor seconds compare the commands better.
  */
 #define _GNU_SOURCE
 #include <fcntl.h>
@@ -26,9 +25,9 @@ struct measured {
 
 static const char *out;
 
-static void fail(const char *what)
+static void fail(const char *call)
 {
-    perror(what);
+    perror(call);
     exit(1);
 }
 
@@ -107,7 +106,7 @@ static double median(double *times, int runs)
 }
 
 /* The place of the first word `--` from `at` on, or the number of words if there is none. */
-static int behind(int at, int count, char **words)
+static int next_dashes(int at, int count, char **words)
 {
     while (at < count && strcmp(words[at], "--"))
         at++;
@@ -118,7 +117,7 @@ int main(int count, char **words)
 {
     static struct measured first, second;
     int runs = count > 4 ? atoi(words[1]) : 0;
-    int at = behind(4, count, words), end = behind(at + 1, count, words);
+    int at = next_dashes(4, count, words), end = next_dashes(at + 1, count, words);
 
     if (at == 4 || end <= at + 1 || (end < count && end != count - 2) || runs < 1 || runs > MOST_RUNS) {
         fprintf(stderr, "usage: interleaved RUNS SCRIPT null|pipe|FILE FIRST.. -- SECOND.. [-- INPUT]\n");

@@ -6,9 +6,9 @@
  */
 #include "../examples/clients/fenloth.h"
 
-static void fail(const char *what)
+static void fail(const char *fault)
 {
-    fprintf(stderr, "live_loop: %s\n", what);
+    fprintf(stderr, "live_loop: %s\n", fault);
     exit(1);
 }
 

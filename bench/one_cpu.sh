@@ -1,6 +1,6 @@
 #!/bin/sh
-# The cost of reads by callers that share one CPU's generator. Run by hand. The words name what is measured; without
-# words all of it is:
+# The cost of reads by callers that share one CPU's generator. Run by hand. The words name the measurements; without
+# words all of them are made:
 #   reads    instructions of one read, of few bytes and of 1 MiB, for the kernel and for a user
 #   load     instructions of an event in the mix of a load
 #   eight    seconds of 8 callers that each read 1 MiB again and again on CPU 0, beside one caller that reads as much

@@ -409,7 +409,7 @@ static void refill(struct cpu *cpu)
 }
 
 /* crng_make_state, and the reads that call it */
-static void read_behind(uint64_t seen, uint8_t *out, size_t bytes, int for_user)
+static void read_after(uint64_t seen, uint8_t *out, size_t bytes, int for_user)
 {
     struct cpu *cpu = &cpus[cpu_at];
 
@@ -447,7 +447,7 @@ static const char *system_call(uint8_t *out, size_t *count, size_t bytes, uint32
         return "EINTR";
     }
     if (bytes) {
-        read_behind(seen, out, bytes, 1);
+        read_after(seen, out, bytes, 1);
         *count = bytes;
     }
     return "ok";
@@ -457,7 +457,7 @@ static void file_read(size_t bytes, int for_user)
 {
     if (!bytes)
         return;
-    read_behind(look(), served, bytes, for_user);
+    read_after(look(), served, bytes, for_user);
     served_len = bytes;
 }
 
@@ -471,7 +471,7 @@ static void integer(int width_at)
 
     served_len = width;
     if (!look()) {
-        read_behind(0, served, width, 0);
+        read_after(0, served, width, 0);
         return;
     }
     seen = look();

@@ -1,7 +1,7 @@
 /*
  * plain_threads THREADS TURNS: how many milliseconds THREADS threads take for TURNS turns of a loop, the least of 15.
  *
- * The threads share nothing, and take no memory but their stacks, so this is what the machine can do. bench/threads.sh
+ * The threads share nothing, and take no memory but their stacks, so this is the machine's own speed. bench/threads.sh
  * prints it beside the times of callers in threads.
  */
 #include <pthread.h>

@@ -1,6 +1,6 @@
 #!/bin/sh
 # Memory and speed of runs with callers in threads. Run by hand, on a machine that does nothing else. The words name
-# what is measured; without words all of it is:
+# the measurements; without words all of them are made:
 #   memory   the most memory that runs at the limits of a script have resident
 #   speed    8 callers on 8 CPUs beside one caller that makes the same reads, without any text, and 8 threads in C that only
 #            count beside one (plain_threads.c)
@@ -109,13 +109,14 @@ least() {
     done | sort -n | head -n 1
 }
 
-# beyond LOOPS WORD NUMBER [FILE]: the same, without what the program takes to start, to read the file and to end.
+# beyond LOOPS WORD NUMBER [FILE]: the same, without the time that the program takes to start, to read the file and to
+# end.
 beyond() {
     echo $(($(least "$@") - $(least "$1" "$2" 0 "${4:-/dev/null}")))
 }
 
-# told NAME NANOSECONDS: prints what a run took.
-told() {
+# show NAME NANOSECONDS: prints the time of a run.
+show() {
     awk -v name="$1" -v all="$2" \
         'BEGIN { printf "%-60s %9.1f ms %11.0f events a second\n", name, all / 1e6, 64000e9 / all }'
 }
@@ -129,16 +130,16 @@ speed() {
     apart=$(beyond "$loops" runs 1 "$room/apart")
     one=$(beyond "$loops" runs 1 "$room/one")
     echo "a run of 64,000 reads of 32 bytes, the least of $times, on $(nproc) processors"
-    told "8 callers on CPUs 0 to 7" "$eight"
-    told "8 callers on CPUs 0, 8, 16 to 56" "$apart"
-    told "one caller on CPUs 0 to 7" "$one"
+    show "8 callers on CPUs 0 to 7" "$eight"
+    show "8 callers on CPUs 0, 8, 16 to 56" "$apart"
+    show "one caller on CPUs 0 to 7" "$one"
     awk -v eight="$eight" -v apart="$apart" -v one="$one" 'BEGIN {
         printf "%-60s %9.2f    %.2f with the CPUs apart (at least 2.5)\n", "one to eight", one / eight, one / apart
     }'
     plain_threads
 }
 
-# What the machine can do with 8 threads that share nothing, with as much work as the reads are for one caller.
+# The speed of 8 threads that share nothing, beside one, with as much work as the reads are for one caller.
 plain_threads() {
     "${CC:-cc}" -O2 -pthread -o "$room/plain_threads" bench/plain_threads.c
     # shellcheck disable=SC2086

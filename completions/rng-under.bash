@@ -7,7 +7,7 @@ _rng_under() {
         --sweep --only --jobs --seconds --input --json'
     local cases='empty early no-device EPERM ENOSYS ENOSYS-early nothing late: interrupted: reseed: fork: cut:'
     COMPREPLY=()
-    # What stands behind the program's name is the program's own.
+    # The words after the program's name are the program's own.
     for ((at = 1; at < COMP_CWORD; at++)); do
         case ${COMP_WORDS[at]} in
         --prologue | --seed | --record | --asked | --most | --only | --jobs | --seconds | --input | --json) at=$((at + 1)) ;;

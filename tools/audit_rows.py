@@ -2,8 +2,8 @@
 """audit_rows.py [keys | live T | live C.E | line C.E] < SCRIPT_AND_TRANSCRIPT: a key audit, as `key_audit` writes it.
 
 It shares nothing with the crates: it was written from docs/TRANSCRIPT.md, docs/DEFINITIONS.md and docs/AUDIT.md. The
-crates go along each lane's list. Here all visits happen in the order of their stamps, and each key is an object that
-one holder hands to the next. It makes no bytes, is slow, and assumes that the transcript is lawful for the script.
+crates follow each lane's list. Here all visits are replayed in the order of their stamps, and each key is an object
+that one holder passes to the next. It makes no bytes, is slow, and assumes that the transcript is lawful for the script.
 """
 import sys
 
@@ -25,8 +25,8 @@ class Visit:
 class Moment:
     """An entry of a vgetrandom state. Its stamp is the one at which the call that left it was over."""
 
-    def __init__(self, caller, state, place, line, what):
-        self.caller, self.state, self.place, self.line, self.what = caller, state, place, line, what
+    def __init__(self, caller, state, place, line, entry):
+        self.caller, self.state, self.place, self.line, self.entry = caller, state, place, line, entry
         self.call, self.stamp = None, None
 
     def __str__(self):
@@ -76,37 +76,37 @@ def lane_of(step):
     return '~' if isinstance(step, int) else step.lane[0]
 
 
-# ---- What each visit is ------------------------------------------------------------------------------------------
+# ---- The roles of visits ----------------------------------------------------------------------------------------
 
-def tell_line(word, fields, steps):
+def give_roles(word, fields, steps):
     """Gives each visit of a line its role. A read has the length of its whole line."""
     lanes = [lane_of(step) for step in steps]
     for at, step in enumerate(steps):
         if isinstance(step, int):
             continue
         before = lanes[at - 1] if at else ''
-        behind = lanes[at + 1] if at + 1 < len(steps) else ''
+        after = lanes[at + 1] if at + 1 < len(steps) else ''
         if step.lane == 'p':
             own = (word in MIXES and at == 0) or (word == 'irq' and before == 'c')
             step.role = ('mix',) if own else ('extract',)
         elif step.lane == 'b':
-            step.role = base_role(word, fields, steps, at, before, behind)
+            step.role = base_role(word, fields, steps, at, before, after)
         else:
-            step.role = cpu_role(word, fields, steps, at, behind)
+            step.role = cpu_role(word, fields, steps, at, after)
 
 
-def base_role(word, fields, steps, at, before, behind):
+def base_role(word, fields, steps, at, before, after):
     root = steps[at - 1] if before == 'p' and steps[at - 1].role == ('extract',) else None
     if word in ('fork', 'end', 'tick', 'reseed', 'irq') or word in MIXES:
         return ('install', root) if root else ('other',)
-    if behind == 'b' or before == 'b':
+    if after == 'b' or before == 'b':
         return ('other',)
-    if behind == 'c':
+    if after == 'c':
         return ('refill', steps[at + 1])
     return ('draw', root) + taken_of(word, fields)
 
 
-def cpu_role(word, fields, steps, at, behind):
+def cpu_role(word, fields, steps, at, after):
     if word in ('irq', 'prepare', 'online'):
         return ('dump',) if word == 'irq' and at else (word,)
     refill = steps[at - 1] if lane_of(steps[at - 1]) == 'b' else None
@@ -116,7 +116,7 @@ def cpu_role(word, fields, steps, at, behind):
 
 
 def taken_of(word, fields):
-    """Which caller a read is for, and the read's bytes."""
+    """The kind of caller of a read, user or kernel, and the read's length."""
     if word == 'inside':
         return ('user', int(fields[3]))
     if word in WIDTHS:
@@ -131,16 +131,16 @@ class State:
         self.generation, self.at, self.count = 0, 0, 0
 
 
-class Course:
+class StateCalls:
     """The calls of one caller on its states, and the entries that they leave."""
 
     def __init__(self, caller, stamp):
         self.caller, self.stamp, self.states, self.current = caller, stamp, [State() for _ in range(16)], 0
         self.moments, self.calls, self.ends = [], 0, {}
 
-    def leave(self, line, *what):
+    def leave(self, line, *entry):
         state = self.states[self.current]
-        self.moments.append(Moment(self.caller, self.current, state.count, line, what))
+        self.moments.append(Moment(self.caller, self.current, state.count, line, entry))
         state.count += 1
 
     def over(self, numbers):
@@ -162,7 +162,7 @@ class Course:
             if not isinstance(step, int):
                 self.stamp = max(self.stamp, step.stamp)
 
-    def meet(self, line, acts, point):
+    def act_at(self, line, acts, point):
         is_wiped = False
         for at, words, steps, _ in acts:
             if at == point:
@@ -188,10 +188,10 @@ class Course:
         for number in (1, 2):
             bound = acts if number == 1 else []
             published = rest.pop(0) + 1
-            self.meet(line, bound, 1)
+            self.act_at(line, bound, 1)
             if state.generation != published:
                 state.generation = published
-                self.meet(line, bound, 2)
+                self.act_at(line, bound, 2)
                 rest.pop(0), rest.pop(0)
                 visit = rest.pop(0)
                 if visit.lane == 'b':
@@ -199,22 +199,22 @@ class Course:
                 visit.key_call = True
                 state.at = BATCH
                 self.leave(line, 'rekey', visit)
-            self.meet(line, bound, 3)
+            self.act_at(line, bound, 3)
             block = self.copy(line, block, length)
-            self.meet(line, bound, 4)
+            self.act_at(line, bound, 4)
             if rest.pop(0) + 1 == state.generation:
                 return
 
     def copy(self, line, block, length):
         """Adds the entries for a copy of `length` bytes; returns the key's next block."""
         state = self.states[self.current]
-        front = min(length, BATCH - state.at)
-        if front:
-            self.leave(line, 'serve', state.at, front)
-        state.at += front
-        if front == length:
+        first = min(length, BATCH - state.at)
+        if first:
+            self.leave(line, 'serve', state.at, first)
+        state.at += first
+        if first == length:
             return block
-        whole, last = divmod(length - front, BLOCK)
+        whole, last = divmod(length - first, BLOCK)
         if whole:
             self.leave(line, 'blocks', block, whole)
         self.leave(line, 'refill', block + whole)
@@ -230,36 +230,36 @@ def parents_of(events):
             for caller, lines in enumerate(events) for number, fields in enumerate(lines) if fields[0] == 'fork'}
 
 
-def tell_callers(events, steps):
+def entries_of(events, steps):
     """Gives each visit its role; returns the entries of all states, each caller's in order, and for each line the
     number of its call and the stamp at which that call was over."""
     parents, stamps, moments, ends = parents_of(events), {}, [], {}
     for caller, lines in enumerate(events):
         start = stamps.get(parents.get(caller), 0)
-        course, waiting = Course(caller, start), []
+        calls, waiting = StateCalls(caller, start), []
         last = max([n for n, fields in enumerate(lines) if fields[0] == 'vread'], default=-1)
         for number, fields in enumerate(lines + [['end']]):
             line, taken = '%d.%d' % (caller, number), steps[caller][number]
             word = fields[0]
-            tell_line('reseed' if fields[2:] == ['reseed'] and word == 'inside' else word, fields, taken)
+            give_roles('reseed' if fields[2:] == ['reseed'] and word == 'inside' else word, fields, taken)
             if word == 'inside' and number < last:
                 waiting.append((int(fields[1]), fields[2:], taken, number))
                 continue
             acts = []
             if word == 'vread':
                 acts, waiting = waiting, []
-                course.vread(line, int(fields[1]), int(fields[2]), acts, taken)
+                calls.vread(line, int(fields[1]), int(fields[2]), acts, taken)
             elif word == 'drop':
-                course.wipe(line)
+                calls.wipe(line)
             elif word == 'state':
-                course.current = int(fields[1])
+                calls.current = int(fields[1])
             if word == 'fork':
                 visits = [step for step in taken if not isinstance(step, int)]
-                stamps[(caller, number)] = visits[0].stamp if visits else course.stamp
-            course.passed(taken)
-            course.over([act[3] for act in acts] + [number])
-        moments += course.moments
-        ends.update(course.ends)
+                stamps[(caller, number)] = visits[0].stamp if visits else calls.stamp
+            calls.passed(taken)
+            calls.over([act[3] for act in acts] + [number])
+        moments += calls.moments
+        ends.update(calls.ends)
     return moments, ends
 
 
@@ -298,9 +298,9 @@ class Keys:
         key.uses.append((KEY, KEY, '=' + name))
         return self.make(name, 'call', moment)
 
-    def read(self, holder, own, call, who, length, moment, is_key=False):
+    def read(self, holder, own, call, reader, length, moment, is_key=False):
         key = self.erase(holder, own, moment)
-        if who == 'user' and length > KEY:
+        if reader == 'user' and length > KEY:
             longer = self.call_key(key, call, moment)
             longer.ended = moment
             longer.uses.append((64, length, '>' + moment.line))
@@ -356,23 +356,23 @@ class Keys:
     # -- states
 
     def state(self, moment):
-        holder, what = 'state%d.%d' % (moment.caller, moment.state), moment.what
+        holder, entry = 'state%d.%d' % (moment.caller, moment.state), moment.entry
         key = self.held.get(holder)
-        if what[0] == 'rekey':
+        if entry[0] == 'rekey':
             self.give_up(holder, moment)
-            self.take(holder, 'Call(Cpu(%s),%d)' % (what[1].lane[1:], what[1].place), moment)
-        elif what[0] == 'wipe':
+            self.take(holder, 'Call(Cpu(%s),%d)' % (entry[1].lane[1:], entry[1].place), moment)
+        elif entry[0] == 'wipe':
             self.give_up(holder, moment)
             self.end(holder, moment)
-        elif what[0] == 'blocks' and key:
-            key.uses.append((BLOCK * what[1], BLOCK * what[2], '>' + moment.line))
-        elif what[0] == 'refill':
-            self.refill(moment, holder, key, BLOCK * what[1])
-        elif what[0] == 'serve' and holder in self.batches:
+        elif entry[0] == 'blocks' and key:
+            key.uses.append((BLOCK * entry[1], BLOCK * entry[2], '>' + moment.line))
+        elif entry[0] == 'refill':
+            self.refill(moment, holder, key, BLOCK * entry[1])
+        elif entry[0] == 'serve' and holder in self.batches:
             batch = self.batches[holder]
-            batch[0].uses.append((batch[1], what[2], '>' + moment.line))
-            batch[1] += what[2]
-            batch[2] -= what[2]
+            batch[0].uses.append((batch[1], entry[2], '>' + moment.line))
+            batch[1] += entry[2]
+            batch[2] -= entry[2]
 
     def refill(self, moment, holder, key, start):
         number = self.refills.get(holder, 0)
@@ -416,7 +416,7 @@ def happened(things):
 def run_of(text):
     """The events of all callers, all visits and entries in the order in which they happened, and the ends of lines."""
     events, steps = read(text)
-    moments, ends = tell_callers(events, steps)
+    moments, ends = entries_of(events, steps)
     visits = [step for lines in steps for line in lines for step in line if not isinstance(step, int)]
     by_caller = sorted(enumerate(visits + moments), key=lambda of: rank(of[1])[:2] + of[:1])
     return events, [one for _, one in by_caller], ends
@@ -447,7 +447,7 @@ def holder_rank(holder):
 
 
 def live(text, at):
-    """The keys and rests that are held after a stamp or a line, and what can be computed from them."""
+    """The keys and rests that are held after a stamp or a line, and the bytes that can be computed from them."""
     _, run, ends = run_of(text)
     call, stamp = (None, int(at)) if '.' not in at else ends.get(at, (None, None))
     if stamp is None or stamp > max((one.stamp for one in run), default=-1):
@@ -520,12 +520,12 @@ def moments_of(events):
     forks, times = parents_of(events), []
     for caller, lines in enumerate(events):
         parent = forks.get(caller)
-        now, told = times[parent[0]][parent[1]] if parent else 0, []
+        now, found = times[parent[0]][parent[1]] if parent else 0, []
         for fields in lines + [['end']]:
             if fields[0] == 'at':
                 now = int(fields[1])
-            told.append(now)
-        times.append(told)
+            found.append(now)
+        times.append(found)
     return times
 
 
@@ -585,6 +585,6 @@ def main(words, text):
 
 
 if __name__ == '__main__':
-    told = list(main(sys.argv[1:], sys.stdin.read()))
-    print(*told, sep='\n', end='\n' if told else '')
-    sys.exit(1 if told in (['no stamp'], ['no line']) else 0)
+    answer = list(main(sys.argv[1:], sys.stdin.read()))
+    print(*answer, sep='\n', end='\n' if answer else '')
+    sys.exit(1 if answer in (['no stamp'], ['no line']) else 0)

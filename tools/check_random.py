@@ -6,7 +6,7 @@ check_random.py SCRIPTS [FIRST]
 Makes SCRIPTS scripts, numbered from FIRST on, which is 0 if left out. A number always gives the same script and the
 same changes. The program is `rng` at the top of the repository, or the one that RNG names. For each script:
 
-- The output of `rng run` is lawful (`rng check` says yes). So is the same transcript with later stamps, which no run of
+- The output of `rng run` is lawful (`rng check` prints yes). So is the same transcript with later stamps, which no run of
   a single caller writes.
 - With its answers and data blanked, the transcript is replayed as it was (`rng replay`).
 - With one field changed it is not lawful, and the check names one of the clauses that the change can break.
@@ -108,14 +108,14 @@ def change_word(draw, fields):
     return [fields[0], 'tick' if fields[1] != 'tick' else 'reseed', *fields[2:]], {2} if fields[1] != 'bits' else {1, 2}
 
 
-def leave_out(draw, fields):
+def drop_line(draw, fields):
     return None, {2}
 
 
 def change(draw, line):
     """A change of the line, and the clauses of which the check has to name one."""
     fields = line.split(' ')
-    able = [change_answer, change_data, change_event, change_word, leave_out]
+    able = [change_answer, change_data, change_event, change_word, drop_line]
     if visits_of(fields):
         able += [change_place] * 2
     if '~' in fields[3]:
@@ -134,7 +134,7 @@ def text_of(lines):
 
 
 def judge(number):
-    """What does not hold for one script, and how many lines its transcript has."""
+    """The faults of one script, and how many lines its transcript has."""
     script = Callers(number).script()
     status, transcript = rng('run', script)
     if status:
@@ -164,8 +164,8 @@ def main():
         found, some = judge(number)
         lines += some
         wrong += bool(found)
-        for what in found:
-            print('script %d: %s' % (number, what), flush=True)
+        for fault in found:
+            print('script %d: %s' % (number, fault), flush=True)
         done = number - first + 1
         if done % 500 == 0 or done == count:
             print('%d scripts, %d lines: %s of them wrong' % (done, lines, wrong or 'none'), flush=True)

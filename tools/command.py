@@ -1,4 +1,4 @@
-"""The words and the end of a command of tools/: instead of a traceback, one line on standard error says what is wrong,
+"""The words and the end of a command of tools/: instead of a traceback, one line on standard error names the fault,
 with status 2."""
 
 import os
@@ -9,7 +9,7 @@ FAULT = 2
 
 
 class Fault(Exception):
-    """What cannot be done, in words for the user."""
+    """A reason why the command cannot go on, in words for the user."""
 
 
 def say(name, text):
@@ -26,7 +26,7 @@ def words_of(fault):
 
 
 def fault_of(words, fewest, most, options, are_numbers):
-    """What is wrong with the words, or an empty text."""
+    """The fault of the words, or an empty text."""
     for word in words:
         if word.startswith("-") and word != "-":
             if word not in options:
@@ -55,7 +55,7 @@ def take(text, fewest=0, most=0, options=(), are_numbers=False):
 
 
 def let_go_of_output():
-    """Keeps Python from writing again, at its end, what could not be written."""
+    """Keeps Python from writing again, at its end, the output that could not be written."""
     try:
         os.dup2(os.open(os.devnull, os.O_WRONLY), 1)
     except OSError:

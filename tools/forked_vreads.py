@@ -1,10 +1,10 @@
 #!/usr/bin/env python3
-"""Compares `rng vfork` at all points of both attempts with what the parts of tools/replay.py give.
+"""Compares `rng vfork` at all points of both attempts with the bytes that the parts of tools/replay.py give.
 
     forked_vreads.py [LENGTH..]
 
 The program is `rng` at the top of the repository, or the one that RNG names. If no lengths are given, they are those
-around the sizes of keys, blocks and batches, up to the greatest. Parent and child must share no 16 bytes at the same
+near the sizes of keys, blocks and batches, up to the greatest. Parent and child must share no 16 bytes at the same
 place. Each difference is printed, and the status is then 1.
 """
 import copy
@@ -21,14 +21,14 @@ LENGTHS = (1, 2, 15, 16, 31, 32, 33, 40, 63, 64, 65, 95, 96, 97, 100, 127, 128, 
 
 
 class Call:
-    """A vgetrandom call that has reached a point, before what happens at that point."""
+    """A vgetrandom call that has reached a point, before the acts at that point."""
 
     def __init__(self, length, published):
         self.length, self.published = length, published
         self.attempt, self.point, self.number, self.buffer = 1, 1, 0, b''
 
 
-def behind(core, state, call):
+def advance(core, state, call):
     """Goes on to the next point, or returns the bytes if the call ends."""
     if call.point == 1 and state.generation != call.published:
         state.generation, call.point = call.published, 2
@@ -52,7 +52,7 @@ def behind(core, state, call):
 def finish(core, state, call):
     found = None
     while found is None:
-        found = behind(core, state, call)
+        found = advance(core, state, call)
     return found
 
 
@@ -65,7 +65,7 @@ def forked(point, attempt, length):
     while (call.attempt, call.point) != (attempt, point):
         if attempt == 2 and (call.attempt, call.point) == (1, 3):
             core.reseed()
-        if behind(core, state, call) is not None:
+        if advance(core, state, call) is not None:
             sys.exit('a call of %d bytes does not come to point %d of attempt %d' % (length, point, attempt))
     core.visit('b')
     child = copy.copy(call)
@@ -81,7 +81,7 @@ def longest_run(one, other):
 
 
 def compare(point, attempt, length):
-    """What is wrong, or nothing."""
+    """The fault, or an empty text."""
     wanted = forked(point, attempt, length)
     done = subprocess.run([PROGRAM, 'vfork', str(point), str(attempt), str(length)], stdout=subprocess.PIPE)
     if done.returncode != 0:

@@ -1,5 +1,5 @@
 #!/usr/bin/env python3
-"""Compares random vreads, with wipes, nested reads and reseeds inside, with what tools/replay.py works out.
+"""Compares random vreads, with wipes, nested reads and reseeds inside, with the results of tools/replay.py.
 
     random_vreads.py [SEED [VREADS]]
 
@@ -31,7 +31,7 @@ def acts(draw):
 
 
 def between(draw):
-    """What happens between two vreads, so that now and then a state loses its key and bytes."""
+    """The events between two vreads, chosen so that now and then a state loses its key and bytes."""
     return draw.choice(([], [], [], ['reseed'], ['drop'], ['state %d' % draw.randint(0, 1)], ['on %d' % draw.randint(0, 1)],
                         ['read 40 0'], ['vmfork 1 aa'], ['at %d' % draw.randint(0, 10 ** 6)]))
 

@@ -285,9 +285,9 @@ class Caller:
         return bytes_of_read(used, length, for_user)
 
     def read(self, length, for_user):
-        return self.read_behind(self.look(), length, for_user)
+        return self.read_after(self.look(), length, for_user)
 
-    def read_behind(self, look, length, for_user):
+    def read_after(self, look, length, for_user):
         return self.read_cpu(length, for_user) if look else self.draw(length, for_user)
 
     def system_call(self, length, flags):
@@ -301,7 +301,7 @@ class Caller:
             self.visit('b')
             self.visit('b')
             raise Refused('EINTR')
-        return self.read_behind(look, length, True) if length else b''
+        return self.read_after(look, length, True) if length else b''
 
     def integer(self, width):
         """`get_random_u8` to `get_random_u64`"""
@@ -335,15 +335,15 @@ class Caller:
         state.in_use, self.number = True, 0
         for attempt in (1, 2):
             published = self.look() + 1
-            self.meet(1, attempt, acts)
+            self.act_at(1, attempt, acts)
             if state.generation != published:
                 state.generation = published
-                self.meet(2, attempt, acts)
+                self.act_at(2, attempt, acts)
                 state.key = self.system_call(32, 0)
                 state.at = BATCH
-            self.meet(3, attempt, acts)
+            self.act_at(3, attempt, acts)
             answer = self.take(state, length)
-            self.meet(4, attempt, acts)
+            self.act_at(4, attempt, acts)
             if self.look() + 1 == state.generation:
                 state.in_use = False
                 return answer
@@ -373,7 +373,7 @@ class Caller:
         state.batch, state.key, state.at = fresh[:BATCH], fresh[BATCH:], 0
         return answer + self.copy(state, length - len(answer))
 
-    def meet(self, point, attempt, acts):
+    def act_at(self, point, attempt, acts):
         """Makes the acts of a point. Their steps go to the acts' own lines."""
         for act in acts if attempt == 1 else []:
             if act['point'] == point:
@@ -459,7 +459,7 @@ def shown(data):
 def transcript(script):
     lines = script.splitlines()
     caller = Caller(int(lines[1].split()[1]))
-    told = []
+    lines_made = []
     for event in lines[3:lines.index('end')]:
         words = event.split(' ')
         if words[0] == 'inside':
@@ -470,12 +470,12 @@ def transcript(script):
             caller.steps = []
             answer, data = caller.event(words)
             line = {'word': words[0], 'answer': answer, 'data': data, 'steps': caller.steps}
-        told.append(line)
+        lines_made.append(line)
     caller.steps = []
     caller.visit('b')
-    told.append({'word': 'end', 'answer': 'ok', 'data': b'', 'steps': caller.steps})
+    lines_made.append({'word': 'end', 'answer': 'ok', 'data': b'', 'steps': caller.steps})
     yield 'rngtranscript 1'
-    for number, line in enumerate(told):
+    for number, line in enumerate(lines_made):
         steps = ','.join(line['steps']) or '-'
         yield '0.%d %s %s %s %s' % (number, line['word'], line['answer'], steps, shown(line['data']))
     yield 'end'
@@ -491,11 +491,11 @@ def main(words):
     if words and not {'-h', '--help'} & set(words):
         return fail('%r is not taken: the script is on standard input; --help has more' % words[0])
     try:
-        told = __doc__.strip() if words else '\n'.join(transcript(sys.stdin.read()))
+        text = __doc__.strip() if words else '\n'.join(transcript(sys.stdin.read()))
     except Exception:  # pylint: disable=broad-except
         return fail('the input is no script of one caller: `rng run` names the fault')
     try:
-        print(told, flush=True)
+        print(text, flush=True)
     except OSError as fault:
         os.dup2(os.open(os.devnull, os.O_WRONLY), 1)
         return fail('standard output: %s' % fault.strerror)

@@ -50,7 +50,7 @@ def marks_of(line):
 
 
 class Count:
-    """What was counted in a text."""
+    """The counts of a text."""
 
     def __init__(self, text):
         lines = [line for _, line in plain_lines(text)]

@@ -1,4 +1,4 @@
-"""The two functions of fenloth_texts.h, in Python. docs/USING.md says how the library is built.
+"""The two functions of fenloth_texts.h, in Python. docs/USING.md shows how to build the library.
 
     python3 check_texts.py ./libfenloth_c.so SCRIPT TRANSCRIPT
 """

@@ -2,7 +2,7 @@
  * fenloth.h: a live core of Linux's random number generator, for tests in C. It is the program `rng live`, by two pipes.
  *
  * The program is the one that is passed to fenloth_open, or else the environment's RNG, or else rng on the PATH. A call
- * returns what the kernel's call returns: -1 and errno if it fails. If the program dies, refuses a line or answers out
+ * returns the result of the kernel's call: -1 and errno if it fails. If the program dies, refuses a line or answers out
  * of order, this call and all later ones return -1 with EIO, and core->problem has the reason. Only the process that
  * opened a core may use it, one thread at a time. With -std=c99 define _POSIX_C_SOURCE as 200809L first.
  */
@@ -28,7 +28,7 @@ extern char **environ;
 struct fenloth {
     pid_t program;                             /* 0 if none is running */
     int to, from;                              /* the pipes */
-    unsigned long events;                      /* how many were asked for */
+    unsigned long events;                      /* the number of events that were sent */
     FILE *script, *transcript;                 /* the record, or NULL */
     char *text, *line, *answer, *data;         /* the last event, its line of the transcript, and two fields of it */
     char problem[256];
@@ -257,7 +257,7 @@ static inline int fenloth_credit(struct fenloth *core, int bits)
     return bits < 0 ? (errno = EINVAL, -1) : fenloth_event(core, event);
 }
 
-/* getrandom(2). Fails with EAGAIN, EINVAL, or EINTR if the kernel would wait, since nobody here can end a wait. */
+/* getrandom(2). Fails with EAGAIN, EINVAL, or EINTR if the kernel would wait, since no other caller could end the wait. */
 static inline ssize_t fenloth_getrandom(struct fenloth *core, void *to, size_t n, unsigned flags)
 {
     char rest[16];

@@ -68,7 +68,7 @@ def find_program(program: str | None = None) -> str:
 
 
 def judge(record: bytes, program: str | None = None) -> Verdict:
-    """Asks `rng check` whether a script and the transcript after it are lawful."""
+    """Tests by `rng check` whether a script and the transcript after it are lawful."""
     ran = subprocess.run([find_program(program), "check"], input=record, capture_output=True, check=False)
     answer, words = ran.stdout.decode(errors="replace").strip(), ran.stderr.decode(errors="replace").strip()
     if (ran.returncode, answer) == (0, "yes"):
@@ -201,7 +201,7 @@ class Core:
             return _all_of(self._script) + _all_of(self._transcript)
 
     def check(self) -> Verdict:
-        """Ends the session, and asks `rng check` whether its record is lawful. Raises FenlothError if the core failed."""
+        """Ends the session, and tests by `rng check` whether its record is lawful. Raises FenlothError if the core failed."""
         self.close()
         if self._problem:
             raise FenlothError(self._problem)

@@ -1,5 +1,5 @@
 /*
- * fenloth_texts.h: what `rng check` and `rng replay` do, as two C functions over texts in memory. They are proved to meet
+ * fenloth_texts.h: `rng check` and `rng replay` as two C functions over texts in memory. They are proved to meet
  * the contracts of crates/fenloth_c/src/lib.rt, if the caller keeps to the rules below; nothing checks the caller.
  *
  * Each text is a pointer and its number of bytes; no byte 0 is needed after it. No pointer may be NULL, even with 0 bytes.

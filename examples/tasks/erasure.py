@@ -1,5 +1,5 @@
 #!/usr/bin/env python3
-"""The life of each key of erasure.script, by its name: what the transcript's reads serve, worked out key by key."""
+"""The life of each key of erasure.script, by its name, and the bytes that the transcript's reads serve, computed key by key."""
 import os
 import sys
 

@@ -1,5 +1,5 @@
 /* If this is loaded before the C library (LD_PRELOAD), it refuses request number FAIL_ALLOC for memory, and counts the
-   requests. At the end it writes into the file FAIL_ALLOC_TOLD how many requests there were, how many of them came
+   requests. At the end it writes into the file FAIL_ALLOC_COUNTS how many requests there were, how many of them came
    after the first start of a thread, how many of those the C library made to start a thread, and how many threads
    started. */
 #define _GNU_SOURCE
@@ -17,7 +17,7 @@ extern void *__libc_calloc(size_t, size_t);
 extern void *__libc_realloc(void *, size_t);
 extern void *__libc_memalign(size_t, size_t);
 
-static atomic_ulong all, behind_start, in_start, starts;
+static atomic_ulong all, after_start, in_start, starts;
 static __thread int starting;
 
 static int is_refused(void)
@@ -31,7 +31,7 @@ static int is_refused(void)
 		atomic_store(&wanted, refused);
 	}
 	if (atomic_load(&starts))
-		atomic_fetch_add(&behind_start, 1);
+		atomic_fetch_add(&after_start, 1);
 	if (starting)
 		atomic_fetch_add(&in_start, 1);
 	if (number != refused)
@@ -88,11 +88,11 @@ int pthread_create(pthread_t *thread, const pthread_attr_t *attr, void *(*run)(v
 	return answer;
 }
 
-static void tell(void)
+static void write_counts(void)
 {
-	unsigned long counts[] = { atomic_load(&all), atomic_load(&behind_start), atomic_load(&in_start),
+	unsigned long counts[] = { atomic_load(&all), atomic_load(&after_start), atomic_load(&in_start),
 				   atomic_load(&starts) };
-	const char *name = getenv("FAIL_ALLOC_TOLD");
+	const char *name = getenv("FAIL_ALLOC_COUNTS");
 	FILE *file = name ? fopen(name, "w") : NULL;
 
 	if (!file)
@@ -104,7 +104,7 @@ static void tell(void)
 /* The program ends here, and runs no destructor. */
 void _exit(int status)
 {
-	tell();
+	write_counts();
 	for (;;)
 		syscall(SYS_exit_group, status);
 }

@@ -135,7 +135,7 @@ static const char *answer_of(long status)
     }
 }
 
-static void tell_at(size_t event, const char *answer, const u8 *data, size_t count)
+static void answer_at(size_t event, const char *answer, const u8 *data, size_t count)
 {
     static const char digits[] = "0123456789abcdef";
     size_t length = strlen(answer);
@@ -155,16 +155,16 @@ static void tell_at(size_t event, const char *answer, const u8 *data, size_t cou
     answers[event] = line;
 }
 
-static void tell(const char *answer)
+static void answer_now(const char *answer)
 {
-    tell_at(events, answer, NULL, 0);
+    answer_at(events, answer, NULL, 0);
 }
 
-static void tell_read_at(size_t event, long status, const u8 *data, size_t count)
+static void answer_read_at(size_t event, long status, const u8 *data, size_t count)
 {
     if (status >= 0 && (size_t)status != count)
         fail("a short read");
-    tell_at(event, answer_of(status), data, status < 0 ? 0 : count);
+    answer_at(event, answer_of(status), data, status < 0 ? 0 : count);
 }
 
 /* Acts inside a vread */
@@ -173,12 +173,12 @@ static void act_at(struct act *act)
 {
     if (!strcmp(act->word, "wipe")) {
         memset(state, 0, sizeof(*state));
-        tell_at(act->event, "ok", NULL, 0);
+        answer_at(act->event, "ok", NULL, 0);
     } else if (!strcmp(act->word, "reseed")) {
-        tell_at(act->event, answer_of(random_ioctl(NULL, RNDRESEEDCRNG, 0)), NULL, 0);
+        answer_at(act->event, answer_of(random_ioctl(NULL, RNDRESEEDCRNG, 0)), NULL, 0);
     } else {
         long status = __cvdso_getrandom_data(&rng_data, nested_bytes, act->count, 0, state, sizeof(*state));
-        tell_read_at(act->event, status, nested_bytes, act->count);
+        answer_read_at(act->event, status, nested_bytes, act->count);
     }
 }
 
@@ -194,7 +194,7 @@ static void reach(int point)
     reached = point == POINTS ? POINTS + 1 : point;
 }
 
-/* The places at which the vDSO's code is caught, by what it reads or does there. */
+/* The places at which the vDSO's code is caught, by its read or write there. */
 void passed(const char *place)
 {
     if (!strcmp(place, "rng_info->generation"))
@@ -251,7 +251,7 @@ static void do_setting(const char *word, char *rest)
     } else {
         memset(state, 0, sizeof(*state));
     }
-    tell("ok");
+    answer_now("ok");
 }
 
 static void do_write(char *rest)
@@ -260,7 +260,7 @@ static void do_write(char *rest)
     struct iov_iter iter = {bytes, count};
     if (random_write_iter(NULL, &iter) != (ssize_t)count)
         fail("a short write");
-    tell("ok");
+    answer_now("ok");
 }
 
 static void do_add(char *rest)
@@ -270,7 +270,7 @@ static void do_add(char *rest)
     int header[2] = {number(&rest), count};
     memcpy(given, header, sizeof(header));
     memcpy(given + sizeof(header), bytes, count);
-    tell(answer_of(random_ioctl(NULL, RNDADDENTROPY, (unsigned long)given)));
+    answer_now(answer_of(random_ioctl(NULL, RNDADDENTROPY, (unsigned long)given)));
 }
 
 static void do_device(const char *word, char *rest)
@@ -281,7 +281,7 @@ static void do_device(const char *word, char *rest)
         add_device_randomness(bytes, count);
     else
         add_vmfork_randomness(bytes, count);
-    tell("ok");
+    answer_now("ok");
 }
 
 static void do_bits(void)
@@ -297,7 +297,7 @@ static void do_bits(void)
 static void do_credit(char *rest)
 {
     int bits = number(&rest);
-    tell(answer_of(random_ioctl(NULL, RNDADDTOENTCNT, (unsigned long)&bits)));
+    answer_now(answer_of(random_ioctl(NULL, RNDADDTOENTCNT, (unsigned long)&bits)));
 }
 
 static void do_irq(char *rest)
@@ -310,7 +310,7 @@ static void do_irq(char *rest)
         due_timer = NULL;
         timer->function(timer);
     }
-    tell("ok");
+    answer_now("ok");
 }
 
 static void do_input(char *rest)
@@ -318,7 +318,7 @@ static void do_input(char *rest)
     cycles = number(&rest);
     unsigned int type = number(&rest), code = number(&rest), value = number(&rest);
     add_input_randomness(type, code, value);
-    tell("ok");
+    answer_now("ok");
 }
 
 static void do_file_read(const char *word, char *rest)
@@ -329,16 +329,16 @@ static void do_file_read(const char *word, char *rest)
     struct kiocb kiocb = {0, &file};
     if (!strcmp(word, "dread")) {
         file.f_flags = number(&rest) ? O_NONBLOCK : 0;
-        tell_read_at(events, random_read_iter(&kiocb, &iter), bytes, count);
+        answer_read_at(events, random_read_iter(&kiocb, &iter), bytes, count);
     } else {
-        tell_read_at(events, urandom_read_iter(&kiocb, &iter), bytes, count);
+        answer_read_at(events, urandom_read_iter(&kiocb, &iter), bytes, count);
     }
 }
 
 static void do_read(char *rest)
 {
     size_t count = number(&rest);
-    tell_read_at(events, call_getrandom((char *)bytes, count, number(&rest)), bytes, count);
+    answer_read_at(events, call_getrandom((char *)bytes, count, number(&rest)), bytes, count);
 }
 
 static void do_vread(char *rest)
@@ -349,7 +349,7 @@ static void do_vread(char *rest)
     long status = __cvdso_getrandom_data(&rng_data, bytes, count, flags, state, sizeof(*state));
     reached = -1;
     waiting = 0;
-    tell_read_at(events, status, bytes, count);
+    answer_read_at(events, status, bytes, count);
 }
 
 static void do_inside(char *rest)
@@ -358,7 +358,7 @@ static void do_inside(char *rest)
     act->event = events;
     act->point = number(&rest);
     sscanf(rest, "%7s %zu", act->word, &act->count);
-    tell("unused");
+    answer_now("unused");
 }
 
 static void do_integer(const char *word)
@@ -367,19 +367,19 @@ static void do_integer(const char *word)
                 : !strcmp(word, "int16") ? get_random_u16()
                 : !strcmp(word, "int32") ? get_random_u32()
                                          : get_random_u64();
-    tell_at(events, "ok", (u8 *)&value, atoi(word + 3) / 8);
+    answer_at(events, "ok", (u8 *)&value, atoi(word + 3) / 8);
 }
 
 static void do_tick(void)
 {
     struct delayed_work *work = due_work;
     if (!work || jiffies < due_at) {
-        tell("idle");
+        answer_now("idle");
         return;
     }
     due_work = NULL;
     work->work.func(&work->work);
-    tell("fired");
+    answer_now("fired");
 }
 
 static void do_event(const char *word, char *rest)
@@ -411,15 +411,15 @@ static void do_event(const char *word, char *rest)
     else if (!strcmp(word, "tick"))
         do_tick();
     else if (!strcmp(word, "reseed"))
-        tell(answer_of(random_ioctl(NULL, RNDRESEEDCRNG, 0)));
+        answer_now(answer_of(random_ioctl(NULL, RNDRESEEDCRNG, 0)));
     else if (!strcmp(word, "kread")) {
         size_t count = number(&rest);
         get_random_bytes(bytes, count);
-        tell_read_at(events, count, bytes, count);
+        answer_read_at(events, count, bytes, count);
     } else if (!strcmp(word, "prepare") || !strcmp(word, "online")) {
         unsigned int cpu = number(&rest);
         word[0] == 'p' ? random_prepare_cpu(cpu) : random_online_cpu(cpu);
-        tell("ok");
+        answer_now("ok");
     } else {
         do_setting(word, rest);
     }
