@@ -868,7 +868,7 @@ static void read_script(void)
 }
 
 #ifdef READS_FIRST
-/* An event in 24 bytes: where its fields begin in the text, and its numbers if they are at most two and all of its
+/* An event in 24 bytes: the place of its fields in the text, and its numbers if they are at most two and all of its
    fields. The fields of other events are read again. Bytes beside a number may be spelt as one. */
 struct event {
     uint64_t numbers[2];

@@ -45,7 +45,7 @@ crates_in_order() {
         END { visit(built) }' "$top/crates.txt"
 }
 
-# The folders of code and definitions, on one line. They determine the program and what is proved of it. Proofs are left
+# The folders of code and definitions, on one line. They determine the program and its theorems. Proofs are left
 # out: other proofs of the same contracts make no other program.
 folders_of_sources() {
     for name in $(crates_in_order); do

@@ -1,5 +1,5 @@
 /*
- * Prints the answer of fenloth_check, and the transcript that fenloth_replay makes. docs/USING.md says how this is built.
+ * Prints the answer of fenloth_check, and the transcript that fenloth_replay makes. docs/USING.md shows how to build it.
  *
  *     ./check_texts SCRIPT TRANSCRIPT
  */

@@ -76,7 +76,7 @@ class Answer:
         self.value = value  # the first bytes in hexadecimal, or None
         self.before = 0  # bytes of the event's answer that come before those of the call
         self.digest = None  # the SHA-256 of all bytes, if only the first are kept
-        self.who = who  # moment, process, thread, what the CPU does, and the task's name
+        self.who = who  # moment, process, thread, kind of context, and the task's name
         self.since = since  # the moment at which a call began that may have waited
         self.function = function  # the kernel's function that made the call
 

@@ -1,10 +1,10 @@
 """Records the steps of the random core of a Linux kernel while it boots. Run by gdb, attached to QEMU's stub.
 
 `record` starts QEMU halted and then this file. It waits until the kernel's text is in memory, looks up in it the places
-where a step of the core is committed, and notes each time that a CPU comes there: one line of JSON for each stop.
+at which a step of the core is committed, and notes each time that a CPU comes there: one line of JSON for each stop.
 
-A step is noted where it is committed: after it took its lock, and before it releases that lock. So the record has the
-order in which the locks were taken, and nothing has to be moved afterwards. Calls are also noted where they begin and
+A step is noted when it is committed: after it took its lock, and before it releases that lock. So the record has the
+order in which the locks were taken, and nothing has to be moved afterwards. Calls are also noted when they begin and
 end, for their arguments and for the values that they hand out, but that order decides nothing.
 
 The places are found by the instructions near them (after the call of a lock, after the load of the generation, before a return), in
@@ -271,11 +271,11 @@ class Recorder:
 
     def leave(self, call, value=None):
         pointer = register("rsp")
-        who = {}
+        more = {}
         if value is not None:
             self.left -= 1
-            who["who"] = self.tasks.who()
-        self.put(stop="leave", call=call, stack=pointer // STACK, pointer=pointer, value=value, **who)
+            more["who"] = self.tasks.who()
+        self.put(stop="leave", call=call, stack=pointer // STACK, pointer=pointer, value=value, **more)
 
     def commit(self, step, **fields):
         self.put(stop=step, stack=register("rsp") // STACK, **fields)

@@ -5,7 +5,7 @@ import unittest
 
 import vdso_places
 
-# What a compiler may make of vgetrandom, without the code between the places.
+# A listing as a compiler may make it of vgetrandom, without the code between the places.
 LISTING = """endbr64
 push   %rbp
 mov    %rsp,%rbp

@@ -1,4 +1,4 @@
-"""Tests of who: the rows say which process was served before the core was ready, which waited, and which got EAGAIN."""
+"""Tests of who: the rows list the processes that were served before the core was ready, that waited, and that got EAGAIN."""
 
 import contextlib
 import importlib.machinery

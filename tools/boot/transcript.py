@@ -213,7 +213,7 @@ def shown_calls(reader, made):
     reason."""
     callers, parts, left = {}, set(), {}
     for call in sorted((it for it in reader.calls if it.attempts), key=lambda it: it.begun):
-        caller = callers.setdefault(call.where, StateCaller())
+        caller = callers.setdefault(call.address, StateCaller())
         why = caller.why_not(call)
         if why:
             left[why] = left.get(why, 0) + 1

@@ -50,10 +50,10 @@ class Attempt:
 class UserCall(Event):
     """A call of vgetrandom. It becomes an event once all of it was seen."""
 
-    def __init__(self, stop, where, is_child, now):
+    def __init__(self, stop, address, is_child, now):
         super().__init__("vread")
-        self.stop, self.where, self.is_child = stop, where, is_child
-        self.begun = now  # where in the record it begins, or begins with its state
+        self.stop, self.address, self.is_child = stop, address, is_child
+        self.begun = now  # the place in the record at which it begins, or begins with its state
         self.is_shown = False
         self.point = 0
         self.attempts = []
@@ -108,11 +108,11 @@ class UserReader(Reader):
         for key in [key for key in self.open if key[0] == stop["mm"]]:
             del self.open[key]
 
-    def where(self, stop):
+    def address(self, stop):
         return stop["mm"], self.eras.get(stop["mm"], 0), stop["state"]
 
     def begin(self, stop, is_child=False):
-        call = UserCall(stop, self.where(stop), is_child, self.now)
+        call = UserCall(stop, self.address(stop), is_child, self.now)
         self.calls.append(call)
         self.open[stop["mm"], stop["pointer"]] = call
         self.ended.discard((stop["mm"], stop["pointer"]))
@@ -130,7 +130,7 @@ class UserReader(Reader):
             self.note("asked for the size of a state" if asks else "no state: its system call is shown as a read")
             self.ended.add(key)
             return
-        enclosing = [it for it in self.open.values() if it.where == self.where(stop)]
+        enclosing = [it for it in self.open.values() if it.address == self.address(stop)]
         thread = stop["who"][2]
         is_first = not any(it.stop.get("who", (0, 0, None))[2] == thread for it in self.open.values())
         call = self.begin(stop)
@@ -160,7 +160,7 @@ class UserReader(Reader):
             return  # seen twice
         if not call.attempts:
             call.begun = self.now
-            self.order.take(f"state {call.where}", call)
+            self.order.take(f"state {call.address}", call)
         call.attempts.append(Attempt(stop))
         call.point = 5 if stop["second"] or len(call.attempts) > 1 else 1
 
@@ -229,7 +229,7 @@ class UserReader(Reader):
                 call.asked = stop
 
     def is_for_key(self, call, stop):
-        return stop["wanted"] == KEY and stop["buffer"] == call.where[2] + KEY_AT
+        return stop["wanted"] == KEY and stop["buffer"] == call.address[2] + KEY_AT
 
     def event_of(self, stop, calls):
         event = super().event_of(stop, calls)
@@ -278,9 +278,9 @@ class UserReader(Reader):
         for call in sorted(self.calls, key=lambda it: it.begun):
             self.show_call(call)
 
-    def fresh(self, where):
+    def fresh(self, address):
         self.count += 1
-        self.memories[where] = self.count
+        self.memories[address] = self.count
         return self.count
 
     def show_call(self, call):
@@ -300,11 +300,11 @@ class UserReader(Reader):
 
     def leave_out(self, call, why):
         self.note(why)
-        self.memories[call.where] = None
+        self.memories[call.address] = None
 
     def show_without_attempt(self, call):
         """Nothing was served from the state, and it is as it was."""
-        call.memory = self.memories.get(call.where)
+        call.memory = self.memories.get(call.address)
         flags, count = call.stop["flags"], call.stop["count"]
         call.word = f"vread {count} {flags}"
         if call.part_of is not None:
@@ -328,12 +328,12 @@ class UserReader(Reader):
         first = call.attempts[0]
         if not call.is_child:
             if first.needs_key and (call.stop["wiped"] or self.is_cut):
-                self.fresh(call.where)
-            if self.memories.get(call.where) is None:
+                self.fresh(call.address)
+            if self.memories.get(call.address) is None:
                 if not first.needs_key:
                     self.leave_out(call, "not shown: the content of its state is not known")
                     return
-                self.fresh(call.where)
+                self.fresh(call.address)
         why = self.why_not_whole(call)
         if not why:
             self.show_as(call, call.attempts, 0)
@@ -343,12 +343,12 @@ class UserReader(Reader):
             self.leave_out(call, "not shown: a longer read would be too long")
         else:
             self.note(f"shown as the end of a longer read: {why}")
-            self.fresh(call.where)
+            self.fresh(call.address)
             call.acts, call.hardware = [], None
             self.show_as(call, call.attempts[-1:], BLOCK * call.attempts[-1].before())
 
     def show_as(self, call, attempts, before):
-        call.is_shown, call.memory = True, self.memories[call.where]
+        call.is_shown, call.memory = True, self.memories[call.address]
         call.word = f"vread {call.stop['count'] + before} {call.stop['flags']}"
         call.answer.before = before
         for attempt in attempts:

@@ -41,7 +41,7 @@ class Listing:
     """The instructions of vgetrandom, as pairs of an offset in the vDSO and a text without comments."""
 
     def __init__(self, lines):
-        # The function ends where ChaCha begins, at the second mark of a branch's target.
+        # The function ends at the beginning of ChaCha, the second mark of a branch's target.
         self.chacha = only([at for at, text in lines if text == "endbr64"][1:2], "of an end")
         self.lines = [(at, text) for at, text in lines if at < self.chacha]
 
@@ -51,7 +51,7 @@ class Listing:
         return [it for it, (_, text) in enumerate(self.lines[:last]) if it >= first and re.match(pattern, text)]
 
     def places(self):
-        """The offsets of each kind of stop, the state's register, and where the function keeps the number of its
+        """The offsets of each kind of stop, the state's register, and the place in which the function keeps the number of its
         attempt."""
         text_of, at = [text for _, text in self.lines], [at for at, _ in self.lines]
         only(self.numbers(r"push +%rbp", 0, 3), "of a frame's beginning")
@@ -73,7 +73,7 @@ class Listing:
         return {stop: [at[it] for it in places] for stop, places in found.items()}, state, self.second(end)
 
     def second(self, end):
-        """Where the function keeps the number of its attempt: the word's distance from the frame, its size, the value
+        """The place in which the function keeps the number of its attempt: the word's distance from the frame, its size, the value
         that it is compared with when the last look finds another generation, and whether the second attempt has this
         value."""
         text_of, at = [text for _, text in self.lines], [at for at, _ in self.lines]
@@ -125,7 +125,7 @@ class Vgetrandom:
         start, length = self.number(symbol + 8), self.number(symbol + 16)
         architecture = self.machine.gdb.selected_frame().architecture()
         lines = []
-        for it in architecture.disassemble(image + start, image + start + length + ALIGNED + 4):  # and where ChaCha begins
+        for it in architecture.disassemble(image + start, image + start + length + ALIGNED + 4):  # and the beginning of ChaCha
             text = re.sub(r"\s*(#.*|<.*>)?$", "", it["asm"])
             text = re.sub(r"0x([0-9a-f]{16})\b", lambda found: f"{int(found.group(1), 16) - image:x}", text)
             lines.append((it["addr"] - image, text))

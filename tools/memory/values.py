@@ -1,7 +1,7 @@
 """Every value that a replayed boot made in its core, by the names of docs/AUDIT.md, and the value that each is computed from.
 
 Roots and the pool's content come from a replay of the pool (tools/replay.py). Every other key comes from the rows of
-the key audit alone: a row says which bytes of which key's keystream the key is. Both ways must give the served bytes of
+the key audit alone: a row lists the bytes of another key's keystream that the key is. Both must give the served bytes of
 the transcript: values that differ there are not used.
 """
 

@@ -1,5 +1,5 @@
 "use strict";
-// Finds where a transcript fails the clause that `check` names. If the program itself names the place, that is used.
+// Finds the place at which a transcript fails the clause that `check` names. If the program itself names the place, that is used.
 // Otherwise this searches the place: by the grammar, by the script, or by running the program on changed texts.
 // `ask` runs `rng` on words and an input.
 

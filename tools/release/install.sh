@@ -12,10 +12,10 @@ Installs rng, fenloth (the same program), rng-audit, rng-under and more below PR
 checks the files' sums first, and overwrites no file that it did not install. An older release that is there is taken away
 first. Try sh install.sh ~/.local, or as root sh install.sh /usr/local.
 
-uninstall takes away what was installed below PREFIX, and the folders that were made for it if nothing else is in them.
-PREFIX/lib/fenloth/uninstall does the same.
+uninstall removes the files that were installed below PREFIX, and the folders that were made for them if nothing else is
+in them. PREFIX/lib/fenloth/uninstall does the same.
 
-Exit status: 0 done, 1 nothing was changed, or what was begun was taken back, 2 usage.
+Exit status: 0 done, 1 nothing was changed, or all changes were undone, 2 usage.
 END
 }
 
@@ -58,7 +58,7 @@ check_runs() {
     done
 }
 
-# No file of anybody else is overwritten. Files of an older release are removed first.
+# No file of another origin is overwritten. Files of an older release are removed first.
 check_free() {
     files | while IFS= read -r name; do
         if { [ -e "$prefix/$name" ] || [ -h "$prefix/$name" ]; } && ! grep -qsxF "f $name" "$prefix/$list"; then
@@ -99,13 +99,13 @@ install() {
     check_runs
     check_free
     if [ -f "$prefix/$list" ]; then
-        say "taking away $(sed q "$prefix/$own/RELEASE" 2>/dev/null || echo 'what was installed') first"
+        say "taking away $(sed q "$prefix/$own/RELEASE" 2>/dev/null || echo 'the installed files') first"
         uninstall
     fi
     made=
     make_folder "$prefix/$own" || refuse "$prefix/$own cannot be made"
     printf '%s' "$made" >"$prefix/$list" || refuse "$prefix cannot be written"
-    trap 'say "taking back what was begun"; uninstall; exit 1' INT TERM HUP
+    trap 'say "undoing all changes"; uninstall; exit 1' INT TERM HUP
     if ! { make_all && copy; }; then
         uninstall
         refuse "the files could not be copied below $prefix, and nothing is left of them"

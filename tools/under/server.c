@@ -75,7 +75,7 @@ static int take_part(const char *text) {
     return 0;
 }
 
-// Makes what is due after the requests so far.
+// Makes the events that are due after the requests so far.
 static int feed(void) {
     for (; due <= served; next_part())
         if (take_part(strchr(part, ' ') + 1))
@@ -266,16 +266,16 @@ static FILE *opened(const char *path, const char *mode) {
 }
 
 // The server survives signals that a terminal sends to all processes, but not the end of rng-under.
-static void set_signals(pid_t front) {
+static void set_signals(pid_t parent) {
     static const int ignored[] = {SIGINT, SIGQUIT, SIGHUP, SIGTERM, SIGPIPE, SIGXFSZ};
     for (size_t at = 0; at < sizeof ignored / sizeof *ignored; at++)
         (void)signal(ignored[at], SIG_IGN);
     prctl(PR_SET_PDEATHSIG, SIGKILL, 0, 0, 0);
-    if (getppid() != front)
+    if (getppid() != parent)
         _exit(STATUS_OWN);
 }
 
-enum { FRONT = 1, PATH, FOLDER, PROGRAM, CPUS, PLAN, LIST, MOST_REQUESTS, EVENTS, BYTES, TEXT, COUNT };
+enum { PARENT = 1, PATH, FOLDER, PROGRAM, CPUS, PLAN, LIST, MOST_REQUESTS, EVENTS, BYTES, TEXT, COUNT };
 
 static int begin(char **words) {
     struct limits limits = {(unsigned)strtoul(words[EVENTS], NULL, 10), (unsigned)strtoul(words[BYTES], NULL, 10),
@@ -307,7 +307,7 @@ static int end(void) {
 int main(int count, char **words) {
     if (count != COUNT)
         mailbox_fail("the server is started by rng-under");
-    set_signals((pid_t)strtol(words[FRONT], NULL, 10));
+    set_signals((pid_t)strtol(words[PARENT], NULL, 10));
     (void)umask(077);
     if (begin(words)) {
         printf("failed %s\n", session_fault());

@@ -2,7 +2,7 @@
  * and switches off.
  *
  * Do not run it on a machine that is in use. It needs no library that uses vgetrandom: it finds the function in the
- * vDSO, and maps states as the function's parameters say. tools/boot/initrd compiles it; docs/RECORDING.md describes
+ * vDSO, and maps states by the function's parameters. tools/boot/initrd compiles it; docs/RECORDING.md describes
  * the result. */
 #include "vgetrandom.h"
 #include <fcntl.h>
@@ -223,12 +223,12 @@ static void handler(int signal)
 }
 
 /* Long calls, with signals inside whose handler makes the acts. */
-static void signals(int what, int count, size_t size)
+static void signals(int kinds, int count, size_t size)
 {
     struct itimerval timer = {{0, TICK}, {0, TICK}}, off = {{0, 0}, {0, 0}};
     signal_page = page();
     signalled = slot(signal_page, 1);
-    hits = 0, acts = what;
+    hits = 0, acts = kinds;
     signal(SIGALRM, handler);
     setitimer(ITIMER_REAL, &timer, 0);
     for (int i = 0; i < count; i++) {

@@ -20,9 +20,9 @@
 
 enum { THREADS = 8, EACH = 100, CHILDREN = 4 };
 
-static void show(const char *what, long got, const void *bytes) {
+static void show(const char *name, long got, const void *bytes) {
     int fault = errno;
-    printf("%s %ld", what, got);
+    printf("%s %ld", name, got);
     if (got < 0)
         printf(" %s", strerrorname_np(fault));
     for (long at = 0; at < got; at++)
@@ -195,9 +195,9 @@ static void writes(void) {
     show("read", read(other, bytes, sizeof bytes), bytes);
 }
 
-static void show_control(const char *what, int got) {
+static void show_control(const char *name, int got) {
     int fault = errno;
-    printf("%s %s\n", what, got < 0 ? strerrorname_np(fault) : "0");
+    printf("%s %s\n", name, got < 0 ? strerrorname_np(fault) : "0");
 }
 
 // Each ioctl of the devices, some with numbers that the kernel refuses.

@@ -146,17 +146,17 @@ static void kill_children(long children, long requests) {
 }
 
 // Puts another number of requests into the shared memory, or a request that no program makes.
-static void damage(const char *what) {
+static void damage(const char *part) {
     const char *path = getenv("RNG_UNDER");
     int file = path ? open(path, O_RDWR) : -1;
     struct mailbox *at = mmap(NULL, sizeof *at, PROT_READ | PROT_WRITE, MAP_SHARED, file, 0);
     if (at == MAP_FAILED)
         exit(1);
-    if (!strcmp(what, "count"))
+    if (!strcmp(part, "count"))
         at->asked += 7;
     else
         at->wish = (struct request){.word = 99};
-    if (!strcmp(what, "word"))
+    if (!strcmp(part, "word"))
         at->asked++;
     at->bell++;
     syscall(SYS_futex, &at->bell, FUTEX_WAKE, INT_MAX, NULL, NULL, 0);

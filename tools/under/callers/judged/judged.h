@@ -12,8 +12,8 @@ static inline int wrote(const unsigned char *bytes, size_t length) {
     return 0;
 }
 
-static inline int refused(const char *what) {
-    perror(what);
+static inline int refused(const char *call) {
+    perror(call);
     return 1;
 }
 
