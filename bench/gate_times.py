@@ -10,8 +10,8 @@ the most first. The command's status is the result.
 
 `--page` puts the table into a page, bench/GATE.md, between its two lines `gate times`. A crate's budget there is kept; a
 crate that has none gets its own time and a fifth more. Crates over their budgets are named. If nothing was done for a
-crate of the page, since a kit kept an earlier run's results, the page stays as it is and the status is 1. A crate of which
-a part was kept shows too little, and that is not noticed.
+crate of the page, since a kit kept an earlier run's results, the page stays as it is and the status is 1. If a part
+of a crate was kept, its time is too low, without a message.
 """
 import os
 import re

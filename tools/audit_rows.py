@@ -385,7 +385,7 @@ class Keys:
             key.uses.append((start + BATCH, KEY, '=' + name))
             self.batches[holder] = [key, start, BATCH]
 
-    def happen(self, one):
+    def apply(self, one):
         if isinstance(one, Moment):
             self.state(one)
         elif one.lane == 'p':
@@ -405,11 +405,11 @@ def rank(one):
     return (one.stamp, 0, number, 0, one.place)
 
 
-def happened(things):
+def keys_after(entries):
     """The keys after some visits and entries."""
     keys = Keys()
-    for one in things:
-        keys.happen(one)
+    for one in entries:
+        keys.apply(one)
     return keys
 
 
@@ -428,7 +428,7 @@ def in_order(keys):
 
 
 def rows(run):
-    keys = happened(run)
+    keys = keys_after(run)
     for batch in list(keys.batches):
         keys.give_up(batch, None)
     return in_order(keys)
@@ -453,7 +453,7 @@ def live(text, at):
     if stamp is None or stamp > max((one.stamp for one in run), default=-1):
         yield 'no line' if '.' in at else 'no stamp'
         return
-    before = happened(one for one in run if is_by(one, at.split('.')[0], call, stamp))
+    before = keys_after(one for one in run if is_by(one, at.split('.')[0], call, stamp))
     held = [before.held[holder].name for holder in sorted(before.held, key=holder_rank)]
     rests = [((batch if isinstance(batch, str) else batch[0]), rest[0].name, rest[1], rest[2])
              for batch, rest in sorted(before.batches.items(), key=batch_rank) if rest[0] and rest[2]]

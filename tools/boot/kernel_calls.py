@@ -171,7 +171,7 @@ def sort_by(events, after):
                 heapq.heappush(free, other)
     if len(found) < len(events):
         stuck = next(place for place, count in enumerate(waits) if count)
-        raise Refused(f"no order keeps to the locks: {events[stuck].word} is in a circle")
+        raise Refused(f"no order agrees with the locks: {events[stuck].word} is in a cycle")
     return found
 
 

@@ -124,10 +124,10 @@ class Places(unittest.TestCase):
         stops = [*ready(), *reseed(2), *fill, take(2, "0a0b0c0d", cpu=1)]
         self.assertEqual(converted(stops)[0][2:], [f"hw {HARDWARE}", "reseed", "on 1", "int32"])
 
-    def test_circle_is_refused(self):
+    def test_cycle_is_refused(self):
         draw = [enter("kread", READ, 1, count=4), step("extract", 1, hw=HARDWARE), step("draw", 1)]
         stops = reseed(1, between=[*draw, leave("kread", READ, 1, value="0a")])
-        with self.assertRaisesRegex(convert.Refused, "circle"):
+        with self.assertRaisesRegex(convert.Refused, "cycle"):
             converted(stops)
 
 

@@ -95,7 +95,7 @@ def events_of(path):
         yield from zip(script.split("\n")[3:-2], (line.split(" ") for line in transcript.split("\n")[1:]))
 
 
-def problem_of_seams(path):
+def problem_of_boundaries(path):
     """Each record after the first begins with the bytes that the one before it ends with."""
     left = None
     for script, transcript in records_of(path):
@@ -112,7 +112,7 @@ def problem_of_check(path):
         status, out, err = run([RNG, "check"], (script + transcript).encode())
         if status or out != "yes\n":
             return "rng check printed " + out + err
-    return problem_of_seams(path)
+    return problem_of_boundaries(path)
 
 
 def problem_of_record(path):
@@ -351,7 +351,7 @@ def cut(events, size=1 << 24, text=1 << 24):
 
 
 def check_cuts(name, words, caller):
-    """Cut records give the program the same answers. Each record is confirmed, and so are the seams between them."""
+    """Cut records give the program the same answers. Each record is confirmed, and so are the boundaries between records."""
     path = os.path.join(ROOM, "record")
     for state in ("ready", "early", "empty", "late"):
         whole = under(*words, "--prologue", state, caller, "errnos")

@@ -192,8 +192,8 @@ def children():
 
 
 class Task:
-    """A generator that yields lists of runs to make, and is sent them when they are over. Finally it returns a
-    result."""
+    """A generator that yields lists of runs to make, and is sent each list once its runs are over. Finally it returns
+    a result."""
 
     def __init__(self, steps):
         self.steps, self.runs, self.result, self.is_done = steps, [], None, False
@@ -210,7 +210,7 @@ class Task:
 
 
 class Runner:
-    """Makes runs, so many side by side."""
+    """Makes runs, at most `jobs` at a time."""
 
     def __init__(self, jobs):
         self.jobs, self.running, self.tasks = jobs, [], []

@@ -186,7 +186,7 @@ def judged_by_bytes(case, base, runs, run_of):
     one, two = runs
     again, = yield [run_of(case, SEEDS[0])]
     compares = base.compares() and again.digest == one.digest
-    odd, note = first_odd(one), f"{one.served} bytes in the place of {base.served}; the output needs no more"
+    odd, note = first_odd(one), f"{one.served} bytes instead of {base.served}; the output needs no more"
     if one.unready:
         why = yield from uses_unready(case, one, two, compares, run_of)
         if why:
@@ -200,7 +200,7 @@ def judged_by_bytes(case, base, runs, run_of):
         return Finding(case, WITHOUT, "status 0, and the output depends on no random byte", runs, odd)
     is_steady = base.is_steady and again.served == one.served
     if weight < base.weight and (compares or is_steady):
-        return Finding(case, LESS, f"the output depends on {weight} random bytes, in the place of {base.weight}", runs, odd)
+        return Finding(case, LESS, f"the output depends on {weight} random bytes instead of {base.weight}", runs, odd)
     return Finding(case, WELL, note, runs, odd)
 
 
