@@ -89,13 +89,13 @@ compare() {
     other=$top/$fetched/$name
     if [ ! -f "$other" ]; then
         say "$name: there is no fetched program to compare it with"
-    elif [ "$(cut -d' ' -f1 "$other.stands_for" 2>/dev/null)" != "$(sum_of_sources | cut -d' ' -f1)" ]; then
+    elif [ "$(cut -d' ' -f1 "$other.built_from" 2>/dev/null)" != "$(sum_of_sources | cut -d' ' -f1)" ]; then
         say "$name: the program that was fetched is of other sources, and is not compared"
     elif cmp -s "$program" "$other"; then
         say "$name: proved here, and the release has the same bits"
     else
         say "$name: the release has OTHER BITS than the program that was proved here: $(cmp "$program" "$other" 2>&1 || :)"
-        rm -f "$other".stands_for*
+        rm -f "$other".built_from*
         mv "$other" "$other.other_bits"
         say "$program was proved here and is used; the other program is now $other.other_bits, and is not"
         return 1

@@ -26,7 +26,7 @@ clean() {
     before=$(kept_room)
     for folder in "$top"/crates/*/out; do
         [ ! -d "$folder" ] || find "$folder" -mindepth 1 -maxdepth 1 ! -name rng_tool ! -name key_audit \
-            ! -name 'rng_tool.stands_for*' ! -name 'key_audit.stands_for*' -exec rm -rf {} +
+            ! -name 'rng_tool.built_from*' ! -name 'key_audit.built_from*' -exec rm -rf {} +
     done
     find "$top/crates" -mindepth 2 -maxdepth 2 -name out -type d -empty -delete
     printf '%s MB given back; a program that was built stays\n' $(((before - $(kept_room)) / 1000))

@@ -27,7 +27,7 @@ choose() {
 use() {
     own=$1
     program=$top/$own
-    stamp=$program.stands_for
+    stamp=$program.built_from
 }
 choose rng_tool
 
@@ -71,7 +71,7 @@ seems_current() {
     # shellcheck source=/dev/null
     . "$stamp.folders"
     # shellcheck disable=SC2086
-    [ -z "$(cd "$top" && LC_ALL=C find "$own" crates.txt ${sources:?} -newercm "$own.stands_for.seen" -print -quit 2>&1)" ]
+    [ -z "$(cd "$top" && LC_ALL=C find "$own" crates.txt ${sources:?} -newercm "$own.built_from.seen" -print -quit 2>&1)" ]
 }
 
 # Whether the program is of the present sources, by all their bytes. A file that changes after the check began is newer
