@@ -33,7 +33,7 @@ pub begun : (n : ℕ) (line : SeenLine) → 0 < n → data_left n line.shown ++ 
 begun zero line some = absurd (omega (arith, some))
 begun (suc n) line some = refl
 
--- if the data are bytes, the hex of the bytes not yet put is left
+-- if the data are bytes, the part still to be put is the hex of the bytes after the first `n`
 pub bytes_left : (n : ℕ) (shown : List ℕ) → data_left n (bytes shown) ≡ encode_lower (drop n shown)
 unfolding shown_text
 bytes_left zero shown = refl
@@ -47,7 +47,7 @@ pub left_of_bytes : (n : ℕ) (shown : List ℕ) → 0 < length shown
     → data_left n (bytes_or_none shown) ≡ encode_lower (drop n shown)
 left_of_bytes n shown some = ap (data_left n) (some_bytes shown some) ∙ bytes_left n shown
 
--- after the next bytes are put, the other bytes are left
+-- if the next `count` bytes are put, only the bytes after them are still to be put
 pub bytes_on : (n count : ℕ) (shown rest front piece new : List ℕ) → rest ≡ drop n shown → front ≡ take count rest
     → new ≡ piece ++ encode_lower front
     → new ++ encode_lower (drop (n + count) shown) ≡ piece ++ encode_lower (drop n shown)
@@ -74,7 +74,7 @@ pub has_shown : (n i : ℕ) (lines : List SeenLine) (line : SeenLine) → slice_
     → n ≤ length (bytes_in line.shown) → HasShown n (drop i lines)
 has_shown n i lines line at few = subst (HasShown n) (sym (found_dropped lines i line at)) few
 
--- the piece, the data that are left and a line feed spell what is left of the line
+-- `piece`, then the remaining data and a line feed, are the part of the line that is still to be put
 abbrev pub Begins : ℕ → List ℕ → Option SeenLine → Type 0
 Begins n piece found = IfSome found (λ line. (piece ++ data_left n line.shown) ++ codes "\n" ≡ line_left n line)
 
