@@ -45,8 +45,8 @@ pub enum PoolInferred {
 pub enum BaseInferred {
     /// This entry.
     Is(BaseEntry),
-    /// The entry after a crossing. If the credit at this place of the pool made the core ready, it is a reseed with
-    /// this root at this moment; otherwise it is an early key from the root.
+    /// The entry after a crossing. If the credit at this place of the pool made the core ready, the entry is a reseed
+    /// with this root at this moment. Otherwise the entry is an early key from the root.
     Crossed { root: u64, now: u64, credit: u64 },
     /// The end of a wait: the caller went on if the base had a generation, and was interrupted otherwise.
     Woken,
