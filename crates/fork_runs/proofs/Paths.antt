@@ -1,5 +1,5 @@
--- Take a call without flags whose state is never wiped, and whose system calls do not fail. The call reaches each point
--- of an attempt that finds another generation than the state's.
+-- Take a call without flags whose state is never wiped, and whose system calls do not fail. If an attempt finds a
+-- generation other than the state's, the call reaches each point of this attempt.
 use Rattle.std.proofs.Common.{◌≡◌, ℕ, ◌<◌, ◌≤◌, Bool, true, false, List, [], ◌∷◌, ◌++◌, refl, subst, ap, ◌∙◌, arith, eqb-true}
 use Rattle.std.specs.Bool.{⊤}
 use Rattle.std.proofs.lemmas.Bool.{ne_eqb}

@@ -29,7 +29,7 @@ pub record IsLimited (limit : ℕ) (Of : List ℕ → Status → List ℕ → Ty
       Of input Refused output → Of all Refused output
 
 module _ (limit : ℕ) (Of : List ℕ → Status → List ℕ → Type 0) (limited : IsLimited limit Of) where
-  -- the part that was read is the whole input, or the part and the whole input are above the limit
+  -- the part that was read is the whole input, or both the part and the whole input are longer than the limit
   read_or_too_long : (all input : List ℕ) → input ≡ take (limit + 1) all →
       (input ≡ all) ⊎ ((limit < length input) × (limit < length all))
   read_or_too_long all input is = elim (cases_lt limit (length all)) [

@@ -36,7 +36,7 @@ pub record CountsReadFault (result : Status) (faults faults_after : ℕ) : Type 
   pub read_fault : result ≡ ReadFault → Rose faults faults_after
   pub no_read_fault : (result ≡ ReadFault → ⊥) → faults_after ≡ faults
 
--- a command with this status put its whole answer
+-- a command with this status wrote its whole answer
 abbrev pub IsAnswered : Status → Type 0
 IsAnswered Done = ⊤
 IsAnswered No = ⊤

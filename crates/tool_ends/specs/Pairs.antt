@@ -49,14 +49,14 @@ pair_fault input =
 abbrev pub IsNoTranscript : List ℕ → Type 0
 IsNoTranscript text = (lines : List (List SeenLine)) → IsTranscriptText text lines → ⊥
 
--- the text is that of a transcript, but the transcript lacks the lines of the script
+-- the text is that of a transcript, but the transcript's lines are not those that the script requires
 pub record LacksLines (script : Script) (text : List ℕ) : Type 0 where
   pub lines : List (List SeenLine)
   pub is_text : IsTranscriptText text lines
   pub fails : HasLines script lines → ⊥
 
--- the text after the script fails clause 1, since it is that of no transcript; or it fails clause 2, since its
--- transcript lacks the script's lines
+-- the text after the script fails clause 1, since it is not that of a transcript; or it fails clause 2, since its lines
+-- are not those that the script requires
 pub record FailsAsText (input : List ℕ) (number : ℕ) : Type 0 where
   pub short : length input ≤ most_input
   pub script : Script
@@ -118,12 +118,12 @@ GivesNoPair = GivesNone most_input IsNoPair
 
 -- ---- the answers
 
--- the line of a fault, with the number of its line and of its kind
+-- the output line for a fault, with the number of the faulty line and the number of the fault's kind
 abbrev pub refusal_line : ScriptFault → List ℕ
 refusal_line fault =
     lined (spaced (codes "refused" ∷ decimal fault.line ∷ decimal (kind_number fault.kind) ∷ []) ∷ [])
 
--- the line of a failed clause, with its number
+-- the output line for a failed clause, with the clause's number
 abbrev pub no_line : ℕ → List ℕ
 no_line number = lined (spaced (codes "no" ∷ decimal number ∷ []) ∷ [])
 
