@@ -111,7 +111,7 @@ keying n c (read key visit) s steps attempt ok k smooth =
     }
 keying n c (failed errno) s steps attempt ok k smooth = absurd ok
 
--- the steps of an attempt that takes a new key, and those after it
+-- the steps of an attempt that takes a new key, and the steps `more` after the attempt
 abbrev pub attempt_steps : ℕ → SystemAnswer → ℕ → List HostStep → List HostStep
 attempt_steps published answer found more =
     publishes published ∷ at_point Start false ∷ at_point Written false ∷ system_call 32 0 answer

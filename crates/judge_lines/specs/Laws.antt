@@ -1,4 +1,4 @@
--- The laws of forms, rows and inferred entries. The functions of src/laws.rt state each as a contract.
+-- The laws of forms, rows and inferred entries. Each law is the contract of a function in src/laws.rt.
 use Rattle.std.specs.Prelude.{ℕ, ◌≡◌, List, [], ◌∷◌, ◌++◌}
 use Rattle.key_names.specs.declared.entries.Taken.TheVariants.{User}
 use Rattle.key_names.specs.declared.events.Event.{Event}

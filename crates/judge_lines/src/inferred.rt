@@ -80,7 +80,7 @@ fn pool_place_in(sign: Sign) -> u64
     }
 }
 
-/// The place that a visit of the base shows; 0 for any other step.
+/// The place of a visit of the base; 0 for any other step.
 pub fn base_place_in(sign: Sign) -> u64
     ensures { result ≡ inferred.base_place_in sign }
 {
@@ -183,8 +183,8 @@ fn forked_inferred(child: u32, second_before: Sign, before: Sign) -> BaseInferre
     }
 }
 
-/// The inferred entry of a visit of the base, in a line of an event. A caller's last line is inferred like an event
-/// without visits of the base.
+/// The inferred entry of a visit of the base, in a line of an event. The entry in a caller's last line is inferred as
+/// for an event without visits of the base.
 pub fn base_inferred(set: &LineSetting, event: &Event, neighbours: Neighbours) -> BaseInferred
     ensures { result ≡ inferred.base_inferred set.now (inferred.telling set.now event.now) neighbours }
 {

@@ -1,5 +1,5 @@
--- An output is right for an input if it is right for the script and the transcript in the input, or for the reason why
--- the input is not a script with a transcript.
+-- An output is right for an input if it is right for the input's script and transcript, or for the reason why the input
+-- is not a script with a transcript.
 use Rattle.std.proofs.Common.{◌≡◌, ℕ, List, refl, sym, subst, ◌∙◌, inl, inr}
 use Rattle.std.specs.Prelude.{Option, Some, None, true, Result, Ok, Err, IfOk}
 use Rattle.std.specs.Option.{is_some}

@@ -49,8 +49,8 @@ pub record TellsKeys (callers : List (List Call)) (book : Book) (ms : List (List
   pub ordered : RowsByMaking moments rows
   pub text : output ≡ rows_text moments rows
 
--- `lists` are prefixes of the book's lists. The output has the lines of the keys and rests that `lists` leave held,
--- and the lines of the keys and bytes that can be computed from these keys and rests
+-- `lists` are prefixes of the book's lists. The output has the lines of the keys and rests that are held at the end of
+-- these prefixes. It also has the lines of the keys and bytes that can be computed from these keys and rests
 pub record TellsHeld (lists : Lists) (callers : List (List Call)) (book : Book) (ms : List (List CallMeaning))
     (output : List ℕ) : Type 0 where
   pub moments : Moments

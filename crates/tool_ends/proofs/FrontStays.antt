@@ -1,4 +1,5 @@
--- The front of a text ends with the text's first line `end`, if there is one. Text after this line does not change the front.
+-- The front of a text ends with the text's first line `end`, if there is one. Text after this line does not change the
+-- front.
 use Rattle.std.proofs.Common.{◌≡◌, ℕ, ◌+◌, ◌==◌, Bool, true, false, cond, List, [], ◌∷◌, ◌++◌, take, drop, refl, sym}
 use Rattle.std.proofs.Common.{ap, ◌∙◌, append_assoc, arith, length-append}
 use Rattle.std.specs.List.{join_with_byte, onto_first}

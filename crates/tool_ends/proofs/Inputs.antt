@@ -65,7 +65,7 @@ module _ (limit : ℕ) (Of : List ℕ → Status → List ℕ → Type 0) (limit
   some_of_all (Some all) input output front is =
       (is.0, is.1, of_all is.0 is.1 (Some all) input output front is.2)
 
-  -- if the input was read up to one byte above the limit, at most that many bytes were taken
+  -- if `input` is the first `limit` + 1 bytes of the source, or all of it, at most `limit` + 1 bytes were taken
   taken_at_most : (left left_after : Option (List ℕ)) (input : List ℕ) → Consumes left left_after input →
       IfSome left (λ all. input ≡ take (limit + 1) all) → ConsumesUpTo (limit + 1) left left_after
   taken_at_most None left_after input read front = ([], omega arith, tt)

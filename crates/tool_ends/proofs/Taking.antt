@@ -88,7 +88,7 @@ module _ (most : ℕ) where
   front_read (Some all) (Some rest) input read len =
       sym (ap (take (most + 1)) read ∙ take_at input rest (most + 1) len)
 
-  -- if one byte more than is allowed was taken, the bytes taken are the input that was read
+  -- if `most` + 1 bytes were taken, these bytes are the input that was read
   pub long_read : (left now : Option (List ℕ)) (input : List ℕ) → Consumes left now input → length input ≡ most + 1
       → WasRead most left now input
   long_read left now input read len = record {

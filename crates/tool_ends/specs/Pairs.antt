@@ -99,7 +99,7 @@ abbrev pub GivesPair : Option (List ℕ) → Option (List ℕ) → Script → Li
 GivesPair left left_after script t = (input : List ℕ) × WasRead most_input left left_after input × IsPair input script t
 
 -- an input was read, and `Is` holds of the input and of the reason for its refusal. Or the source failed or memory ran
--- out, after at most one byte more than is allowed was taken
+-- out, and at most `most` + 1 bytes were taken
 abbrev pub GivesNone : ℕ → (List ℕ → NotRead → Type 0) → Option (List ℕ) → Option (List ℕ) → NotRead → Type 0
 GivesNone most Is left left_after ReadFault = ConsumesUpTo (most + 1) left left_after
 GivesNone most Is left left_after (Refused fault) =

@@ -173,7 +173,7 @@ stays_past s next text line following at is = λ more.
 
 -- ---- a reader, and the rest of a piece
 
--- after a piece is added to the text that a reader was fed, exactly this piece is unread
+-- if `piece` is added to the text that a reader was fed, exactly `piece` is unread
 pub piece_begins : (text piece : List ℕ) (r : TranscriptReader) → HasFed text r → IsAfter (text ++ piece) r piece
 piece_begins text piece r fed = record {
   conforms = subst (ConformsAt r.so_far (text ++ piece)) (ap (λ x. x ++ piece) (append-nil r.rest.items))
