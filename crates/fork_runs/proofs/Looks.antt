@@ -56,8 +56,7 @@ reads_both cpus (system_call n flags answer ∷ xs) ys a b = (a.0, reads_both cp
 reads_both cpus (at_point point wiped ∷ xs) ys a b = reads_both cpus xs ys a b
 
 module _ (lists : Lists) (caller k : ℕ) where
-  -- if `GoodAfter` holds of the steps before a point, and `Good` of the steps after it, `GoodAfter` holds of all of
-  -- them
+  -- if `GoodAfter` holds of the steps before a point, and `Good` of those after it, `GoodAfter` holds of them all
   pub good_parts : (before after : List HostStep) (point : Point) (wiped : Bool) → GoodAfter lists caller k before →
       Good lists after → GoodAfter lists caller k (before ++ at_point point wiped ∷ after)
   good_parts [] after point wiped good rest g steps is some = cc

@@ -1,4 +1,4 @@
--- How far a call comes on a ready core: to each point of its first attempt, to each point of a second attempt if a
+-- How far a call gets on a ready core: to each point of its first attempt, to each point of a second attempt if a
 -- higher generation is published meanwhile, and to an end with bytes.
 use Rattle.std.specs.Prelude.{ℕ, ◌≡◌, ◌<◌, ◌≤◌, ⊤, false, None, List}
 use Rattle.key_names.specs.declared.point.Point.{Point}

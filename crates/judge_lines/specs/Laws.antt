@@ -75,7 +75,7 @@ ActForm set WipeAct effects = effects ≡ []
 ActForm set (VreadAct n) effects = SysForm set n 0 effects
 ActForm set ReseedAct effects = Form set Reseed effects
 
--- in lawful lists, the entries of any steps fit
+-- if the lists are lawful, the entries of any steps fit
 abbrev pub LawfulListsFit : Type 0
 LawfulListsFit = (lists : Lists) → ForwardLawful lists → (steps : List Step) →
     AllFit (facts_of lists) (effects_of lists steps)

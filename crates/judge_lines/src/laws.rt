@@ -63,7 +63,7 @@ pub fn system_form_is_row()
     ensures { SystemFormIsRow }
 {}
 
-/// In lawful lists, the entries of any steps fit.
+/// If lists are lawful, the entries of any steps fit.
 #[tactic(auto, using(crate::proofs::ActLines::lists_fit))]
 pub fn lawful_lists_fit()
     ensures { LawfulListsFit }

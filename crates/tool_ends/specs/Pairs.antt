@@ -45,7 +45,7 @@ abbrev pub pair_fault : List ℕ → Option ScriptFault
 pair_fault input =
     if nat_lt most_input (length input) then Some (record { line = 0; kind = TooLong }) else first_fault (front input)
 
--- the text is that of no transcript
+-- the text is not that of a transcript
 abbrev pub IsNoTranscript : List ℕ → Type 0
 IsNoTranscript text = (lines : List (List SeenLine)) → IsTranscriptText text lines → ⊥
 

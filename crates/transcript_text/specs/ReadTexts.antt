@@ -1,4 +1,4 @@
--- What reading a text may return.
+-- The possible results of reading a text.
 use Rattle.std.specs.Prelude.{ℕ, ◌≡◌, ◌<◌, ◌≤◌, ⊤, List, [], ◌∷◌, ◌++◌, length, Result, Ok, Err}
 use Rattle.key_names.specs.Transcripts.SeenLine.{SeenLine}
 use Rattle.key_names.specs.Texts.TranscriptGrammar.{all_lines, line_text, LineFits, IsTranscriptText, IsFirstFault}
