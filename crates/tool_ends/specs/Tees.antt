@@ -1,4 +1,4 @@
--- What a source or a sink keeps of the text that passes through it: a source the front, and a sink the last piece.
+-- A tee source keeps the front of the text that passes through it, and a tee sink keeps the last piece.
 use Rattle.std.specs.Prelude.{ℕ, ◌≡◌, ◌≤◌, ◌++◌, IsTrue, List, length, take}
 use Rattle.tool_ends.specs.declared.tee.TeeSource.{TeeSource}
 use Rattle.tool_ends.specs.declared.tee.TeeSink.{TeeSink}

@@ -25,7 +25,7 @@ pub struct TeeSource<S: Source + Drop> {
 }
 
 impl<S: Source + Drop> TeeSource<S> {
-    /// A source that takes from this one. It has kept no byte yet, and will keep at most `most` bytes.
+    /// A source that takes its bytes from `source`. It has kept no byte yet, and will keep at most `most` bytes.
     pub fn of(alloc: Global, source: S, most: usize) -> TeeSource<S>
         ensures source { tee_source result ≡ source }
         ensures given { HasGiven [] result }
@@ -113,7 +113,7 @@ pub struct TeeSink<K: Sink + Drop> {
 }
 
 impl<K: Sink + Drop> TeeSink<K> {
-    /// A sink that puts to this one. It has kept no byte yet.
+    /// A sink that puts its pieces to `sink`. It has kept no byte yet.
     pub fn of(sink: K) -> TeeSink<K>
         ensures sink { tee_sink result ≡ sink }
         ensures got { HasGot [] result }
