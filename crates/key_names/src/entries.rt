@@ -80,8 +80,8 @@ pub enum CpuEntry {
         refill: Option<u64>,
         taken: Taken,
     },
-    /// An integer of `width` bytes from its batch. The batch is `filled` first if it has no fill, is used up, or is of
-    /// another generation (`get_random_u8` to `get_random_u64`).
+    /// An integer of `width` bytes from its batch. The batch is `filled` first if it has no fill, is used up, or was
+    /// filled at another generation (`get_random_u8` to `get_random_u64`).
     Int {
         look: u64,
         refill: Option<u64>,

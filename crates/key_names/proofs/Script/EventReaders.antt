@@ -142,7 +142,8 @@ since_takes first version r e is =
       | inr not ↦ let none = rw not at is in absurd cc
     ]
 
--- if a later version added an event, the event's reader takes the event only from that version on
+-- if IsEvent holds for all that `read` takes in the versions from `first` on, then it holds for all that `read` limited
+-- to these versions (`since`) takes in any version
 later_takes : (first version cpus : ℕ) (word : Word) (read : List (List ℕ) → Result Event FaultKind)
     → (first ≤ version → Takes read (IsEvent version cpus word)) →
     Takes (λ fields. since first version (read fields)) (IsEvent version cpus word)

@@ -51,8 +51,8 @@ nothing_takes n ((b ∷ tail) ∷ next ∷ more) x e =
 
 -- ---- the lines that are left
 
--- the lines after a draft with `c` finished blocks: the lines of the events `es` that the current block still gets, of
--- the blocks `later`, and of the end
+-- the lines after a draft with `c` finished blocks: those of `es`, the further events of the current block, those of
+-- the blocks `later`, and the line `end`
 abbrev pub rest_lines : ℕ → List Event → List (List Event) → List (List ℕ)
 rest_lines c es later = map spaced ((map event_fields es ++ block_lines (suc c) later) ++ (codes "end" ∷ []) ∷ [])
     ++ [] ∷ []
@@ -208,7 +208,7 @@ first_after : (lines : List (List ℕ)) (line : List ℕ) (more : List (List ℕ
 first_after [] line more = record { first = line; others = more; is = refl }
 first_after (l ∷ lines) line more = record { first = l; others = lines ++ line ∷ more; is = refl }
 
--- reading the line of some content that may come next leads to the next draft, or to the end
+-- if the content `what` may come after the draft, reading its line leads to the next draft, or to the end
 step_again : (d : Draft) (n : ℕ) (what : Said) (more : List (List ℕ)) (next : Next) → d.cpus ≤ 256 →
     SaidInRange d.version d.cpus what
     → HasFirst more → after d what ≡ Ok next

@@ -1,5 +1,5 @@
--- If the visits of a book are marks for which PlacesConform holds in each lane, then each lane has as many visits as
--- marks.
+-- Let VisitsAre hold for a book and some marks, and let PlacesConform hold for the marks of each lane. Then each lane
+-- has as many visits as marks.
 use Rattle.std.proofs.Common.{◌≡◌, ℕ, zero, suc, ◌+◌, ◌<◌, ◌≤◌, Bool, true, false, List, [], ◌∷◌, refl, sym}
 use Rattle.std.proofs.Common.{subst, ap, ◌∙◌, arith, Some, length}
 use Rattle.std.specs.Prelude.{count_by, ◌==◌, if◌then◌else◌}
@@ -242,7 +242,8 @@ cpus_equal {X = X} c (xs ∷ xss) marks le same d =
     at_number (suc e) first rest =
         let next : c + suc e ≡ suc c + e = omega arith in ap (λ i. mark_count (CpuLane i) marks) next ∙ rest e
 
--- a lane has as many visits as marks
+-- if VisitsAre holds for the book and the marks, and PlacesConform for the marks of each lane, then each lane has as
+-- many visits as marks
 pub lane_counts : (book : Book) (marks : List MarkBy) → ((lane : LaneId) → PlacesConform (lane_marks lane marks)) →
     VisitsAre book marks → (lane : LaneId) → mark_count lane marks ≡ lane_length book lane
 lane_counts book marks places visits lane = at_lane lane

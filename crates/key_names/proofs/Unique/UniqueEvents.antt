@@ -51,7 +51,7 @@ module _ (book book' : Book) (who : Who) (samples : LawfulSamples book) (samples
   abbrev Tell : (List Effect → Type 0) → (List Effect → Type 0) → Type 0
   Tell = Tells book book' who
 
-  -- the pool's list determines the threshold that a credit crossed
+  -- if equal lists of the pool imply equal thresholds, the form of the effects after a credit determines their entries
   inferred_cross : (set : Setting) (c c' : Crossing) → ((lists_of book).pool ≡ (lists_of book').pool → c ≡ c') →
       Tell (Cross set c) (Cross set c')
   inferred_cross set none none alike ds ds' f f' same = inferred_nothing book book' who ds ds' f f' same
@@ -76,7 +76,7 @@ module _ (book book' : Book) (who : Who) (samples : LawfulSamples book) (samples
   inferred_cross set early early alike ds ds' f f' same =
       inferred_rooted_or_not book book' who set (λ r. Early (Some r)) (Early None) ds ds' f f' same
 
-  -- a credit's form determines the entries of its visits, if the CPUs' lists determine the entry that credits
+  -- if the CPUs' lists determine the entry that credits, then a credit's form determines the entries of its visits
   inferred_credit : (set : Setting) (e e' : PoolEntry) (ds ds' : List Effect) (f : CreditForm set e ds)
       (f' : CreditForm set e' ds') →
       (SamePool book book' who f.pool f'.pool → (lists_of book).cpus ≡ (lists_of book').cpus → e ≡ e') →

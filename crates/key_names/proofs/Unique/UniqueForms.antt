@@ -56,7 +56,7 @@ module _ (book book' : Book) (who : Who) where
   inferred_cpu_only c e ds ds' f f' same =
       through book book' who f.effects_are f'.effects_are (λ s. (λ fills. f.is ∙ sym f'.is, tt)) same
 
-  -- an entry that names a root has other steps than one that names none, so the steps decide between the two
+  -- the steps determine whether the base's entry names a root, since only then a visit of the pool comes first
   pub inferred_rooted_or_not : (set : Setting) (e : ℕ → BaseEntry) (plain : BaseEntry) →
       Tell (λ ds. Rooted set e ds ⊎ BaseOnly plain ds) (λ ds. Rooted set e ds ⊎ BaseOnly plain ds)
   inferred_rooted_or_not set e plain =

@@ -1,5 +1,5 @@
--- In a lawful book, a list that has no entry twice uses no byte twice. So lines that print by different entries print
--- different bytes of keys.
+-- In a lawful book, a list that has no entry twice uses no byte twice. So lines that print the bytes of different
+-- entries print different bytes of keys.
 use Rattle.std.proofs.Common.{◌≡◌, ℕ, zero, suc, ◌+◌, ◌≤◌, true, List, [], ◌∷◌, ◌++◌, inl, inr, refl, sym, subst, ap, arith, take}
 use Rattle.std.specs.Prelude.{◌==◌, ◌&&◌, slice_get}
 use Rattle.std.specs.List.{fold}

@@ -140,7 +140,7 @@ module _ (cpus : ℕ → List CpuEntry) where
       (after_names n flags IfOutdated goes by.attempt.end by.attempt by.rest by.outcome_after
       all.1 by.goes_on))
 
-  -- each rekey of a call takes a read of 32 bytes
+  -- if `KeyReads` holds for the steps of a call, then each rekey of the call takes a user's read of 32 bytes
   pub call_names : (n flags : ℕ) (s : VgetrandomState) (steps : List HostStep) (outcome : Outcome) →
       KeyReads cpus steps → IsCall n flags s steps outcome → AllByRecursion (TakesRead cpus) outcome.entries
   call_names n flags s steps outcome names is = match_cases _ _ _ (is_bad flags)

@@ -49,7 +49,7 @@ taken_uses rekeys key call (User n) =
     else (if rekeys then use_of kept key 32 32 else use_of served key 32 n) ∷ []
 taken_uses rekeys key call (Kernel n) = use_of served key 32 n ∷ []
 
--- the uses of an erasure and a read
+-- the uses of a read: the key that its erasure keeps, and the bytes of the read
 abbrev pub read_uses : Bool → KeyName → KeyName → Taken → List Use
 read_uses rekeys key call taken = use_of kept key 0 32 ∷ taken_uses rekeys key call taken
 

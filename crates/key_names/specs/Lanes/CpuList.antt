@@ -115,7 +115,8 @@ CpuFits s (Dump now) = ⊤
 CpuFits s Prepare = ⊤
 CpuFits s Online = ⊤
 
--- a named refill is a base entry that names this CPU and place. The base's generation there is at least the look
+-- if an entry names refill `b`, the base's entry `b` is a refill for this CPU and this place. The base's generation
+-- before that refill is at least the look
 abbrev pub RefillNames : List BaseEntry → ℕ → ℕ → ℕ → Option ℕ → Type 0
 RefillNames base c place look None = ⊤
 RefillNames base c place look (Some b) = (refill_at base b ≡ Some (c, place)) × (look ≤ generation_at base b)

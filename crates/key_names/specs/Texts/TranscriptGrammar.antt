@@ -56,7 +56,7 @@ line_text line = spaced (
     ∷ steps_text line.steps ∷ shown_text line.shown ∷ []
     )
 
--- the lines of all callers, the first caller's first
+-- the lines of all callers, in the order of the callers
 abbrev pub all_lines : List (List SeenLine) → List SeenLine
 all_lines callers = flat_map (λ lines. lines) callers
 

@@ -43,7 +43,7 @@ pub record StatesReplayed (lists : Lists) (caller : ℕ) (setting : Setting) (ms
   -- after any number of the caller's calls, the state matches the replay of its entries so far
   pub between : (k j : ℕ) → k < 16 → IsReplayed lists caller k (entries_of_state k (take j ms))
       (state_number k (caller_end (caller_start setting) (take j ms)))
-  -- at the end, the state matches the replay of its list in the book, for which the laws of lawful books hold
+  -- at the end, the state matches the replay of its list in the book. The laws of lawful books apply to this list
   pub ends : (k : ℕ) → k < 16 → IsReplayed lists caller k (state_list lists caller k)
       (state_number k (caller_end (caller_start setting) ms))
 
