@@ -1,4 +1,5 @@
--- A lawful list that grows at its end stays lawful, and its earlier entries and their states do not change.
+-- A lawful list stays lawful if entries that may come are added at its end. Its earlier entries and their states do not
+-- change.
 use Rattle.std.proofs.Common.{◌≡◌, ℕ, zero, suc, List, [], ◌∷◌, ◌++◌, refl, subst, ap, ◌∙◌, Some, Option, take}
 use Rattle.std.specs.Prelude.{slice_get, option_and_then}
 use Rattle.std.specs.List.{fold}
@@ -39,7 +40,7 @@ module _ {S E : Type 0} (May : S → E → Type 0) (step : S → E → S) where
   fold_same f g same s v (x ∷ xs) lawful =
       ap (λ w. fold f w xs) (same s x v lawful.0) ∙ fold_same f g same (step s x) (g v x) xs lawful.1
 
--- an entry of a list and the entries before it stay the same as the list grows
+-- entry `i` of `xs`, and the entries before it, stay the same if `more` is appended
 pub record FrontStays {A : Type 0} (xs more : List A) (i : ℕ) (e : A) : Type 0 where
   pub entry : slice_get (xs ++ more) i ≡ Some e
   pub front : take i (xs ++ more) ≡ take i xs

@@ -121,7 +121,7 @@ line_of t by here =
       step = f.step;
     }
 
--- the mark of a step of a line
+-- a mark among the steps of a line, with the mark's maker
 pub record MarkOf (t : List (List SeenLine)) (line : SeenLine) (mark : Mark) : Type 0 where
   pub by : MarkBy
   pub there : IsIn by (all_marks t)

@@ -116,7 +116,7 @@ one_more_mark : (lane : LaneId) (by : MarkBy) (marks : List MarkBy) →
     mark_count lane (by ∷ marks) ≡ one_if (is_same_lane by.mark.lane lane) + mark_count lane marks
 one_more_mark lane by marks = count_if (is_same_lane by.mark.lane lane) by (lane_marks lane marks)
 
--- a mark is not counted if its lane is none of the CPUs from `c` on
+-- if the lane of a mark is none of the CPUs from `c` on, the mark is not counted
 skips : {X : Type 0} (c : ℕ) (xs : List X) (by : MarkBy) (marks : List MarkBy) →
     ((d : ℕ) → c ≤ d → is_same_lane by.mark.lane (CpuLane d) ≡ false) →
     cpu_counts c xs (by ∷ marks) ≡ cpu_counts c xs marks

@@ -57,7 +57,7 @@ record RefilledKey (call : List Effect) : Type 0 where
   cpu : CpuVisit
   is : call ≡ looked g ∷ looked look ∷ at_base base ∷ at_cpu cpu ∷ []
 
--- a system call for a new key is a PlainKey or a RefilledKey, if each of its looks found the core ready
+-- if each look of a system call for a new key found the core ready, then the call is a PlainKey or a RefilledKey
 key_read : (set : Setting) (call more : List Effect) → SysForm set 32 0 call → AllReady (call ++ more) →
     PlainKey call ⊎ RefilledKey call
 key_read set call more form ready =

@@ -105,7 +105,7 @@ module _ (book book' : Book) (lawful : LawfulLanes (lists_of book)) (lawful' : L
       let p' = each_parts (Conforms book') (line_marks line) (flat_map line_marks lines) conform' in
       (same_steps book book' lawful lawful' line.caller line.event 0 line.steps p.0 p'.0, lines_same lines p.1 p'.1)
 
-  -- SameSteps holds for the effects of each line, if the marks of all lines are visits of both books
+  -- if the marks of all lines are visits of both books, then SameSteps holds for the effects of each line
   pub all_same : (t : List (List SeenLine)) → AllByRecursion (Conforms book) (all_marks t) →
       AllByRecursion (Conforms book') (all_marks t) → AllByRecursion (λ lines. AllByRecursion Same lines) t
   all_same [] conform conform' = tt

@@ -159,7 +159,7 @@ module _ (book book' : Book) (lawful : LawfulLanes (lists_of book)) (lawful' : L
       same_cpu i cpu place (found (list_at book.cpus cpu) place stamp (by i) at)
       (found (list_at book'.cpus cpu) place stamp (by i) at')
 
-  -- SameSteps holds for the effects of a line, if the line's marks are visits of both books
+  -- if the marks of a line are visits of both books, then SameSteps holds for the line's effects
   pub same_steps : (i : ℕ) (steps : List Step) → AllByRecursion (Conforms book) (marks_from c n i steps) →
       AllByRecursion (Conforms book') (marks_from c n i steps) →
       SameSteps book book' who (effects_of l steps) (effects_of l' steps)

@@ -74,7 +74,7 @@ roots_rise : (pool : List PoolEntry) (s : BaseState) (o : Option ℕ) → RootCo
 roots_rise pool s None h = omega arith
 roots_rise pool s (Some r) h = omega arith
 
--- the uses of an entry do not overlap, and they are of the key in use or of the call key of the entry's place
+-- the uses of an entry do not overlap. They are of the key in use, or of the call key that the entry's place names
 record EntryUses (s : BaseState) (e : BaseEntry) : Type 0 where
   disjoint : Disjoint (base_uses_at s e)
   within : (k : KeyName) (q : ℕ) → IsUsed (base_uses_at s e) k q →
@@ -125,7 +125,7 @@ entry_uses s Unstall = none_used s Unstall refl
 abbrev pub KeyIsOld : BaseState → Type 0
 KeyIsOld s = (k : KeyName) → s.key ≡ Some k → IsOld s.place s.roots k
 
--- the key in use at an entry is the key before it, which is old, or a root, which is new
+-- the key in use at an entry is either the key before the entry, which has an old name, or a new root
 record InUse (refill : ℕ → Option (ℕ × ℕ)) (s : BaseState) (e : BaseEntry) : Type 0 where
   rise : s.roots ≤ roots_after (root_of e) s.roots
   old : (k : KeyName) → base_key_in_use e s.key ≡ Some k → IsOld s.place (roots_after (root_of e) s.roots) k

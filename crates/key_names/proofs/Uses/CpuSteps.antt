@@ -138,7 +138,7 @@ module _ (base : List BaseEntry) (c : ℕ) (taken : ℕ → Option Taken) where
     };
   }
 
-  -- a byte of the key in use, or of the key that a long read serves from
+  -- k is the key in use, or the key that a long read at this place serves from
   abbrev IsOfRead : ℕ → Option KeyName → KeyName → Type 0
   IsOfRead place used k = (used ≡ Some k) ⊎ ((Call (CpuLane c) place ≡ k) × IsLong (taken place))
 

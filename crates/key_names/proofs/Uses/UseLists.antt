@@ -130,7 +130,7 @@ read_disjoint rekeys key call (User n) =
           ]
     ]
 
--- a read uses the key in use and, if it is long, the key that bytes 32 to 64 become
+-- a read uses only the key in use and, if the read is long, the key that bytes 32 to 64 of the keystream become
 pub read_within : (rekeys : Bool) (key call : KeyName) (t : Taken) (k : KeyName) (q : ℕ) →
     IsUsed (read_uses rekeys key call t) k q → (key ≡ k) ⊎ ((call ≡ k) × IsLong (Some t))
 read_within rekeys key call t k q (inl u) = inl u.same_key

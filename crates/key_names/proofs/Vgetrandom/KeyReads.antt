@@ -1,5 +1,5 @@
--- Each rekey of a vgetrandom call takes a user's read of 32 bytes, if each answer of the host to a system call for a
--- key is such a read or an error.
+-- Let the host answer each system call for a key with a user's read of 32 bytes or with an error. Then each rekey of a
+-- vgetrandom call takes such a read.
 use Rattle.std.proofs.Common.{◌≡◌, ℕ, zero, suc, Bool, true, false, Some, None, List, [], ◌∷◌, ◌++◌, refl, sym, subst}
 use Rattle.std.specs.Prelude.{⊤, ◌==◌, if◌then◌else◌}
 use Rattle.std.specs.List.{AllByRecursion}

@@ -1,5 +1,5 @@
--- A vgetrandom state keeps the key, the batch and the position that a replay of its list gives, if each call's steps
--- are good (`Good`).
+-- If the steps of each call are good (`Good`), a vgetrandom state has the key, the batch and the position that a replay
+-- of its list gives.
 use Rattle.std.proofs.Common.{◌≡◌, ℕ, zero, suc, ◌+◌, ◌-◌, ◌*◌, ◌≤◌, Bool, true, false, List, [], ◌∷◌, ◌++◌, inl, inr, refl, sym, subst, ap, ◌∙◌, arith, Some, None, Option, take, drop, append-nil}
 use Rattle.std.specs.Prelude.{◌==◌, ⊤, if◌then◌else◌}
 use Rattle.std.specs.List.{fold}
@@ -67,12 +67,12 @@ module _ (lists : Lists) (caller k : ℕ) where
   abbrev pub after : Both → List VEntry → Both
   after x es = fold step x es
 
-  -- the batch and the position are those of the replay
+  -- the state's batch and position are those of the replay `x`
   pub record Loose (x : Both) (s : VgetrandomState) : Type 0 where
     pub batch : x.bytes.batch ≡ s.batch
     pub pos : x.named.pos ≡ s.pos
 
-  -- the batch, the position and the key are those of the replay
+  -- the state's batch, position and key are those of the replay `x`. If the state has a generation, its keys have names
   pub record Holds (x : Both) (s : VgetrandomState) : Type 0 where
     pub batch : x.bytes.batch ≡ s.batch
     pub pos : x.named.pos ≡ s.pos
