@@ -58,7 +58,7 @@ pub fn transcript_is_lawful()
     ensures { TranscriptIsLawful }
 {}
 
-/// The steps of a transcript make at most one book, and give its calls at most one meaning.
+/// The steps of a transcript make at most one book, and give each of its calls at most one meaning.
 pub fn transcript_book_is_unique()
     ensures { BookIsUnique }
 {}

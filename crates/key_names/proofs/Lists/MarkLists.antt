@@ -1,4 +1,4 @@
--- PlacesConform holds for the marks of a lane if they are in order: places count up, and stamps rise.
+-- If the marks of a lane are in order (places count up, and stamps rise), then PlacesConform holds for them.
 use Rattle.std.proofs.Common.{ℕ, zero, suc, ◌+◌, ◌≡◌, ◌<◌, ◌≤◌, Bool, true, false, cond, List, [], ◌∷◌, ◌++◌, length, refl, ◌∙◌, arith}
 use Rattle.std.specs.Prelude.{count_by, ◌==◌}
 use Rattle.std.specs.List.{AllByRecursion, range_with_len}

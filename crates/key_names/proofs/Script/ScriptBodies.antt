@@ -71,7 +71,7 @@ pub record Continues (d : Draft) (lines : List (List ℕ)) (s : Script) : Type 0
   pub spelt : lines ≡ rest_lines (length d.done) es later
   pub whole : Whole d.version d.cpus (callers_with d es later)
 
--- ---- the lines that give a script are its lines
+-- ---- lines that are read as a script are the script's lines
 
 few_cpus : (version cpus : ℕ) → cpus ≤ most_cpus version → cpus ≤ 256
 few_cpus version cpus few = grind arith
@@ -202,7 +202,7 @@ from_takes d n (line ∷ more) s fine e =
     subst (λ l. Continues d (l ∷ more) s) (sym is)
     (by_said d n more s what.0 next.0 fine says.1 what.2 next.2 (λ d' m fine' e'. from_takes d' m more s fine' e'))
 
--- ---- the lines of a script give it
+-- ---- reading the lines of a script gives the script
 
 first_after : (lines : List (List ℕ)) (line : List ℕ) (more : List (List ℕ)) → HasFirst (lines ++ line ∷ more)
 first_after [] line more = record { first = line; others = more; is = refl }

@@ -69,7 +69,7 @@ good_shown lists set (system_call n flags answer ∷ steps) effects there known 
       good_shown lists set steps shows.rest h.1 (looks_append 1 shows.call shows.rest after) shows.goes_on,
     )
 
--- if the first look of a call found the core ready, then the steps after that look are good
+-- if the looks of a call never fall, and the first look found the core ready, then the steps after that look are good
 pub good_after : (lists : Lists) (set : Setting) (steps : List HostStep) (effects : List Effect) → AllThere lists effects →
     NeverFall (looks_of effects) → Shows set steps effects →
     (g : ℕ) (rest : List HostStep) → steps ≡ publishes g ∷ rest → 1 ≤ g → Good lists rest

@@ -1,4 +1,5 @@
--- If an event is a call by itself, its form determines the entry of each of its visits, from earlier entries.
+-- If an event is a call by itself, the event's form and the earlier entries determine the entry of each visit of the
+-- event.
 use Rattle.std.proofs.Common.{◌≡◌, ℕ, zero, suc, List, [], ◌∷◌, ◌⊎◌, refl, sym, subst, ap, ◌∙◌, Some, None, take, ◌≤◌}
 use Rattle.std.proofs.Common.{Bool, true, inl, inr, arith, Option}
 use Rattle.std.specs.Prelude.{◌==◌, map}

@@ -27,8 +27,7 @@ use Rattle.key_names.proofs.Unique.UniqueEvents.{entries_at}
 use Rattle.key_names.proofs.Unique.UniqueMarks.{one_entry}
 use Rattle.key_names.proofs.Transcripts.LaneCounts.{every_place, lane_length, lane_counts}
 
--- two lists of the same length are equal if, for each place, equal elements before the place imply an equal element at
--- it
+-- two lists of the same length are equal if, at each place, equal earlier elements imply equal elements
 pub same_lists : {E : Type 0} (xs ys : List E) → length xs ≡ length ys →
     ((i : ℕ) (x y : E) → i < length xs → slice_get xs i ≡ Some x → slice_get ys i ≡ Some y → take i xs ≡ take i ys →
     x ≡ y) →

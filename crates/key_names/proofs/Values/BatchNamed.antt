@@ -113,7 +113,7 @@ module _ (lists : Lists) (caller k : ℕ) where
       (new_named u name (c + suc m) r is ∙ ap (λ f. keystream (value_of lists name) f r) at)
       ∙ sym (keystream-add (value_of lists name) (64 * c) (64 * suc m) r)
 
-  -- a copy out of a state with named keys serves the bytes of the spans that its entries serve
+  -- a copy out of a state with named keys serves the bytes of the spans that the copy's entries serve
   pub copy_named : (x : Both) (s : VgetrandomState) (c n : ℕ) → 1 ≤ n → replay.Holds lists caller k x s →
       1 ≤ s.generation → NamesTell x →
       copy_bytes s c n ≡ served_in lists (entry_uses x.named (copy_entries s c n))
@@ -368,8 +368,8 @@ module _ (lists : Lists) (caller k : ℕ) where
   system_named n flags x s steps outcome by fronts out ends =
       let e : by_system by.answer ≡ by_batch out = sym (ap (λ (o : Outcome). o.ending) by.outcome_is) ∙ ends in cc
 
-  -- OutcomeNamed holds for an attempt and the rest of its call, if AttemptNamed holds for the attempt and OutcomeNamed
-  -- for the rest
+  -- if AttemptNamed holds for an attempt, and OutcomeNamed for the rest of its call, then OutcomeNamed holds for both
+  -- together
   pub rest_named : (n flags : ℕ) (Outdated : ℕ → VgetrandomState → List HostStep → Outcome → Type 0)
       (Tried : List HostStep → Attempt → Type 0) (x : Both) (steps : List HostStep) (outcome : Outcome) →
       ((tried : List HostStep) (attempt : Attempt) → Good lists tried → Tried tried attempt → AttemptNamed x attempt) →
@@ -454,7 +454,8 @@ module _ (lists : Lists) (caller k : ℕ) where
   nothing_named x s steps outcome by fronts out ends =
       let e : no_bytes ≡ by_batch out = sym (ap (λ (o : Outcome). o.ending) by.outcome_is) ∙ ends in cc
 
-  -- OutcomeNamed holds for a vgetrandom call with good steps, if its state matches the replay of the state's list
+  -- if the state of a vgetrandom call matches the replay of its list, and the steps are good, then OutcomeNamed holds
+  -- for the call
   pub call_named : (n flags : ℕ) (x : Both) (s : VgetrandomState) (steps : List HostStep) (outcome : Outcome) →
       replay.GoodAfter lists caller k steps → IsCall n flags s steps outcome → replay.Holds lists caller k x s →
       OutcomeNamed x outcome

@@ -53,8 +53,8 @@ new_rest at n w key used same is =
     ∙ keystream-drop used at (0 + w) 96 ∙ ap (λ i. keystream used (at + i) (96 - i)) q
     ∙ ap (λ k. keystream k (at + n) (96 - n)) (sym is)
 
--- if the served bytes of a batch are 0 and the rest is keystream of the key, then the rest is still keystream of the
--- key after `n` more bytes were served
+-- let the served bytes of a batch be 0, and let the rest be keystream of the key. Then the rest is still keystream of
+-- the key after `n` more bytes were served
 less_rest : (at pos n : ℕ) (key bytes : List ℕ) → StartsZero pos bytes →
     drop pos bytes ≡ keystream key (at + pos) (96 - pos) →
     drop (pos + n) (with_zeros pos n bytes) ≡ keystream key (at + (pos + n)) (96 - (pos + n))

@@ -189,8 +189,8 @@ module _ (lists : Lists) (c : ℕ) where
       same_fill_ok g f (ap (λ o. option_map_or (λ (x : Fill). x.place) o 0) is)
       (ap (λ o. option_map_or (λ (x : Fill). x.key) o None) is) (old g refl)
 
-  -- if CpuOk holds and a read fits, then the key in use at the read has a name. The same for an integer that fills its
-  -- batch
+  -- if CpuOk holds and a read fits, then the key in use at the read has a name. The same is true of an integer that
+  -- fills its batch
   read_keyed : (s : CpuState) (look : ℕ) (refill : Option ℕ) → CpuOk s → ReadFits s look refill →
       HasName (call_or refill s.key)
   read_keyed s look None ok fits =

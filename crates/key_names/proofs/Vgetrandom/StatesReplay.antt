@@ -178,7 +178,7 @@ module _ (lists : Lists) (caller k : ℕ) where
                 (w.name name, inr (has_name u.named.key (after u es).named.batch_key w.batch_name name));
           } in m)
 
-  -- the replay `x` with the entries of an attempt added matches the state after the attempt. The same for a call
+  -- the replay `x` with the entries of an attempt added matches the state after the attempt. The same is true of a call
   abbrev pub AttemptHolds : Both → Attempt → Type 0
   AttemptHolds x attempt = Holds (after x attempt.entries) attempt.state
 

@@ -1,4 +1,5 @@
--- The order of a caller's steps, after those of its ancestors, and the greatest generation that the caller has seen.
+-- The order of a caller's steps: first the steps of its ancestors, and then its own. Also the greatest generation that
+-- the caller has seen.
 use Rattle.std.specs.Prelude.{ℕ, zero, suc, ◌≤◌, max, Bool, true, false, ⊤, Option, Some, None, List, []}
 use Rattle.std.specs.Prelude.{◌∷◌, ◌++◌, length, take, drop, slice_get, if◌then◌else◌}
 use Rattle.std.specs.Option.{option_map_or}

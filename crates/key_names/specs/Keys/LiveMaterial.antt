@@ -89,7 +89,7 @@ WasReplaced lists (cpu_key c) key = SomeFrom (CpuReplaces key) (cpu_step lists.b
 WasReplaced lists (state_key caller state) key =
     SomeFrom (StateReplaces key) (state_step caller state) state_start (state_list lists caller state)
 
--- the bytes of a CPU's batches after its entries, the names of its keys, and the value of its key
+-- a CPU after its entries: the names of its keys, the value of its key, and the bytes of its batches
 pub record CpuBytes : Type 0 where
   pub named : CpuState
   pub value : List ℕ

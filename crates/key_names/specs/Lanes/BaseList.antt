@@ -92,7 +92,7 @@ abbrev pub root_or : Option ℕ → Option KeyName → Option KeyName
 root_or None key = key
 root_or (Some r) key = Some (Root r)
 
--- the key in use at an entry: the root that the entry names, or else the key before it
+-- the key in use at an entry: the root that the entry names, or, if the entry names none, the key before the entry
 abbrev pub base_key_in_use : BaseEntry → Option KeyName → Option KeyName
 base_key_in_use e key = root_or (root_of e) key
 

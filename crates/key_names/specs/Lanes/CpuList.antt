@@ -47,7 +47,8 @@ abbrev pub call_or : Option ℕ → Option KeyName → Option KeyName
 call_or None key = key
 call_or (Some b) key = Some (Call BaseLane b)
 
--- the key in use at an entry: the key that the base handed over in the named refill, or else the key before it
+-- the key in use at an entry: the key that the base handed over in the named refill, or, if no refill is named, the key
+-- before the entry
 abbrev pub cpu_key_in_use : CpuEntry → Option KeyName → Option KeyName
 cpu_key_in_use e key = call_or (base_refill_of e) key
 

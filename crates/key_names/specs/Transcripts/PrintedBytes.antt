@@ -31,7 +31,7 @@ origin_uses lists (at_state caller state place) =
 abbrev pub origins_uses : Lists → List Origin → List Use
 origins_uses lists origins = flat_map (origin_uses lists) origins
 
--- the last of some steps, if it is a visit
+-- the entry of the last step, if this step is a visit
 abbrev pub last_origin : List Step → List Origin
 last_origin [] = []
 last_origin (Look g ∷ []) = []

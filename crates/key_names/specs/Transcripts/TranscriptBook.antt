@@ -12,7 +12,7 @@ abbrev pub TranscriptIsLawful : Type 0
 TranscriptIsLawful = (script : Script) (t : List (List SeenLine)) (book : Book) (ms : List (List CallMeaning)) →
     IsTranscriptBy script t book ms → LawfulBook (lists_of book)
 
--- the steps of a transcript make only one book, and give its calls only one meaning
+-- the steps of a transcript make only one book, and give each call only one meaning
 abbrev pub BookIsUnique : Type 0
 BookIsUnique = (script : Script) (t : List (List SeenLine)) (one other : MadeBook script t) →
     (one.book ≡ other.book) × (one.meanings ≡ other.meanings)
