@@ -33,7 +33,8 @@ pub fn run_on_new_table<R: Threads + Wait + Sync, G: Gate>(
     run_new(rt, alloc, script, gate, Children::InThreads)
 }
 
-/// The bytes that starting a thread takes besides its stack, and those by which the stack may be rounded up.
+/// How many bytes the start of a thread may take beyond the requested stack: for the thread itself, and for rounding
+/// the stack up.
 const THREAD_BYTES: usize = 256 * 1024;
 
 // Fails if there is no memory for the first caller's stack (tested). A stack that cannot grow ends the program by a

@@ -19,7 +19,8 @@ abbrev pub IsSmall : LineData → Type 0
 IsSmall (Count n) = n < 2 ^ 32
 IsSmall _ = ⊤
 
--- the data of a call fit the line of its word
+-- if the served numbers are bytes, a shown count is below 2^32, and `ShowsFit` holds, the data fit a line with this
+-- word
 pub shown_fits : (word : Word) (served : List ℕ) (shows : LineData) → ShowsFit word shows →
     ((i : ℕ) → Fits w8 (slice_index served i)) → IsSmall shows → ShownFits word (shown_by served shows)
 shown_fits word served Nothing fit bytes small = tt

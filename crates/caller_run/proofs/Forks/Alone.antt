@@ -123,7 +123,7 @@ pub once_called : (t : Lanes) {c d : Caller} (served : List ℕ) {said : Reply} 
 once_called t served (Vread len flags) k = record { set = k.set; steps_fit = k.steps_fit; shows = (read_kept k).shows }
 once_called t served event k = call_called k
 
--- the line of a call of the core is final when it is made
+-- the line of a call of the core is not replaced later
 pub emitted_once : (event : Event) → IsCall event → IsEmittedOnce event
 emitted_once (Inside point act) is = is
 emitted_once (Fork child) is = is
@@ -136,7 +136,7 @@ called_once event is k = k
 
 -- ---- the start
 
--- no caller is forked
+-- if none of the events is an act or a fork, the events fork no caller
 pub forks_nobody : (events : List Event) → AllByRecursion IsEmittedOnce events → forks events ≡ []
 forks_nobody [] all = refl
 forks_nobody (event ∷ events) all = first event all.0 (forks_nobody events all.1)
@@ -281,7 +281,8 @@ goes_on {lines = lines} x y event rest d said served steps g k m same long = rec
       (event_goes event d said served steps k m.on g.goes)));
 }
 
--- after one event more, the run goes on for each script of one caller that begins with the events so far
+-- suppose that y can go on after `event` in each script in which x can go on with `event`. If x has made the events
+-- `done`, y has made `done` and then `event`
 pub made_one : {cpus : ℕ} {x y : LoneRun} {lines after : List SeenLine} (done : List Event) (event : Event) →
     ((script : Script) (rest : List Event) → IsGoing script (event ∷ rest) x lines → IsGoing script rest y after) →
     HasMade cpus done x lines → HasMade cpus (done ++ event ∷ []) y after

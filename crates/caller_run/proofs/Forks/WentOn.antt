@@ -1,4 +1,4 @@
--- A running caller makes its events, forks and joins, and comes to its end (`WentOn`, `Returned`).
+-- A running caller makes its events, forks and joins, and ends (`WentOn`, `Returned`).
 use Rattle.std.proofs.Common.{◌≡◌, ℕ, zero, suc, Some, ◌+◌, ◌<◌, ◌≤◌, ◌^◌, List, [], ◌∷◌, ◌++◌, length, map, refl, sym, ap, ◌∙◌, subst, arith, append_assoc, append-nil, length-append, replicate}
 use Rattle.std.specs.Prelude.{slice_get, vec_len, vec_capacity, sum_by}
 use Rattle.std.specs.List.{AllByRecursion}

@@ -60,7 +60,7 @@ module _ (lanes : ℕ) (visits : ℕ → List Visit) (callers : StateLists) (ok 
       ap (λ (s : CpuState). s.generation)
       (fold_next (cpu_step lists.base c) cpu_start (cpu_list lists c) place e is) in omega arith
 
-  -- the effect conforms to `LookConforms`, and the generation seen after it is at most `mid`
+  -- the effect fulfils `LookConforms`, and the generation seen after the effect is at most `mid`
   abbrev Passes : ℕ → ℕ → ℕ → Effect → Type 0
   Passes reseeds seen mid effect = LookConforms reseeds seen effect × (seen_after seen effect ≤ mid)
 

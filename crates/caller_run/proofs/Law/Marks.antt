@@ -1,4 +1,4 @@
--- The marks of all callers are the book's visits, each place once.
+-- The marks of all callers' lines are the book's visits: each visit has exactly one mark.
 use Rattle.std.proofs.Common.{◌≡◌, ℕ, zero, suc, ◌+◌, ◌<◌, ◌≤◌, cond, List, [], ◌∷◌, length, refl, sym, ap, ◌∙◌, subst, arith, inl, inr, Bool, true, false, Some}
 use Rattle.std.specs.Prelude.{◌==◌, if◌then◌else◌, slice_get}
 use Rattle.std.specs.List.{AllByRecursion, flat_map, sum_by, range_with_len}

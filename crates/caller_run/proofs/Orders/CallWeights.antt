@@ -115,7 +115,7 @@ module _ (P : Item → Type 0) where
         );
   }
 
-  -- a fact about each step of the calls holds for each step of the lines
+  -- if a fact holds for each step of the calls, it holds for each step of the lines
   pub calls_each : (c : ℕ) (events : List Event) (lines : List SeenLine) → LinesFit c 0 events lines →
       Each (calls_items (calls_of events lines)) → Each (lines_items lines)
   calls_each c events lines fit all = (kept c HoldsOfEach (keeps_each c) events lines fit all).1
@@ -147,7 +147,7 @@ module _ (Q : SeenLine → Type 0) where
     idles = λ waiting n bound es lines calls is rest all. let r = rest all.1 in (r.0, (all.0.0, r.1));
   }
 
-  -- a fact about each line of the calls holds for each line
+  -- if a fact holds for each line of the calls, it holds for each of the caller's lines
   pub calls_lines : (c : ℕ) (events : List Event) (lines : List SeenLine) → LinesFit c 0 events lines →
       AllByRecursion (λ call. EachSeen (lines_in_order call)) (calls_of events lines) → EachSeen lines
   calls_lines c events lines fit all = (kept c HoldsOfLines (keeps_lines c) events lines fit all).1

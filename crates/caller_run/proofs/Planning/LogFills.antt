@@ -22,7 +22,7 @@ use Rattle.transcript_text.specs.Gathered.{Gathered}
 use Rattle.caller_run.specs.Standing.{read_inside}
 use Rattle.caller_run.proofs.Orders.EmittedAnew.{AreEmitted, emitted_more}
 
--- a list whose items were lent out has the items that came back
+-- if n items of a list were lent out and n items came back, the list has the items that came back
 pub put_back : {A : Type 0} (back items : List A) (n : ℕ) → length back ≡ n
     → take n (back ++ drop (length back) items) ≡ back
 put_back back items n long =

@@ -1,4 +1,4 @@
--- The definition of a caller's parent finds the caller that forked it, and the call that did so.
+-- The definition of a caller's parent finds the caller that forked it, and the call of this fork.
 use Rattle.std.proofs.Common.{◌≡◌, inl, inr, ℕ, suc, ◌+◌, ◌≤◌, Bool, true, false, Some, None, List, [], ◌∷◌, ◌++◌, refl, sym, ap, ◌∙◌, subst, arith}
 use Rattle.std.specs.Prelude.{count_by, ◌==◌, if◌then◌else◌}
 use Rattle.std.specs.List.{AllByRecursion, sum_by}
@@ -102,7 +102,7 @@ forked_once c calls fork f =
       (λ most. ap (fork_point c) f.is ∙ found c fork.before fork.line f.after (omega (arith, one))),
     )
 
--- a fact about each element of a list holds for any one of them
+-- if a fact holds for each element of a list, it holds for any one of them
 pub each_of : {X : Type 0} (P : X → Type 0) (x : X) (xs : List X) → AllByRecursion P xs → IsOneOf x xs → P x
 each_of P x [] all here = absurd here
 each_of P x (y ∷ ys) all (inl same) = subst P same all.0
@@ -126,8 +126,7 @@ some_forked c k (es ∷ callers) (r ∷ rs) p kid each (inr rest) there =
     let more = some_forked c (suc k) callers rs p kid each.1 rest there in
     let all = sum_by-cons (count_by (is_fork_of kid.caller)) es callers in omega arith
 
--- the definition finds p, which forked the child `kid`, as this child's parent; k is the number of the first of
--- `callers`
+-- the definition finds p as the parent of the child `kid`, which p forked; k is the number of the first of `callers`
 pub record ParentIs (k : ℕ) (callers : List (List Event)) (runs : List Run) (p : Run) (kid : Start) : Type 0 where
   pub calls : List Call
   pub forked : Forked p.begun p.end calls kid
@@ -173,7 +172,7 @@ parent_is k (es ∷ callers) (r ∷ rs) p kid each (inr rest) there most =
           ∙ more.is;
     }
 
--- if no call forks a caller, it has no parent
+-- if no event forks caller c, the definition finds no parent for c
 pub no_parent : (c k : ℕ) (callers : List (List Event)) (runs : List Run) → EachCaller HasRun k callers runs →
     sum_by (count_by (is_fork_of c)) callers ≡ 0 →
     parent_from c k (all_calls callers (lines_of_all runs)) ≡ None

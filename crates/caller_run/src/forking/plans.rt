@@ -35,7 +35,7 @@ impl Buffers {
         })
     }
 
-    // The lines of the buffers, without its other memory.
+    // Takes the lines out of the buffers, and frees the other memory.
     fn into_lines(self) -> CallerLines
         ensures { result ≡ self.log.lines }
     {

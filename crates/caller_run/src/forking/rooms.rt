@@ -1,4 +1,4 @@
-//! Rooms: the memory that a caller fills, with the rooms of those that it forks.
+//! Rooms: the memory that a caller fills, with the rooms of the callers that it forks.
 ghost use Rattle.std.specs.Prelude.{◌≡◌, map};
 ghost use Rattle.caller_run.specs.Layouts.{layout, layout_by};
 

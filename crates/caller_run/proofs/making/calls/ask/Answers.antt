@@ -133,7 +133,7 @@ returns-in-Prepare g c = by_answer c.in-Prepare.is c.after-in-Prepare.ensures tt
 pub returns-in-Online : goal.returns-in-Online
 returns-in-Online g c = by_answer c.in-Online.is c.after-in-Online.ensures tt c.online.ensures
 
--- ---- what only sets something
+-- ---- events that only set something
 
 pub returns-in_default : goal.returns-in_default
 returns-in_default g c = asks_nothing c.requires.can (search rules) c.only.ensures
