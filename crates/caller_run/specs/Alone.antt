@@ -64,7 +64,7 @@ pub record GoesAlone (t : Lanes) (served : ℕ) (begun : Start) (events rest : L
 abbrev pub first_start : Pass → Start
 first_start p = record { caller = 0; set = setting_of (first_setting 0); view = view p }
 
--- the script's only caller has made these lines, and goes on with the rest of its events
+-- the script's only caller has made these lines, and goes on with the remaining events `rest`
 pub record IsGoing (script : Script) (rest : List Event) (run : LoneRun) (lines : List SeenLine) : Type 0 where
   pub well : WellFormed script
   pub cpus : run.lanes.cpus ≡ script.cpus

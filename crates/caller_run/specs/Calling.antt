@@ -51,7 +51,7 @@ pub record Seen (found : ℕ) (s : CallerState) : Type 0 where
 abbrev pub StatesConform : Caller → Type 0
 StatesConform c = Seen (floor (view c.pass)) (conform c)
 
--- from m to n an event was done, with this answer and these data, and the samples of its visits are right
+-- from m to n an event was done, with this answer and these data, and the samples of its visits match their definition
 abbrev pub Does : Setting → Event → Answer → Shown → Moment → Moment → Type 0
 Does set event answer shown m n = MakesIn (Sampled (IsOutcomeOf (setting_of set) event answer shown)) set m n
 

@@ -4,7 +4,7 @@ use Rattle.key_names.specs.declared.events.Event.{Event}
 use Rattle.key_names.specs.declared.events.Event.TheVariants.{Fork}
 use Rattle.key_names.specs.Lanes.Book.{list_at}
 
--- a list of callers, each with the tree of those that it forks
+-- a list of callers, each with the tree of its descendants
 pub data Forest : Type 0 where
   no_more : Forest
   more : (caller : ℕ) (kids rest : Forest) → Forest

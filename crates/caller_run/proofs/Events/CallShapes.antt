@@ -40,7 +40,7 @@ pub record Rekeys (steps : List HostStep) : Type 0 where
   pub steps_are : steps ≡ system_call 32 0 (read key visit) ∷ rest
   pub copies : Copies rest
 
--- after Written, the read of a new key failed, and a last system call follows
+-- after Written, the read of a new key failed, and one last system call follows
 pub record Fails (steps : List HostStep) : Type 0 where
   pub errno : Errno
   pub n : ℕ

@@ -32,7 +32,7 @@ use Rattle.caller_run.specs.declared.output.reply.LineData.TheVariants.{Nothing,
 use Rattle.caller_run.specs.declared.output.reply.Reply.{Reply}
 use Rattle.key_names.proofs.Transcripts.QuietForms.{IsNoInterrupt, form_samples}
 
--- the samples of an event that is no interrupt are right
+-- if an event is no interrupt, the samples of its visits match their definition, so `Makes` implies `Does`
 pub quietly : (set : Setting) (event : Event) (answer : Answer) (shown : Shown) (m n : Moment) → IsNoInterrupt event →
     Makes (IsOutcomeOf (setting_of set) event answer shown) set m n → Does set event answer shown m n
 quietly set event answer shown m n other did = record {

@@ -111,7 +111,7 @@ module _ {t : Lanes} {c d : Caller} {said : Reply} {served : List ℕ} {before :
       shows = b.bytes;
     }
 
-    -- `StateRead` holds after a read without acts inside
+    -- if `VreadMakes` holds for a read without acts, `StateRead` holds
     pub read_alone : (acts : List Bound) → acts ≡ [] →
         VreadMakes n flags st left (result_answer ended) (bytes_or_none (given ended served)) c.set
         (moment c.pass before) (moment d.pass steps) →
@@ -124,7 +124,8 @@ module _ {t : Lanes} {c d : Caller} {said : Reply} {served : List ℕ} {before :
         (emitted_by (λ s a x l. VreadMakes n flags s left a x c.set (moment c.pass l) (moment d.pass steps)) did))
         refl (steps_fit did.did.made_steps did.did.recorded.trace did.did.recorded.fits) tt)
 
-    -- `StateRead` holds after a read with the acts `acts` inside; `after` are these acts at the end of the read
+    -- if `InsideMakes` and `InsideRan` hold for a read with the acts `acts` inside, `StateRead` holds; `after` are
+    -- these acts at the end of the read
     pub read_inside : (acts after : List Bound) (out out_after : List ℕ) → AllByRecursion IsWaitingAct acts →
         1 < length (view c.pass).lanes →
         asks_of after ≡ asks_of acts →

@@ -136,7 +136,7 @@ called_once event is k = k
 
 -- ---- the start
 
--- if none of the events is an act or a fork, the events fork no caller
+-- if the events contain no act and no fork, they fork no caller
 pub forks_nobody : (events : List Event) → AllByRecursion IsEmittedOnce events → forks events ≡ []
 forks_nobody [] all = refl
 forks_nobody (event ∷ events) all = first event all.0 (forks_nobody events all.1)
@@ -281,8 +281,8 @@ goes_on {lines = lines} x y event rest d said served steps g k m same long = rec
       (event_goes event d said served steps k m.on g.goes)));
 }
 
--- suppose that y can go on after `event` in each script in which x can go on with `event`. If x has made the events
--- `done`, y has made `done` and then `event`
+-- suppose that for each script, if x can go on with `event`, y can go on after it. If x has made the events `done`, y
+-- has made `done` and then `event`
 pub made_one : {cpus : ℕ} {x y : LoneRun} {lines after : List SeenLine} (done : List Event) (event : Event) →
     ((script : Script) (rest : List Event) → IsGoing script (event ∷ rest) x lines → IsGoing script rest y after) →
     HasMade cpus done x lines → HasMade cpus (done ++ event ∷ []) y after

@@ -26,7 +26,7 @@ share_from : (x u w : View) → SameHalves x u → SameShare u w → SameShare x
 share_from x u w same s =
     ap (λ (h : ℕ). w.share * 2 ^ h) (sym same.halvings) ∙ s ∙ ap (λ (n : ℕ). n * 2 ^ w.halvings) same.share
 
--- a caller that forks no more callers went on to its end
+-- a caller that forks no more callers ran on to its end (`RanOn`)
 pub ran_end : (script : Script) (x e : View) → SameHalves x e → RanOn script x e e [] []
 ran_end script x e same = record {
   family = record { each = tt; began = tt };
@@ -51,7 +51,7 @@ ran_fork script x u z e w d kid starts xs own ys before after rest view_is child
           (subst (λ (v : View). SameShare v d) view_is child.share));
     }
 
--- `RanOn` from a caller's start gives `RanSo`
+-- if `RanOn` holds from a caller's start to its end, `RanSo` holds
 pub ran_so : (script : Script) (begun : Start) (w : View) (own : Run) (runs : List Run) → own.begun ≡ begun →
     RunsIn script own → RanOn script begun.view own.end w own.kids runs → RanSo script begun w own runs
 ran_so script begun w own runs is has on = record {

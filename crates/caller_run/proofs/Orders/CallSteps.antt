@@ -74,7 +74,7 @@ module _ (f : Item → ℕ) where
   abbrev weight : List Item → ℕ
   weight items = sum_by f items
 
-  -- what an act at point p with the weight w adds at `point`: w if the points are the same, and otherwise 0
+  -- an act at point p has the weight w; its weight at `point` is w if the two points are the same, and otherwise 0
   abbrev weight_at : Point → ℕ → Point → ℕ
   weight_at p w point = cond (is_same_point p point) w 0
 

@@ -14,7 +14,7 @@ use Rattle.caller_run.specs.Done.{lines_in_order}
 use Rattle.caller_run.proofs.Orders.CallLists.{Kept, Keeps, kept}
 use Rattle.caller_run.proofs.Orders.CallSteps.{lines_items, act_line, vread_weight, call_each}
 
--- one more waiting act adds the steps of its line
+-- one more waiting act adds the steps of its own line
 waiting_more : (waiting : List BoundAct) (bound : BoundAct) → lines_items (map act_line (waiting ++ bound ∷ []))
     ≡ lines_items (map act_line waiting) ++ line_items bound.line
 waiting_more waiting bound =
