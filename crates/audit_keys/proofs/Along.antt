@@ -51,7 +51,8 @@ module _ {S E T : Type 0} (tells : S → E → List T) (step : S → E → S) wh
     listed_all place old now all h =
         h ∙ ap (λ es. old ++ listed_from tells step start es) (take_all place entries all)
 
-    -- this is `listed_more` for a list of results that first stayed the same from `now` to `mid`
+    -- if the list does not change from `now` to `mid`, and the results of the entry at `place` are then appended, the
+    -- list has the results of the entries before `place + 1`
     pub listed_after : (place : ℕ) (e : E) (old now mid new : List T) → slice_get entries place ≡ Some e →
         IsListed place old now → mid ≡ now → new ≡ mid ++ tells (fold step start (take place entries)) e →
         IsListed (place + 1) old new

@@ -38,8 +38,8 @@ gives_at before rest a a' b b' p q g =
     let P : Attempt → Type 0 = λ x. Gives before rest x b in let Q : After → Type 0 = λ x. Gives before rest a' x in
     subst P (sym p) (subst Q (sym q) g)
 
--- suppose the attempt `a` adds its entries after `before` and `es`; then the attempt with `es` put in front of its
--- entries adds all of these after `before`
+-- suppose that after the entries `before` and `es`, `b` ends as the attempt `a` does. Then after `before`, `b` ends as
+-- `a` does with `es` put in front of its entries
 gives_after : (es before now : List VEntry) (rest : List Step) (a : Attempt) (b : After) → now ≡ before ++ es →
     Gives now rest a b → Gives before rest (prefix_attempt es a) b
 gives_after es before now rest a b more g = record {

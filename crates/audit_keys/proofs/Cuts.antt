@@ -59,7 +59,7 @@ module _ {K : Type 0} (stamp : ℕ) where
       cut_more moments kept place k cut cut' b is so by
       (more ∙ sym (append-nil cut) ∙ ap (λ t. cut ++ kept_by t k) (sym e))
 
--- if kept entries are cut at a stamp by their moments, what is left are the entries of the visits up to the stamp
+-- if kept entries are cut at a stamp by their moments, the entries of the visits up to the stamp remain
 pub visits_kept : {K E : Type 0} (entry : K → E) (stamp : ℕ) (kept : List K) (moments : List Moment)
     (visits : List (Visit E)) → map entry kept ≡ entries_of visits → stamps_of moments ≡ visit_stamps visits →
     map entry (list_to stamp moments kept) ≡ entries_of (visits_to stamp visits)

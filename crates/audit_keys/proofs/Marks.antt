@@ -69,7 +69,7 @@ takes_read_is c callers k =
     ∙ any_map (λ (states : Vec (Vec VEntry)). map (λ (es : Vec VEntry). es.items) states.items)
     (λ lists. lists_take c k lists) callers
 
--- a CPU's uses depend on which reads are taken only at the places of the CPU's list
+-- if f and g agree at all places of a CPU's list, the CPU's uses are the same with f and with g
 module _ (base : List BaseEntry) (c : ℕ) (f g : ℕ → Bool) where
   same_at : (s : CpuState) (e : CpuEntry) → f s.place ≡ g s.place → cpu_used_at c f s e ≡ cpu_used_at c g s e
   same_at s (Read look refill taken) is = rw is refl

@@ -303,7 +303,7 @@ module _ (lists : Lists) (n flags : ℕ) (acts : List BoundAct) (steps : List St
     conforms = record { outline = copy_outline l s 0 n is.outline; idle = kept_idle (has_left s n) s 0 n is.idle };
   }
 
-  -- whether the batch alone serves the vread is the same by the outline as by the state
+  -- the outline and the state agree on whether the batch alone serves the vread
   local_is : (g : ℕ) → (length acts == 0) ≡ true → serves_locally (published_by g) s n
       ≡ (not (g == 0) && copies_alone acts n g l)
   local_is g no_acts =

@@ -13,7 +13,7 @@ use std::alloc::{AllocError, Global};
 /// The number of bytes of a block of keystream.
 const BLOCK_BYTES: u64 = 64;
 
-/// The number of bytes of a batch. A refill keeps as the next key the bytes after these.
+/// The number of bytes of a batch. A refill keeps the bytes after the batch as the next key.
 pub const BATCH_BYTES: u64 = 96;
 
 /// A vgetrandom state of a caller.

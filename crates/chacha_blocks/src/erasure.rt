@@ -9,7 +9,8 @@ use crate::stream::fill_from_block;
 
 const KEY_BYTES: usize = 32;
 
-/// The number of bytes left after the new key: in the block of an erasure, and in that block and the next together.
+/// How many bytes follow the new key: in the erasure's block alone, and in the erasure's block and the next block
+/// together.
 pub(crate) const REST_OF_BLOCK: usize = BLOCK_BYTES - KEY_BYTES;
 
 const REST_OF_PAIR: usize = 2 * BLOCK_BYTES - KEY_BYTES;
