@@ -35,7 +35,7 @@ pub struct StateKeys {
 }
 
 /// The number, in a key's keystream, of the byte that is `more` bytes after the first byte of `block`. In a run this
-/// number fits into 64 bits, since no run uses a block so far on.
+/// number fits into 64 bits, since no run uses a block with so large a number.
 ///
 /// # Errors
 ///

@@ -92,7 +92,7 @@ module _ (n : ℕ) where
             ∙ ap end_of last.attempt_is;
       }
 
-  -- after the point Start, the first step of the caller itself is a look
+  -- if an attempt goes on from the point Start, the caller's own first step is a look
   start_looks : (c published : ℕ) (s : VgetrandomState) (steps more : List HostStep) (attempt : Attempt) →
       FromStart n c published s steps attempt → LooksFirst (steps ++ more)
   start_looks c published s steps more attempt k = go (s.generation == published) k

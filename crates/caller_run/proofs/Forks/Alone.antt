@@ -52,7 +52,7 @@ use Rattle.caller_run.proofs.Planning.Slots.{put_all}
 
 module _ {t : Lanes} {m : ℕ} {begun : Start} {events rest : List Event} {c d e : Caller} {lines : List SeenLine}
     {said : Reply} {served : List ℕ} {steps : List Step} where
-  -- the only caller goes on after a call of the core
+  -- if the only caller goes on (`GoesAlone`) and makes a call of the core, it goes on after this call
   call_goes : {event : Event} → IsCall event → Called t event c d said served steps → GoesOn event d e →
       GoesAlone t m begun events (event ∷ rest) c lines →
       GoesAlone t m begun events rest e (lines ++ line_of d.set (event_word event) served said steps ∷ [])
@@ -66,7 +66,7 @@ module _ {t : Lanes} {m : ℕ} {begun : Start} {events rest : List Event} {c d e
         gone = gone_call is k on g.gone;
       }
 
-  -- the only caller goes on after a read out of the current state
+  -- if the only caller goes on and reads out of its current state, it goes on after this read
   read_goes : {len flags : ℕ} → StateRead t len flags c d said served steps [] [] → GoesOn (Vread len flags) d e →
       GoesAlone t m begun events (Vread len flags ∷ rest) c lines →
       GoesAlone t m begun events rest e (lines ++ line_of d.set VreadWord served said steps ∷ [])

@@ -1,4 +1,4 @@
--- Runs that have exactly one run of each caller can be listed in the order of the callers.
+-- If a list has exactly one run of each caller, its runs can be listed in the order of the callers.
 use Rattle.std.proofs.Common.{◌≡◌, inl, inr, ℕ, zero, suc, ◌+◌, ◌<◌, ◌≤◌, Bool, true, false, cond, List, [], ◌∷◌, map, refl, sym, ap, ◌∙◌, arith}
 use mathlib.Core.Logic.{dite}
 use native.Mathlib.Decide.{ℕ_discrete}

@@ -15,7 +15,7 @@ use Rattle.caller_run.specs.Standing.{Start, Forked}
 use Rattle.caller_run.proofs.Orders.CallLists.{Kept, Keeps, kept}
 use Rattle.caller_run.proofs.Planning.Sums.{hit, hit_same}
 
--- how many of some calls fork this number
+-- how many of some calls fork caller c
 abbrev pub forks_in : ℕ → List Call → ℕ
 forks_in c [] = 0
 forks_in c (alone (Fork child) line ∷ calls) = hit (child == c) + forks_in c calls
@@ -50,7 +50,7 @@ pub counted : (caller c : ℕ) (events : List Event) (lines : List SeenLine) →
     forks_in c (calls_of events lines) ≡ count_by (is_fork_of c) events
 counted caller c events lines fit = kept caller (Counted c) (keeps_counted caller c) events lines fit
 
--- if no call forks the number, no fork is found
+-- if no call forks caller c, `fork_point` finds no fork
 pub none_found : (c : ℕ) (calls : List Call) → forks_in c calls ≡ 0 → fork_point c calls ≡ None
 none_found c [] none = refl
 none_found c (alone (Fork child) line ∷ calls) none = go (child == c) none (λ rest. none_found c calls rest)
@@ -62,7 +62,7 @@ none_found c (alone (Fork child) line ∷ calls) none = go (child == c) none (λ
     go false none rest = ap (with_call_before (alone (Fork child) line)) (rest (omega arith))
 none_found c (call ∷ calls) none = ap (with_call_before call) (none_found c calls none)
 
--- the first call that forks the number is found
+-- if one call forks caller c, and no call before it does, `fork_point` finds that call
 pub found : (c : ℕ) (before : List Call) (line : SeenLine) (after : List Call) → forks_in c before ≡ 0 →
     fork_point c (before ++ alone (Fork c) line ∷ after) ≡ Some (record { before = before; line = line })
 found c [] line after none =
@@ -88,7 +88,7 @@ forks_append c [] ys = omega arith
 forks_append c (alone (Fork child) line ∷ xs) ys = let rest = forks_append c xs ys in omega arith
 forks_append c (call ∷ xs) ys = forks_append c xs ys
 
--- these calls fork the number c at this fork
+-- these calls fork caller c, at this fork
 pub record ForksAt (c : ℕ) (calls : List Call) (fork : ForkPoint) : Type 0 where
   pub after : List Call
   pub is : calls ≡ fork.before ++ alone (Fork c) fork.line ∷ after

@@ -51,7 +51,7 @@ returns-in-Uread g c =
 
 -- ---- integers
 
--- the event of an integer is that of its width
+-- if an event reads an integer with `width` bytes, it is the integer event of this width
 by_width : (event : Event) (width : ℕ) → IsInteger event → width ≡ most_shown event → event ≡ int_event width
 by_width Int8 width is same = ap int_event (sym same)
 by_width Int16 width is same = ap int_event (sym same)
