@@ -23,8 +23,8 @@ use Rattle.audit_keys.specs.Left.{Left, After, met, copied, keyed, with_key, fro
 use Rattle.audit_keys.proofs.Outlines.{generation_test, same_entries, same_block, copy_outline, met_outline, met_entries}
 use Rattle.audit_keys.proofs.KeySteps.{FirstStep, first_step, key_listed}
 
--- `b` ends as the attempt `a` does: its entries are `before` and then the attempt's, its outline is that of the state
--- that the attempt leaves, and its `rest` is `rest`
+-- `b` ends as the attempt `a` does. Its entries are `before` and then those of `a`; its outline is that of the state
+-- that `a` leaves; its `rest` is `rest`
 pub record Gives (before : List VEntry) (rest : List Step) (a : Attempt) (b : After) : Type 0 where
   pub entries : b.left.entries ≡ before ++ a.entries
   pub outline : IsOutline b.left.outline a.state

@@ -33,8 +33,8 @@ fn put_after(
     Ok(())
 }
 
-/// The sixteen vgetrandom states of a caller: the outline and the list so far of each state, the number of the current
-/// state, and the stamp of the caller's last visit.
+/// The sixteen vgetrandom states of a caller: the outline and the list so far of each state, and the number of the
+/// current state. The struct also has the stamp of the caller's last visit.
 #[derive(Drop)]
 pub(crate) struct AuditedCaller {
     outlines: Vec<Outline>,

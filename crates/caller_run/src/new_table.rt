@@ -38,7 +38,7 @@ pub fn run_on_new_table<R: Threads + Wait + Sync, G: Gate>(
 const THREAD_BYTES: usize = 256 * 1024;
 
 // Fails if there is no memory for the first caller's stack (tested). A stack that cannot grow ends the program by a
-// signal, so this test comes after all other memory was taken, and before the first caller starts in a thread or here.
+// signal. So this test comes after all other memory was taken, and before the first caller starts in a thread or here.
 fn need_stack(alloc: Global, script: &Script) -> Result<(), AllocError> {
     let bytes = stack_for(script, 0).saturating_add(THREAD_BYTES);
     let _stack: Vec<u8> = Vec::with_capacity(alloc, bytes)?;

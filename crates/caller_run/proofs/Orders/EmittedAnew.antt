@@ -80,7 +80,8 @@ module _ (old new : SeenLine) (caller : new.caller ≡ old.caller) (event : new.
       (is_too c n (event_word e) line same fit.0, fit.1)
   fit_set c n (e ∷ events) (line ∷ lines) (suc i) there fit = (fit.0, fit_set c (suc n) events lines i there fit.1)
 
--- after the line at place i was set to `new`, the line at place j is `new` if i is j, or is still `old`
+-- if the line at place j is `old` before place i is set to `new`, it is still `old` afterwards, or i is j and it is
+-- `new`
 get_set : (lines : List SeenLine) (i j : ℕ) (old new : SeenLine) → slice_get lines j ≡ Some old →
     ((i ≡ j) × (slice_get (slice_set lines i new) j ≡ Some new)) ⊎ (slice_get (slice_set lines i new) j ≡ Some old)
 get_set [] i j old new there = absurd (cc there)
