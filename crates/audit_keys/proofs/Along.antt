@@ -7,7 +7,7 @@ use Rattle.std.proofs.lemmas.List.{map-append, take_all, take_more}
 use Rattle.judge_log.proofs.Loops.{take_at}
 use Rattle.audit_keys.specs.ListedFrom.{listed_from}
 
--- if a list first stayed the same, and then the items `add` were appended, the list is the old one and these items
+-- if `mid` equals `old`, and `new` is `mid` with the items `add` appended, `new` is `old` with `add` appended
 pub after_same : {T : Type 0} (old mid new add : List T) → mid ≡ old → new ≡ mid ++ add → new ≡ old ++ add
 after_same old mid new add stayed added = added ∙ ap (λ ts. ts ++ add) stayed
 

@@ -1,5 +1,5 @@
--- The code goes along a lane's visits and keeps the data of those up to a stamp. The kept data are `list_to`, and their
--- entries are those of `visits_to`.
+-- The code goes along a lane's visits and keeps the data of the visits up to a stamp. The kept data are `list_to`, and
+-- the entries in these data are those of `visits_to`.
 use Rattle.std.proofs.Common.{◌≡◌, ◌+◌, ℕ, zero, suc, Bool, true, false, List, [], ◌∷◌, ◌++◌, take, refl, sym, ap, ◌∙◌, append-nil, arith}
 use Rattle.std.specs.Prelude.{Some, slice_get, map, nat_le, if◌then◌else◌}
 use Rattle.std.specs.Global.{Vec}

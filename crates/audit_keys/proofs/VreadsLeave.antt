@@ -24,7 +24,7 @@ use Rattle.audit_keys.proofs.Outlines.{same_test, sym_test, generation_test, sam
 use Rattle.audit_keys.proofs.KeySteps.{FirstStep, first_step}
 use Rattle.audit_keys.proofs.AttemptsLeave.{Gives, WipesAre, AttemptLeaves, attempt_leaves}
 
--- `new` has the entries of `l` and then those of `outcome`; its outline is that of the outcome's state
+-- `new` has the entries of `l` and then those of `outcome`; the outline of `new` is that of the state of `outcome`
 pub record CallLeaves (l : Left) (outcome : Outcome) (new : Left) : Type 0 where
   pub entries : new.entries ≡ l.entries ++ outcome.entries
   pub conforms : IsBetweenCalls new.outline outcome.state

@@ -1,5 +1,5 @@
--- The uses by each entry. A use has bytes of a key, the purpose of these bytes (kept as a named key, or served), and
--- the entry.
+-- The uses that each entry makes. A use has bytes of a key, the purpose of these bytes (kept as a named key, or
+-- served), and the entry.
 use Rattle.std.specs.Prelude.{ℕ, ◌+◌, ◌*◌, Bool, true, false, Option, Some, None, List, [], ◌∷◌, nat_lt, if◌then◌else◌}
 use Rattle.key_names.specs.declared.names.LaneId.TheVariants.{Base as BaseLane, Cpu as CpuLane}
 use Rattle.key_names.specs.declared.names.KeyName.{KeyName}

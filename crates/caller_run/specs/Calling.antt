@@ -68,7 +68,7 @@ pub record Asked (event : Event) (said : Reply) (served : List ℕ) (m n : Site)
   pub does : Does m.set event said.answer (shown_by served said.shows) (at m) (at n)
   pub shows : ShowsFit (event_word event) said.shows
 
--- the caller holds no lane, its CPU is one of the table's, and its moment is below 2^40
+-- the caller holds no lane, its CPU is in the table, and its moment is below 2^40
 pub record IsReady (t : Lanes) (c : Caller) : Type 0 where
   pub has : HoldsLanes t c.set.caller [] c.pass
   pub cpu : c.set.cpu < t.cpus

@@ -29,7 +29,7 @@ pub record Family (script : Script) (starts : List Start) (runs : List Run) : Ty
   pub began : AllByRecursion
       (λ r. IsOneOf r.begun starts ⊎ ((p : Run) × IsOneOf p runs × IsOneOf r.begun p.kids)) runs
 
--- the sum of f over the places of a lane's marks in this caller's lines
+-- for all marks of a lane in this caller's lines, the sum of f over their places
 abbrev pub marked_by : (ℕ → ℕ) → LaneId → Run → ℕ
 marked_by f lane r = marked f lane (r.lines ∷ [])
 

@@ -46,7 +46,7 @@ pub record Began (runs : List Run) (r : Run) : Type 0 where
 abbrev pub lines_of_all : List Run → List (List SeenLine)
 lines_of_all runs = map (λ r. r.lines) runs
 
--- the sum of f over the places of a lane's marks in these lines
+-- for all marks of a lane in these lines, the sum of f over their places
 abbrev pub marked : (ℕ → ℕ) → LaneId → List (List SeenLine) → ℕ
 marked f lane t = sum_by (λ mark. f mark.place) (lane_marks lane (all_marks t))
 

@@ -20,7 +20,7 @@ use transcript_text::Transcript;
 ///
 /// # Errors
 ///
-/// `AllocError` if there is no memory for the plan, the table, or the first caller's stack. No caller ran then.
+/// `AllocError` if there is no memory for the plan, the table, or the first caller's stack. In this case no caller ran.
 pub fn run_on_new_table<R: Threads + Wait + Sync, G: Gate>(
     rt: &R,
     alloc: Global,

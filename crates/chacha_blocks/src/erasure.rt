@@ -46,8 +46,8 @@ impl Detached {
     }
 }
 
-/// Replaces the key by bytes 0 to 32 of its own keystream, and fills `out`, at most 32 bytes, with the bytes from 32
-/// on. Returns the replaced key, with block 1 next. This is the kernel's `crng_fast_key_erasure`.
+/// Replaces the key by bytes 0 to 32 of its own keystream, and fills `out` with the bytes from 32 on. `out` has at most
+/// 32 bytes. Returns the replaced key, with block 1 next. This is the kernel's `crng_fast_key_erasure`.
 pub fn erase(key: &mut [u8; 32], out: &mut [u8]) -> Detached
     requires { length out.old ≤ 32 }
     ensures erased { key.new ≡ keystream key.old 0 32 }
@@ -62,8 +62,8 @@ pub fn erase(key: &mut [u8; 32], out: &mut [u8]) -> Detached
     Detached::of(old, 1)
 }
 
-/// Replaces the key by bytes 0 to 32 of its own keystream, and fills `buf`, of fewer than 2^40 - 32 bytes, with the
-/// bytes from 32 on. This is a whole kernel read (`_get_random_bytes`): [`erase`] makes the first 32 bytes, and
+/// Replaces the key by bytes 0 to 32 of its own keystream, and fills `buf` with the bytes from 32 on. `buf` has fewer
+/// than 2^40 - 32 bytes. This is a whole kernel read (`_get_random_bytes`): [`erase`] makes the first 32 bytes, and
 /// [`Detached::more`] the rest. If `buf` is empty, the key is still erased, unlike in the kernel's function.
 pub fn erase_and_fill(key: &mut [u8; 32], buf: &mut [u8])
     requires { 32 + length buf.old < 2 ^ 40 }

@@ -1,4 +1,4 @@
--- The numbers that a line shows as bytes are bytes, and there are as many of them as the line's word allows.
+-- If a line shows numbers as bytes, they are bytes, and their count is one that the line's word allows.
 use Rattle.std.proofs.Common.{◌≡◌, ℕ, List, [], ◌∷◌, Fits, w8, arith}
 use Rattle.std.specs.Prelude.{slice_index, ◌<◌, ◌^◌, ⊤}
 use Rattle.key_names.specs.declared.events.Word.{Word}

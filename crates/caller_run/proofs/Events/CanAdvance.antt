@@ -26,7 +26,7 @@ use Rattle.caller_run.specs.Standing.{read_inside, CanAdvanceWith, CanAdvance}
 use Rattle.caller_run.proofs.Law.Seeing.{seen_after}
 use Rattle.caller_run.proofs.Planning.LogFills.{Fills}
 
--- the setting's CPU is one of the table's, and its moment is below 2^40
+-- the setting's CPU is in the table, and its moment is below 2^40
 record Fits (cpus : ℕ) (set : calls.Setting) : Type 0 where
   cpu : set.cpu < cpus
   moment : set.now < 2 ^ 40

@@ -71,7 +71,7 @@ joined_nothing v = record {
   made = λ lane low. omega arith;
 }
 
--- the visits in the pass of a caller at its end are exactly those of its lines
+-- at its end, the visits in a caller's pass are exactly the visits in its lines
 pub record OwnPlaces (r : Run) : Type 0 where
   pub placed : (f : ℕ → ℕ) (lane : LaneId) → index_of lane < length r.end.lanes →
       sum_by f (at (index_of lane) r.end).places ≡ marked_by f lane r

@@ -1,4 +1,4 @@
--- The steps of a caller's calls, in the order in which they happen, are those of its lines.
+-- The steps of a caller's calls, in the order in which they happen, are the steps of its lines.
 use Rattle.std.proofs.Common.{◌≡◌, ℕ, ◌+◌, List, [], ◌∷◌, ◌++◌, map, ap, ◌∙◌, subst, arith, append-nil}
 use Rattle.std.specs.List.{AllByRecursion, sum_by}
 use Rattle.std.proofs.lemmas.List.{map-append}
@@ -65,7 +65,7 @@ module _ (f : Item → ℕ) where
         (omega arith) rest in omega arith;
   }
 
-  -- the steps of a caller's calls have the same weight as those of its lines
+  -- the steps of a caller's calls have in all the same weight as the steps of its lines
   pub calls_weight : (c : ℕ) (events : List Event) (lines : List SeenLine) → LinesFit c 0 events lines →
       weight (calls_items (calls_of events lines)) ≡ weight (lines_items lines)
   calls_weight c events lines fit = let e = kept c Weighs (keeps_weight c) events lines fit in omega arith

@@ -17,7 +17,7 @@ number r = r.begun.caller
 abbrev pub numbers_of : List Run → List ℕ
 numbers_of runs = map number runs
 
--- the weight of a run if it is caller k's, and otherwise 0
+-- the weight of a run of caller k; runs of other callers have weight 0
 abbrev of_caller : (Run → ℕ) → ℕ → Run → ℕ
 of_caller f k r = cond (number r == k) (f r) 0
 
