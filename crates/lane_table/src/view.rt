@@ -16,13 +16,13 @@ pub enum LaneEntry {
     Cpu(CpuEntry),
 }
 
-/// The key that an entry hands to the entry that it names, and the generation of the lane that hands the key over.
+/// A key that one entry hands to another, and the generation of the lane that hands it over.
 pub struct Handed {
     pub key: LinkedList<u8>,
     pub generation: u64,
 }
 
-/// One visit of a lane. It received `got` from the entry that it names, and hands on `gave`.
+/// One visit of a lane. `got` is the key that the visit received, and `gave` is the key that the visit hands on.
 pub struct Visit {
     pub who: Who,
     pub stamp: u64,
@@ -31,7 +31,8 @@ pub struct Visit {
     pub gave: Handed,
 }
 
-/// The state of a caller at a lane: it has no ticket, or waits with a ticket, or holds the lane with it.
+/// The stage of a caller at a lane: the caller has no ticket, or waits with a ticket, or holds the lane with its
+/// ticket.
 pub enum TicketStage {
     Away,
     Queued(u64),

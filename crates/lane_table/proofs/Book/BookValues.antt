@@ -111,7 +111,7 @@ module _ (lanes : ℕ) (following xs : List Visit) (ok : SameHeldLane lanes foll
       ap (λ (b : BaseValue). key_in_use (root_of e) x.got.key b.key) (base_before i (omega arith))
       ∙ key_in_use-root pool (root_of e) x.got.key (base_value_after pool (take i es)) (root_handed i x e at is)
 
-  -- a visit of the base hands on the key that its entry makes of the model before it
+  -- a visit of the base hands on the key that its entry gives, from the model before the visit
   gave_as : (i : ℕ) (x : Visit) (e : BaseEntry) → slice_get xs i ≡ Some x → x.entry ≡ Base e →
       x.gave ≡ base_gives (replay (take i xs)).base x.got e
   gave_as i x e at is =
