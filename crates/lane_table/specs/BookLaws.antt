@@ -38,8 +38,8 @@ pub record Continues (lanes : ℕ) (v : View) (visits : ℕ → List Visit) : Ty
   pub begins : (lane : ℕ) → lane < lanes → Begins (known_of v lane) (visits lane)
   pub closed : ClosedLanes lanes visits
 
--- closed lists make a book in which the lists of the base and the CPUs are lawful, and if an entry names a root or a
--- refill, the entry at the named place names it back
+-- closed lists make a book in which the lists of the base and the CPUs are lawful. If an entry of these lists names a
+-- root or a refill, the entry at the named place names it back
 abbrev pub ClosedIsForwardLawful : Type 0
 ClosedIsForwardLawful = (lanes : ℕ) (visits : ℕ → List Visit) (callers : StateLists) →
     ClosedLanes lanes visits →

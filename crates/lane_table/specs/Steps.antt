@@ -195,8 +195,8 @@ leaves st m r m' = (lane : ℕ) → st.word ≡ serving_word lane → m' ≡ lef
 abbrev pub saw : ℕ → Seated → Seated
 saw g m = (record m.0 { seen = g; looks = m.0.looks ++ g ∷ [] }, m.1)
 
--- a look finds a generation that is at least each one that the pass has seen, and at least the number of raises in the
--- base's list as the pass knows it
+-- a look finds a generation that is at least each one that the pass has seen. The generation is also at least the
+-- number of raises in the base's list, as far as the pass knows the list
 abbrev pub looks : Step (Option Content) → Seated → ℕ → Seated → Type 0
 looks st m r m' = st.word ≡ 0
     → (m.0.seen ≤ r) × (raises (known_of m.0 1) ≤ r) × (r < 2 ^ 63) × (m' ≡ saw r m) × Consistent m'.0

@@ -56,8 +56,8 @@ pub fn generation_is_the_bases()
 {}
 
 /// Suppose that each list is lawful, and that if an entry names a visit of its parent lane, that visit names the entry.
-/// Then in the book the lists of the base and the CPUs are lawful, and if an entry names a root or a refill, the entry
-/// at the named place names it back (`ForwardLawful`).
+/// Then in the book the lists of the base and the CPUs are lawful. If an entry of these lists names a root or a refill,
+/// the entry at the named place names it back (`ForwardLawful`).
 pub fn closed_is_forward_lawful()
     ensures { ClosedIsForwardLawful }
 {}

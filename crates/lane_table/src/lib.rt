@@ -1,8 +1,8 @@
-//! The lanes of the core: the input pool, the base and each CPU's generator, each with its own ticket lock, and the
-//! generation word, which is read without a lock. In drivers/char/random.c the lanes' values are guarded by
-//! `input_pool.lock`, `base_crng.lock` and a CPU's `local_lock`, and the word is `base_crng.generation`. The words and
-//! the slots come from `atomic_table`. The part crates, such as `input_pool`, `base_gen` and `cpu_gen`, define how an
-//! entry changes a value.
+//! The lanes of the core: the input pool, the base and each CPU's generator. Each lane has its own ticket lock. The
+//! generation word is read without a lock. In drivers/char/random.c the lanes' values are guarded by `input_pool.lock`,
+//! `base_crng.lock` and a CPU's `local_lock`, and the word is `base_crng.generation`. The words and the slots come from
+//! `atomic_table`. The part crates, such as `input_pool`, `base_gen` and `cpu_gen`, define how an entry changes a
+//! value.
 //!
 //! # Example
 //!

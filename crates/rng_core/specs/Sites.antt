@@ -97,15 +97,16 @@ IsTimely s = s.set.now < 2 ^ 40
 abbrev pub HasRoom : ℕ → Site → Type 0
 HasRoom steps s = length s.trace.now + steps ≤ 20
 
--- the caller holds only this lane, and has not changed the lane's value; the hold owes the answer `owes`, and has
--- raised the generation this often
+-- the caller holds only this lane, and has not changed the lane's value. The hold owes the answer `owes`, and raised
+-- the generation `raised` times
 pub record HoldsWith (owes : Option ℕ) (raised lane : ℕ) (h : Held) (s : Site) : Type 0 where
   pub has : HasInHands (hand h.turn owes raised ∷ []) s
   pub lane_is : h.turn.lane ≡ lane
   pub value : ValueRepresents lane h.state (lane_of s lane)
   pub early : s.pass.now.stamp ≤ last_stamp
 
--- the caller holds only this lane, with the value as it was taken; the hold owes no answer and raised nothing
+-- the caller holds only this lane, and has not changed the lane's value. The hold owes no answer, and did not raise the
+-- generation
 abbrev pub Holds : ℕ → Held → Site → Type 0
 Holds lane h s = HoldsWith None 0 lane h s
 
@@ -191,7 +192,7 @@ pub record KeepsTrace (m n : Site) : Type 0 where
   pub trace : n.trace.now ≡ m.trace.now
   pub has : HasInHands [] n
 
--- a lane was given back as it was taken
+-- a lane was given back with an unchanged value
 pub record GaveBack (m n : Site) : Type 0 where
   pub walked : Walked [] m n
   pub trace : n.trace.now ≡ m.trace.now

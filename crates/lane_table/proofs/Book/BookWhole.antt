@@ -1,6 +1,6 @@
--- All lanes together: closed and lawful lists make a book in which the lists of the base and of the CPUs are lawful,
--- and if an entry names a root or a refill, the entry at the named place names it back (`ForwardLawful`). The lemmas
--- find each CPU's list in the book, and each named root and refill.
+-- All lanes together: closed and lawful lists make a book in which the lists of the base and of the CPUs are lawful. If
+-- an entry of these lists names a root or a refill, the entry at the named place names it back (`ForwardLawful`). The
+-- lemmas find each CPU's list in the book, and each named root and refill.
 use Rattle.std.proofs.Common.{◌≡◌, ℕ, zero, suc, ◌+◌, ◌-◌, ◌≤◌, ◌<◌, inl, inr, cond, List, [], ◌∷◌, map, refl, sym, ap, ◌∙◌, subst, arith, Some, None, Option}
 use Rattle.std.specs.Prelude.{slice_get, option_and_then, IsTrue}
 use Rattle.std.proofs.lemmas.Bool.{ne_eqb}

@@ -24,7 +24,7 @@ pub struct Bound {
     pub act: InsideAct,
     /// The number of the act's event among the caller's events.
     pub event: u32,
-    /// Whether the call came to the point.
+    /// Whether the call reached the point.
     pub done: bool,
     /// The act's answer, once it is done.
     pub answer: Result<(), Errno>,
