@@ -91,7 +91,7 @@ pub record HasBegun (queue : FeedQueue) (feeds : Numbers) (number next owed : �
 abbrev pub CanStart : FeedQueue → Numbers → ℕ → ℕ → FeedPass → Mixed → Type 0
 CanStart queue feeds number owed worker m = HasBegun queue feeds number number owed worker m
 
--- as `HasBegun`, except that the feeder `number` already got its pass
+-- `HasBegun` holds for the feeders below `number`, and feeder `number` already has its pass
 abbrev pub CanTakeBack : FeedQueue → Numbers → ℕ → ℕ → FeedPass → Mixed → Type 0
 CanTakeBack queue feeds number owed worker m =
     (number < feeds.feeders) × HasBegun queue feeds number (number + 1) owed worker m

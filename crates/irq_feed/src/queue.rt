@@ -75,7 +75,7 @@ impl Join<Known> for Next {
     ghost spent = { Nobody };
 }
 
-/// A type that names the feeds of a queue, for `Begin`. Only `tell_feeds` has to choose such a type.
+/// A type parameter of `Begin`, which determines the feeds of a queue. Only `tell_feeds` has to choose such a type.
 pub trait Naming {
     ghost use Rattle.irq_feed.specs.Feeds.{Numbers};
 
