@@ -107,7 +107,7 @@ pub record SameHistory (j : ℕ) (v w : View) : Type 0 where
   pub places : (at j w).places ≡ (at j v).places
   pub heard : (at j w).heard ≡ (at j v).heard
 
--- at lane `j` the pass's stage, what it owes and raised, its visits and its heard lists are as before
+-- at lane `j` the stage, `owes`, `raised`, the visits and the heard lists are as before
 pub record SameOtherLane (j : ℕ) (v w : View) : Type 0 where
   pub stage : (at j w).stage ≡ (at j v).stage
   pub owed : (at j w).owes ≡ (at j v).owes

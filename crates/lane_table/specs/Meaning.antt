@@ -201,7 +201,7 @@ base_state b = record {
 abbrev pub cpu_state : CpuModel → CpuState
 cpu_state c = record { place = 0; generation = c.cpu.generation; key = None; fills = c.fills }
 
--- if an entry has a refill, the entry's look is at most the generation that the refill hands over
+-- if an entry names a refill, the entry's look is at most the generation that the refill hands over
 abbrev pub Reaches : Option ℕ → ℕ → Handed → Type 0
 Reaches None look got = ⊤
 Reaches (Some place) look got = look ≤ got.generation

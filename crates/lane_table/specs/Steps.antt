@@ -104,8 +104,8 @@ Grows v w = (j : ℕ) → j < length v.lanes → Begins (known_of v j) (known_of
 abbrev pub OwesNothing : ℕ → View → Type 0
 OwesNothing lane v = ((at lane v).owes ≡ None) × (lane ≡ 1 → (at 1 v).raised ≡ 0)
 
--- the pass's turn came: it knows the lane's whole list. Of each other lane it knows at least the list that the value of
--- this lane carries
+-- the pass's turn came, and it knows the lane's whole list. For each other lane, the pass knows at least the list that
+-- this lane's value carries
 pub record Got (lane t : ℕ) (m m' : Seated) : Type 0 where
   pub log : List Visit
   pub content : Content

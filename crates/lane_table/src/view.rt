@@ -45,8 +45,8 @@ pub enum TicketStage {
 /// - `made` and `places`: the number of visits that the caller made, and their places in the list.
 /// - `tickets`: the number of the lane's tickets that the caller drew.
 /// - `stage`: the caller's state at the lane.
-/// - `owes`: if an entry of another lane already names the place held here, that entry's place. The visit made here has
-///   to answer the entry.
+/// - `owes`: the place of another lane's entry that already names the place held here, if there is such an entry. The
+///   visit made here has to answer that entry.
 /// - `raised`: 1 if the caller raised the generation in this hold, else 0.
 /// - `loaded` and `found`: the serving number and the ticket number that the caller read last.
 /// - `heard`: for each join, the prefixes of the list that this pass and the joined one knew.

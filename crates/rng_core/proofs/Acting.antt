@@ -1,4 +1,4 @@
--- What a caller does, step by step, as the host of a vgetrandom call with acts inside.
+-- The work of a caller, step by step, as the host of a vgetrandom call with acts inside.
 use Rattle.std.proofs.Common.{◌≡◌, Bool, true, false, List, [], ◌∷◌, ◌++◌, length, ◌<◌, refl, sym, ap, ◌∙◌, subst, arith}
 use Rattle.std.specs.Prelude.{MatchBool, ◌&&◌, if◌then◌else◌}
 use Rattle.std.specs.List.{AllByRecursion}

@@ -1,4 +1,4 @@
--- What a caller does as the host of its own vgetrandom calls: how it publishes generations and answers system calls.
+-- A caller as the host of its own vgetrandom calls: how the caller publishes generations and answers system calls.
 use Rattle.std.proofs.Common.{◌≡◌, ℕ, zero, suc, ◌+◌, ◌<◌, ◌≤◌, true, Option, Some, None, Ok, Err, List, [], ◌∷◌, ◌++◌, length, map, refl, sym, ap, ◌∙◌, arith}
 use Rattle.std.specs.Prelude.{IsOk, Result, slice_get}
 use mathlib.Core.Option.{some}
@@ -178,7 +178,8 @@ answered_after flags (Err errno) bytes visit effects a s v =
     ap (λ (o : Option Errno). answer_with o effects) (sym (errno_is errno))
     ∙ ap (λ (w : Answer). answer_with (errno_of w) effects) a
 
--- a completed read is a system call with the answer for its result
+-- if a read of `n` bytes completed its event, it is a system call, with the answer that `answer_by` gives for the
+-- read's result
 pub system_called : (set : Setting) (n flags : ℕ) (result : Result (Unit {0}) Errno) (bytes : List ℕ) (l m : Moment)
     (k : Makes (IsOutcomeOf (setting_of set) (Read n flags) (result_answer result) (bytes_or_none (given result bytes)))
     set

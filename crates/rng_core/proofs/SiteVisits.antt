@@ -78,7 +78,7 @@ took_later lane h l m n same trace is tried hands k = record {
   agrees = k.agrees;
 }
 
--- if a lane was taken while another was held, it may be given back with an entry that names the other
+-- if a lane was taken while the lane `outer` was held, it may be put back with an entry that names the place of `outer`
 pub can_put_naming : (lane : ℕ) (h : Held) (outer : HeldLane) (e : LaneEntry) (s : Site) →
     HasInHands (hand h.turn (after_of e) (raise_of e) ∷ outer ∷ []) s → h.turn.lane ≡ lane → IsOf lane e →
     ahead_of e ≡ Some (outer.lane, outer.place) → 1 ≤ outer.lane → parent outer.lane ≡ lane → outer.owes ≡ None →

@@ -1,4 +1,4 @@
--- What the trace records: the steps of successive calls, no step if nothing happened, and exactly the visits made.
+-- The trace records the steps of successive calls, no step if nothing happened, and exactly the visits made.
 use Rattle.std.proofs.Common.{◌≡◌, ℕ, List, [], ◌∷◌, ◌++◌, map, take, length, ◌+◌, ◌<◌, ◌≤◌, ◌^◌, max, sym, refl, ap, ◌∙◌, subst, arith, append_assoc, append-nil, length-append}
 use Rattle.std.proofs.lemmas.List.{map-append}
 use Rattle.std.proofs.Math.Seq.{take-append_seam}

@@ -110,7 +110,7 @@ pub record HoldsWith (owes : Option ℕ) (raised lane : ℕ) (h : Held) (s : Sit
 abbrev pub Holds : ℕ → Held → Site → Type 0
 Holds lane h s = HoldsWith None 0 lane h s
 
--- the generation may be raised to the next one of the base
+-- the caller may raise the generation: it has seen no generation above the base's, and the base's is below 2^62
 pub record IsLow (s : Site) : Type 0 where
   pub seen : (view s.pass.now).seen ≤ (lane_of s base_lane).base.generation
   pub low : (lane_of s base_lane).base.generation < 2 ^ 62
@@ -135,7 +135,7 @@ pub record IsFill (look width : ℕ) (filled : Bool) (s : Site) : Type 0 where
   pub fills : filled ≡ must_fill look width ((own_cpu s).fills width)
   pub fresh : (filled ≡ false) ⊎ (look ≡ (own_cpu s).cpu.generation)
 
--- the caller holds only this lane, and may give it back with a visit of the entry
+-- the caller holds only this lane, and may put it back with the entry `e`
 pub record CanVisit (lane : ℕ) (h : Held) (e : LaneEntry) (s : Site) : Type 0 where
   pub has : HasInHands (hand h.turn (after_of e) (raise_of e) ∷ []) s
   pub lane_is : h.turn.lane ≡ lane

@@ -44,7 +44,7 @@ key_not_read (failed why) errno buf s answers = (answers, (buf, refl))
 no_error : (errno : Errno) → (let done : Result (Unit {0}) Errno = Ok tt in done ≡ Err errno) → ⊥
 no_error errno same = cc
 
--- an attempt at whose end the published generation was not the state's
+-- an attempt that ended while the published generation was not the state's
 abbrev outdated_attempt : List ℕ → ℕ → VgetrandomState → Attempt
 outdated_attempt out c s = record { out = out; state = s; next_block = c; entries = []; end = outdated }
 

@@ -200,8 +200,8 @@ impl VState {
         following + 2
     }
 
-    /// Copies bytes over all of `out`, those left in the batch first. The key's next block is `next_block`; the result
-    /// is the next block after the copy. `next_block` and the length of `out` are at most 2^20.
+    /// Copies bytes over all of `out`, and takes those left in the batch first. The key's next block is `next_block`;
+    /// the result is the next block after the copy. `next_block` and the length of `out` are at most 2^20.
     pub fn copy(&mut self, next_block: u64, out: &mut [u8]) -> u64
         requires near { next_block ≤ 2 ^ 20 }
         requires short { length out.old ≤ 2 ^ 20 }

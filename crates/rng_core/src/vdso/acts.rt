@@ -138,7 +138,7 @@ fn is_wiped_by(bound: &Bound, point: Point) -> bool
 }
 
 /// Runs the acts of a list that are bound to a point and not yet done, in order. Returns whether an act of the point
-/// wipes the state, even an act that was done before.
+/// wipes the state; an act that was done before counts too.
 pub(crate) fn run_acts<R: Wait>(
     rt: &R,
     site: &mut Site,
