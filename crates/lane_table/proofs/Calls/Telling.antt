@@ -209,7 +209,7 @@ module _ {i t : ℕ} {m m₁ m₂ m₃ : Seated} {c : Content} (near : i < lengt
         );
       }
 
--- a pass is still one of the table after its turn came
+-- after the turn of a pass came, the pass still belongs to the table
 pub got_pass : {i t : ℕ} {m m' : Seated} → Got i t m m' → (lanes : Lanes) (p q : Pass) → IsPassOf lanes p →
     p.seat.me ≡ m → q.seat.me ≡ m' → q.seat.table_id ≡ p.seat.table_id → q.stamp ≡ p.stamp → q.caller ≡ p.caller →
     IsSamePass lanes p q
@@ -323,7 +323,7 @@ added_is i x m m' near names later e consistent = let v : View = m.0 in let a = 
       drawn = ap (λ (z : View). z.drawn) view';
     }
 
--- a pass is still one of the table after a visit
+-- after a visit, the pass still belongs to the table
 pub after_pass : (i : ℕ) (x : Visit) (lanes : Lanes) (p q : Pass) → IsPassOf lanes p → view q ≡ after i x (view p) →
     q.seat.table_id ≡ p.seat.table_id → q.stamp ≡ x.stamp → q.caller ≡ p.caller → IsSamePass lanes p q
 after_pass i x lanes p q h e table stamp caller = let u =

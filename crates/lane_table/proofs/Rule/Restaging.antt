@@ -71,7 +71,7 @@ module _ {i : ℕ} {m m' : Seated} (r : Restages i m m') (near : i < length m.0.
   pub to_same : SameView m.0 m'.0
   to_same = record { first = r.first; share = r.share; halvings = r.halvings; sized = to_long }
 
-  -- the pass is still one of the table
+  -- the pass still belongs to the table
   pub to_pass : (t : Lanes) (p q : Pass) → IsPassOf t p → p.seat.me ≡ m → q.seat.me ≡ m' →
       q.seat.table_id ≡ p.seat.table_id → q.stamp ≡ p.stamp → q.caller ≡ p.caller → IsSamePass t p q
   to_pass t p q h is is' table stamp caller = let v₀ : view p ≡ m.0 = ap (λ (z : Seated). z.0) is in
