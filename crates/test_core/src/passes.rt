@@ -25,7 +25,7 @@ pub(crate) fn started(alloc: Global, cpus: u32, first: u64) -> Result<(Lanes, Pa
     Ok(started)
 }
 
-/// Splits another caller's pass off caller 0's.
+/// Splits a pass for another caller off the pass of caller 0.
 pub(crate) fn split_off(lanes: &Lanes, pass: &mut Pass, caller: u32) -> Pass
     requires { HoldsLanes lanes.now 0 [] pass.old }
     ensures has { HoldsLanes lanes.now 0 [] pass.new }

@@ -209,7 +209,8 @@ fn parent_and_child_give_bytes_of_their_own(rt: HostRuntime) -> Result<(), Fail>
     Ok(())
 }
 
-// A call that does not reach the point runs on: a state with a current key needs no new key.
+// If a call does not reach the given point, it runs to its end without a fork. Here the state has a current key, so the
+// call needs no new key.
 #[test]
 fn a_point_that_does_not_come_is_run_past(rt: HostRuntime) {
     let mut host = ForkListHost::publishing([2; 5], 1, 0);

@@ -87,7 +87,7 @@ abbrev script_or_none : Result Script ScriptFault → Script
 script_or_none (Ok script) = script
 script_or_none (Err fault) = record { version = 0; cpus = 0; callers = [] }
 
--- the script that `input` spells, if it spells one; `lines_in` has the lines of `output`
+-- the script that `input` spells, if it spells one; `lines_in` gives the lines of `output`
 abbrev pub script_in : List ℕ → Script
 script_in input = script_or_none (script_of input)
 

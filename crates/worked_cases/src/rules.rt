@@ -8,8 +8,8 @@ ghost use Rattle.key_names.specs.Lanes.PoolList.{credit, crossing, ready, early,
 ghost use Rattle.key_names.specs.Lanes.BaseList.{base_after, interval};
 ghost use Rattle.worked_cases.specs.Rules.{bits_after, timer_at, finished, rounds, siphash_start};
 
-/// From 127 bits, one more bit crosses 128; from 255, one more crosses 256. A credit that passes both crosses only 256
-/// (`_credit_init_bits`).
+/// At 127 bits, a credit of one bit crosses 128; at 255 bits, it crosses 256. A credit that passes both crosses only
+/// 256 (`_credit_init_bits`).
 #[tactic(auto, using(crate::proofs::WorkedRules::crossings, crate::proofs::WorkedRules::early_is_skipped))]
 pub fn credits()
     ensures crossings { map (λ (n : ℕ). crossing n (credit n 1)) (126 ∷ 127 ∷ 254 ∷ 255 ∷ 256 ∷ [])
