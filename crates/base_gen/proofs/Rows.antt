@@ -1,4 +1,5 @@
--- For callers: each entry changes the base as it changes the state of the base's list.
+-- For callers of the crate: `after_entry` changes the base in the same way as the definitions change the state of the
+-- base's list.
 use Rattle.std.proofs.Common.{◌≡◌, ℕ, Option, Some, None, List, [], ◌∷◌, ◌++◌, refl, ap, sym, ◌∙◌}
 use Rattle.std.specs.Prelude.{if◌then◌else◌}
 use Rattle.std.proofs.lemmas.List.Sums.{fold-append}
@@ -20,7 +21,7 @@ pub key_in_use-root : (pool : List PoolEntry) (named : Option ℕ) (root key : L
 key_in_use-root pool None root key is = refl
 key_in_use-root pool (Some place) root key is = is place refl
 
--- an entry changes the base of a state into the base of the state after the entry
+-- if `root` is the root that `e` names, then `e` changes the base of the state `s` into the base of the state after `e`
 pub after_entry-base_at : (pool : List PoolEntry) (s : BaseState) (value root : List ℕ) (e : BaseEntry) →
     HandsRoot pool e root → after_entry e root (base_at s value) ≡
     base_at (base_step s e) (base_value_step pool value e)

@@ -148,8 +148,8 @@ impl Base {
         now + reseed_interval(&mut self.early_boot, now)
     }
 
-    /// Erases the key (`crng_fast_key_erasure`). Fills `out`, at most 32 bytes, from the rest of the erasure's block,
-    /// and returns the old key with block 1 next.
+    /// Erases the key (`crng_fast_key_erasure`). Fills `out`, which has at most 32 bytes, from the rest of the
+    /// erasure's block. Returns the old key, with block 1 as its next block.
     pub fn draw(&mut self, out: &mut [u8]) -> Detached
         requires { length out.old ≤ 32 }
         ensures state { self.new ≡ erased self.old }

@@ -1,4 +1,5 @@
--- For callers: each entry changes a CPU's generator as it changes the state of the CPU's list.
+-- For callers of the crate: `after_entry` changes a CPU's generator in the same way as the definitions change the state
+-- of the CPU's list.
 use Rattle.std.proofs.Common.{◌≡◌, ℕ, true, false, Option, Some, None, List, refl, ap}
 use Rattle.key_names.specs.declared.entries.CpuEntry.{CpuEntry}
 use Rattle.key_names.specs.declared.entries.CpuEntry.TheVariants.{Read, Int, Irq, Dump, Prepare, Online}
@@ -25,7 +26,8 @@ pub refilled-handed_at : (lists : Lists) (refill : Option ℕ) (handed : CpuValu
 refilled-handed_at lists None handed g value is = refl
 refilled-handed_at lists (Some place) handed g value is = is place refl
 
--- an entry changes the generator of a state into the generator of the state after the entry
+-- if `handed` is what the refill of `e` hands over, then `e` changes the generator of the state `s` into the generator
+-- of the state after `e`
 pub after_entry-cpu_at : (lists : Lists) (c : ℕ) (s : CpuState) (value : List ℕ) (e : CpuEntry) (handed : CpuValue) →
     HandsRefill lists e handed → after_entry e handed (cpu_at s value) ≡ cpu_at (cpu_step lists.base c s e)
     (cpu_value_step lists value e)

@@ -186,7 +186,7 @@ pub(crate) fn one_below(limit: u32, rest: Option<&[u8]>) -> Result<u32, FaultKin
     Ok(value as u32)
 }
 
-/// The two numbers after a word, at most `most` and at most `next`.
+/// The two numbers after a word. The first is at most `most`, the second at most `next`.
 pub(crate) fn two_numbers(
     most: u64,
     next: u64,

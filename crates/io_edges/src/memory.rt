@@ -49,8 +49,8 @@ impl Calls {
 
 /// A source over bytes in memory that gives at most `step` bytes a call.
 ///
-/// Calls are numbered from 1 up to `u64::MAX`, which all later calls share. A call fails if and only if its number
-/// is listed.
+/// Calls are numbered from 1. From call number `u64::MAX` on, all calls have this number. A call fails if and only if
+/// its number is listed.
 #[derive(Drop)]
 pub struct MemSource {
     bytes: Vec<u8>,
@@ -124,8 +124,8 @@ impl Source for MemSource {
 
 /// A sink in memory that takes at most `step` bytes a put. It buffers no bytes.
 ///
-/// Puts are numbered from 1 up to `u64::MAX`, which all later puts share. A put fails if and only if its number is
-/// listed, or if it has bytes to put and no room is left. Either all flushes fail or none.
+/// Puts are numbered from 1. From put number `u64::MAX` on, all puts have this number. A put fails if and only if its
+/// number is listed, or if it has bytes to put and no room is left. Either all flushes fail or none.
 #[derive(Drop)]
 pub struct MemSink {
     bytes: Vec<u8>,

@@ -58,7 +58,7 @@ impl SeenSamples {
         }
     }
 
-    // Reports that this feeder came, and waits for the other one, for at most this many turns.
+    // Reports that this feeder came to the gate, and waits for the other feeder for at most `TURNS` turns.
     fn meet(&self, other: &SeenSamples) {
         self.came.store(1, Ordering::SeqCst);
         for _ in 0..TURNS {

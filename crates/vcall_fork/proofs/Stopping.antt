@@ -34,7 +34,7 @@ turn_is Second Written = refl
 turn_is Second Serve = refl
 turn_is Second End = refl
 
--- two attempts with one number are the same
+-- two attempts with the same number are equal
 same_turn : (a b : Turn) → (turn_number a == turn_number b) ≡ true → a ≡ b
 same_turn First First h = refl
 same_turn First Second h = absurd (cc h)

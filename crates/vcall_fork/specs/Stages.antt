@@ -31,7 +31,7 @@ calls_needed New = 3
 calls_needed (At place) = calls_for place.turn place.point
 calls_needed Over = 0
 
--- the next block, and a bound on it
+-- the number of the next block; `block_limit` is an upper bound on this number
 abbrev pub block_of : Stage → ℕ
 block_of New = 0
 block_of (At place) = place.next_block

@@ -48,8 +48,8 @@ pub record Misses (turn : Turn) (point : Point) (begun : ℕ) (steps : List Host
 
 module _ {H : Type 0} (host : Doings H) (floor : H → ℕ) where
   -- the call, which last found `look` published, is stopped at this point of this attempt, before the host's step
-  -- there. The call keeps the generation that it found last. The host has these looks and system calls left for the
-  -- call
+  -- there. `place` records the generation that the call found last: the last look of the steps, or else `look`. A host
+  -- with these looks and system calls left can serve the rest of the call
   pub record Stopped (From : List HostStep → Outcome → Type 0) (n flags : ℕ) (turn : Turn) (point : Point)
       (begun look : ℕ) (stage : Stage) (looks calls : ℕ) (h next : H) (s : VgetrandomState)
       (buf : List ℕ) : Type 0 where

@@ -136,7 +136,8 @@ pub at_number : {E : Type 0} (P : ℕ → List E → Type 0) (es : List E) (list
 at_number P es lists here later zero = here
 at_number P es lists here later (suc c) = later c
 
--- `P` holds of each list with the list's number, and of the empty list with each later number
+-- a proof of `P` for the number of each list with that list, and for every later number with the empty list, if each is
+-- found
 abbrev pub each_list : {E : Type 0} (P : ℕ → List E → Type 0) → ((c : ℕ) → P c []) →
     ((c : ℕ) (es : List E) → Option (P c es)) →
     (lists : List (List E)) → Option ((c : ℕ) → P c (list_at lists c))

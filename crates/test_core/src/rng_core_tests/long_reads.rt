@@ -17,8 +17,8 @@ use std::thread::Threads;
 // The length of the long read. The long read takes about a millisecond, and a short read takes less than a microsecond.
 const LONG: usize = 1 << 20;
 
-// If a long read had no work left after its visit, fewer short reads than this would fit between the end of the visit
-// and the return of the long read's call.
+// If a long read had no work left after its visit, its call would return soon after the visit. Fewer short reads than
+// this would fit in between.
 const MANY: u64 = 64;
 
 const ROUNDS: u32 = 500;
