@@ -52,7 +52,7 @@ pub fn transcript(alloc: Global, text: &[u8], times: u32) -> Result<u64> {
     Ok(count)
 }
 
-/// The lines of a text whose bytes a plain loop decodes.
+/// The kind of the lines from which a plain loop decodes bytes.
 #[derive(Clone, Copy)]
 pub enum Lines {
     /// The lines of writes.

@@ -1,4 +1,4 @@
--- Successive draws have the answers that `draws_in` gives for the words that they took.
+-- Successive draws have the answers that `draws_in` gives for the words that the draws took.
 use Rattle.std.proofs.Common.{◌≡◌, ◌≢◌, ◌<◌, ◌+◌, ◌-◌, lit<, ℕ, suc, List, [], ◌∷◌, ◌++◌, length, refl, ap, sym, ◌∙◌, arith, append_assoc, append-nil, map, option_map, Option, Some, None, true, false, cond, nat_eq, ⊎_elim, length-append}
 use Rattle.std.specs.List.{AllByRecursion}
 use Rattle.std.proofs.lemmas.Bool.{ne_eqb, cases_eq}

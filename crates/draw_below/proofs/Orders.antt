@@ -124,7 +124,7 @@ some_draws (suc last) xs ys low n apart covers agree =
       subst (λ z. exchanged z rest.0 swapped ≡ ys) before rest.3,
     )
 
--- each order of a list that is not empty has a list of draws
+-- if a list is not empty, and its items are different, each order of the list has a list of draws
 ends : (xs ys : List ℕ) → 0 < length xs → AreDifferent xs → IsPermutation xs ys →
     (ds : List ℕ) × Makes xs ds ys
 ends xs ys some apart order =

@@ -114,7 +114,7 @@ is_over text piece r fed many = elim (cases_lt 16777216 (length text)) [
 
 -- ---- one piece
 
--- after a piece is added to the text, exactly this piece is unread
+-- if all of `text` was read, then `piece` is the unread part of `text ++ piece`
 piece_begins : (text piece : List ℕ) (r : ScriptReader) → IsAfter text r [] → IsAfter (text ++ piece) r piece
 piece_begins text piece r at = record {
   same = λ later. ap (λ x. script_of_lines (parts 10 x)) (append_assoc text piece later) ∙ at.same (piece ++ later);

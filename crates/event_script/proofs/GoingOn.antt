@@ -320,7 +320,7 @@ same_script d other is =
     let both = same_last d.done other.done d.events other.events (ap (λ (s : Script). s.callers) is) in
     same_parts d other (ap (λ (s : Script). s.version) is) (ap (λ (s : Script). s.cpus) is) both.0 both.1
 
--- a text has only one draft, if the script can end with that draft
+-- if the script can end with the draft of a text, the text has no other draft
 pub same_open : (text : List ℕ) (d other : Draft) (n m : ℕ) → GoesOnFrom text d n → GoesOnFrom text other m
     → has_orphan d ≡ false → other ≡ d
 same_open text d other n m goes goes_other none =

@@ -66,8 +66,8 @@ abbrev pub IsRemade : List ℕ → List ℕ → List ℕ → List ℕ → ℕ �
 IsRemade script text old new made answer =
     IsTrueOf script text (IsMade old new made) StepsFail (IsLonger old made) answer
 
--- if true, the buffer now begins with the text; if false, the text is longer than the buffer, and the buffer is
--- unchanged
+-- if the flag is true, the buffer now begins with the text. If it is false, the text is longer than the buffer, and the
+-- buffer is unchanged
 abbrev pub IsPut : Bool → List ℕ → List ℕ → List ℕ → Type 0
 IsPut true text old new = new ≡ text ++ drop (length text) old
 IsPut false text old new = (new ≡ old) × (length old < length text)

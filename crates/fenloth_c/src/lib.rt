@@ -43,9 +43,9 @@ use std::alloc::Global;
 
 /// Whether a transcript is lawful for a script.
 ///
-/// The result is the number of an [`answer::Answer`] that is true of the two texts: 0 if the transcript is lawful, 1 if
-/// the text `transcript` spells no transcript, 2 to 7 for the first clause that fails, 8 if the script has a fault, 9
-/// if memory ran out, 10 if the transcript has more than 2^31 bytes.
+/// The result is the number of an [`answer::Answer`] that is true of the two texts. It is 0 if the transcript is
+/// lawful, 1 if the text `transcript` spells no transcript, and 2 to 7 for the first clause that fails. It is 8 if the
+/// script has a fault, 9 if memory ran out, and 10 if the transcript has more than 2^31 bytes.
 #[unsafe(no_mangle)]
 pub extern "C" fn fenloth_check(alloc: Global, script: &[u8], transcript: &[u8]) -> u32
     ensures { (answer : Answered) × (result ≡ code_of answer) × IsChecked script.now transcript.now answer }

@@ -21,7 +21,7 @@ credit-none bits capped = omega arith
 pub credit-after_none : (bits more : ℕ) → credit (credit bits 0) more ≡ credit bits more
 credit-after_none bits more = omega arith
 
--- two mixes are one mix of the joined texts
+-- two mixes in sequence equal one mix of the joined texts
 pub mixed-mixed : (s : PoolState) (front rest : List ℕ) → mixed (mixed s front) rest ≡ mixed s (front ++ rest)
 mixed-mixed s front rest = rw (append_assoc s.text front rest, credit-after_none s.bits 0) refl
 

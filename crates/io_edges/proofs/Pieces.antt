@@ -15,7 +15,7 @@ Appends-next a b c text rest n m first is next =
     ap (λ l. take n text ++ take m l) is ∙ sym (take-add n m text) in
     subst (Appends a c) joined (Appends-trans a b c (take n text) (take m rest) first next)
 
--- appending a whole text appends a prefix of it
+-- if a whole text was appended, a prefix of the text was appended
 pub AppendsPrefix-of_whole : (a b : Option (List ℕ)) (xs : List ℕ) → Appends a b xs → AppendsPrefix a b xs
 AppendsPrefix-of_whole a b xs h = (length xs, le_refl (length xs), subst (Appends a b) (sym (take-length xs)) h)
 

@@ -77,7 +77,7 @@ impl Model for MemSource {
 }
 
 impl MemSource {
-    /// A source with these bytes left that gives at most `step` bytes a call. Its calls start at number 1.
+    /// A source that has these bytes left, and gives at most `step` bytes a call. Its calls start at number 1.
     pub fn of(bytes: Vec<u8>, step: usize, fails: Vec<u64>) -> MemSource
         requires { 0 < step }
         ensures { result ≡ record { left = bytes.items; step = step; fails = fails.items; calls = 0; faults = 0 } }

@@ -6,7 +6,7 @@ use Rattle.std.proofs.lemmas.Nat.{leading_length, pow_pos}
 use Rattle.std.specs.Int.Count.{count_leading_zeros}
 use Rattle.key_names.specs.Kernel.InputTimer.{binary_digits}
 
--- a number n has m binary digits if n is below 2^m and 2 n + 1 is not
+-- if n is below 2^m, and 2 n + 1 is at least 2^m, then n has m binary digits
 pub binary_digits-between : (m n : ℕ) → n < 2 ^ m → 2 ^ m ≤ 2 * n + 1 → binary_digits n ≡ m
 binary_digits-between zero zero below above = refl
 binary_digits-between zero (suc n) below above = absurd (omega arith)

@@ -104,8 +104,8 @@ pub fn input_number(kind: u16, code: u16, value: u8) -> u32
     (u32::from(kind) << 4) ^ code ^ (code >> 4) ^ u32::from(value)
 }
 
-/// The 12 bytes that an input event mixes in: a word, in the kernel the cycle counter, and the event's
-/// number, each low byte first.
+/// The 12 bytes that an input event mixes in: a word, which is the cycle counter in the kernel, and the event's number,
+/// each low byte first.
 pub fn input_sample(word: u64, kind: u16, code: u16, value: u8) -> [u8; 12]
     ensures { result ≡ to_le_bytes w64 word ++ to_le_bytes w32 (input_number kind code value) }
 {

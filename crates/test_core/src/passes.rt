@@ -39,7 +39,7 @@ pub(crate) fn split_off(lanes: &Lanes, pass: &mut Pass, caller: u32) -> Pass
     lanes.split(pass, caller)
 }
 
-/// Whether the flag is set before a limited number of turns is over.
+/// Whether the flag is set within `TURNS` turns.
 pub(crate) fn is_set_in_time(flag: &AtomicBool) -> bool {
     for _ in 0..TURNS {
         if flag.load(Ordering::SeqCst) {

@@ -122,7 +122,7 @@ fn bytes_of(alloc: Global, given: Given, n: usize) -> Result<Vec<u8>, AllocError
     Ok(bytes)
 }
 
-// The length of the longest run of equal bytes at equal places.
+// The length of the longest run of positions where both texts have the same byte.
 fn longest_run(a: &[u8], b: &[u8]) -> u64 {
     let mut longest = 0;
     let mut run = 0u64;

@@ -54,7 +54,8 @@ fn lane(alloc: Global, look: u64) -> Result<Vec<Vec<InferredCpu>>, AllocError>
     Ok(cpus)
 }
 
-// A pool that becomes full and gives a root, a reseed with this root, and a CPU that is refilled and read three times.
+// A pool that reaches 256 bits and gives a root, a reseed with this root, and a CPU that is refilled and read three
+// times.
 fn reseeded<'a>(
     alloc: Global,
     extraction: u64,

@@ -20,7 +20,7 @@ published_or other New = other
 published_or other (At place) = place.published
 published_or other Over = other
 
--- how many looks at the generation the rest of the call may need, and how many system calls
+-- how many looks at the generation the rest of the call may need; `calls_needed` is how many system calls it may need
 abbrev pub looks_needed : Stage → ℕ
 looks_needed New = 5
 looks_needed (At place) = looks_for place.turn

@@ -27,7 +27,8 @@ RestOfCall New n flags out s steps outcome = IsCall n flags s steps outcome
 RestOfCall (ConformsAt place) n flags out s steps outcome = AfterPlace n flags place out s steps outcome
 RestOfCall Over n flags out s steps outcome = ⊥
 
--- the number of the attempt to which a point belongs, after `begun` attempts: each point Start begins an attempt
+-- the number of the attempt to which a point belongs, if `begun` attempts began before the point; a point Start begins
+-- an attempt
 abbrev pub turn_at : ℕ → Point → ℕ
 turn_at begun point = if is_same_point point Start then suc begun else begun
 

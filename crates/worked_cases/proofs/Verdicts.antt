@@ -106,7 +106,7 @@ means_again lists states settings first (calls ∷ callers) (m ∷ ms) h = (
   means_again lists states settings (suc first) callers ms h.1,
 )
 
--- a transcript has a book, and its calls have meanings
+-- a book of a transcript, and meanings of the transcript's calls
 pub record FormsFound (script : Script) (t : List (List SeenLine)) : Type 0 where
   pub book : Book
   pub ms : List (List CallMeaning)

@@ -110,7 +110,7 @@ pub(crate) fn irq_in_front(text: &[u8]) -> Option<(u64, u64, &[u8])>
     }
 }
 
-/// If true, an event has this word and these numbers.
+/// If the result is true, some event has this word and these numbers.
 fn is_short(word: Word, numbers: NumberFields) -> bool
     ensures { OnTrue result (IsShort word numbers) }
 {
