@@ -2,10 +2,10 @@
 //! and the reseed timer, as in the kernel. It also has the number of running callers. The base is `base_crng` of
 //! drivers/char/random.c, with `crng_reseed`, `crng_reseed_interval`, and the base's part of `crng_make_state`.
 //!
-//! Each call changes the base like one entry of the base's list. If the base is `b`, and `e` is an entry that names
-//! `root`, the base after `e` is `after_entry e root b` (`specs/BaseValue.antt`). There is one exception:
-//! [`Base::fill_empty`] and the [`Base::draw`] after it are together one entry, a draw with a root. The crate uses
-//! `chacha_blocks` for erasures and bytes. The lanes check whether an entry may follow those before it.
+//! Each call changes the base like one entry of the base's list. If `root` is the root that the entry `e` names, the
+//! base `b` after `e` is `after_entry e root b` (`specs/BaseValue.antt`). There is one exception: [`Base::fill_empty`]
+//! and the [`Base::draw`] after it are together one entry, a draw with a root. The crate uses `chacha_blocks` for
+//! erasures and bytes. The lanes check whether an entry may follow those before it.
 //!
 //! # Example
 //!

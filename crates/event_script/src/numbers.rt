@@ -88,8 +88,8 @@ fn read_on(most: u64, value: u64, seen: usize, text: &[u8]) -> Option<(u64, &[u8
 }
 
 /// Calls `read_on`. Most numbers end before this call is reached.
-// When a function starts, it clears the stack space for the results of its calls. `read_on` is called only here, so
-// reading a number that ends earlier clears no space.
+// When a function starts, it clears the stack space for the results of its calls. `read_on` is called from this
+// separate function, so reading a number that ends earlier clears no space.
 #[inline(always)]
 fn read_on_apart(most: u64, value: u64, seen: usize, text: &[u8]) -> Option<(u64, &[u8])>
     requires digits { BeginsDigits text.now value seen }

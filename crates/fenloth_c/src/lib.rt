@@ -25,8 +25,8 @@
 //!
 //! # Tested only
 //!
-//! The calls from C and from Python, by `.ci/client_checks`. The caller in C must pass pointers to as many bytes as it
-//! states.
+//! The calls from C and from Python, by `.ci/client_checks`. The caller in C must pass a pointer to as many bytes as
+//! the length that it passes.
 #![tactic(auto)]
 
 ghost use Rattle.std.specs.Prelude.{◌≡◌, ◌≢◌};
@@ -57,9 +57,9 @@ pub extern "C" fn fenloth_check(alloc: Global, script: &[u8], transcript: &[u8])
 /// transcript to the start of `buffer`, and the number of the text's bytes to `made`.
 ///
 /// The result is the number of an [`answer::Answer`] that is true of the two texts: 0 if the transcript was made, and 1
-/// to 10 as for [`fenloth_check`], but never 5 and 6. The result is 11 if the text is longer than the buffer; then too
-/// `made` is the number of the text's bytes. The buffer keeps its bytes unless the result is 0, and `made` keeps its
-/// value unless the result is 0 or 11.
+/// to 10 as for [`fenloth_check`], but never 5 and 6. The result is 11 if the text is longer than the buffer. In this
+/// case too, `made` is the number of the text's bytes. The buffer keeps its bytes unless the result is 0, and `made`
+/// keeps its value unless the result is 0 or 11.
 #[unsafe(no_mangle)]
 pub extern "C" fn fenloth_replay(
     alloc: Global,

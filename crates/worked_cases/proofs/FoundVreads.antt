@@ -137,7 +137,8 @@ attempt_found set n c wiped s (looked g ∷ effects) = by ((state_left (wiped St
     by false e = keyed_found set n c g wiped s e effects
 attempt_found set n c wiped s _ = None
 
--- finds the steps after an attempt: none if the attempt succeeded, and those of `again` if the attempt is outdated
+-- finds the steps after an attempt: no steps if the attempt ended with `holds`, and those of `again` if it ended with
+-- `outdated`
 abbrev after_found : (set : Setting) (n flags : ℕ) (Outdated : ℕ → VgetrandomState → List HostStep → Outcome → Type 0)
     (end : AttemptEnd) (attempt : Attempt) (effects : List Effect) →
     Option (HostFound set (Outdated attempt.next_block attempt.state) effects) →

@@ -1,8 +1,8 @@
 //! Events that a word and at most two numbers spell, read in place.
 //!
 //! Most lines of a long script spell such events. These lines are read in one pass, byte by byte, without a search for
-//! the line end or the fields. If the functions here return `None`, the line is read field by field, as every line with
-//! a fault is.
+//! the line end or the fields. If the functions here return `None`, the line is read field by field. Every line with a
+//! fault is read in this way.
 
 ghost use Rattle.std.specs.Prelude.{◌≡◌, ℕ, ◌∷◌, ◌++◌, IfSome};
 ghost use Rattle.std.specs.Bool.{OnTrue};
