@@ -1,5 +1,5 @@
--- The loop of replay_pool: after i entries, the code's pool is the one of the definitions, the code has the data to
--- keep of these entries, and each mix of a dump names a dump.
+-- The loop of replay_pool: after i entries, the code's pool equals that of the definitions. The code has kept the right
+-- data about these entries, and each mix of a dump names a dump.
 use Rattle.std.proofs.Common.{◌≡◌, ◌<◌, ◌+◌, ℕ, List, [], ◌∷◌, ◌++◌, length, take, Option, Some, None, sym, subst, ap, ◌∙◌, inl, inr}
 use Rattle.std.specs.Prelude.{slice_get}
 use Rattle.key_names.specs.declared.entries.PoolEntry.{PoolEntry}

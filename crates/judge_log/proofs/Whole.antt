@@ -135,7 +135,8 @@ pub cpus_may_come : (lists : Lists) → LawfulLanes lists → AllCpusMay lists
 cpus_may_come lists h c k e is =
     may_at (CpuMayCome lists.base c) (cpu_step lists.base c) cpu_start (cpu_list lists c) k e (h.forward.cpus c) is
 
--- a CPU that does not exist has no entries, so all CPUs satisfy AllCpuMay if the CPUs of the lists do
+-- if AllCpuMay holds of each CPU in `lists`, it holds of every CPU number, since a CPU that does not exist has no
+-- entries
 pub cpus_may : (lists : Lists) → AllPlaces (λ c lane. AllCpuMay lists c) lists.cpus → AllCpusMay lists
 cpus_may lists all c k e is = all c (list_at lists.cpus c) (list_there lists.cpus c k e is) k e is
 

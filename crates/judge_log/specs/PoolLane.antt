@@ -32,7 +32,7 @@ abbrev pub entry_found : List (List (Option Dump)) → InferredPool → Option P
 entry_found dumps (pool_is note) = Some (entry_of note)
 entry_found dumps (dumped c k) = option_and_then mix_of (dump_in dumps c k)
 
--- if the entry mixes a dump, it names a place where a CPU dumps
+-- if the entry mixes a dump, it names a place at which a CPU's entry is a dump
 abbrev pub MixConforms : Lists → InferredPool → Type 0
 MixConforms lists (pool_is note) = ⊤
 MixConforms lists (dumped c k) = DumpsAt lists c k

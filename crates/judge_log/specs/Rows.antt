@@ -55,7 +55,7 @@ pub record PoolRowAt (inferred : Tables) (set : Setting) (t : Telling) (neighbou
   pub is : slice_get inferred.pool place ≡ Some row
   pub tells : IsPoolRow set t (pool_inferred t neighbours) row
 
--- an interrupt's sample is followed by a dump if the line visits a CPU next
+-- whether a sign is a visit of a CPU; after the sample of an interrupt, such a visit is a dump
 abbrev pub is_on_cpu : Sign → Bool
 is_on_cpu (in_cpu c k) = true
 is_on_cpu _ = false

@@ -19,8 +19,8 @@ pub struct InferredCpu {
     pub dumps: bool,
 }
 
-/// The entries that are inferred from a transcript's steps. Each lane has one for each visit, in the order of places.
-/// There is a table for each CPU of the script.
+/// The entries that are inferred from a transcript's steps. Each lane has one entry for each visit, in the order of
+/// places. Each CPU of the script has its own table.
 #[derive(Drop)]
 pub struct InferredEntries<'a> {
     pub pool: Vec<InferredPool<'a>>,

@@ -5,7 +5,7 @@ ghost use Rattle.judge_log.specs.declared.said.MadeLine.{MadeLine as SaidOfLine}
 use judge_vread::served::Served;
 use key_names::Answer;
 
-/// The data of a line: nothing, a number, or the bytes of a recipe, if it makes any.
+/// The data of a line: nothing, a number, or the bytes of a recipe, if the recipe makes any.
 #[derive(Drop)]
 pub enum ShownRecipe {
     Nothing,

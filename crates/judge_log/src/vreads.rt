@@ -1,4 +1,4 @@
-//! Takes a `vread` with the acts inside it.
+//! Handles a `vread` with the acts inside it.
 ghost use Rattle.std.specs.Prelude.{◌≡◌, ◌^◌, ◌≤◌, IfOk, MatchBool, map};
 ghost use Rattle.std.specs.List.{AllByRecursion};
 ghost use Rattle.key_names.specs.Callers.Calls.{vread_call};
@@ -72,7 +72,8 @@ impl<N: Note> CallerWalk<'_, N> {
         Ok(true)
     }
 
-    /// Takes a `vread`. Returns whether the steps of the `vread`, and of the acts inside it, are the steps of one call.
+    /// Handles a `vread`. Returns whether the steps of the `vread`, and of the acts inside it, are the steps of one
+    /// call.
     ///
     /// # Errors
     ///

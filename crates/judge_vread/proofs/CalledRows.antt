@@ -1,4 +1,4 @@
--- A system call is recognized exactly if the kinds of its seen steps are one of its rows.
+-- Seen steps are recognized as a system call exactly if their kinds are one of the rows of a system call.
 use Rattle.std.proofs.Common.{◌≡◌, ℕ, Bool, true, false, ◌⊎◌, inl, inr, List, [], ◌∷◌, Option, Some, refl, subst}
 use Rattle.std.specs.Prelude.{◌==◌, ◌&&◌, ◌||◌, not, map, MatchBool, if◌then◌else◌}
 use Rattle.key_names.specs.declared.events.Answer.{Answer}

@@ -63,7 +63,8 @@ module _ (cf : LaneFacts) (set : Setting) (n flags : ℕ) (first : Sign) where
   call_at {Leads = Leads} {Points = Points} {r = r} {effects = effects} {f = f} {f' = f'} e inferred =
       let is : f ≡ f' = cc in let P : Followed → Type 0 = λ x. CallInferred Leads Points r effects x in subst P is inferred
 
-  -- the system answers the call; `s` is the state of the definitions, and `t` is the state that the code followed
+  -- if the code follows steps as a call that the system answers, they are such a call; `s` and `t` are equal states of
+  -- the definitions and of the code
   system_inferred : (r : Reached) (s t : VgetrandomState) → s ≡ t → (seen : List SeenStep) (sh : Shape set.cpu seen)
       (f : Followed) (x y : Sign) → F x y (ds seen sh) → leaving t (path.by_system n flags r seen) ≡ Some f →
       CallInferred (BySystem n flags s) None_ r (ds seen sh) f

@@ -405,7 +405,7 @@ followed_of_vread cf n flags acts m seen v sees fits fit =
     by_ways cf n flags acts m v.looks fit seen sees fits (looks_rise m.before.setting.cpu 0 seen w.0
     (from_zero (looks_of (effects_in m.before.setting.cpu seen w.0)) (subst P w.1 v.looks))) v.done_by
 
--- ---- the rest
+-- ---- laws about system calls and about acts
 
 pub call_says : CalledSays
 call_says c set n flags effects seen inferred sees fill e =

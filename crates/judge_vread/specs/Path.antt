@@ -141,7 +141,8 @@ copy_or_call n flags inside s (Ready found ∷ rest) =
     else by_vgetrandom n flags inside s (Ready found ∷ rest)
 copy_or_call n flags inside s seen = by_vgetrandom n flags inside s seen
 
--- for a vread of n bytes with these flags: its result, and the state after it; none if these are not its steps
+-- for a vread of n bytes with these flags: its result, and the state after it; none if `seen` are not the steps of such
+-- a vread
 abbrev pub followed : ℕ → ℕ → Inside → VgetrandomState → List SeenStep → Option Followed
 followed n flags inside s seen =
     if rises 0 seen

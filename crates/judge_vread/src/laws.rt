@@ -16,7 +16,7 @@ pub fn vread_is_followed()
     ensures { VreadIsFollowed }
 {}
 
-/// The kinds of a recognized system call are one of its rows.
+/// If a system call is recognized, the kinds of its steps are one of the rows of a system call.
 #[tactic(auto, using(crate::proofs::CalledRows::called_row))]
 pub fn called_is_row()
     ensures { CalledIsRow }

@@ -1,4 +1,4 @@
--- If a session's run has made the events so far, and is closed, `emitted` is the output for the script so far.
+-- If a session's run has made the events so far and is then closed, `emitted` is the output for the script so far.
 use Rattle.std.proofs.Common.{◌≡◌, ℕ, ◌⊎◌, inl, inr, Bool, true, false, Option, None, Some, List, [], ◌∷◌, ◌++◌, map, refl, sym, ap, subst, ◌∙◌, append-nil}
 use Rattle.std.specs.Prelude.{IfSome, IsSomeAnd, codes}
 use Rattle.std.specs.List.{AllByRecursion}

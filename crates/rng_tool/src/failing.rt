@@ -169,7 +169,7 @@ fn line_of<'a>(t: &'a Transcript, place: &FailedLine) -> Option<LineView<'a>> {
     Some(lines.line(place.line))
 }
 
-// The faulty line of a text that is no transcript's.
+// The faulty line of a text that is not the text of a transcript.
 fn of_text(alloc: Global, line: u32) -> Result<Failing, AllocError> {
     let expected = match line {
         1 => format!(in alloc; "rngtranscript 1")?,
@@ -204,7 +204,7 @@ fn of_transcript(
     }))
 }
 
-// The line with this number as it is shown: its first bytes, if they are printable.
+// The text to show for the line with this number: the line's first bytes, if they are printable.
 fn shown_of(text: &[u8], number: usize) -> Option<&str> {
     let before = number.checked_sub(1)?;
     let line = text.split(|byte| *byte == b'\n').nth(before)?;

@@ -72,7 +72,7 @@ use std::thread::Threads;
 use tool_ends::tee::{TeeSink, TeeSource};
 use tool_ends::{Status, words};
 
-/// How many bytes of output are gathered to one write.
+/// How many bytes of output are gathered into one write.
 const GATHERED: usize = 64 * 1024;
 
 /// The most bytes of a script: 16 MiB. A run or a session keeps the whole script, to show the line of a fault.

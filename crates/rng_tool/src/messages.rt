@@ -25,7 +25,7 @@ pub(crate) enum Why {
     Fault(ScriptFault),
     NotAlone(u32),
     Clause(u8),
-    /// The answer has no such reason.
+    /// The answer contains no reason.
     Unsaid,
 }
 

@@ -26,10 +26,10 @@
 //!
 //! - [`replay::replay`]: a transcript that it returns is lawful, and the only lawful one with the given steps. It
 //!   returns one exactly if the clauses on lines, marks, forms and looks all hold.
-//! - [`remake::remake`]: if the clauses on lines, marks and forms do not all hold, it returns the first that fails.
-//!   The result depends only on words and steps.
-//! - [`lists::find_lists`]: it returns the lists, or the first clause that fails. Even if it returns lists, the steps
-//!   of some line may be no form.
+//! - [`remake::remake`]: if one of the clauses on lines, marks and forms fails, it returns the first that fails. The
+//!   result depends only on words and steps.
+//! - [`lists::find_lists`]: it returns the lists, or the first clause that fails. Even if it returns lists, some line
+//!   may have steps that are no form.
 //!
 //! # Tested only
 //!

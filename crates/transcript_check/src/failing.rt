@@ -65,7 +65,7 @@ fn first_other_look(
 /// - Looks: the first line with a look that is below the generation that its caller had seen, or above the number of
 ///   reseeds.
 ///
-/// The contract is only about answers and data. Tests cover the other clauses. Tests also cover that no earlier line
+/// The contract covers only the clauses on answers and data. Tests cover the other clauses, and that no earlier line
 /// fails.
 ///
 /// # Errors

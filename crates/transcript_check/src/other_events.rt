@@ -5,7 +5,8 @@ use event_script::Script;
 use judge_lines::bare::BareLine;
 use key_names::Word;
 
-// The word that a caller's line with this number must have. None if the script has neither an event nor the end there.
+// The word that a caller's line with this number must have. None if the script has neither an event nor the caller's
+// end at this number.
 fn word_at(script: &Script, caller: u32, number: usize) -> Option<Word> {
     if caller >= script.callers() {
         return None;

@@ -63,7 +63,7 @@ fn are_forms(
     Ok(said.is_some())
 }
 
-// The result, found by bisection, is a number of first calls of a caller. The steps of these calls are forms, but the
+// Finds by bisection a number of calls, counted from the caller's first. The steps of these calls are forms, but the
 // steps of the next call are not.
 fn most_forms(
     alloc: Global,

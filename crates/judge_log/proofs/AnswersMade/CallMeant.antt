@@ -57,7 +57,7 @@ CallLooks (vread_call n flags line acts) = AllByRecursion StepFits line.steps
 CallLooks (unbound bound) = ⊤
 CallLooks (ending line) = ⊤
 
--- the answer and data of `w` are those at the number of its event
+-- `At` holds of the event number in `w`, with the answer and data in `w`
 abbrev pub IsSaidIn : (ℕ → MadeLine → Type 0) → Write → Type 0
 IsSaidIn At w = At w.event w.said
 

@@ -1,4 +1,4 @@
--- What the code keeps of a line's steps agrees with the effects of these steps.
+-- The data that the code keeps about a line's steps agree with the effects of these steps.
 use Rattle.std.proofs.Common.{◌≡◌, ℕ, zero, suc, ◌+◌, ◌*◌, ◌/◌, ◌<◌, ◌≤◌, Bool, true, false, List, [], ◌∷◌, length, take, refl, sym, subst, ap, ◌∙◌, arith, Some, None, inl, inr, ◌⊎◌}
 use Rattle.std.specs.Prelude.{◌==◌, ◌||◌, not, ⊤, Option, slice_get, unwrap_or, nat_le, nat_lt, if◌then◌else◌}
 use Rattle.std.proofs.Math.Nat.{zero-mul, mul-zero, mul-suc, mul-div-le, mul-le-mul_left}
@@ -81,7 +81,7 @@ short_batch (suc w) count low =
     let more : suc w * suc count ≤ suc w * (96 / suc w) = mul-le-mul_left (suc w) low in
     let is : suc w * suc count ≡ suc w * count + suc w = mul-suc (suc w) count in omega arith
 
--- a batch that need not be filled has not served all of its 96 bytes
+-- if an integer need not fill its batch, the batch has served fewer than 96 bytes
 has_bytes : (look width : ℕ) (fill : Fill) → false ≡ must_fill look width (Some fill) → nat_lt (width * fill.count) 96 ≡ true
 has_bytes look width fill h =
     let low : width * fill.count < 96 =
@@ -130,7 +130,7 @@ AreMet [] [] = ⊤
 AreMet (m ∷ met) (d ∷ effects) = IsMet m d × AreMet met effects
 AreMet _ _ = ⊥
 
--- if two lists have the same length, both have an element at a place, or neither has
+-- if two lists have the same length, both have an element at place `i`, or both have none there
 both_found : {K E : Type 0} (ks : List K) (es : List E) (i : ℕ) → length ks ≡ length es →
     (slice_get ks i ≡ None) × (slice_get es i ≡ None)
     ⊎ (k : K) × (e : E) × (slice_get ks i ≡ Some k) × (slice_get es i ≡ Some e)

@@ -151,7 +151,7 @@ pub sample_due : (f : FastPool) (e : CpuEntry) (v1 v2 now : ℕ) → e ≡ IrqSa
     MakesDue f e
 sample_due f e v1 v2 now is due = subst (MakesDue f) (sym is) due
 
--- ---- calls whose samples are lawful if those of interrupts are
+-- ---- if the samples of interrupts are lawful, the samples of all calls are lawful
 
 module _ (lists : Lists) where
   abbrev c : LaneFacts
