@@ -201,7 +201,12 @@ fn start_rest<'s, E, R: Threads + Wait + Sync, G: Gate>(
 }
 
 // Takes in the pass of a feeder that got no thread. If that feeder pushed nothing, the worker has to mix its samples.
-fn take_back<G: Gate>(intake: &FeedIntake<G>, hand: &mut WorkerState, number: u32, fed: FeederResult)
+fn take_back<G: Gate>(
+    intake: &FeedIntake<G>,
+    hand: &mut WorkerState,
+    number: u32,
+    fed: FeederResult,
+)
     requires start { CanTakeBack intake.now.queue.now intake.now.feeds.now number hand.old.owed hand.old.worker
         hand.old.mixed }
     requires fed { IsFeeder intake.now.queue.now intake.now.feeds.now number fed.pushed fed.pass }

@@ -6,7 +6,7 @@ ghost use Rattle.judge_log.specs.EventSays.{recipe_met, last_recipe, found_unrea
 ghost use Rattle.judge_log.specs.EventSays.{reseed_says, tick_says, event_says, bits_shown, event_shows, act_says};
 ghost use Rattle.judge_log.specs.EventSays.{unused, IsAloneSaid, IsActSaid, EndConforms};
 
-use crate::met::{LineSpace, KeptStep, put_kinds, put_met};
+use crate::met::{KeptStep, LineSpace, put_kinds, put_met};
 use crate::said::{MadeLine, ShownRecipe};
 use crate::{KeptBase, KeptCpu, Lists};
 use input_pool::Crossing;
@@ -99,10 +99,11 @@ fn was_interrupted(met: &[KeptStep]) -> bool
     ensures { result ≡ was_interrupted met.now }
 {
     match met {
-        [KeptStep::Looked(_), KeptStep::InBase(_), KeptStep::InBase(ended)] => matches!(
-            ended.entry,
-            BaseEntry::Interrupt
-        ),
+        [
+            KeptStep::Looked(_),
+            KeptStep::InBase(_),
+            KeptStep::InBase(ended),
+        ] => matches!(ended.entry, BaseEntry::Interrupt),
         _ => false,
     }
 }

@@ -124,7 +124,9 @@ fn seen_of(cpu: u32, met: &KeptStep) -> SeenStep
         KeptStep::Looked(found) => SeenStep::Ready(*found),
         KeptStep::InPool(_) => SeenStep::Pool,
         KeptStep::InBase(kept) => base_seen(kept),
-        KeptStep::InCpu(on, kept) if *on == cpu => SeenStep::Cpu(kept.source.key.unwrap_or([0; 32])),
+        KeptStep::InCpu(on, kept) if *on == cpu => SeenStep::Cpu(
+            kept.source.key.unwrap_or([0; 32]),
+        ),
         KeptStep::InCpu(..) | KeptStep::Nothing => SeenStep::Elsewhere,
     }
 }
