@@ -31,7 +31,7 @@ use Rattle.judge_log.proofs.Filling.{closed_fills, fills_same}
 use Rattle.judge_log.proofs.Loops.{lawful_by_place}
 use Rattle.judge_log.proofs.Moved.{kept_of_same, lawful_of_same}
 
--- if each kept item has its entry's name, a look-up at any place gives the same name in both lists
+-- if `f` of each kept item equals `g` of its entry, a look-up at any place gives equal results in both lists
 names_same : {K E B : Type 0} (f : K → Option B) (g : E → Option B) (kept : List K) (list : List E) →
     length kept ≡ length list →
     ((i : ℕ) (k : K) (e : E) → slice_get kept i ≡ Some k → slice_get list i ≡ Some e → f k ≡ g e) → (i : ℕ) →

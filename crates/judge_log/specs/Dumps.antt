@@ -30,7 +30,7 @@ abbrev pub dump_inferred : FastPool → CpuInferred → Option Dumped
 dump_inferred f (cpu_is e) = dump_by f e
 dump_inferred f (batch look width) = None
 
--- a CPU's fast pool before a place of its list
+-- the fast pool of a CPU before place `k` of the CPU's list
 abbrev pub fast_at : Lists → ℕ → ℕ → FastPool
 fast_at lists c k = fast_after (take k (cpu_list lists c))
 

@@ -8,7 +8,7 @@ use Rattle.judge_log.specs.declared.inferred.InferredPool.TheVariants.{Dumped as
 use Rattle.judge_log.specs.declared.inferred.InferredCpu.{InferredCpu}
 use Rattle.judge_log.specs.Tables.{Tables}
 
--- an interrupt makes a dump due exactly if its line dumps
+-- an interrupt makes a dump due exactly if `dumps` is true: its line has a dump
 abbrev pub DueConforms : FastPool → Bool → CpuEntry → Type 0
 DueConforms f dumps (Irq v1 v2 now) = makes_due f now ≡ dumps
 DueConforms f dumps (Read look refill taken) = ⊤

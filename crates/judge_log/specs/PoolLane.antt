@@ -20,7 +20,7 @@ pub record LaneConforms (lane : PoolReplay) (s : PoolState) : Type 0 where
   pub value : lane.timer.value ≡ s.value
   pub timer : lane.timer.timer ≡ s.timer
 
--- the dump in a table by CPU and place
+-- the dump of CPU `c` at place `k` in the table `dumps`
 abbrev pub dump_in : List (List (Option Dump)) → ℕ → ℕ → Option Dump
 dump_in dumps c k = option_and_then (λ lane. option_and_then (λ dump. dump) (slice_get lane k)) (slice_get dumps c)
 

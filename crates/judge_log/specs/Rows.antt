@@ -98,7 +98,7 @@ module _ (inferred : Tables) where
   abbrev pub ActRows : Setting → BoundAct → Type 0
   ActRows set bound = LineRows set (λ neighbours. act_telling bound.act) bound.line.steps
 
-  -- for a call with this setting, the marks of its lines have their rows
+  -- the marks of a call's lines have their rows; `set` is the setting of the call
   abbrev pub CallRows : Setting → Call → Type 0
   CallRows set (alone event line) = LineRows set (λ neighbours. telling set event) line.steps
   CallRows set (vread_call n flags line acts) =

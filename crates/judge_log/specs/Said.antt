@@ -26,7 +26,7 @@ pub record NotedAt {Noted : Type 0} (IsNoted : ℕ → MadeLine → Noted → Ty
   pub is : slice_get notes event ≡ Some note
   pub noted : IsNoted event one note
 
--- the note is the answer and data themselves
+-- a note that is the whole answer and data
 abbrev pub itself : ℕ → ℕ → MadeLine → MadeLine → Type 0
 itself caller event said noted = noted ≡ said
 

@@ -32,7 +32,7 @@ use key_names::{Answer, Event};
 use std::alloc::{AllocError, Global};
 
 impl<N: Note> CallerWalk<'_, N> {
-    // Handles a single event. Returns whether the steps of its line are a form of the event.
+    // Handles a single event. Returns whether the steps of its line match a form of the event.
     fn alone(
         &mut self,
         set: &LineSetting,
@@ -70,7 +70,7 @@ impl<N: Note> CallerWalk<'_, N> {
         Ok(true)
     }
 
-    // Handles a caller's last line. Returns whether the line's steps are a form of the end.
+    // Handles a caller's last line. Returns whether the line's steps match a form of the end.
     fn ending(&mut self, set: &LineSetting, line: BareLine<'_>) -> Result<bool, AllocError>
         ensures lists { self.new.lists ≡ self.old.lists }
         ensures notes { self.new.notes ≡ record self.old.notes { noted = self.new.notes.noted } }
@@ -91,7 +91,7 @@ impl<N: Note> CallerWalk<'_, N> {
         Ok(true)
     }
 
-    // Handles one call. Returns whether the steps of its lines are a form of the call.
+    // Handles one call. Returns whether the steps of its lines match a form of the call.
     fn call(&mut self, set: &LineSetting, call: &CalledLines<'_>) -> Result<bool, AllocError>
         requires { CallInRange (seen_call call.now) }
         ensures lists { self.new.lists ≡ self.old.lists }
@@ -157,7 +157,7 @@ fn calls_said<N: Note>(
     Ok(Some(walk.notes.noted))
 }
 
-/// The notes of a caller's lines, indexed by event number. `None` if the steps of some line are no form of its call.
+/// The notes of a caller's lines, indexed by event number. `None` if the steps of some line match no form of its call.
 ///
 /// # Errors
 ///

@@ -71,8 +71,8 @@ fn hand_over(kept: &KeptBase) -> Option<Cpu>
 }
 
 /// The key and generation that an entry at this place of the CPU gets from the refill that it names, or `Some(None)` if
-/// it names no refill. `None` if the named visit of the base is no refill for this place, or has a generation below the
-/// look.
+/// it names no refill. `None` if the named visit of the base is no refill for this place, or leaves a generation below
+/// the look.
 fn handed(base: &[KeptBase], cpu: u32, place: u64, entry: CpuEntry) -> Option<Option<Cpu>>
     requires { KeysKept base.now }
     ensures { MatchOption result (RefillConformsIn base.now cpu place (refill_named entry) → ⊥) (λ handed.

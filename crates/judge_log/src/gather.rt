@@ -388,7 +388,7 @@ fn add_row(inferred: &mut InferredEntries<'_>, lane: LaneId) -> Result<bool, All
     Ok(true)
 }
 
-// Tables with an unfilled row for each mark. `None` if a mark is of a CPU that the script does not have.
+// Tables with an unfilled row for each mark. `None` if a mark names a CPU that the script does not have.
 fn bare_rows<'a>(
     alloc: Global,
     cpus: u32,

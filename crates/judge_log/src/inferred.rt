@@ -5,7 +5,7 @@ use key_names::PoolNote;
 /// The inferred entry of a visit of the pool.
 #[derive(Clone, Copy)]
 pub enum InferredPool<'a> {
-    /// This entry: the event's own entry, or an extraction.
+    /// A known entry: the event's own entry, or an extraction.
     Is(PoolNote<'a>),
     /// The mix of the dump at this place of a CPU.
     Dumped { cpu: u32, place: u64 },

@@ -24,7 +24,7 @@ pub struct MadeLine {
 pub trait Note {
     type Noted: Drop;
 
-    /// This is a note of the answer and data of an event. The numbers are those of the caller and of the event.
+    /// The last argument is a note of this answer and data. The two numbers are those of the caller and of the event.
     ghost IsNoted: { Self → ℕ → ℕ → SaidOfLine → Self.Noted → Type 0 };
 
     /// Makes the note of this event of this caller.

@@ -38,7 +38,7 @@ fn inside_of(acts: &[ActLine<'_>]) -> Inside
 
 impl<N: Note> CallerWalk<'_, N> {
     // Notes the answer and data of each act, which depend on the points that the `vread` reached. Returns whether the
-    // steps of each act are a form of the act.
+    // steps of each act match a form of the act.
     fn acts(
         &mut self,
         set: &LineSetting,

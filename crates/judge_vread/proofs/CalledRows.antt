@@ -64,7 +64,7 @@ wait_row n (Base wait ∷ Base interrupt ∷ []) c e = inl refl
 wait_row n (Base wait ∷ Resumed ∷ seen) c e = inr (kinds seen, refl, on_row n seen c e)
 wait_row n _ c e = absurd cc
 
--- if the code recognizes the steps after a look, their kinds are a row
+-- if the code recognizes the steps after the first look of a system call, the kinds of these steps are a row
 after_row : (n flags : ℕ) (ready : Bool) (seen : List SeenStep) (c : SystemCallResult) → after_look n flags ready seen ≡ Some c →
     IsAfterLook n flags ready (kinds seen)
 after_row n flags ready seen c e = go ready (is_insecure flags) (is_nonblock flags) e

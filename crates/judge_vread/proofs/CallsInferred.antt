@@ -113,7 +113,7 @@ module _ (cf : LaneFacts) (set : Setting) (n flags : ℕ) (first : Sign) where
   })
   batch_inferred r a recipe t out same (z ∷ seen) sh f e = absurd cc
 
-  -- an attempt was found at the start of some steps, and more steps come after it
+  -- an attempt was found at the start of the steps `seen`, and more steps come after the attempt
   module _ (inside : Inside) (c : ℕ) (s : VgetrandomState) (seen : List SeenStep) (sh : Shape set.cpu seen) (b : After)
       (found : Found cf set n first inside c s (ds seen sh) b) where
     ended : (t : Bool) → b.tried.holds ≡ t → found.attempt.end ≡ (if t then holds else outdated)

@@ -1,4 +1,4 @@
--- Recognizes a system call by its seen steps. The cases are those of the code, and of the rows of kinds.
+-- Recognizes a system call by its seen steps. The cases are the same as in the code, and as in the rows of kinds.
 use Rattle.std.specs.Prelude.{ℕ, ◌==◌, ◌||◌, Bool, true, false, Option, Some, None, List, [], ◌∷◌, if◌then◌else◌}
 use Rattle.key_names.specs.declared.events.Answer.{Answer}
 use Rattle.key_names.specs.declared.events.Answer.TheVariants.{Ok as Done, Again, Invalid, Interrupted}

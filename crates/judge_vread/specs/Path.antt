@@ -1,4 +1,4 @@
--- Follows a vread over its seen steps. The cases are those of the code.
+-- Follows a vread over its seen steps. The cases are the same as in the code.
 use Rattle.std.specs.Prelude.{ℕ, ◌+◌, ◌-◌, ◌^◌, ◌==◌, ◌||◌, min, Bool, true, false, Option, Some, None, List, [], ◌∷◌}
 use Rattle.std.specs.Prelude.{if◌then◌else◌}
 use Rattle.std.specs.Option.{option_map}
@@ -20,7 +20,7 @@ use Rattle.judge_vread.specs.Seen.{rises}
 use Rattle.judge_vread.specs.Inside.{inside_of, reached_by}
 use Rattle.judge_vread.specs.Called.{called}
 
--- the published generation at a look, from the base's generation that the look found
+-- the published generation at a look; `found` is the base's generation that the look found
 abbrev pub published : ℕ → ℕ
 published found = min (found + 1) (2 ^ 64 - 1)
 

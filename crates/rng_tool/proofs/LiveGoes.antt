@@ -1,4 +1,4 @@
--- After one more line of its script a session is at the next line, or it has stopped as `StopsAt` states.
+-- After one more line of its script, a session waits for the next line, or has stopped as `StopsAt` states.
 use Rattle.std.proofs.Common.{◌≡◌, ℕ, ◌+◌, ◌<◌, ◌≤◌, ◌⊎◌, inl, inr, Bool, true, false, Option, None, Some, List, [], ◌∷◌, ◌++◌, refl, sym, ap, subst, ◌∙◌, append_assoc, append-nil, length, arith}
 use Rattle.std.specs.Prelude.{Result, Ok, Err, codes}
 use Rattle.std.specs.Io.KnownBytes.{Appends}
@@ -221,7 +221,8 @@ module _ (text line : List ℕ) (clean : IsPart line) where
 
   -- ---- a line after which no script of one caller is possible
 
-  -- if no script of one caller begins with `text` and `line`, none begins with `front` and the whole lines after it
+  -- if no script of one caller begins with `text` and `line`, none begins with `front` and the whole lines after
+  -- `front`
   last_now : (front rest more : List ℕ) → text ≡ front ++ rest → IsPart rest ⊎ IsStuck front rest
       → ((s : Script) (later : List ℕ) → IsScript s (lined_up text line ++ later) → IsEmittedByOne s → ⊥)
       → IsLast front (rest ++ (line ++ 10 ∷ more))

@@ -354,7 +354,7 @@ emitted_unforked event one = refl
 
 module _ (text : List ℕ) (d other : Draft) (e : Event) (n m : ℕ) (lone : IsLone d)
     (goes : GoesOnFrom text (with_event d e) n) (seen : GoesOnFrom text other m) where
-  -- if no fork waits for its block, the reader's draft has the event too
+  -- if no fork waits for its block, the reader's draft is `d` with the event `e`
   pub shows_event : has_orphan other ≡ false
       → (other.version ≡ d.version) × (other.cpus ≡ d.cpus) × (other.done ≡ []) × (other.events ≡ d.events ++ e ∷ [])
   shows_event none =
@@ -402,7 +402,7 @@ script_lines_again s text is =
       | inr short ↦ rw short at ok
     ]
 
--- a faulty text begins no script
+-- no script begins with a faulty text
 pub fails_hopeless : (text more : List ℕ) (fault : ScriptFault) (s : Script) → FailsWith text fault
     → IsScript s (text ++ more) → ⊥
 fails_hopeless text more fault s fail is =

@@ -97,8 +97,8 @@ pub record FailsInside (text : List ℕ) (fault : ScriptFault) : Type 0 where
   pub parts : text ≡ front ++ rest
   pub fails : FailsWith front fault
 
--- the text is the whole input, or the front of the input with one byte more than a script may have; the fault is the
--- text's first
+-- the text is the whole input, or the first part of a longer input: one byte more than a script may have. The fault is
+-- the first of the text
 pub record FailsAtEnd (left left_after : Option (List ℕ)) (text : List ℕ) (fault : ScriptFault) : Type 0 where
   pub read : WasRead most_script left left_after text
   pub first : first_fault text ≡ Some fault

@@ -153,7 +153,7 @@ fn finish(reader: ScriptReader) -> Result<(), Stop>
     }
 }
 
-// Reads the script that the source gives, and closes the run at its end.
+// Reads the script that the source gives, and then closes the run.
 fn run_session<R: Wait, S: Source, K: Sink, G: Gate>(
     rt: &R,
     alloc: Global,

@@ -26,7 +26,7 @@
 //!
 //! - [`run`]: the main theorem. For every input, every interleaving of callers and every command, it states the meaning
 //!   of status and output. docs/TRUST.md has a row for each clause.
-//! - [`run_gathered`]: its statements about status and source, over the program's buffered output.
+//! - [`run_gathered`]: the statements of `run` about status and source, for the program's buffered output.
 //!
 //! # Tested only
 //!

@@ -1,5 +1,5 @@
 //! Whole runs over sources and sinks in memory that fail at each of their calls, and the calls of the gate.
-//! `.ci/program_checks` and `.ci/check_checks` check the answers themselves, of the built program.
+//! `.ci/program_checks` and `.ci/check_checks` check the answers of the built program.
 
 use crate::run::run;
 use io_edges::{Gate, MemSink, MemSource, OpenGate};
@@ -49,7 +49,7 @@ const PAIR: &[u8] = b"rngscript 1\n\
     0.2 end ok b:1@4 -\n\
     end\n";
 
-// The same pair with another answer and without the bytes of the read.
+// `PAIR` with another answer and without the bytes of the read.
 const BLANKED_PAIR: &[u8] = b"rngscript 1\n\
     cpus 1\n\
     caller 0\n\

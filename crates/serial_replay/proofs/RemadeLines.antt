@@ -97,7 +97,7 @@ module _ (script : Script) (t : List (List SeenLine)) (basis : Basis) (conform :
     found = conform.settings;
   }
 
-  -- if the steps of some line are no form, the clause on forms fails first
+  -- if the steps of some line match no form, the clause on forms fails first
   pub none_said :
       ((lists : Lists) → Keeps basis.lists lists → LawfulLanes lists →
       AllMeanSome lists (seen_calls basis.parts.calls.items) → ⊥) →

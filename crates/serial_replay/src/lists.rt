@@ -23,7 +23,7 @@ pub struct Basis<'a> {
     pub lists: Lists,
 }
 
-/// The lists of a transcript's lanes, or why there are none.
+/// The lists of a transcript's lanes, or the clause because of which there are none.
 #[derive(Drop)]
 pub enum FoundLists<'a> {
     Conforms(Basis<'a>),
@@ -32,7 +32,7 @@ pub enum FoundLists<'a> {
 }
 
 /// Judges the lines and marks of a transcript. Infers entries from the steps, and makes the lists of the lanes from
-/// these entries. Even if lists are returned, some line may have steps that are no form.
+/// these entries. Even if lists are returned, some line may have steps that match no form.
 ///
 /// # Errors
 ///

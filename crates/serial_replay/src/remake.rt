@@ -47,7 +47,7 @@ pub enum Remade<'a, T: Drop> {
     No(Clause),
 }
 
-// The notes of each caller's lines. `None` if the steps of some line are no form.
+// The notes of each caller's lines. `None` if the steps of some line match no form.
 fn all_said<N: Note>(
     alloc: Global,
     calls: &[Vec<CalledLines<'_>>],

@@ -1,4 +1,4 @@
--- The loops over a caller's lines and over callers keep their invariants in each round.
+-- The loops over a caller's lines and over callers preserve their invariants in each round.
 use Rattle.std.proofs.Common.{◌≡◌, ℕ, ◌+◌, Some, List, ◌∷◌, drop, sym, subst}
 use Rattle.std.specs.Prelude.{◌↔◌, slice_get}
 use Rattle.std.specs.List.{AllByRecursion}

@@ -32,7 +32,7 @@ pub(crate) struct Compare<'a> {
 
 /// A part of a line: its answer, or its data.
 pub(crate) trait Part {
-    /// This note records that this part of the line agrees.
+    /// The note records that this part of the line agrees.
     ghost IsSame: { Self → IsLineSame → Type 0 };
 
     fn is_same(&self, same: Same) -> bool

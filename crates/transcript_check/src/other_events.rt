@@ -23,7 +23,7 @@ fn is_line(line: &BareLine<'_>, caller: u32, event: usize, word: Word) -> bool {
     line.caller == caller && line.event as usize == event && line.word == word
 }
 
-// The line that was expected as a caller's line with this number. None if `line` is the expected line.
+// The line that was expected at this number among a caller's lines. None if `line` is the expected line.
 fn expected_at(
     script: &Script,
     caller: u32,

@@ -9,7 +9,7 @@ use judge_log::Lists;
 use key_names::{Event, LaneId, Mark, Point, Step};
 use std::alloc::{AllocError, Global};
 
-/// Which value is carried along a caller's steps. Each step is compared with the carried value.
+/// The kind of value that is carried along a caller's steps. Each step is compared with the carried value.
 #[derive(Clone, Copy)]
 pub(crate) enum Carried<'a> {
     /// The stamp of the caller's last visit.

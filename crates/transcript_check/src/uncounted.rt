@@ -72,7 +72,7 @@ fn is_before(visit: VisitOf, found: &Option<FailedLine>) -> bool {
 }
 
 /// The visits of each lane are counted in the order of their stamps. Returns the first line with a visit whose place is
-/// not its count, or whose stamp another visit of the lane has. This is tested, not proved.
+/// not the visit's count, or whose stamp another visit of the lane also has. This is tested, not proved.
 pub(crate) fn first_uncounted(
     alloc: Global,
     callers: &[Vec<BareLine<'_>>],

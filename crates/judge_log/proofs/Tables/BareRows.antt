@@ -75,7 +75,7 @@ set_long [] c v = refl
 set_long (x ∷ vecs) zero v = refl
 set_long (x ∷ vecs) (suc c) v = ap suc (set_long vecs c v)
 
--- the tables with the CPUs' rows from these vectors
+-- the tables whose CPU rows are in the vectors `vecs`
 abbrev pub with_lanes : List InferredPool → List BaseInferred → List (Vec InferredCpu Global) → Tables
 with_lanes pool base vecs = record { pool = pool; base = base; cpus = items_of vecs }
 

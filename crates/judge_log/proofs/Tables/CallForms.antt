@@ -1,4 +1,4 @@
--- If calls have lawful meanings, the steps of each call are a form of the call, and the visits of a vread have the
+-- If calls have lawful meanings, the steps of each call match a form of the call, and the visits of a vread have the
 -- inferred entries.
 use Rattle.std.proofs.Common.{◌≡◌, ℕ, zero, suc, ◌+◌, ◌<◌, ◌⊎◌, inl, inr, Bool, true, false, List, [], ◌∷◌, length, refl, sym, subst, ap, ◌∙◌, arith}
 use Rattle.std.specs.Prelude.{MatchBool, ⊤}

@@ -98,7 +98,7 @@ abbrev pub hit : Bool → ℕ
 hit b = cond b 1 0
 
 module _ (lane : LaneId) (place : ℕ) where
-  -- how many of these spots visit the place
+  -- how many of the given spots visit the place
   abbrev pub spots_takes : List Spot → ℕ
   spots_takes [] = 0
   spots_takes (spot ∷ spots) = hit (is_visit lane place spot.step) + spots_takes spots
