@@ -164,7 +164,7 @@ BaseMay lists i e = BaseMayCome lists.pool (base_after (take i lists.base)) e
 abbrev pub BaseKeeps : Lists → ℕ → KeptBase → BaseEntry → Type 0
 BaseKeeps lists i k e = KeepsBase (base_used_at lists.pool lists.base i) k (base_visit lists i e)
 
--- after the first i entries, `base`, `least` and the kept data `made` are those of the definitions
+-- after the first `i` entries, `base`, `least` and the kept data `made` equal what the definitions give
 pub record BaseAfter (lists : Lists) (i : ℕ) (base : BaseValue) (least : ℕ) (made : List KeptBase) : Type 0 where
   pub following : After (BaseMay lists) (BaseKeeps lists) lists.base i made
   pub base_conforms : base ≡ base_at (base_after (take i lists.base)) (base_value_after lists.pool (take i lists.base))

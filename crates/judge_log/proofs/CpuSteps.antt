@@ -368,7 +368,7 @@ CpuMay lists c k e = CpuMayCome lists.base c (cpu_after lists.base c (take k (cp
 abbrev pub CpuKeeps : Lists → ℕ → ℕ → KeptCpu → CpuEntry → Type 0
 CpuKeeps lists c place k e = KeepsCpu (cpu_used_at lists c) k (cpu_visit lists c place e)
 
--- after the first i entries, `cpu`, the fills `f` and the kept data `made` are those of the definitions
+-- after the first `i` entries, `cpu`, the fills `f` and the kept data `made` equal what the definitions give
 pub record CpuAfter (lists : Lists) (c i : ℕ) (cpu : CpuValue) (f : LastFills) (made : List KeptCpu) : Type 0 where
   pub following : After (CpuMay lists c) (CpuKeeps lists c) (cpu_list lists c) i made
   pub cpu_conforms : cpu ≡ cpu_at (cpu_after lists.base c (take i (cpu_list lists c)))

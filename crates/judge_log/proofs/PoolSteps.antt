@@ -29,7 +29,8 @@ Any p e = Unit {0}
 abbrev pub PoolKeeps : Lists → ℕ → KeptPool → PoolEntry → Type 0
 PoolKeeps lists p k e = KeepsPool k (pool_visit lists p e)
 
--- after the first i entries, `lane` and the kept data `made` are those of the definitions, and each mix names a dump
+-- after the first `i` entries, `lane` and the kept data `made` equal what the definitions give, and each mix of a dump
+-- names a dump
 pub record PoolAfter (inferred : Tables) (i : ℕ) (lane : PoolReplay) (made : List KeptPool) : Type 0 where
   pub conforms : LaneConforms lane (pool_after (take i (closed inferred).pool))
   pub mixed : (j : ℕ) (t : InferredPool) → j < i → slice_get inferred.pool j ≡ Some t → MixConforms (closed inferred) t

@@ -1,4 +1,4 @@
--- The base, as the code replays it along its list.
+-- The state of the base while the code replays the base's list.
 use Rattle.std.specs.Prelude.{ℕ, ◌≡◌, ◌≤◌, ⊤, Option, Some, None, List, take, slice_get, option_and_then}
 use Rattle.key_names.specs.declared.entries.BaseEntry.{BaseEntry}
 use Rattle.key_names.specs.Lanes.PoolList.{Crossing, none}

@@ -1,4 +1,4 @@
--- A CPU, as the code replays it along its list.
+-- The state of a CPU while the code replays the CPU's list.
 use Rattle.std.specs.Prelude.{ℕ, ◌+◌, ◌/◌, ◌≡◌, ◌≤◌, ◌<◌, ◌↔◌, ◌⊎◌, ⊤, Bool, true, false, not, ◌||◌, ◌==◌, nat_le}
 use Rattle.std.specs.Prelude.{Option, Some, None, List, take, slice_get, IsSome, if◌then◌else◌}
 use Rattle.key_names.specs.declared.entries.CpuEntry.{CpuEntry}

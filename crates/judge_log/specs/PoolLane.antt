@@ -1,4 +1,4 @@
--- The pool, as the code replays it along its list.
+-- The state of the pool while the code replays the pool's list.
 use Rattle.std.specs.Prelude.{ℕ, ◌≡◌, ⊤, Option, Some, List, slice_get, option_and_then}
 use Rattle.key_names.specs.declared.entries.PoolEntry.{PoolEntry}
 use Rattle.key_names.specs.declared.entries.PoolEntry.TheVariants.{Mix}

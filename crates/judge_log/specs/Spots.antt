@@ -115,7 +115,7 @@ pub record IsLonger (lane : LaneId) (old new : Tables) : Type 0 where
   pub rows : (other : LaneId) →
       rows_in new other ≡ (if is_same_lane lane other then suc (rows_in old other) else rows_in old other)
 
--- the lane is that of a CPU that does not exist
+-- the lane is a CPU that does not exist
 abbrev pub IsAbsent : ℕ → LaneId → Type 0
 IsAbsent cpus PoolLane = ⊥
 IsAbsent cpus BaseLane = ⊥

@@ -74,7 +74,7 @@ fn crossed_at(pool: &[KeptPool], place: u64) -> Crossing
     }
 }
 
-/// Completes an inferred entry from the base before this entry and from the data kept about the pool.
+/// Completes an inferred entry, given the base before this entry and the data kept about the pool.
 fn close(base: &Base, inferred: BaseInferred, pool: &[KeptPool]) -> BaseEntry
     ensures { result ≡ base_entry (crossed_of pool.now) (state_of base.now) inferred }
 {

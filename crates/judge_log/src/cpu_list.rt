@@ -96,7 +96,7 @@ pub(crate) struct CpuReplay {
 }
 
 impl CpuReplay {
-    /// Completes an inferred entry, from the last fills of the batches.
+    /// Completes an inferred entry, given the last fills of the batches.
     fn close(&self, inferred: CpuInferred) -> CpuEntry
         requires { CpuIsWide inferred }
         ensures { result ≡ cpu_closed self.now.fills inferred }

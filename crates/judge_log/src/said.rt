@@ -1,4 +1,4 @@
-//! The answer and data of a line, and notes of them.
+//! The answer and data of a line, and the notes of both.
 ghost use Rattle.std.specs.Prelude.{◌≡◌, ℕ};
 ghost use Rattle.judge_log.specs.declared.said.MadeLine.{MadeLine as SaidOfLine};
 

@@ -113,7 +113,7 @@ module _ (set : Setting) (more : List HostStep) where
 
   -- ---- a system call for a key
 
-  -- a system call for a key has two looks, then a visit of the base or none, and then a visit of a CPU
+  -- a system call for a key has two looks, then at most one visit of the base, and then a visit of a CPU
   record KeyRead (seen : List SeenStep) (rest : List Effect) (answer : SystemAnswer) : Type 0 where
     key : List ℕ
     visit : Option CpuPlace

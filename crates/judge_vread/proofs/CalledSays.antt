@@ -35,8 +35,8 @@ use Rattle.judge_vread.specs.Seen.{ServesBy}
 use Rattle.judge_vread.specs.Called.{serving, no_more, cpu_read, unready_read, read, waited, after_look, by_look, called}
 use Rattle.judge_vread.proofs.SeenShapes.{Shape, effects_in}
 
--- `c` has the answer and the bytes that `effects` have, and those of a line that reports what the host returned for
--- `effects`
+-- `c` has the answer and the bytes of `effects`. A line that reports what the host returned for `effects` has the same
+-- answer and bytes
 pub record Says (flags : ℕ) (effects : List Effect) (c : SystemCallResult) : Type 0 where
   pub answer : c.answer ≡ system_answer flags effects
   pub bytes : bytes_made c.served ≡ served_bytes effects

@@ -133,7 +133,7 @@ abbrev pub by_vgetrandom : ℕ → ℕ → Inside → VgetrandomState → List S
 by_vgetrandom n flags inside s seen =
     if is_bad flags then leaving s (by_system n flags Nothing seen) else from_look n flags inside s seen
 
--- a copy out of the state if the state allows one without a call, and a call otherwise
+-- if the state allows a copy without a call, the copy; otherwise a call
 abbrev pub copy_or_call : ℕ → ℕ → Inside → VgetrandomState → List SeenStep → Option Followed
 copy_or_call n flags inside s (Ready found ∷ rest) =
     if serves_locally (published found) s n

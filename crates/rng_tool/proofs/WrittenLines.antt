@@ -28,7 +28,7 @@ use Rattle.rng_tool.proofs.Runs.{run_of, under_own_number}
 abbrev Known : Type 0
 Known = Option (List ℕ)
 
--- the text of a transcript's first line and of these lines
+-- the text of a transcript's first line, followed by the text of `lines`
 abbrev pub text_so_far : List SeenLine → List ℕ
 text_so_far lines = codes "rngtranscript 1\n" ++ text_of lines
 

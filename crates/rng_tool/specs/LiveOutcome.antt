@@ -77,7 +77,8 @@ pub record EmittedFront (text output : List ℕ) : Type 0 where
   pub so_far : EmittedSoFar front output
   pub stops : (line more : List ℕ) → rest ≡ line ++ 10 ∷ more → BeginsScript (front ++ line ++ 10 ∷ []) → ⊥
 
--- a prefix of the text is a whole script, and the output is that of a run; other text may follow
+-- a prefix of the text is a whole script, and the output is that of a run of this script; other text may follow the
+-- prefix
 pub record EmittedScript (text output : List ℕ) : Type 0 where
   pub front : List ℕ
   pub rest : List ℕ
@@ -98,7 +99,7 @@ pub record FailsInside (text : List ℕ) (fault : ScriptFault) : Type 0 where
   pub fails : FailsWith front fault
 
 -- the text is the whole input, or the first part of a longer input: one byte more than a script may have. The fault is
--- the first of the text
+-- the first fault of the text
 pub record FailsAtEnd (left left_after : Option (List ℕ)) (text : List ℕ) (fault : ScriptFault) : Type 0 where
   pub read : WasRead most_script left left_after text
   pub first : first_fault text ≡ Some fault
@@ -117,7 +118,7 @@ pub record IsNotAlone (text : List ℕ) (number : ℕ) : Type 0 where
 abbrev pub not_alone_line : ℕ → List ℕ
 not_alone_line number = lined (spaced (codes "refused" ∷ decimal number ∷ codes "13" ∷ []) ∷ [])
 
--- the line is that of a refusal: for a fault of the text, or for a fork or an act
+-- the line refuses the text: for a fault, or for a fork or an act
 abbrev pub RefusesBy : Option (List ℕ) → Option (List ℕ) → List ℕ → List ℕ → Type 0
 RefusesBy left left_after text line =
     ((fault : ScriptFault) × (FailsInside text fault ⊎ FailsAtEnd left left_after text fault) × (line ≡ refusal_line fault))

@@ -28,7 +28,7 @@ use Rattle.rng_tool.specs.declared.session_writer.SessionWriter.{SessionWriter}
 
 -- ---- what was written
 
--- the text of a transcript's first line and of these lines
+-- the text of a transcript's first line, followed by the text of `lines`
 abbrev pub begun : List SeenLine → List ℕ
 begun lines = codes "rngtranscript 1\n" ++ text_of lines
 
@@ -185,7 +185,7 @@ abbrev pub GoesTo : Result (Unit {0}) Stop → Option (List ℕ) → Option (Lis
 GoesTo (Ok u) start held text t = StopsBy (λ emitted. IsAt text emitted t) (Appends start held)
 GoesTo (Err stop) start held text t = StopsAt stop start held text t
 
--- the sink counted a fault if the session stopped with a write fault, and none otherwise
+-- if the session stopped with a write fault, the sink counted a fault; otherwise the sink counted none
 pub record CountsStop (result : Result (Unit {0}) Stop) (faults faults_after : ℕ) : Type 0 where
   pub cut : result ≡ Err WriteFault → Rose faults faults_after
   pub not_counted : (result ≡ Err WriteFault → ⊥) → faults_after ≡ faults
@@ -245,7 +245,7 @@ SessionReads (Ok u) left left_after held held_after s =
 SessionReads (Err stop) left left_after held held_after s =
     (text : List ℕ) × TakesText left left_after text × StoppedAt stop held held_after text s.session_writer
 
--- the source counted a fault if the session stopped with a read fault, and none otherwise
+-- if the session stopped with a read fault, the source counted a fault; otherwise the source counted none
 pub record CountsReadStop (result : Result (Unit {0}) Stop) (faults faults_after : ℕ) : Type 0 where
   pub read_fault : result ≡ Err ReadFault → Rose faults faults_after
   pub no_read_fault : (result ≡ Err ReadFault → ⊥) → faults_after ≡ faults

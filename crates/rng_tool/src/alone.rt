@@ -1,4 +1,4 @@
-//! The run of a script's only caller, which writes each line as it is made.
+//! Runs a script's only caller, and writes each line as soon as the line is made.
 ghost use Rattle.std.specs.Prelude.{◌≡◌, [], ℕ, List, OnOk, OnErr};
 ghost use Rattle.io_edges.specs.Faults.{Rose};
 ghost use Rattle.io_edges.specs.Pieces.{AppendsPrefix};

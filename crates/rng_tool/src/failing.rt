@@ -1,5 +1,5 @@
-//! The message on standard error for a transcript that is not lawful: the first line at which its clause fails, and
-//! what was expected there. No function here has a contract, so all of it is only tested.
+//! The message on standard error for a transcript that is not lawful: the first line at which the failed clause does
+//! not hold, and what was expected there. No function here has a contract, so all of it is only tested.
 
 use crate::messages::{MOST_SHOWN, shown_line};
 use event_script::{Script, read_front};

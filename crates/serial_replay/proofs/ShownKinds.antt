@@ -36,7 +36,7 @@ use Rattle.serial_replay.specs.Remade.{said_of_caller, AllMade, made_by}
 use Rattle.serial_replay.specs.Written.{IsFor, MayShow}
 use Rattle.serial_replay.proofs.Agreement.{all_both, Any, all_any}
 
--- the word of each line is that of its event
+-- each line has the word of its event
 
 abbrev ActWord : BoundAct → Type 0
 ActWord bound = bound.line.word ≡ InsideWord

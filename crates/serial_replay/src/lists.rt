@@ -23,7 +23,7 @@ pub struct Basis<'a> {
     pub lists: Lists,
 }
 
-/// The lists of a transcript's lanes, or the clause because of which there are none.
+/// The lists of a transcript's lanes, or the first clause that fails.
 #[derive(Drop)]
 pub enum FoundLists<'a> {
     Conforms(Basis<'a>),

@@ -26,7 +26,8 @@
 //!   lists.
 //! - [`failing::first_failing_line`]: if the clause is that on answers or that on data, the line has another answer, or
 //!   other data, than its steps give.
-//! - [`laws`]: no lawful transcript with the same steps has such a line.
+//! - [`laws`]: no lawful transcript with the same steps has a line with another answer, or other data, than its steps
+//!   give.
 //!
 //! # Tested only
 //!

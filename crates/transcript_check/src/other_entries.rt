@@ -12,7 +12,7 @@ use judge_log::{InferredCpu, InferredEntries, InferredPool, replay_lists};
 use key_names::{BaseEntry, LaneId, PoolNote};
 use std::alloc::{AllocError, Global};
 
-/// How many inferred rows of each lane are kept, from its first row on.
+/// For each lane, how many of its first inferred rows are kept.
 #[derive(Drop)]
 struct Ends {
     pool: usize,

@@ -61,7 +61,7 @@ CallLooks (ending line) = ⊤
 abbrev pub IsSaidIn : (ℕ → MadeLine → Type 0) → Write → Type 0
 IsSaidIn At w = At w.event w.said
 
--- the effects of a line are those of its meaning
+-- the steps of the line have the effects in the meaning `m`
 abbrev pub HasEffects : Lists → SeenLine → LineMeaning → Type 0
 HasEffects book line m = effects_of book line.steps ≡ m.effects
 

@@ -49,7 +49,7 @@ taken_made : (key : List ℕ) (taken : Taken) → taken_bytes key taken ≡ byte
 taken_made key (User n) = sym (user_bytes key n)
 taken_made key (Kernel n) = refl
 
--- the kept data are those of this visit of the base
+-- `k` has the right data about the visit `v` of the base
 pub record MetBase (k : KeptBase) (v : BaseVisit) : Type 0 where
   pub entry : k.entry ≡ v.entry
   pub serves : v.serves ≡ base_serves (unwrap_or k.key zero_key) v.entry
@@ -65,7 +65,7 @@ base_made (Draw root taken) key used h =
     subst (λ k. BaseServes (Draw root taken) k used) (sym h) (refl, sym (taken_made used taken))
 base_made _ key used h = (refl, refl)
 
--- the kept data are those of this visit of a CPU
+-- `k` has the right data about the visit `v` of a CPU
 pub record MetCpu (k : KeptCpu) (v : CpuVisit) : Type 0 where
   pub entry : k.entry ≡ v.entry
   pub serves : ServesBy (unwrap_or k.source.key zero_key) v.entry v.serves
@@ -116,7 +116,7 @@ module _ (book : Lists) (c : ℕ) (fills : ℕ → Option Fill) (place : ℕ) wh
 
 -- ---- a step
 
--- the kept data are those of this step's look or visit
+-- the kept data of a step match the step's look or visit
 abbrev pub IsMet : KeptStep → Effect → Type 0
 IsMet (Looked g) (looked found) = g ≡ found
 IsMet (InPool k) (at_pool v) = KeepsPool k v
