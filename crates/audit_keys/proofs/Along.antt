@@ -7,12 +7,12 @@ use Rattle.std.proofs.lemmas.List.{map-append, take_all, take_more}
 use Rattle.judge_log.proofs.Loops.{take_at}
 use Rattle.audit_keys.specs.ListedFrom.{listed_from}
 
--- if a list first stayed the same, and then the items `add` were appended, the list is the old one and these items
+-- if `mid` equals `old`, and `new` is `mid` with the items `add` appended, `new` is `old` with `add` appended
 pub after_same : {T : Type 0} (old mid new add : List T) → mid ≡ old → new ≡ mid ++ add → new ≡ old ++ add
 after_same old mid new add stayed added = added ∙ ap (λ ts. ts ++ add) stayed
 
--- if a list has `f` of each of the first `i` elements, and `f` of the next element is appended, the list has `f` of
--- each of the first `i + 1`
+-- if a list has `f` of each of the first `i` elements, and `f` of the next one is appended, it has `f` of the first `i
+-- + 1` elements
 pub map_more : {A B : Type 0} (f : A → B) (xs : List A) (i : ℕ) (d : A) (old now new : List B) → i < length xs →
     now ≡ old ++ map f (take i xs) → new ≡ now ++ f (get_or xs i d) ∷ [] → new ≡ old ++ map f (take (i + 1) xs)
 map_more f xs i d old now new below h more =
@@ -51,7 +51,8 @@ module _ {S E T : Type 0} (tells : S → E → List T) (step : S → E → S) wh
     listed_all place old now all h =
         h ∙ ap (λ es. old ++ listed_from tells step start es) (take_all place entries all)
 
-    -- this is `listed_more` for a list of results that first stayed the same from `now` to `mid`
+    -- if `mid` equals `now`, and the results of the entry at `place` are appended to `mid`, `new` has the results of
+    -- the entries before `place + 1`
     pub listed_after : (place : ℕ) (e : E) (old now mid new : List T) → slice_get entries place ≡ Some e →
         IsListed place old now → mid ≡ now → new ≡ mid ++ tells (fold step start (take place entries)) e →
         IsListed (place + 1) old new

@@ -1,4 +1,5 @@
--- A book's lists are cut to beginnings. No byte of a key or rest that is held after these beginnings was used in them.
+-- If a book's lists are cut to beginnings, no byte of a key or rest that is held after these beginnings was used in
+-- them.
 use Rattle.std.proofs.Common.{◌≡◌, ℕ, ◌+◌, ◌-◌, ◌*◌, ◌++◌, List, [], ◌∷◌, length, Option, Some, None, inl, inr, refl, sym, subst, ap, ◌∙◌, arith}
 use Rattle.std.specs.Prelude.{Bool, true, false, slice_get, option_and_then}
 use Rattle.std.specs.List.{fold}
@@ -158,7 +159,7 @@ module _ (whole part : Lists) (lanes : ForwardLawful whole) (states : LawfulStat
     is = t.is;
   })
 
-  -- a CPU's uses in `part` stay uses if the CPU's list is replayed over the base's whole list
+  -- if a CPU used a byte in `part`, the replay of the CPU's list over the base's whole list has the same use
   walk_used : (c : ℕ) (k : KeyName) (q : ℕ) → IsUsed (cpu_uses part c) k q →
       IsUsed (uses_from (cpu_uses_at c (is_rekeyed part c)) (cpu_step whole.base c) cpu_start (cpu_list part c)) k q
   walk_used c k q used =

@@ -1,4 +1,5 @@
--- The code carries a value along a list. The value matches the state before each place, and at the end the last state.
+-- The code carries a value along a list. At each place the value matches the state before this place. At the end it
+-- matches the last state.
 use Rattle.std.proofs.Common.{◌≡◌, ◌≤◌, ◌+◌, ℕ, List, length, take, Some, sym, subst}
 use Rattle.std.specs.Prelude.{slice_get}
 use Rattle.std.specs.List.{fold}

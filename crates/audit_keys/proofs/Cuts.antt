@@ -1,5 +1,5 @@
--- The code goes along a lane's visits and keeps the data of those up to a stamp. The kept data are `list_to`, and their
--- entries are those of `visits_to`.
+-- The code goes along a lane's visits and keeps the data of the visits up to a stamp. The kept data are `list_to`, and
+-- the entries in these data are those of `visits_to`.
 use Rattle.std.proofs.Common.{◌≡◌, ◌+◌, ℕ, zero, suc, Bool, true, false, List, [], ◌∷◌, ◌++◌, take, refl, sym, ap, ◌∙◌, append-nil, arith}
 use Rattle.std.specs.Prelude.{Some, slice_get, map, nat_le, if◌then◌else◌}
 use Rattle.std.specs.Global.{Vec}
@@ -59,7 +59,7 @@ module _ {K : Type 0} (stamp : ℕ) where
       cut_more moments kept place k cut cut' b is so by
       (more ∙ sym (append-nil cut) ∙ ap (λ t. cut ++ kept_by t k) (sym e))
 
--- if kept entries are cut at a stamp by their moments, what is left are the entries of the visits up to the stamp
+-- if kept entries are cut at a stamp by their moments, the entries of the visits up to the stamp remain
 pub visits_kept : {K E : Type 0} (entry : K → E) (stamp : ℕ) (kept : List K) (moments : List Moment)
     (visits : List (Visit E)) → map entry kept ≡ entries_of visits → stamps_of moments ≡ visit_stamps visits →
     map entry (list_to stamp moments kept) ≡ entries_of (visits_to stamp visits)

@@ -151,7 +151,7 @@ module _ {X : Type 0} (key : X → KeyName) where
   ties_are Equal b e = rw e refl
   ties_are Greater b e = rw e refl
 
-  -- a stable sort leaves each group as it is
+  -- a stable sort leaves each group unchanged
   pub group_stays : (x : X) (xs ys : List X) →
       filter (ties (λ a b. is_lt (cmp (key a) (key b))) x) ys
       ≡ filter (ties (λ a b. is_lt (cmp (key a) (key b))) x) xs →

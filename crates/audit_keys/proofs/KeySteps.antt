@@ -98,7 +98,8 @@ module _ (lists : Lists) where
 
   module _ (steps : List Step) (call more : List Effect) (answer : SystemAnswer)
       (effects : effects_of lists steps ≡ call ++ more) (answers : answer ≡ answer_after 0 call) where
-    -- the call's last effect is its visit of the CPU, and the call's answer is the answer of this visit
+    -- if the call's effects are `ds`, and `ds` were not interrupted, the call's answer is a read of their bytes at
+    -- their last place
     answer_at : (ds : List Effect) → call ≡ ds → was_interrupted ds ≡ false →
         answer ≡ read (served_bytes ds) (last_place ds)
     answer_at ds is calm =

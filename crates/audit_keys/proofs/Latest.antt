@@ -52,7 +52,7 @@ rekey_whole steps = go (option_map_or is_mark (slice_get steps 2) false)
         ∙ take-append-drop 2 steps
     go false = refl
 
--- the steps of one more act count at the act's point, and at no other point
+-- the steps of one more act count at the act's own point; at other points they do not count
 pub at_point : (stamp : ℕ) (bound : BoundAct) (acts : List BoundAct) (point : Point) → is_same_point bound.point point ≡ true →
     latest_of stamp (steps_at_point (bound ∷ acts) point)
     ≡ latest_of (latest_of stamp bound.line.steps) (steps_at_point acts point)

@@ -4,7 +4,7 @@ use Rattle.key_names.specs.Callers.Calls.{Call}
 use Rattle.audit_keys.specs.LineEnds.{all_line_ends, line_ends, listed_lines}
 use Rattle.audit_keys.specs.Stamps.{start_stamp}
 
--- the line ends do not change if the stamps at all callers' starts are equal
+-- if f and g give equal stamps at the start of each caller, the line ends are the same
 lines_same : (f g : ℕ → ℕ) (c : ℕ) (callers : List (List Call)) →
     ((d : ℕ) → c ≤ d → d < c + length callers → f d ≡ g d) → all_line_ends f c callers ≡ all_line_ends g c callers
 lines_same f g c [] same = refl

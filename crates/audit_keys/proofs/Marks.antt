@@ -1,5 +1,5 @@
--- The code marks each place of a CPU whose read a vgetrandom state takes as its key. After all entries of states, the
--- marks are those of `takes_read`. With these marks the CPU's uses are the same as with `is_rekeyed`.
+-- If a vgetrandom state takes the read at a place of a CPU as its key, the code marks this place. After all entries of
+-- states, the marks are those of `takes_read`. With these marks the CPU's uses are the same as with `is_rekeyed`.
 use Rattle.std.proofs.Common.{◌≡◌, ◌≤◌, ◌<◌, ◌+◌, ℕ, Bool, true, false, List, [], ◌∷◌, ◌++◌, length, take, get_or, refl, sym, ap, ◌∙◌, arith}
 use Rattle.std.specs.Prelude.{◌||◌, map}
 use Rattle.std.specs.Global.{Vec}
@@ -69,7 +69,7 @@ takes_read_is c callers k =
     ∙ any_map (λ (states : Vec (Vec VEntry)). map (λ (es : Vec VEntry). es.items) states.items)
     (λ lists. lists_take c k lists) callers
 
--- a CPU's uses depend on which reads are taken only at the places of the CPU's list
+-- if f and g agree at all places of a CPU's list, the CPU's uses are the same with f and with g
 module _ (base : List BaseEntry) (c : ℕ) (f g : ℕ → Bool) where
   same_at : (s : CpuState) (e : CpuEntry) → f s.place ≡ g s.place → cpu_used_at c f s e ≡ cpu_used_at c g s e
   same_at s (Read look refill taken) is = rw is refl

@@ -1,5 +1,5 @@
--- If an outline matches a state, the outline matches the state after a copy, a wipe or a new key too. The outline and
--- the state leave the same entries.
+-- If an outline matches a state, the new outline matches the new state after a copy, a wipe or a new key, and both
+-- leave the same entries.
 use Rattle.std.proofs.Common.{◌≡◌, ℕ, zero, suc, ◌+◌, ◌-◌, ◌<◌, Bool, true, false, [], ◌++◌, refl, sym, ap, ◌∙◌, append_assoc, append-nil, arith}
 use Rattle.std.specs.Prelude.{◌==◌, ◌/◌, ◌%◌, nat_le, if◌then◌else◌}
 use Rattle.std.proofs.lemmas.Bool.{eqb-true, eq-eqb}
@@ -95,7 +95,8 @@ copied_beyond n c l beyond =
     ∙ ap (λ es. with_served (new_batch_bytes o n) (record l { entries = es }))
     (sym (append_assoc l.entries front following))
 
--- such a copy may be made in two steps: first the rest of the batch is served, and then the batch is refilled
+-- a copy of more bytes than the batch has left may be made in two steps: first the rest of the batch is served, and
+-- then the batch is refilled
 pub refilled_is : (n c served left whole last : ℕ) (l m new : Left) → served ≡ l.outline.served → left ≡ 96 - served →
     left < n → m ≡ left_more (serve_entry served left) l → whole ≡ (n - left) / 64 → last ≡ (n - left) % 64 →
     new ≡ refilled c whole last m → new ≡ copied n c l

@@ -24,7 +24,7 @@ use Rattle.audit_keys.proofs.Outlines.{same_test, sym_test, generation_test, sam
 use Rattle.audit_keys.proofs.KeySteps.{FirstStep, first_step}
 use Rattle.audit_keys.proofs.AttemptsLeave.{Gives, WipesAre, AttemptLeaves, attempt_leaves}
 
--- `new` has the entries of `l` and then those of `outcome`; its outline is that of the outcome's state
+-- `new` has the entries of `l` and then those of `outcome`; the outline of `new` is that of the state of `outcome`
 pub record CallLeaves (l : Left) (outcome : Outcome) (new : Left) : Type 0 where
   pub entries : new.entries ≡ l.entries ++ outcome.entries
   pub conforms : IsBetweenCalls new.outline outcome.state
@@ -303,7 +303,7 @@ module _ (lists : Lists) (n flags : ℕ) (acts : List BoundAct) (steps : List St
     conforms = record { outline = copy_outline l s 0 n is.outline; idle = kept_idle (has_left s n) s 0 n is.idle };
   }
 
-  -- whether the batch alone serves the vread is the same by the outline as by the state
+  -- the outline and the state agree on whether the batch alone serves the vread
   local_is : (g : ℕ) → (length acts == 0) ≡ true → serves_locally (published_by g) s n
       ≡ (not (g == 0) && copies_alone acts n g l)
   local_is g no_acts =

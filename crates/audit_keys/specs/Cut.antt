@@ -23,7 +23,7 @@ abbrev pub is_by : ℕ → Option Moment → Bool
 is_by stamp None = false
 is_by stamp (Some moment) = nat_le moment.stamp stamp
 
--- of a lane's kept entries, those whose visit has a stamp of at most `stamp`; `moments` has the stamps of the visits
+-- the kept entries of a lane whose visits have stamps of at most `stamp`; `moments` has the stamps of the visits
 abbrev pub list_to : {K : Type 0} → ℕ → List Moment → List K → List K
 list_to stamp moments [] = []
 list_to stamp [] (k ∷ kept) = []

@@ -14,7 +14,7 @@ use Rattle.audit_keys.specs.declared.held.BatchHolder.TheVariants.{Cpu as CpuBat
 use Rattle.audit_keys.specs.declared.held.HeldKey.{HeldKey}
 use Rattle.audit_keys.specs.declared.held.HeldRest.{HeldRest}
 
--- the holder, as a value of the type that `key_names` has for holders
+-- the same holder in the type that `key_names` has for holders
 abbrev pub key_holder : KeyHolder → BookKeyHolder
 key_holder Base = base_key
 key_holder (Cpu cpu) = cpu_key cpu

@@ -25,6 +25,6 @@ pub record HeldIsLive (lists : Lists) : Type 0 where
       live_rest lists (batch_holder holder) ≡ Some span →
       Contains (book_tells lists).rests (record { holder = holder; span = span })
 
--- HeldIsLive holds of all lists
+-- `HeldIsLive` is true of all lists
 abbrev pub BooksTellLive : Type 0
 BooksTellLive = (lists : Lists) → HeldIsLive lists

@@ -1,5 +1,5 @@
--- No byte of a key, or of the rest of a batch, that is held at the end of a book was used. In terms of names, this is
--- forward secrecy.
+-- At the end of a book, no byte of a held key or of a held rest of a batch was used. In terms of names, this is forward
+-- secrecy.
 use Rattle.std.specs.Prelude.{ℕ, ◌≡◌, Some, List}
 use Rattle.key_names.specs.declared.names.KeyName.{KeyName}
 use Rattle.key_names.specs.declared.names.Span.{Span}

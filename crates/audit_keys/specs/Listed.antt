@@ -48,8 +48,8 @@ pub record HasEntries (lists : Lists) (kept : KeptLists) (callers : List (Vec (V
   pub cpus : cpu_lists kept.cpus.items ≡ lists.cpus
   pub states : caller_lists callers ≡ lists.callers
 
--- the results of entries: the keys that the entries make and erase, the rests that they give up, and their uses; also
--- the keys and rests that are held after these entries
+-- the results of some entries: the keys that the entries make and erase, the rests that they give up, and their uses;
+-- also the keys and rests that are held after these entries
 pub record Tells : Type 0 where
   pub births : List Birth
   pub endings : List Ending

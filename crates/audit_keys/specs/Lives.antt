@@ -51,7 +51,7 @@ abbrev pub root_births : Option ℕ → List Birth
 root_births None = []
 root_births (Some r) = born (Root r) InBase (Lane PoolLane r) ∷ []
 
--- if an entry names another key, the entry replaces the key before it
+-- if an entry names a root or a refill, its key replaces the key that was there before
 abbrev pub replaced : Origin → Option ℕ → Option KeyName → List Ending
 replaced by None key = []
 replaced by (Some n) key = ended by key

@@ -13,15 +13,16 @@ use Rattle.audit_keys.specs.HeldUnused.{HoldsUnused}
 abbrev pub BeginsWith : {E : Type 0} → List E → List E → Type 0
 BeginsWith {E} whole part = (more : List E) × (whole ≡ part ++ more)
 
--- each list of `part` is a beginning, of any length, of the same list of `whole`. A beginning of a state's list must
--- not stop after a rekey, or after blocks, if another entry has to follow
+-- each list of `part` is a beginning, of any length, of the list of the same lane or state in `whole`. A beginning of a
+-- state's list must not stop after a rekey, or after blocks, if another entry has to follow
 pub record AreBeginnings (whole part : Lists) : Type 0 where
   pub base : BeginsWith whole.base part.base
   pub cpus : (c : ℕ) → BeginsWith (cpu_list whole c) (cpu_list part c)
   pub states : (caller state : ℕ) → BeginsWith (state_list whole caller state) (state_list part caller state)
   pub ends : (caller state : ℕ) → (state_after caller state (state_list part caller state)).expected ≡ anything
 
--- if `part` has beginnings of a book's lists, no byte of a key or rest that is held after them was used in them
+-- if the lists of `part` are beginnings of a book's lists, no byte of a key or rest that is held after these beginnings
+-- was used in them
 abbrev pub BeginningsHoldUnused : Type 0
 BeginningsHoldUnused = (whole part : Lists) → HalfFinishedBook whole → AreBeginnings whole part → HoldsUnused part
 
@@ -34,8 +35,8 @@ abbrev pub first_calls : {C : Type 0} → (ℕ → ℕ) → ℕ → List (List C
 first_calls made c [] = []
 first_calls made c (calls ∷ callers) = take (made c) calls ∷ first_calls made (suc c) callers
 
--- the book at a moment: the visits of each lane up to a stamp; for each vgetrandom state, the entries of the calls that
--- the state's caller has made
+-- the book at a moment has the visits of each lane up to a stamp. For each vgetrandom state it has the entries of the
+-- calls that the state's caller has made
 abbrev pub book_at : ℕ → (ℕ → ℕ) → Book → List (List CallMeaning) → Book
 book_at stamp made book ms = record {
   pool = visits_to stamp book.pool;

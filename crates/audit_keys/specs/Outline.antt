@@ -7,8 +7,8 @@ use Rattle.audit_keys.specs.declared.outline.Outline.{Outline}
 abbrev pub wiped_outline : Outline
 wiped_outline = record { found = 0; served = 0 }
 
--- `o` is the outline of `s`: the generation of `s` is the one that the vDSO publishes when the core's generation is
--- `o.found`, and `s` has the position `o.served` in its batch
+-- `o` is the outline of `s`: the vDSO publishes the generation of `s` when the core's generation is `o.found`, and `s`
+-- has the position `o.served` in its batch
 pub record IsOutline (o : Outline) (s : VgetrandomState) : Type 0 where
   pub generation : s.generation ≡ published_by o.found
   pub served : s.pos ≡ o.served

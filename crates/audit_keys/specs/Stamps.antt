@@ -11,8 +11,8 @@ use Rattle.key_names.specs.Callers.History.{call_steps, stamps_of}
 abbrev pub latest_of : ℕ → List Step → ℕ
 latest_of stamp steps = fold max stamp (stamps_of steps)
 
--- the stamp when a call is over: this is the stamp of the last visit that the caller has made by then. `before` is the
--- stamp of the last visit before the call
+-- the stamp when a call is over: the stamp of the last visit before the end of the call. `before` is the stamp of the
+-- last visit before the call
 abbrev pub over_at : ℕ → Call → ℕ
 over_at before call = latest_of before (call_steps call)
 

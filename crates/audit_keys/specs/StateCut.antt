@@ -10,8 +10,8 @@ use Rattle.audit_keys.specs.Callers.{lists_left}
 use Rattle.audit_keys.specs.Entries.{entries_in}
 use Rattle.audit_keys.specs.Stamps.{made_by, start_stamp}
 
--- a cut at a stamp keeps an entry if the entry's call was over by the stamp; a cut at call `n` keeps it if the number
--- of its call is at most `n`
+-- a cut at a stamp keeps an entry if the entry's call was over by the stamp; a cut at call `n` keeps an entry if the
+-- number of the entry's call is at most `n`
 abbrev pub is_kept : Cut → StateEntry → Bool
 is_kept (Stamp stamp) e = nat_le e.end.stamp stamp
 is_kept (ByCall n) e = nat_le e.call n
@@ -40,6 +40,6 @@ lists_made cuts starts c [] = []
 lists_made cuts starts c (calls ∷ callers) =
     lists_left (take (calls_by (cuts c) (starts c) calls) calls) ∷ lists_made cuts starts (suc c) callers
 
--- however each caller's lists are cut, the kept entries are those that the caller's first calls leave
+-- for any cuts of the callers' lists, the kept entries are those that the first calls of each caller leave
 abbrev pub AreCut : List (List Call) → List (Vec (Vec StateEntry)) → Type 0
 AreCut callers lists = (cuts : ℕ → Cut) → all_lists_by cuts 0 lists ≡ lists_made cuts (start_stamp callers) 0 callers

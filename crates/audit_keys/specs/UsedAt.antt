@@ -1,5 +1,5 @@
--- The uses by each entry. A use has bytes of a key, the purpose of these bytes (kept as a named key, or served), and
--- the entry.
+-- The uses that each entry makes. A use has bytes of a key, the purpose of these bytes (kept as a named key, or
+-- served), and the entry.
 use Rattle.std.specs.Prelude.{ℕ, ◌+◌, ◌*◌, Bool, true, false, Option, Some, None, List, [], ◌∷◌, nat_lt, if◌then◌else◌}
 use Rattle.key_names.specs.declared.names.LaneId.TheVariants.{Base as BaseLane, Cpu as CpuLane}
 use Rattle.key_names.specs.declared.names.KeyName.{KeyName}
@@ -38,8 +38,8 @@ abbrev pub named_used : Option KeyName → (KeyName → List Used) → List Used
 named_used None used_of = []
 named_used (Some key) used_of = used_of key
 
--- the uses of the bytes that a read takes after the 32 bytes that the erasure keeps. `call` is the name of the next 32
--- bytes if they become a key, and `rekeys` is whether a vgetrandom state takes them as its key
+-- the uses of the bytes that a read takes; these bytes follow the 32 bytes that the erasure keeps. `call` is the name
+-- of the next 32 bytes if they become a key, and `rekeys` is whether a vgetrandom state takes them as its key
 abbrev pub taken_used : Bool → Origin → KeyName → KeyName → Taken → List Used
 taken_used rekeys by key call (User n) =
     if nat_lt 32 n then kept_as by key 32 call ∷ served_by by call 64 n ∷ []

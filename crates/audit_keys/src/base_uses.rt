@@ -11,7 +11,7 @@ use judge_log::{KeptBase, root_of};
 use key_names::{BaseEntry, KeyName, LaneId};
 use std::alloc::{AllocError, Global};
 
-/// The key in use at an entry: the root that the entry names. If the entry names no root, the key before the entry.
+/// The key in use at an entry: the root that the entry names, or the key before the entry if the entry names no root.
 pub fn key_in_use(entry: BaseEntry, key: Option<KeyName>) -> Option<KeyName>
     ensures { result ≡ base_key_in_use entry key }
 {

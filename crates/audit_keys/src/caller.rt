@@ -34,7 +34,7 @@ fn put_after(
 }
 
 /// The sixteen vgetrandom states of a caller: the outline and the list so far of each state, and the number of the
-/// current state. Also has the stamp of the caller's last visit.
+/// current state. The struct also has the stamp of the caller's last visit.
 #[derive(Drop)]
 pub(crate) struct AuditedCaller {
     outlines: Vec<Outline>,

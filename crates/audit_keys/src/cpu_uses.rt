@@ -55,8 +55,8 @@ pub fn key_after(cpu: u32, place: u64, entry: CpuEntry, key: Option<KeyName>) ->
     }
 }
 
-/// The number of the next integer's first byte in a fill's keystream, after `count` integers of this width. In a run
-/// this number fits into 64 bits, since no memory has room for so many integers.
+/// After `count` integers of this width from a fill, the next integer begins at the byte of the key's keystream that
+/// has this number. In a run the number fits into 64 bits, since no memory has room for so many integers.
 ///
 /// # Errors
 ///

@@ -7,8 +7,8 @@ use key_names::VEntry;
 /// The end of a call, and the line that shows it.
 #[derive(Clone, Copy, Debug, PartialEq, Eq)]
 pub struct CallEnd {
-    /// The stamp of the last visit that was made by the end of the call: by the caller, or by an ancestor before the
-    /// caller's start. The stamp is 0 if there was no such visit.
+    /// The stamp of the last visit before the end of the call. The caller made this visit, or an ancestor made it
+    /// before the caller's start. The stamp is 0 if there was no such visit.
     pub stamp: u64,
     /// The number of the line's caller.
     pub caller: u32,

@@ -41,7 +41,7 @@ pub struct HeldKey {
     pub key: KeyName,
 }
 
-/// The rest of a batch, which is held. These bytes of the batch were not served.
+/// A held rest of a batch: the bytes of the batch that were not served.
 #[derive(Clone, Copy, Debug, PartialEq, Eq)]
 pub struct HeldRest {
     pub holder: BatchHolder,

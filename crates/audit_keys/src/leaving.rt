@@ -74,7 +74,8 @@ fn key_read(step: Step) -> Option<KeyRead>
     }
 }
 
-// The key that a system call of 32 bytes reads at the start of these steps, and the steps after the call.
+// If these steps begin with a system call that reads 32 bytes: the key that the call reads, and the steps after the
+// call.
 fn key_in_front(steps: &[Step]) -> Option<(KeyRead, &[Step])>
     ensures { MatchOption result (key_in_front steps.now ≡ None)
         (λ r. key_in_front steps.now ≡ Some (record { key = r.0; rest = r.1.now })) }

@@ -32,10 +32,10 @@
 //!   that are held at any stamp of a run were not used before this stamp. Each vgetrandom state is taken between two
 //!   calls.
 //! - [`lists::state_lists`]: whatever meaning the calls have (`key_names`' `specs/Transcripts/IsTranscript.antt`), the
-//!   lists are those of this meaning. Each entry has the end of its call. A call's stamp is that of the last visit made
-//!   by the end of the call: by its caller, or by an ancestor before the caller's start. A cut at a stamp or a call
-//!   keeps exactly the entries that the first calls leave. For steps that are not those of a call the entries are
-//!   unspecified. [`state_laws`] states this for one `vread` and for one caller's calls.
+//!   lists are those of this meaning. Each entry has the end of its call. A call's stamp is that of the last visit
+//!   before the end of the call. The caller made this visit, or an ancestor made it before the caller's start. A cut at
+//!   a stamp or a call keeps exactly the entries that the first calls leave. If steps are not those of a call, the
+//!   entries are unspecified. [`state_laws`] states this for one `vread` and for one caller's calls.
 //! - [`line_ends::line_ends`]: each line of a caller is listed with its call and the stamp when the call was over.
 //! - [`listed::tell_book`] and [`held_book::hold_book`]: the lives, uses and held keys are listed entry by entry, each
 //!   once. By [`row_laws`] the keys and rests listed as held are exactly the live ones.

@@ -20,8 +20,8 @@ pub struct LineEnd {
     pub event: u32,
     /// The number of the call among the caller's calls, from 0.
     pub call: usize,
-    /// The stamp of the last visit that was made by the end of the call: by the caller, or by an ancestor before the
-    /// caller's start. The stamp is 0 if there was no such visit.
+    /// The stamp of the last visit before the end of the call. The caller made this visit, or an ancestor made it
+    /// before the caller's start. The stamp is 0 if there was no such visit.
     pub stamp: u64,
 }
 

@@ -28,7 +28,7 @@ pub enum Holder {
     Base,
     Cpu(u32),
     State(StateOf),
-    /// A single user's read of more than 32 bytes. The read erases the key at its end.
+    /// One read of more than 32 bytes by a user. The read erases the key at its end.
     Read,
 }
 
@@ -47,7 +47,7 @@ pub struct Ending {
     pub by: Origin,
 }
 
-/// The rest of a batch. An entry gave up these bytes, which were not served.
+/// A rest of a batch, and the entry that gave it up. The bytes of the rest were not served.
 #[derive(Clone, Copy, Debug, PartialEq, Eq)]
 pub struct GivenUp {
     pub span: Span,

@@ -45,7 +45,7 @@ impl InUse {
     }
 }
 
-// Adds the uses of the bytes that a read takes after the 32 bytes that the erasure keeps.
+// Adds the uses of the bytes that a read takes. These bytes follow the 32 bytes that the erasure keeps.
 fn push_taken(
     uses: &mut Vec<Used>,
     used: InUse,

@@ -48,7 +48,7 @@ fn after_vread(stamp: u64, steps: &[Step], acts: &[ActLine<'_>]) -> u64
     after_point(served, acts, Point::End)
 }
 
-/// The stamp of the last visit that was made by the end of a call. `stamp` is that of the last visit before the call.
+/// The stamp of the last visit before the end of a call. `stamp` is the stamp of the last visit before the call.
 pub(crate) fn after_call(stamp: u64, call: &CalledLines<'_>) -> u64
     ensures { result ≡ over_at stamp (seen_call call.now) }
 {

@@ -13,7 +13,7 @@ use std::alloc::{AllocError, Global};
 /// The number of bytes of a block of keystream.
 const BLOCK_BYTES: u64 = 64;
 
-/// The number of bytes of a batch. A refill keeps as the next key the bytes after these.
+/// The number of bytes of a batch. A refill keeps the bytes after the batch as the next key.
 pub const BATCH_BYTES: u64 = 96;
 
 /// A vgetrandom state of a caller.
@@ -35,7 +35,7 @@ pub struct StateKeys {
 }
 
 /// The number, in a key's keystream, of the byte that is `more` bytes after the first byte of `block`. In a run this
-/// number fits into 64 bits, since no run uses a block so far on.
+/// number fits into 64 bits, since no run uses a block with so large a number.
 ///
 /// # Errors
 ///

@@ -17,7 +17,8 @@ pub fn books_hold_unused()
     ensures { BooksHoldUnused }
 {}
 
-/// If a book's lists are cut to beginnings, the keys and rests that are held after these were not used in them.
+/// If a book's lists are cut to beginnings, the keys and rests that are held after these beginnings were not used in
+/// them.
 #[tactic(auto, using(crate::proofs::Beginnings::beginnings_hold_unused))]
 pub fn beginnings_hold_unused()
     ensures { BeginningsHoldUnused }

@@ -1,4 +1,5 @@
--- For callers: each entry changes the base as it changes the state of the base's list.
+-- For callers of the crate: `after_entry` changes the base in the same way as the definitions change the state of the
+-- base's list.
 use Rattle.std.proofs.Common.{◌≡◌, ℕ, Option, Some, None, List, [], ◌∷◌, ◌++◌, refl, ap, sym, ◌∙◌}
 use Rattle.std.specs.Prelude.{if◌then◌else◌}
 use Rattle.std.proofs.lemmas.List.Sums.{fold-append}
@@ -10,7 +11,7 @@ use Rattle.key_names.specs.Lanes.BaseList.{BaseState, root_of, base_erases, base
 use Rattle.key_names.specs.Keys.KeyInUse.{zero_key, root_value_or, base_value_step, base_value_after}
 use Rattle.base_gen.specs.BaseValue.{key_in_use, after_entry, base_at, after_entries}
 
--- `root` is the value of the root that the entry names, if it names one
+-- if the entry names a root, `root` is the value of this root
 abbrev pub HandsRoot : List PoolEntry → BaseEntry → List ℕ → Type 0
 HandsRoot pool e root = (place : ℕ) → root_of e ≡ Some place → root ≡ root_value pool place
 
@@ -20,7 +21,7 @@ pub key_in_use-root : (pool : List PoolEntry) (named : Option ℕ) (root key : L
 key_in_use-root pool None root key is = refl
 key_in_use-root pool (Some place) root key is = is place refl
 
--- an entry changes the base of a state into the base of the state after the entry
+-- if `root` is the root that `e` names, then `e` changes the base of the state `s` into the base of the state after `e`
 pub after_entry-base_at : (pool : List PoolEntry) (s : BaseState) (value root : List ℕ) (e : BaseEntry) →
     HandsRoot pool e root → after_entry e root (base_at s value) ≡
     base_at (base_step s e) (base_value_step pool value e)
@@ -28,7 +29,8 @@ after_entry-base_at pool s value root e is =
     ap (λ (used : List ℕ). base_at (base_step s e) (if base_erases e then keystream used 0 32 else used))
     (key_in_use-root pool (root_of e) root value is)
 
--- one more entry changes the base of a list into the base of the list with this entry
+-- if `root` is the root that `e` names, then `e` changes the base after the entries `es` into the base after `es` and
+-- `e`
 pub after_entry-after_entries : (pool : List PoolEntry) (es : List BaseEntry) (e : BaseEntry) (root : List ℕ) →
     HandsRoot pool e root → after_entry e root (after_entries pool es) ≡ after_entries pool (es ++ e ∷ [])
 after_entry-after_entries pool es e root is =

@@ -49,8 +49,8 @@ after_entry e root b = record {
   running = running_after e b.running;
 }
 
--- a call that installs a root changes the base as the call's entry does. The pool place of the root does not matter, so
--- it is 0
+-- a call that installs a root changes the base like the entry of this call. The place of the root in the pool's list
+-- does not matter, so it is 0 here
 abbrev pub seeded_early : List ℕ → BaseValue → BaseValue
 seeded_early root b = after_entry (EarlyEntry (Some 0)) root b
 

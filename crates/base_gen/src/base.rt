@@ -148,8 +148,8 @@ impl Base {
         now + reseed_interval(&mut self.early_boot, now)
     }
 
-    /// Erases the key (`crng_fast_key_erasure`). Fills `out`, at most 32 bytes, from the rest of the erasure's block,
-    /// and returns the old key with block 1 next.
+    /// Erases the key (`crng_fast_key_erasure`). Fills `out`, which has at most 32 bytes, from the rest of the
+    /// erasure's block. Returns the old key, with block 1 as its next block.
     pub fn draw(&mut self, out: &mut [u8]) -> Detached
         requires { length out.old ≤ 32 }
         ensures state { self.new ≡ erased self.old }
@@ -184,8 +184,9 @@ impl Base {
     }
 }
 
-/// The milliseconds until the next reseed (`crng_reseed_interval`). While the system is young, they are half its age in
-/// whole seconds, and at least one second. From the first reseed at 120 seconds or later on, they are always a minute.
+/// The milliseconds until the next reseed (`crng_reseed_interval`). While the system is young, the interval is half the
+/// system's age, in whole seconds, and at least one second. From the first reseed at 120 seconds or later on, the
+/// interval is always a minute.
 fn reseed_interval(early_boot: &mut bool, now: u64) -> u64
     ensures early_boot { early_boot.new ≡ early_boot_after (Some now) early_boot.old }
     ensures interval { result ≡ interval early_boot.old now }

@@ -1,11 +1,11 @@
-//! The base key, from which each CPU's key comes, with the state that the kernel keeps with it: the phase of the core,
-//! the generation and the reseed timer; and the number of running callers. It is `base_crng` of drivers/char/random.c,
-//! with `crng_reseed`, `crng_reseed_interval`, and the base's part of `crng_make_state`.
+//! The base key, from which each CPU's key is made. Besides the key, the base has the phase of the core, the generation
+//! and the reseed timer, as in the kernel. It also has the number of running callers. The base is `base_crng` of
+//! drivers/char/random.c, with `crng_reseed`, `crng_reseed_interval`, and the base's part of `crng_make_state`.
 //!
-//! Each call changes the base as one entry of its list does: `after_entry e root b` of `specs/BaseValue.antt` is the
-//! base after entry `e` of base `b`, if `root` is the root that `e` names. Only [`Base::fill_empty`] with a
-//! [`Base::draw`] after it is one entry, a draw with a root. The crate uses `chacha_blocks` for erasures and bytes. The
-//! lanes check whether an entry may follow those before it.
+//! Each call changes the base like one entry of the base's list. If `root` is the root that the entry `e` names, the
+//! base `b` after `e` is `after_entry e root b` (`specs/BaseValue.antt`). There is one exception: [`Base::fill_empty`]
+//! and the [`Base::draw`] after it are together one entry, a draw with a root. The crate uses `chacha_blocks` for
+//! erasures and bytes. The lanes check whether an entry may follow those before it.
 //!
 //! # Example
 //!
@@ -24,11 +24,11 @@
 //!
 //! - [`Base::install_early`], [`Base::install`] and [`Base::fire`]: the base after the entry that installs this root.
 //!   The generation, the phase and the timer are those of the definition.
-//! - [`Base::draw`] and [`Base::call_key`]: bytes 0 to 32 of the key's own keystream replace the key. The bytes that go
-//!   out are those from 32 on.
-//! - [`Base::due`]: the timer is set, and due at this moment.
-//! - [`Base::up`] and [`Base::down`]: the count of running callers goes up or down by one, and stays between 0 and 2^32
-//!   - 1.
+//! - [`Base::draw`] and [`Base::call_key`]: bytes 0 to 32 of the key's own keystream replace the key. The bytes that
+//!   are handed out are those from 32 on.
+//! - [`Base::due`]: the result is whether the timer is set, and due at this moment.
+//! - [`Base::up`] and [`Base::down`]: the count of running callers goes up or down by one, and stays between 0 and
+//!   `u32::MAX`.
 //!
 //! # Tested only
 //!

@@ -50,7 +50,7 @@ fn irqs_of<R: Wait>(rt: &R, lanes: &Lanes, pass: &mut Pass, feeds: &Feeds, feede
     }
 }
 
-/// The pool's bits after the same samples, made by the interrupts of one caller, feeder by feeder.
+/// The pool's bits after one caller made the same samples by interrupts, feeder by feeder.
 pub fn irqs<R: Wait>(rt: &R, alloc: Global, each: u32) -> Result<u64> {
     if each == 0 || each > 10_000 {
         bail!("{each} samples of each feeder");

@@ -34,7 +34,7 @@ fn mix(held: &mut Held)
     }
 }
 
-// One visit of CPU 0: takes it, mixes an interrupt into it, and puts it.
+// One visit of CPU 0: takes the CPU, mixes an interrupt into it, and puts it back.
 fn visit<R: Wait>(rt: &R, lanes: &Lanes, pass: &mut Pass, event: u32)
     requires { HoldsLanes lanes.now 0 [] pass.old }
     ensures { HoldsLanes lanes.now 0 [] pass.new }

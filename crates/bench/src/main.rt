@@ -6,16 +6,16 @@
 //! - `bulk` hashes NUMBER samples of 64 bytes, `updated` hashes them one by one, and `mixed` mixes them into an input
 //!   pool.
 //! - `interrupts` mixes NUMBER interrupts into a fast pool.
-//! - `visits` takes a lane and puts it NUMBER times, and `locks` locks a `Mutex`.
+//! - `visits` makes NUMBER visits of a lane, and `locks` locks a `Mutex` NUMBER times.
 //! - `reads` makes NUMBER writes of three bytes, each followed by a read of 4,096 bytes, and `shown` also turns the
 //!   bytes into hexadecimal.
 //! - `bare-LEN`, `fill-LEN`, `kernel-LEN` and `user-LEN` make NUMBER reads of LEN bytes.
-//! - `script` and `transcript` read the text on standard input NUMBER times, and `script_lines` and `transcript_lines`
-//!   go over it with a plain loop.
+//! - `script` and `transcript` read the text on standard input NUMBER times; `script_lines` and `transcript_lines` go
+//!   over this text with a plain loop.
 //! - `runs` reads the script on standard input once and runs it NUMBER times, without the text of a transcript.
 //! - `threads` starts and joins a thread NUMBER times.
-//! - `feeds` hands in NUMBER samples of each of 16 feeders through the queue, each feeder in a thread, and `irqs` makes
-//!   the same interrupts by one caller, without a queue.
+//! - `feeds` hands in NUMBER samples of each of 16 feeders through the queue, each feeder in a thread. `irqs` lets one
+//!   caller make the same interrupts, without a queue.
 //!
 //! # Example
 //!
@@ -33,7 +33,7 @@
 //!
 //! # Tested only
 //!
-//! The result of each loop: the file `stdout`.
+//! The result of each loop, which the file `stdout` contains.
 #![tactic(auto)]
 
 mod callers;
@@ -113,7 +113,7 @@ fn text_result_of(alloc: Global, word: &str, text: &[u8], times: u32) -> Result<
     }))
 }
 
-// Each loop a few times.
+// Runs each loop a few times.
 fn each_loop<R: Threads + Wait + Sync + Print>(rt: &R, alloc: Global) -> Result<()> {
     for (word, size) in [
         ("keystream", SMALL),

@@ -16,7 +16,7 @@ const SAMPLE: [u8; 64] = [0; 64];
 
 const MANY: u32 = 256;
 
-// The last 8 bytes, or fewer, as the digits of a number.
+// The number whose digits in base 256 are the last 8 bytes, or all bytes if there are fewer.
 pub(crate) fn end_of(bytes: &[u8]) -> u64 {
     let last = bytes.len().saturating_sub(8);
     bytes[last..]

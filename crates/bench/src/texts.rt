@@ -1,4 +1,4 @@
-//! Loops that go over a text several times. Each returns the count of its last time.
+//! Loops that go over a text several times. Each loop returns the count that its last round found.
 ghost use Rattle.std.specs.Prelude.{◌<◌, IfSome, length};
 
 use anyhow::{Result, bail};
@@ -7,10 +7,10 @@ use memchr::memchr;
 use std::alloc::Global;
 use transcript_text::Transcript;
 
-/// A script, for the program without words.
+/// A script, for runs of the program without words.
 pub const SCRIPT: &[u8] = b"rngscript 1\ncpus 1\ncaller 0\nwrite 616263\nirq 1 2\nend\n";
 
-/// A transcript, for the program without words.
+/// A transcript, for runs of the program without words.
 pub const TRANSCRIPT: &[u8] =
     b"rngtranscript 1\n0.0 read ok ~0,p:0@1,b:0@2 616263\n0.1 end ok b:1@3 -\nend\n";
 
@@ -52,7 +52,7 @@ pub fn transcript(alloc: Global, text: &[u8], times: u32) -> Result<u64> {
     Ok(count)
 }
 
-/// The lines of a text whose bytes a plain loop decodes.
+/// The kind of the lines from which a plain loop decodes bytes.
 #[derive(Clone, Copy)]
 pub enum Lines {
     /// The lines of writes.

@@ -1,10 +1,10 @@
--- For callers: a new hash under a key matches that key and an empty text (`Conforms`).
+-- For callers: if a hash under a key is new, it matches that key and an empty text (`Conforms`).
 use Rattle.std.proofs.Common.{◌≡◌, ℕ, List, [], ◌++◌, length, replicate, Some, sym, ◌∙◌, arith, length-append}
 use Rattle.std.proofs.lemmas.List.{append-nil}
 use Rattle.key_names.specs.Kernel.Blake2s.{inner_count, start_words}
 use Rattle.blake2s_core.specs.Hash.{Conforms}
 
--- `Conforms` holds for a new hash under a key, with that key and an empty text
+-- `Conforms` holds for a new hash under a key, with this key and an empty text
 pub Conforms_keyed : (key words : List ℕ) (count : ℕ) (rest : List ℕ) → length key ≡ 32 → words ≡ start_words 32
     → count ≡ 0 → rest ≡ key ++ replicate 32 0
     → Conforms (record { words = words; rest = rest; count = count }) (Some key) []

@@ -1,4 +1,4 @@
--- When the last block is hashed, the words are the hash of the whole text.
+-- If the last block is hashed, the words are the hash of the whole text.
 use Rattle.std.proofs.Common.{◌≡◌, ℕ, ◌+◌, ◌-◌, ◌*◌, ◌%◌, ◌^◌, ◌≤◌, List, [], ◌∷◌, ◌++◌, length, take, replicate, true, Option, refl, sym, ap, ◌∙◌, arith, length-drop}
 use Rattle.std.specs.List.{flat_map}
 use Rattle.std.proofs.lemmas.List.{take-replicate}
@@ -17,7 +17,8 @@ padded rest used len fits =
     ∙ sym (take-append-add rest (replicate 64 0) (64 - used))
     ∙ ap (λ (n : ℕ). take n (rest ++ replicate 64 0)) all
 
--- the words after the last block, as bytes, are `blake2s` of the key and the text
+-- if a hash conforms to a key and a text, its words after the last block, as bytes, are `blake2s` of the key and the
+-- text
 pub Conforms-blake2s : (hash : Hash) (key : Option (List ℕ)) (text block words : List ℕ) (used : ℕ)
     → Conforms hash key text → used ≡ length hash.rest → used ≤ 64 → block ≡ hash.rest ++ replicate (64 - used) 0
     → words ≡ compressed hash.words (record { bytes = block; count = (hash.count + used) % 2 ^ 64; is_last = true })

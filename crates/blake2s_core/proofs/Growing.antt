@@ -44,7 +44,7 @@ IsAfter-append words count start bytes more n fits after = record {
   counted = after.counted;
 }
 
--- IsAfter holds for n + 1 blocks after block n is hashed
+-- if `IsAfter` holds for n blocks, and block n is hashed, `IsAfter` holds for n + 1 blocks
 pub IsAfter_more : (words : List ℕ) (count : ℕ) (start bytes block : List ℕ) (n : ℕ)
     → IsAfter words count start bytes n → block ≡ block_bytes bytes n
     → IsAfter (compressed words (record { bytes = block; count = (count + 64) % 2 ^ 64; is_last = false }))
@@ -63,13 +63,13 @@ pub record IsTail (bytes : List ℕ) (n : ℕ) (tail : List ℕ) : Type 0 where
   pub dropped : drop (64 * n) bytes ≡ tail
   pub counted : length bytes ≡ 64 * n + length tail
 
--- the bytes after n blocks, without their first k blocks, are the bytes after n + k blocks
+-- the bytes after n blocks, without the first k blocks of these bytes, are the bytes after n + k blocks
 IsTail-drop : (bytes tail : List ℕ) (n k : ℕ) → IsTail bytes n tail → drop (64 * k) tail ≡ drop (64 * (n + k)) bytes
 IsTail-drop bytes tail n k is_tail =
     let place : 64 * n + 64 * k ≡ 64 * (n + k) = omega arith in
     rw (← is_tail.dropped) (drop-drop (64 * k) (64 * n) bytes ∙ ap (λ (i : ℕ). drop i bytes) place)
 
--- the chunks of 64 bytes in the tail are blocks of the message
+-- the first chunks of 64 bytes in the tail are blocks of the message
 pub chunk_block : (bytes tail : List ℕ) (n inner k : ℕ) (chunks : List (List ℕ)) → IsTail bytes n tail
     → chunks ≡ first_chunks 64 (length tail / 64) tail → k < inner → inner ≤ length tail / 64
     → get_or (take inner chunks) k [] ≡ block_bytes bytes (n + k)

@@ -7,7 +7,7 @@ use borrow.Rule.Slice.PartMut.{put_mid, post_of}
 use Rattle.byteorder.specs.Endian.{IsRead, little_number}
 use Rattle.key_names.specs.Kernel.Blake2s.{u32_at}
 
--- a list of n elements is the list of the elements at places 0 to n
+-- a list of n elements is the list of its elements at places 0 to n - 1
 pub by_places : (v : List ℕ) (n : ℕ) → length v ≡ n → v ≡ map (slice_index v) (range_with_len 0 n)
 by_places v n len = fill_by_all (slice_index v) v n 0 len (λ k below. refl)
 
@@ -16,7 +16,7 @@ little_number-u32_at : (bytes : List ℕ) (k : ℕ) → little_number 4 (drop (4
 unfolding u32_at
 little_number-u32_at bytes k = simp (get_or-drop, add-zero) (omega arith)
 
--- the words that were read from bytes are those at each fourth byte
+-- if words were read from bytes, word k is the one that begins at byte 4 k
 pub read_words : (bytes words : List ℕ) (n : ℕ) → length words ≡ n → IsRead little_number 4 bytes words
     → words ≡ map (u32_at bytes) (range_with_len 0 n)
 read_words bytes words n len read =
@@ -24,7 +24,7 @@ read_words bytes words n len read =
     let inside : k < length words = omega arith in
     read k inside ∙ little_number-u32_at bytes k)
 
--- `ys`, written over a list from place `a` to the list's end, follows the first `a` elements
+-- if `ys` is written over a list from place `a` to the list's end, the first `a` elements remain, and `ys` follows them
 pub put_mid_to_end : (a k : ℕ) (xs ys zs : List ℕ) → length xs ≤ a + k → ys ≡ zs → put_mid a k xs ys ≡ take a xs ++ zs
 put_mid_to_end a k xs ys zs end same =
     let none : post_of a k xs ≡ [] = drop_all k (drop a xs) (omega (arith, length-drop a xs)) in

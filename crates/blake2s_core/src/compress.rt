@@ -26,8 +26,8 @@ fn mix(a: u32, b: u32, c: u32, d: u32, x: u32, y: u32) -> (u32, u32, u32, u32)
     (a, b, c, d)
 }
 
-// One round, with the message words in this round's order: first the columns of the vector as a square, then its
-// diagonals.
+// One round, with the message words in this round's order. The round works first on the columns of the vector, seen as
+// a square, and then on the diagonals.
 #[inline(always)]
 fn round(v: [u32; 16], m: [u32; 16]) -> [u32; 16]
     ensures { result ≡ round v m }

@@ -49,7 +49,7 @@ impl Chain {
         }
     }
 
-    // The words after the last block, whose first `used` bytes are the message's.
+    // The words after the last block. Only the first `used` bytes of this block belong to the message.
     fn hash_last(&self, block: &[u8; 64], used: usize) -> [u32; 8]
         ensures { result ≡ compressed self.now.words
             (record { bytes = block.now; count = (self.now.count + used) % 2 ^ 64; is_last = true }) }

@@ -1,6 +1,6 @@
 //! BLAKE2s-256 (RFC 7693, and `blake2s` of lib/crypto), with a key of 32 bytes or without one, over a text that comes
-//! in pieces. `blake2s key text` of `key_names` defines the hash, as a fold over a list of blocks. The crate uses that
-//! definition, and `byteorder` for words.
+//! in pieces. `blake2s key text` of `key_names` defines the hash, as a fold over a list of blocks. The contracts use
+//! that definition. The code uses `byteorder` to read and write words.
 //!
 //! # Example
 //!
@@ -19,18 +19,19 @@
 //!
 //! # Proved
 //!
-//! - [`Blake2s::update`] and [`Blake2s::finish`]: the result is the hash of the whole text, however it was cut.
-//! - [`hash`]: the same in one call.
-//! - [`Blake2s::update`] has no limit: the count of the bytes is taken modulo 2^64.
+//! - [`Blake2s::update`] and [`Blake2s::finish`]: the result is the hash of the whole text, however the text was cut
+//!   into pieces.
+//! - [`hash`]: the result is the hash of the text, made in one call.
+//! - [`Blake2s::update`]: a text may have any length, since the count of its bytes is taken modulo 2^64.
 //!
 //! # Tested only
 //!
-//! Nothing beyond what is proved. The rows `hash` of `test_vectors` have published hashes and those of Python's
+//! Nothing beyond what is proved. The rows `hash` of `test_vectors` have published hashes, and hashes of Python's
 //! hashlib.
 //!
 //! # Differs from the kernel
 //!
-//! The hash has 32 bytes, and a key has 32 or none. The kernel's functions also take other lengths.
+//! The hash has 32 bytes. A key has 32 bytes, or there is no key. The kernel's functions also take other lengths.
 #![tactic(auto)]
 
 mod compress;

@@ -1,4 +1,4 @@
--- A caller's steps, in the caller's own order, are those of its lines.
+-- A caller's steps, in the caller's own order, are the steps of its lines.
 pub mod CallChains
 pub mod CallLists
 pub mod CallSteps

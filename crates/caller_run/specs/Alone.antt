@@ -40,7 +40,8 @@ abbrev pub CalledOnce : Lanes → Event → Caller → Caller → Reply → List
 CalledOnce t (Vread len flags) c d said served steps = StateRead t len flags c d said served steps [] []
 CalledOnce t event c d said served steps = Called t event c d said served steps
 
--- these lines as if they were kept, with room for the lines of the remaining events and for a last line
+-- a record with `lines`, as if the run had kept them, and with room for the lines of the remaining events and for a
+-- last line
 abbrev pub as_kept : List SeenLine → List Event → Gathered
 as_kept lines rest = record {
   lines = lines;
@@ -63,7 +64,7 @@ pub record GoesAlone (t : Lanes) (served : ℕ) (begun : Start) (events rest : L
 abbrev pub first_start : Pass → Start
 first_start p = record { caller = 0; set = setting_of (first_setting 0); view = view p }
 
--- the script's only caller has made these lines, and goes on with the rest of its events
+-- the script's only caller has made these lines, and goes on with the remaining events `rest`
 pub record IsGoing (script : Script) (rest : List Event) (run : LoneRun) (lines : List SeenLine) : Type 0 where
   pub well : WellFormed script
   pub cpus : run.lanes.cpus ≡ script.cpus
@@ -77,14 +78,15 @@ pub record IsGoing (script : Script) (rest : List Event) (run : LoneRun) (lines 
   pub whole : (view pass).share ≡ 2 ^ (view pass).halvings
   pub goes : GoesAlone run.lanes (vec_len run.served) (first_start pass) events rest run.caller lines
 
--- the caller has made the events `made`: the run goes on in each script of one caller whose events begin with `made`
+-- the caller has made the events `made`. If a well-formed script has `cpus` CPUs, one caller, no act and no fork, and
+-- its events begin with `made`, the run can go on with the events that follow
 abbrev pub HasMade : ℕ → List Event → LoneRun → List SeenLine → Type 0
 HasMade cpus made run lines =
     (script : Script) (rest : List Event) → WellFormed script → IsEmittedByOne script → script.cpus ≡ cpus
     → script.callers ≡ (made ++ rest) ∷ [] → IsGoing script rest run lines
 
--- before its first event, the run can make the events of each script of one caller that has no act and no line with
--- more than `longest` bytes
+-- before its first event, the run can make all events of any one-caller script that has no act and no line with more
+-- than `longest` bytes
 abbrev pub HasRoom : ℕ → ℕ → LoneRun → Type 0
 HasRoom cpus longest run =
     (script : Script) (events : List Event) → WellFormed script → script.cpus ≡ cpus → length script.callers ≡ 1

@@ -51,7 +51,7 @@ pub record Seen (found : ℕ) (s : CallerState) : Type 0 where
 abbrev pub StatesConform : Caller → Type 0
 StatesConform c = Seen (floor (view c.pass)) (conform c)
 
--- from m to n an event was done, with this answer and these data, and the samples of its visits are right
+-- from m to n an event was done, with this answer and these data, and the samples of its visits match their definition
 abbrev pub Does : Setting → Event → Answer → Shown → Moment → Moment → Type 0
 Does set event answer shown m n = MakesIn (Sampled (IsOutcomeOf (setting_of set) event answer shown)) set m n
 
@@ -68,7 +68,7 @@ pub record Asked (event : Event) (said : Reply) (served : List ℕ) (m n : Site)
   pub does : Does m.set event said.answer (shown_by served said.shows) (at m) (at n)
   pub shows : ShowsFit (event_word event) said.shows
 
--- the caller holds no lane, its CPU is one of the table's, and its moment is below 2^40
+-- the caller holds no lane, its CPU is in the table, and its moment is below 2^40
 pub record IsReady (t : Lanes) (c : Caller) : Type 0 where
   pub has : HoldsLanes t c.set.caller [] c.pass
   pub cpu : c.set.cpu < t.cpus

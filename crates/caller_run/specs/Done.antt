@@ -36,12 +36,12 @@ pub record CallMeant (lists : Lists) (s : CallerState) (call : Call) (t : Caller
   pub answers : EachOfCall (λ line m. line.answer ≡ m.answer) call meaning
   pub shown : EachOfCall (λ line m. line.shown ≡ m.shown) call meaning
 
--- the samples of each line of a call are right
+-- the samples of each line of a call match their definition
 abbrev pub CallSamples : (ℕ → ℕ → FastPool) → Lists → Call → Type 0
 CallSamples fast lists call = AllByRecursion (λ line. SamplesConform fast (effects_of lists line.steps)) (lines_in_order call)
 
--- by this call the pass's view went from v to w, and the caller's state from s to t. The call's meaning holds in all
--- final lists that continue the lists that the pass has seen
+-- this call took the pass's view from v to w, and the caller's state from s to t. The call's meaning holds for all
+-- final lists that extend the lists seen by the pass
 pub record CallDoneBy (caller splits : ℕ) (v w : View) (s t : CallerState) (call : Call) : Type 0 where
   pub numbered_steps : List NumberedStep
   pub ran : RanBy caller splits v w numbered_steps
@@ -51,7 +51,7 @@ pub record CallDoneBy (caller splits : ℕ) (v w : View) (s t : CallerState) (ca
   pub samples : (lanes : ℕ) (visits : ℕ → List Visit) (callers : StateLists) → Continues lanes w visits →
       CallSamples (fast_in visits) (book_lists lanes visits callers) call
 
--- as `CallDoneBy`, for a call that forks no caller
+-- `CallDoneBy` for a call that forks no caller
 abbrev pub CallDone : ℕ → View → View → CallerState → CallerState → Call → Type 0
 CallDone caller v w s t call = CallDoneBy caller 0 v w s t call
 
@@ -65,7 +65,7 @@ pub record CallsMeant (lists : Lists) (s : CallerState) (calls : List Call) (t :
   pub answers : EachLine (λ line m. line.answer ≡ m.answer) calls meanings
   pub shown : EachLine (λ line m. line.shown ≡ m.shown) calls meanings
 
--- the invariant of a loop over a caller's calls: by `calls` the view went from v to w, and the pass was split `splits`
+-- the invariant of a loop over a caller's calls: `calls` took the view from v to w, and the pass was split `splits`
 -- times
 pub record CallsDone (caller splits : ℕ) (v w : View) (s t : CallerState) (calls : List Call) : Type 0 where
   pub numbered_steps : List NumberedStep

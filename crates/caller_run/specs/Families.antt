@@ -11,8 +11,8 @@ use Rattle.lane_table.specs.WorldRule.{AllBegin, Begins, at, known_of}
 use Rattle.caller_run.specs.Laws.{Run, HasRun, IsOneOf, marked}
 use Rattle.caller_run.specs.Standing.{Start}
 
--- in each lane, `visits` begins with the visits that the pass itself has seen, and with those that each pass taken in
--- had seen
+-- in each lane, `visits` begins with the visits that the pass has seen, and with the visits that each joined pass had
+-- seen
 pub record Hears (visits : ℕ → List Visit) (v : View) : Type 0 where
   pub known : (lane : ℕ) → lane < length v.lanes → Begins (known_of v lane) (visits lane)
   pub heard : (lane : ℕ) → lane < length v.lanes → AllBegin (at lane v).heard (visits lane)
@@ -29,11 +29,11 @@ pub record Family (script : Script) (starts : List Start) (runs : List Run) : Ty
   pub began : AllByRecursion
       (λ r. IsOneOf r.begun starts ⊎ ((p : Run) × IsOneOf p runs × IsOneOf r.begun p.kids)) runs
 
--- the sum of f over the places of a lane's marks in this caller's lines
+-- for all marks of a lane in this caller's lines, the sum of f over their places
 abbrev pub marked_by : (ℕ → ℕ) → LaneId → Run → ℕ
 marked_by f lane r = marked f lane (r.lines ∷ [])
 
--- a pass had the view v, and has the view w after it took in the passes of these callers
+-- a pass had the view v, and joined the passes of these callers; its view is now w
 pub record Joined (v w : View) (runs : List Run) : Type 0 where
   pub sized : length w.lanes ≡ length v.lanes
   pub hears : (visits : ℕ → List Visit) → Hears visits w →
@@ -54,14 +54,14 @@ pub record SameHalves (v w : View) : Type 0 where
   pub share : w.share ≡ v.share
   pub halvings : w.halvings ≡ v.halvings
 
--- a caller ran from the view x to its end, at which its view was e. It forked callers with these starts. After it took
--- in the passes of these callers and of all their descendants, its view is w
+-- a caller ran from the view x to its end, at which its view was e. It forked callers with these starts. Then it joined
+-- the passes of these callers and of all their descendants, and its view is w
 pub record RanOn (script : Script) (x e w : View) (starts : List Start) (runs : List Run) : Type 0 where
   pub family : Family script starts runs
   pub joined : Joined e w runs
   pub share : SameShare x w
 
--- a caller ran from its start to its end, with all that it forked
+-- a caller ran from its start to its end, with all its descendants
 pub record RanSo (script : Script) (begun : Start) (w : View) (own : Run) (runs : List Run) : Type 0 where
   pub begun_is : own.begun ≡ begun
   pub has : RunsIn script own

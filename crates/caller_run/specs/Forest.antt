@@ -4,7 +4,7 @@ use Rattle.key_names.specs.declared.events.Event.{Event}
 use Rattle.key_names.specs.declared.events.Event.TheVariants.{Fork}
 use Rattle.key_names.specs.Lanes.Book.{list_at}
 
--- a list of callers, each with the tree of those that it forks
+-- a list of callers, each with the tree of its descendants
 pub data Forest : Type 0 where
   no_more : Forest
   more : (caller : ℕ) (kids rest : Forest) → Forest
@@ -23,7 +23,7 @@ abbrev pub numbers : Forest → List ℕ
 numbers no_more = []
 numbers (more c kids rest) = c ∷ (numbers kids ++ numbers rest)
 
--- the tree has these callers, in this order, each with all that it forks
+-- the roots of the tree are these callers, in this order; below each caller are all callers that it forks
 module _ (callers : List (List Event)) where
   abbrev pub AreForked : Forest → List ℕ → Type 0
   AreForked no_more [] = Unit {0}

@@ -19,7 +19,7 @@ pub record Layout : Type 0 where
 abbrev pub plant : Layout → ForkTree → ForkTree
 plant p f = planted p.caller p.buffers p.kids f
 
--- f with each room of the list put in front, one after another
+-- the rooms `f`, after each room of the list was put in front, one after another
 abbrev pub seeded : ForkTree → List Layout → ForkTree
 seeded f [] = f
 seeded f (p ∷ ps) = seeded (plant p f) ps

@@ -26,8 +26,8 @@ pub record Run : Type 0 where
   pub lines : List SeenLine
   pub kids : List Start
 
--- the caller of this number made these events and ended. The base's list that its pass then knows reaches every
--- generation that the pass saw
+-- the caller of this number made these events and ended. At its end, a replay of what its pass has seen of the base's
+-- list gives a generation that is at least each generation that the pass saw
 pub record HasRun (caller : ℕ) (events : List Event) (r : Run) : Type 0 where
   pub own : r.begun.caller ≡ caller
   pub ended : RunEnded r.begun events r.end r.lines r.kids
@@ -37,7 +37,7 @@ abbrev pub IsOneOf : {X : Type 0} → X → List X → Type 0
 IsOneOf x [] = ⊥
 IsOneOf x (y ∷ ys) = (y ≡ x) ⊎ IsOneOf x ys
 
--- caller 0 started with the first setting, and each other caller started at a fork of one of the runs
+-- the run `r` is that of caller 0 and started with the first setting, or it started at a fork that one of `runs` made
 pub record Began (runs : List Run) (r : Run) : Type 0 where
   pub how : ((r.begun.caller ≡ 0) × (r.begun.set ≡ first_setting))
       ⊎ ((p : Run) × IsOneOf p runs × IsOneOf r.begun p.kids)
@@ -46,11 +46,11 @@ pub record Began (runs : List Run) (r : Run) : Type 0 where
 abbrev pub lines_of_all : List Run → List (List SeenLine)
 lines_of_all runs = map (λ r. r.lines) runs
 
--- the sum of f over the places of a lane's marks in these lines
+-- for all marks of a lane in these lines, the sum of f over their places
 abbrev pub marked : (ℕ → ℕ) → LaneId → List (List SeenLine) → ℕ
 marked f lane t = sum_by (λ mark. f mark.place) (lane_marks lane (all_marks t))
 
--- all callers of a script made their calls on a new table; w is the view of the pass that took in all others
+-- all callers of a script made their calls on a new table; w is the view of the pass that joined all others
 pub record RanAll (script : Script) (runs : List Run) (w : View) : Type 0 where
   pub each : EachCaller HasRun 0 script.callers runs
   pub began : AllByRecursion (Began runs) runs

@@ -12,7 +12,7 @@ use Rattle.caller_run.specs.ForkTree.{Layout}
 use Rattle.caller_run.specs.Layouts.{layout}
 use Rattle.caller_run.specs.RunningCallers.{IsNewBuffers, ArePrepared}
 
--- the room of caller c is new: it has new buffers for c and for all that c forks
+-- the room of caller c is new: it has new buffers for c and for all callers that c forks
 pub record IsNewRoom (callers : List (List Event)) (c : ℕ) (a : Layout) : Type 0 where
   pub is : a.caller ≡ c
   pub there : a.caller < length callers

@@ -7,7 +7,7 @@ use Rattle.lane_table.specs.Steps.{Grows}
 use Rattle.lane_table.specs.Advances.{MadeStep, looked, visited, IsMarkOf, maker, places_in, stamps_in, Climbs, Sees, floor}
 use Rattle.caller_run.specs.NumberedSteps.{NumberedStep, made_steps_of}
 
--- if the step is a visit, the view w has it as this caller's visit, made as this step of this event
+-- if the step is a visit, the view w records it as a visit of this caller, made by this step of this event
 abbrev pub Stood : View → ℕ → NumberedStep → Type 0
 Stood w caller d = Standing d.made_step
   where
@@ -15,14 +15,14 @@ Stood w caller d = Standing d.made_step
     Standing (looked g) = ⊤
     Standing (visited mark e) = IsMarkOf w mark (maker caller d.event d.number) e
 
--- the parts of a view that only joins change are the same in v and w, but each split added a halving of the share
+-- v and w agree in the parts of a view that only joins change, except that each split added one halving of the share
 pub record SplitView (splits : ℕ) (v w : View) : Type 0 where
   pub first : w.first ≡ v.first
   pub share : w.share ≡ v.share
   pub halvings : w.halvings ≡ v.halvings + splits
   pub sized : length w.lanes ≡ length v.lanes
 
--- from v to w the pass of this caller made exactly these steps, and was split this often
+-- from v to w the pass of this caller made exactly these steps, and was split `splits` times
 pub record RanBy (caller splits : ℕ) (v w : View) (numbered_steps : List NumberedStep) : Type 0 where
   pub same : SplitView splits v w
   pub grows : Grows v w

@@ -1,4 +1,4 @@
--- The preconditions and results of the run of a caller with all that it forks.
+-- The preconditions and results of the run of a caller with all callers that it forks.
 use Rattle.std.specs.Prelude.{◌≡◌, ℕ, ◌+◌, ◌*◌, ◌<◌, ◌≤◌, ◌^◌, List, [], ◌∷◌, ◌++◌, length, map, sum_by, All, vec_len, vec_capacity}
 use Rattle.std.specs.List.{AllByRecursion}
 use Rattle.std.specs.Global.{Vec as GlobalVec}
@@ -50,7 +50,7 @@ pub record IsNewBuffers (s : Buffers) (events : List Event) : Type 0 where
   pub inside_is : vec_len s.inside ≡ sum_by read_inside events
 
 module _ (callers : List (List Event)) where
-  -- the tree has rooms with new buffers for these callers, in the order of their forks, and for all that they fork
+  -- the tree has rooms with new buffers for these callers, in the order of their forks, and for all their descendants
   abbrev pub ArePrepared : ForkTree → List ℕ → Type 0
   ArePrepared cleared [] = Unit {0}
   ArePrepared cleared (x ∷ xs) = ⊥
@@ -80,7 +80,7 @@ start_of set p = record { caller = set.caller; set = setting_of set; view = view
 abbrev pub CanAdvanceIn : Lanes → RunningCaller → List Event → Type 0
 CanAdvanceIn t w events = CanAdvance t w.caller w.buffers.log (vec_len w.buffers.served) (vec_len w.buffers.inside) events
 
--- a running caller has made all of `events` but the last ones, `rest`
+-- a running caller has made all of `events` except the remaining `rest`
 abbrev pub GoneIn : Start → List Event → List Event → Caller → RunningCaller → List Start → Type 0
 GoneIn begun events rest c w kids = HasLogged begun events rest c w.buffers.log kids
 
@@ -164,7 +164,7 @@ kid_of m child u = record { caller = child; set = (conform m).setting; view = sp
 abbrev pub numbered : Run → ℕ × List SeenLine
 numbered r = (r.begun.caller, r.lines)
 
--- a caller ran from its start to its end, with all that it forked
+-- a caller ran from its start to its end, with all its descendants
 pub record Returned (t : Lanes) (script : Script) (begun : Start) (a : Layout) (q : Pass) (b : Layout) : Type 0 where
   pub has : HoldsLanes t begun.caller [] q
   pub own : Run
@@ -186,20 +186,20 @@ pub record WentFrom (script : Script) (begun : Start) (events : List Event) (kid
   pub seen : floor end ≤ (replay (known_of end 1)).base.generation
   pub recorded : emitted_in (kids_of y) ≡ map numbered runs
 
--- the rooms of the children are as they were, apart from their buffers
+-- the children's rooms form the same tree as before; only their buffers may differ
 pub record SameKids (ks ks' : GlobalVec Room) : Type 0 where
   pub shape : tree (fork_tree_of (map layout ks'.items)) ≡ tree (fork_tree_of (map layout ks.items))
   pub many : vec_len ks' ≡ vec_len ks
   pub space : vec_capacity ks' ≡ vec_capacity ks
 
--- a running caller made these events, ended, and joined all that it forked
+-- a running caller made these events, ended, and joined all callers that it forked
 pub record WentOn (t : Lanes) (script : Script) (rest : List Event) (x y : RunningCaller) : Type 0 where
   pub has : HoldsLanes t y.caller.set.caller [] y.caller.pass
   pub same : SameKids x.kids y.kids
   pub goes : (begun : Start) (events : List Event) (kids : List Start) → AreAbove begun.caller rest →
       GoneIn begun events rest x.caller x kids → WentFrom script begun events kids (view x.caller.pass) y
 
--- as `WentFrom`, from a fork on; u is the view after the fork's visit
+-- after a fork, `WentFrom` holds for the remaining part of the run; u is the view after the fork's visit
 pub record Past (script : Script) (begun : Start) (events : List Event) (kids : List Start) (u : View) (kid : Start)
     (y : RunningCaller) : Type 0 where
   pub following : View

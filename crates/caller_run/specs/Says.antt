@@ -23,7 +23,7 @@ IsNoCount Nothing = ⊤
 IsNoCount Served = ⊤
 IsNoCount (Count n) = ⊥
 
--- the most bytes that the line of an event can show: as many as the event reads, or as its integer has
+-- the most bytes that the line of an event can show: the number of bytes that the event reads, or that its integer has
 abbrev pub most_shown : Event → ℕ
 most_shown Int8 = 1
 most_shown Int16 = 2

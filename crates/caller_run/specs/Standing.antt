@@ -60,7 +60,7 @@ pub record CanAdvance (t : Lanes) (c : Caller) (log : Log) (served inside : ℕ)
   pub goes : CanAdvanceWith t c log.lines log.acts.items served inside rest
   pub act_room : 8 ≤ vec_capacity log.acts
 
--- the line of an act that waits
+-- the line of a waiting act
 pub record HasLine (caller : ℕ) (lines : List SeenLine) (a : Ask) : Type 0 where
   pub line : SeenLine
   pub there : slice_get lines a.event ≡ Some line
@@ -79,7 +79,7 @@ pub record Forked (begun : Start) (w : View) (calls : List Call) (child : Start)
   pub after : List Call
   pub calls_are : calls ≡ before ++ alone (Fork child.caller) line ∷ after
   pub above : begun.caller < child.caller
-  -- the steps of the caller's pass up to the fork's visit, which is included, and its view after them
+  -- the steps of the caller's pass up to and including the fork's visit, and the pass's view after these steps
   pub splits : ℕ
   pub middle : View
   pub numbered_steps : List NumberedStep
@@ -90,7 +90,7 @@ pub record Forked (begun : Start) (w : View) (calls : List Call) (child : Start)
   pub view_is : child.view ≡ split_off middle
   pub set_is : child.set ≡ fold setting_after_call begun.set before
 
--- since its start a caller has made all of `events` but the last ones, `rest`, and has these lines. Acts with the
+-- since its start a caller has made all of `events` except the remaining `rest`, and has these lines. Acts with the
 -- requests `asks` wait. `kids` are the starts of the callers that it forked
 pub record HasAdvanced (begun : Start) (events rest : List Event) (c : Caller) (lines : List SeenLine) (asks : List Ask)
     (kids : List Start) : Type 0 where
@@ -106,7 +106,7 @@ pub record HasAdvanced (begun : Start) (events rest : List Event) (c : Caller) (
       → LinesFit begun.caller 0 events (lines ++ more)
   pub idle : AllByRecursion (HasLine begun.caller lines) asks
 
--- as `HasAdvanced`, with the lines and the acts of a log
+-- `HasAdvanced` with the lines and the acts of a log
 abbrev pub HasLogged : Start → List Event → List Event → Caller → Log → List Start → Type 0
 HasLogged begun events rest c log kids = HasAdvanced begun events rest c log.lines.lines (waiting_in log) kids
 
@@ -118,7 +118,7 @@ pub record MadeEvent (t : Lanes) (served inside : ℕ) (event : Event) (c : Call
   pub gone : (begun : Start) (events rest : List Event) (kids : List Start) →
       HasLogged begun events (event ∷ rest) c log kids → HasLogged begun events rest d after kids
 
--- the caller has made all of its events, and ended; w is its pass's view then
+-- the caller has made all of its events, and ended; at the end its pass has the view w
 pub record RunEnded (begun : Start) (events : List Event) (w : View) (lines : List SeenLine) (kids : List Start)
     : Type 0 where
   pub fit : LinesFit begun.caller 0 events lines

@@ -11,7 +11,7 @@ use Rattle.caller_run.specs.declared.making.caller.Caller.{Caller}
 use Rattle.caller_run.specs.declared.output.reply.Reply.{Reply}
 use Rattle.caller_run.specs.declared.making.vreads.ReadInto.{ReadInto}
 
--- a caller can read: its acts are not done yet, and there is room for the bytes of each
+-- a caller can read: its acts are not done yet, and there is room for the bytes of each act
 pub record CanRead (t : Lanes) (c : Caller) (acts : List Bound) (into : ReadInto) : Type 0 where
   pub ready : IsReady t c
   pub states : StatesConform c
@@ -19,8 +19,8 @@ pub record CanRead (t : Lanes) (c : Caller) (acts : List Bound) (into : ReadInto
   pub fresh : AllByRecursion IsWaitingAct acts
   pub fits : length into.inside.now ≡ all_wanted (asks_of acts)
 
--- from `c` to `d`, the caller read out of its current state with these steps. The acts inside were `acts` before the
--- read, and are `after` after it
+-- from `c` to `d`, the caller read out of its current state with these steps. `acts` are the acts inside before the
+-- read, and `after` are the same acts after the read
 pub record CurrentRead (t : Lanes) (c d : Caller) (said : Reply) (steps : List Step) (acts after : List Bound)
     (into done : ReadInto) : Type 0 where
   pub served : done.served.ghost_name ≡ into.served.ghost_name

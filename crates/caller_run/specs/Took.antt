@@ -17,7 +17,7 @@ use Rattle.caller_run.specs.NumberedSteps.{NumberedStep, items_of}
 use Rattle.caller_run.specs.Items.{items_from}
 use Rattle.caller_run.specs.Ran.{RanBy}
 
--- from m to n the caller took these steps of one line, and its pass was split this often
+-- from m to n the caller took these steps of one line, and its pass was split `splits` times
 pub record Tells (set : Setting) (splits : ℕ) (m n : Moment) (steps : List Step) : Type 0 where
   pub trace : n.steps ≡ m.steps ++ steps
   pub numbered_steps : List NumberedStep

@@ -37,8 +37,8 @@ IsAlone (Vread len flags) = ⊥
 IsAlone (Inside point act) = ⊥
 IsAlone _ = ⊤
 
--- the invariant of a loop over the events; `rest` has the events still to come. Whatever lines replace those of the
--- waiting acts, and whatever lines follow, the calls made so far are `calls`
+-- the invariant of a loop over the events; `rest` has the events still to come. The calls made so far are `calls`,
+-- whatever lines replace the lines of the waiting acts, and whatever lines follow
 pub record CallsSoFar (events rest : List Event) (lines : List SeenLine) (waiting : List Ask)
     (calls : List Call) : Type 0 where
   pub recorded : AllByRecursion (λ a. a.event < length lines) waiting

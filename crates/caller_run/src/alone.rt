@@ -22,7 +22,7 @@ use std::alloc::{AllocError, Global};
 use std::sync::Wait;
 use transcript_text::LineView;
 
-// The largest number of bytes that an event may read, and so the largest that a line may show.
+// The most bytes that one event may read. A line shows no more bytes than this.
 const MOST_SHOWN: u32 = 1 << 20;
 
 /// The run of a script's only caller, on a table of its own. The caller makes each event that it is handed. The event's
@@ -81,8 +81,9 @@ impl LoneRun {
         })
     }
 
-    /// The run of a whole script on a new table. `None` exactly if the script has several callers, or has acts inside
-    /// vgetrandom calls: the line of such an act is made twice. All memory is taken here.
+    /// The run of a whole script on a new table, before its first event. Returns `None` if and only if the script has
+    /// several callers or an act inside a vgetrandom call; the line of such an act is made twice. This function takes
+    /// all memory of the run.
     ///
     /// # Errors
     ///
@@ -102,8 +103,8 @@ impl LoneRun {
         Ok(Some(LoneRun::with_room(alloc, script.cpus(), longest)?))
     }
 
-    /// The run of a script that is still being written, on a new table with `cpus` CPUs. All memory is taken here, with
-    /// room for the longest line that any event has.
+    /// The run of a script that is still being written, on a new table with `cpus` CPUs. This function takes all memory
+    /// of the run, with room for the longest line that an event can have.
     ///
     /// # Errors
     ///

@@ -1,13 +1,14 @@
 //! The run of a script: its callers make their events over the lanes of one table, and leave a transcript.
 //!
-//! [`run_all`] runs caller 0 from its start to its end, in a thread. A child that it forks runs in a further thread, or
-//! in its parent's if no thread can be made ([`run_here`]), and can fork children in turn. A parent joins its children
-//! after its own last visit. All memory of a run is taken first, as a [`Plan`]. Only threads come later; their stacks
-//! have the size that their callers' forks need. The only caller of a script can also be handed its events one by one
-//! ([`LoneRun`]); then no line is kept.
+//! [`run_all`] runs caller 0 from its start to its end, in a thread. A child that it forks runs in a thread of its own,
+//! or in its parent's thread if no thread can be made ([`run_here`]). A child can fork children in turn. A parent joins
+//! its children after its own last visit. All memory of a run is taken first, as a [`Plan`]. Only threads take memory
+//! later; a thread's stack has the size that the caller and the callers that it forks need. The only caller of a script
+//! can also be handed its events one by one ([`LoneRun`]); then no line is kept.
 //!
 //! The clauses of `rng_core` describe each call and its steps. Those of `lane_table` describe a pass's view of the
-//! lanes, and how passes are split off, lent and joined. This crate uses clauses alone: no code here looks into a lane.
+//! lanes, and how passes are split off, lent and joined. This crate uses only these clauses: no code here looks into a
+//! lane.
 //!
 //! # Example
 //!
@@ -37,12 +38,12 @@
 //! - [`LoneRun::end`]: the lines that were made are a lawful transcript.
 //! - [`laws::callers_are_lawful`]: the calls of all callers of a script make a lawful transcript.
 //!
-//! This holds of each run that ends. Not promised: that a run ends, and that two callers ever run at once.
+//! These claims hold for each run that ends. Not promised: that a run ends, and that two callers ever run at once.
 //!
 //! # Tested only
 //!
-//! A child that [`run_here`] runs makes its visits between the two of its parent: `run_tests` of `test_core`. Two
-//! callers are inside their reads at once: the tests of `rng_tool`.
+//! A child that [`run_here`] runs makes its visits between the two visits by which its parent stops running and goes
+//! on: `run_tests` of `test_core`. Two callers are inside their reads at once: the tests of `rng_tool`.
 #![tactic(auto)]
 
 mod alone;

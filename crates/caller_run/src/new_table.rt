@@ -20,7 +20,7 @@ use transcript_text::Transcript;
 ///
 /// # Errors
 ///
-/// `AllocError` if there is no memory for the plan, the table, or the first caller's stack. No caller ran then.
+/// `AllocError` if there is no memory for the plan, the table, or the first caller's stack. In this case no caller ran.
 pub fn run_on_new_table<R: Threads + Wait + Sync, G: Gate>(
     rt: &R,
     alloc: Global,
@@ -33,11 +33,12 @@ pub fn run_on_new_table<R: Threads + Wait + Sync, G: Gate>(
     run_new(rt, alloc, script, gate, Children::InThreads)
 }
 
-/// The bytes that starting a thread takes besides its stack, and those by which the stack may be rounded up.
+/// How many bytes the start of a thread may take beyond the requested stack: for the thread itself, and for rounding
+/// the stack up.
 const THREAD_BYTES: usize = 256 * 1024;
 
 // Fails if there is no memory for the first caller's stack (tested). A stack that cannot grow ends the program by a
-// signal, so this test comes after all other memory was taken, and before the first caller starts in a thread or here.
+// signal. So this test comes after all other memory was taken, and before the first caller starts in a thread or here.
 fn need_stack(alloc: Global, script: &Script) -> Result<(), AllocError> {
     let bytes = stack_for(script, 0).saturating_add(THREAD_BYTES);
     let _stack: Vec<u8> = Vec::with_capacity(alloc, bytes)?;

@@ -26,7 +26,8 @@ use std::thread;
 use std::thread::Threads;
 use transcript_text::Transcript;
 
-/// Runs a caller from its start to its end, and joins all that it forks. Only threads take memory.
+/// Runs a caller from its start to its end, and joins all callers that it forks. Only the start of a thread takes
+/// memory.
 ///
 /// The caller starts with the CPU, the moment and the hardware words of `set`, at event 0 and with wiped vgetrandom
 /// states. It fills the room. A child gets a thread if children run in threads, and runs here if no thread can be made.
@@ -50,7 +51,7 @@ pub fn run_caller<R: Threads + Wait + Sync, G: Gate>(
     run_family(shared, pass, Setting { event: 0, ..set }, room)
 }
 
-// Runs a caller and all that it forks.
+// Runs a caller and all callers that it forks.
 #[cycle(callers)]
 fn run_family<R: Threads + Wait + Sync, G: Gate>(
     shared: &Shared<'_, R, G>,
@@ -74,8 +75,8 @@ fn run_family<R: Threads + Wait + Sync, G: Gate>(
     (at.pass, Room::with(caller, buffers, kids, at.states))
 }
 
-// Runs a caller on to its end, and every caller that it forks. It is one function because forks nest: if it were split,
-// each part would hold another `RunningCaller` on the stack.
+// Runs a caller on to its end, with every caller that it forks. This is one function because forks nest: if it were
+// split, each part would hold another `RunningCaller` on the stack.
 #[cycle(callers)]
 fn run_from<R: Threads + Wait + Sync, G: Gate>(
     shared: &Shared<'_, R, G>,
@@ -167,9 +168,9 @@ fn run_from<R: Threads + Wait + Sync, G: Gate>(
     running
 }
 
-// Runs a script's first caller, and all that it forks, in a further thread. The stack of that thread has the size that
-// the callers need, whatever the stack of the program's first thread is. It is taken before any caller starts. If no
-// thread can be made, the callers run here.
+// Runs a script's first caller, and all callers that it forks, in a further thread. The stack of that thread has the
+// size that the callers need, whatever the stack of the program's first thread is. The stack is taken before any caller
+// starts. If no thread can be made, the callers run here.
 fn run_first<R: Threads + Wait + Sync, G: Gate>(
     shared: &Shared<'_, R, G>,
     pass: Pass,
@@ -223,7 +224,8 @@ fn run_first<R: Threads + Wait + Sync, G: Gate>(
     )
 }
 
-/// Runs all callers of a script, and gathers their lines. Only threads take memory beyond the plan's.
+/// Runs all callers of a script, and gathers their lines. Beyond the memory of the plan, only the start of a thread
+/// takes memory.
 ///
 /// The pass is caller 0's, and may have any share of the table. If it is the only pass of a new table, the lines are a
 /// lawful transcript of the script, however the callers' calls interleave.

@@ -11,14 +11,14 @@ row_is =
     four_lanes (λ xs. xs ≡ slice_index xs 0 ∷ slice_index xs 1 ∷ slice_index xs 2 ∷ slice_index xs 3 ∷ [])
     (λ a b c d. refl)
 
--- the eight steps of the quarter round, made one after another, give the quarter round
+-- if the eight steps of the quarter round are made one after another, they give the quarter round
 pub quarter_round_is : (a b c d a1 d1 c1 b1 a2 d2 c2 b2 : ℕ) → a1 ≡ add32 a b → d1 ≡ xor_rotate d a1 16
     → c1 ≡ add32 c d1 → b1 ≡ xor_rotate b c1 12 → a2 ≡ add32 a1 b1 → d2 ≡ xor_rotate d1 a2 8
     → c2 ≡ add32 c1 d2 → b2 ≡ xor_rotate b1 c2 7 → (a2, b2, c2, d2) ≡ quarter_round a b c d
 unfolding quarter_round
 quarter_round_is a b c d a1 d1 c1 b1 a2 d2 c2 b2 s1 s2 s3 s4 s5 s6 s7 s8 = rw (s8, s7, s6, s5, s4, s3, s2, s1) refl
 
--- a column round is the quarter round on each column
+-- if the quarter round is made on each column, the result is the column round
 pub column_round_is : (x y : List (List ℕ))
     → ((j : ℕ) → j < 4 → (word y 0 j, word y 1 j, word y 2 j, word y 3 j)
     ≡ quarter_round (word x 0 j) (word x 1 j) (word x 2 j) (word x 3 j))

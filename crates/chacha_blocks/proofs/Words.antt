@@ -15,7 +15,7 @@ use Rattle.key_names.proofs.Standards.Keystreams.{keystream-add, take-keystream}
 use Rattle.chacha_blocks.specs.Place.{generator_at}
 use Rattle.chacha_blocks.specs.Rows.{state_of}
 
--- the byte at position 4 w + i of the keystream is byte i of word w
+-- byte 4 w + i of the keystream is byte i of word w
 keystream_byte-in_word : (key : List ℕ) (w i q : ℕ) → i < 4 → q ≡ 4 * w + i → keystream_byte key q ≡
     slice_index (to_le_bytes w32 (word_at 10 (key_of key) 0 w)) i
 unfolding keystream_byte
@@ -23,7 +23,7 @@ keystream_byte-in_word key w i q below at =
     let word : q / 4 ≡ w = omega arith in let byte : q % 4 ≡ i = omega arith in
     rw (word, byte) refl
 
--- the four bytes of keystream from 4 w on are word w
+-- the four bytes of keystream from byte 4 w on are word w
 keystream-word : (key : List ℕ) (w : ℕ) → keystream key (4 * w) 4 ≡ to_le_bytes w32 (word_at 10 (key_of key) 0 w)
 keystream-word key w =
     let at = keystream_byte-in_word key w in
@@ -34,7 +34,7 @@ keystream-word key w =
       at 3 (4 * w + 1 + 1 + 1) (omega arith) (omega arith),
     ) refl
 
--- the 4 k bytes of keystream from 4 w on are the k words from w on
+-- the 4 k bytes of keystream from byte 4 w on are the k words from word w on
 keystream-words : (key : List ℕ) (w k : ℕ)
     → keystream key (4 * w) (4 * k) ≡ flat_map (to_le_bytes w32) (map (word_at 10 (key_of key) 0) (range_with_len w k))
 keystream-words key w zero = refl
@@ -60,7 +60,7 @@ words_of_block key words number len each =
     here ∙ sym (get_or-map-range_with_len word (16 * number) 16 k (16 * number + k) 0 within refl)) in
     rw (same, first) (sym (keystream-words key (16 * number) 16))
 
--- the rows after ten double rounds, added to the rows before the rounds, are a block of keystream
+-- if the rows after ten double rounds are added to the rows before the rounds, the sums are a block of keystream
 pub block_bytes : (key : List ℕ) (rows start : List (List ℕ)) (number : ℕ) (words : List ℕ)
     → words ≡ zip2 add32 (state_of rows) (state_of start) → state_of start ≡ initial_state (key_of key) number 0
     → state_of rows ≡ double_rounds 10 (state_of start)

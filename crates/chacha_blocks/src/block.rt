@@ -161,8 +161,8 @@ pub(crate) fn block(key: &[u8; 32], number: u64) -> [u8; BLOCK_BYTES]
     bytes
 }
 
-/// Block `number` and the one after it. Neither depends on the other, so a processor makes both in
-/// little more time than one.
+/// Block `number` and the next block. Neither depends on the other, so a processor makes both in little more time than
+/// one.
 pub(crate) fn two_blocks(key: &[u8; 32], number: u64) -> [u8; 2 * BLOCK_BYTES]
     requires { number + 1 < 2 ^ 64 }
     ensures { result ≡ keystream key.now (64 * number) 128 }

@@ -9,7 +9,8 @@ use crate::stream::fill_from_block;
 
 const KEY_BYTES: usize = 32;
 
-/// The number of bytes left after the new key: in the block of an erasure, and in that block and the next together.
+/// How many bytes follow the new key: in the erasure's block alone, and in the erasure's block and the next block
+/// together.
 pub(crate) const REST_OF_BLOCK: usize = BLOCK_BYTES - KEY_BYTES;
 
 const REST_OF_PAIR: usize = 2 * BLOCK_BYTES - KEY_BYTES;
@@ -45,8 +46,8 @@ impl Detached {
     }
 }
 
-/// Replaces the key by bytes 0 to 32 of its own keystream, and fills `out`, at most 32 bytes, with the bytes from 32
-/// on. Returns the replaced key, with block 1 next. This is the kernel's `crng_fast_key_erasure`.
+/// Replaces the key by bytes 0 to 32 of its own keystream, and fills `out` with the bytes from 32 on. `out` has at most
+/// 32 bytes. Returns the replaced key, with block 1 next. This is the kernel's `crng_fast_key_erasure`.
 pub fn erase(key: &mut [u8; 32], out: &mut [u8]) -> Detached
     requires { length out.old ≤ 32 }
     ensures erased { key.new ≡ keystream key.old 0 32 }
@@ -61,8 +62,8 @@ pub fn erase(key: &mut [u8; 32], out: &mut [u8]) -> Detached
     Detached::of(old, 1)
 }
 
-/// Replaces the key by bytes 0 to 32 of its own keystream, and fills `buf`, of fewer than 2^40 - 32 bytes, with the
-/// bytes from 32 on. This is a whole kernel read (`_get_random_bytes`): [`erase`] makes the first 32 bytes, and
+/// Replaces the key by bytes 0 to 32 of its own keystream, and fills `buf` with the bytes from 32 on. `buf` has fewer
+/// than 2^40 - 32 bytes. This is a whole kernel read (`_get_random_bytes`): [`erase`] makes the first 32 bytes, and
 /// [`Detached::more`] the rest. If `buf` is empty, the key is still erased, unlike in the kernel's function.
 pub fn erase_and_fill(key: &mut [u8; 32], buf: &mut [u8])
     requires { 32 + length buf.old < 2 ^ 40 }
@@ -81,8 +82,8 @@ pub fn erase_and_fill(key: &mut [u8; 32], buf: &mut [u8])
     }
 }
 
-/// Replaces the key by bytes 0 to 32 of its own keystream, and returns bytes 32 to 64 as another key: that of a CPU, if
-/// the key is the base key, or that of one user's read of more than 32 bytes.
+/// Replaces the key by bytes 0 to 32 of its own keystream, and returns bytes 32 to 64 as another key. This other key is
+/// that of a CPU, if `key` is the base key, or that of one user's read of more than 32 bytes.
 pub fn derive_key(key: &mut [u8; 32]) -> [u8; 32]
     ensures erased { key.new ≡ keystream key.old 0 32 }
     ensures derived { result ≡ keystream key.old 32 32 }

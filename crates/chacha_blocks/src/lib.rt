@@ -1,9 +1,10 @@
 //! The ChaCha20 keystream by byte position, and fast key erasure: `chacha20_block` of lib/crypto and
 //! `crng_fast_key_erasure`, `_get_random_bytes` and `get_random_bytes_user` of drivers/char/random.c.
 //!
-//! The cipher is that of RFC 8439 with nonce zero and a block counter of 64 bits: 2^64 blocks of 64 bytes for each key,
-//! block `b` at bytes `64 * b` on. Contracts name the bytes by `keystream key from len` of `key_names`, which carries
-//! no state. The crate makes one or two blocks itself, and uses `rand_chacha` for whole runs of four.
+//! The cipher is that of RFC 8439 with nonce zero and a block counter of 64 bits. Each key has 2^64 blocks of 64 bytes,
+//! and block `b` begins at byte `64 * b`. Contracts give the bytes by the function `keystream key from len` of
+//! `key_names`, which carries no state. The crate makes one or two blocks itself, and uses `rand_chacha` for whole runs
+//! of four blocks.
 //!
 //! # Example
 //!
@@ -23,18 +24,19 @@
 //!
 //! - [`fill`]: the buffer has the bytes of the key's stream from the position on.
 //! - [`erase`], [`erase_and_fill`] and [`derive_key`]: bytes 0 to 32 of the key's own stream replace the key. The bytes
-//!   that go out are those from 32 on.
-//! - [`Detached::more`]: the bytes of the key's stream from the start of the next block.
+//!   handed out are those of the same stream from byte 32 on.
+//! - [`Detached::more`]: the buffer has the bytes of the key's stream from the start of the next block.
 //! - [`user_read`]: the bytes are those of a user's read with this key.
 //!
 //! # Tested only
 //!
-//! Nothing beyond what is proved. The rows `stream`, `kernel` and `user` of `test_vectors` have published bytes and
-//! those of another implementation.
+//! Nothing beyond what is proved. The rows `stream`, `kernel` and `user` of `test_vectors` have published bytes, and
+//! bytes of another implementation.
 //!
 //! # Differs from the kernel
 //!
-//! [`erase_and_fill`] and [`user_read`] erase the key even for no bytes. The kernel's functions then do nothing.
+//! [`erase_and_fill`] and [`user_read`] erase the key even if the buffer is empty. The kernel's functions do nothing in
+//! this case.
 #![tactic(auto)]
 
 mod block;

@@ -9,9 +9,9 @@ use crate::erasure::{REST_OF_BLOCK, derive_key, erase};
 use crate::stream::fill_from_block;
 
 /// Erases `key` and fills `buf` for a user, like the kernel's `get_random_bytes_user`. Up to 32 bytes come from the
-/// rest of the erasure's block. For more, that rest is the key of this read alone, and the bytes are its keystream from
-/// block 1 on. `buf` has fewer than 2^40 - 1 bytes. If it is empty, the key is still erased, unlike in the kernel's
-/// function.
+/// rest of the erasure's block. For more bytes, the 32 bytes of that rest become a key for this read alone, and `buf`
+/// gets this key's keystream from block 1 on. `buf` has fewer than 2^40 - 1 bytes. If `buf` is empty, `key` is still
+/// erased, unlike in the kernel's function.
 ///
 /// This function is for a caller with one key and no lanes. The core makes the same read in two parts: one while it
 /// holds a lane, and one after that.

@@ -8,7 +8,7 @@ use crate::reader::KeystreamReader;
 
 const BLOCK_WORDS: u64 = 16;
 
-/// The number of bytes in two blocks, and in the four that a [`KeystreamReader`] makes at a time.
+/// The number of bytes in two blocks, and in the four blocks that a [`KeystreamReader`] makes at a time.
 const PAIR_BYTES: usize = 2 * BLOCK_BYTES;
 
 const RUN_BYTES: usize = 4 * BLOCK_BYTES;
@@ -38,7 +38,7 @@ fn fill_in_block(key: &[u8; 32], from: u64, buf: &mut [u8])
 }
 
 /// Fills `buf` with the keystream of `key` from the start of block `first` on. A reader makes each full run of four
-/// blocks. Pairs of blocks make the rest, since a reader always computes four.
+/// blocks. The remaining blocks are made in pairs, since a reader always computes four.
 pub(crate) fn fill_from_block(key: &[u8; 32], first: u64, buf: &mut [u8])
     requires { first + length buf.old < 2 ^ 40 }
     ensures { buf.new ≡ keystream key.now (64 * first) (length buf.old) }

@@ -1,4 +1,5 @@
--- For callers: each entry changes a CPU's generator as it changes the state of the CPU's list.
+-- For callers of the crate: `after_entry` changes a CPU's generator in the same way as the definitions change the state
+-- of the CPU's list.
 use Rattle.std.proofs.Common.{◌≡◌, ℕ, true, false, Option, Some, None, List, refl, ap}
 use Rattle.key_names.specs.declared.entries.CpuEntry.{CpuEntry}
 use Rattle.key_names.specs.declared.entries.CpuEntry.TheVariants.{Read, Int, Irq, Dump, Prepare, Online}
@@ -12,7 +13,7 @@ use Rattle.cpu_gen.specs.CpuValue.{CpuValue, erased, refilled, after_entry, cpu_
 abbrev pub handed_at : Lists → ℕ → CpuValue
 handed_at lists b = record { key = base_call_value lists b; generation = generation_at lists.base b }
 
--- `handed` is what the base hands over in the refill that the entry names, if it names one
+-- if the entry names a refill, `handed` is the key and the generation that the base hands over in this refill
 abbrev pub HandsRefill : Lists → CpuEntry → CpuValue → Type 0
 HandsRefill lists e handed = (place : ℕ) → base_refill_of e ≡ Some place → handed ≡ handed_at lists place
 
@@ -25,7 +26,8 @@ pub refilled-handed_at : (lists : Lists) (refill : Option ℕ) (handed : CpuValu
 refilled-handed_at lists None handed g value is = refl
 refilled-handed_at lists (Some place) handed g value is = is place refl
 
--- an entry changes the generator of a state into the generator of the state after the entry
+-- if `handed` is the key and the generation that the refill of `e` hands over, then `e` changes the generator of the
+-- state `s` into the generator of the state after `e`
 pub after_entry-cpu_at : (lists : Lists) (c : ℕ) (s : CpuState) (value : List ℕ) (e : CpuEntry) (handed : CpuValue) →
     HandsRefill lists e handed → after_entry e handed (cpu_at s value) ≡ cpu_at (cpu_step lists.base c s e)
     (cpu_value_step lists value e)

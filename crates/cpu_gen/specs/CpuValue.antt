@@ -24,7 +24,8 @@ erased c = record c { key = keystream c.key 0 32 }
 abbrev pub prepared : CpuValue → CpuValue
 prepared c = record c { generation = 0 }
 
--- the generator after the named refill: the key and generation that the base handed over, or no change without a refill
+-- the generator after the named refill: the key and generation that the base handed over, or no change if the entry
+-- names none
 abbrev pub refilled : Option ℕ → CpuValue → CpuValue → CpuValue
 refilled None handed c = c
 refilled (Some place) handed c = handed

@@ -72,8 +72,8 @@ impl Cpu {
         derive_key(&mut self.key)
     }
 
-    /// Erases the key (`crng_fast_key_erasure`). Fills `out`, at most 32 bytes, from the rest of the erasure's block,
-    /// and returns the old key with block 1 next.
+    /// Erases the key (`crng_fast_key_erasure`). Fills `out`, which has at most 32 bytes, from the rest of the
+    /// erasure's block. Returns the old key, with block 1 as its next block.
     pub fn front(&mut self, out: &mut [u8]) -> Detached
         requires { length out.old ≤ 32 }
         ensures state { self.new ≡ erased self.old }

@@ -22,8 +22,8 @@
 //!
 //! - [`Cpu::refill`]: the CPU has the key and the generation that it was given. [`Cpu::prepare`]: it has generation 0,
 //!   and its key stays.
-//! - [`Cpu::front`] and [`Cpu::call_key`]: bytes 0 to 32 of the key's own keystream replace the key. The bytes that go
-//!   out are those from 32 on.
+//! - [`Cpu::front`] and [`Cpu::call_key`]: bytes 0 to 32 of the key's own keystream replace the key. The bytes that are
+//!   handed out are those from 32 on.
 //! - [`Cpu::kernel_read`]: the bytes are those of a kernel read with this key. The key is erased unless the buffer is
 //!   empty.
 //!

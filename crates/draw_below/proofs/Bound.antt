@@ -1,4 +1,5 @@
--- `2^32 - c` and `2^32` have the same remainder by `c`. So the code finds `2^32 mod c` in 32-bit arithmetic.
+-- `2^32 - c` and `2^32` have the same remainder when divided by `c`. So the code finds `2^32 mod c` in 32-bit
+-- arithmetic.
 use Rattle.std.proofs.Common.{◌≡◌, ◌<◌, ◌+◌, ◌*◌, ◌/◌, ◌%◌, ℕ, arith, ap, sym, ◌∙◌, lit<}
 use Rattle.std.proofs.Math.Nat.{add-mod_right, div-lt_iff_lt-mul, mul-lt-mul_of_pos_left}
 

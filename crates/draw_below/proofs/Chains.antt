@@ -1,4 +1,5 @@
--- The lists of words that were taken, and of words that a draw rejected, grow by one word when one more word is taken.
+-- When one more word is taken, the list of the taken words grows by this word. If the draw rejects the word, the list
+-- of the rejected words grows too.
 use Rattle.std.proofs.Common.{◌≡◌, ◌≢◌, ◌<◌, ◌+◌, ◌*◌, ◌/◌, ◌%◌, ℕ, List, [], ◌∷◌, ◌++◌, length, refl, subst, sym, ap, ◌∙◌, nat_le, true, false, length-append}
 use Rattle.std.specs.List.{AllByRecursion}
 use Rattle.std.proofs.lemmas.Bool.{ne_eqb}

@@ -53,7 +53,8 @@ over t x v high = other_value t x v (omega arith)
 passes_is : (c v r : ℕ) → 0 < c → gives_value c v r ≡ passes (4294967296 % c) (c * r) v
 passes_is c v r pos = let some : c ≢ 0 = omega arith in simp (ne_eqb c 0 some) refl
 
--- `a` is the first accepted word with the value `v`, and `b` the first word after all such words
+-- let `a` be the first accepted word with the value `v`, and `b` the first word after all such words. Then the number
+-- of such words below `n` is `(n - a) - (n - b)`
 counted : (c v n a b : ℕ) → 0 < c → 4294967296 % c < 4294967296 →
     a ≡ ceiling c (v * 4294967296 + 4294967296 % c) → b ≡ ceiling c (v * 4294967296 + 4294967296) →
     count c v n ≡ (n - a) - (n - b)

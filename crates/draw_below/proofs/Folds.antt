@@ -1,4 +1,4 @@
--- Successive draws have the answers that `draws_in` gives for the words that they took.
+-- Successive draws have the answers that `draws_in` gives for the words that the draws took.
 use Rattle.std.proofs.Common.{◌≡◌, ◌≢◌, ◌<◌, ◌+◌, ◌-◌, lit<, ℕ, suc, List, [], ◌∷◌, ◌++◌, length, refl, ap, sym, ◌∙◌, arith, append_assoc, append-nil, map, option_map, Option, Some, None, true, false, cond, nat_eq, ⊎_elim, length-append}
 use Rattle.std.specs.List.{AllByRecursion}
 use Rattle.std.proofs.lemmas.Bool.{ne_eqb, cases_eq}
@@ -78,7 +78,7 @@ abbrev pub Answered : ℕ → ℕ → List ℕ → List ℕ → Type 0
 Answered c m words answers =
     (n : ℕ) (rest : List ℕ) → draws_in c (m + n) 0 (words ++ rest) ≡ following answers (draws_in c n 0 rest)
 
--- from `w` to `u` the source gave words from which `m` draws have these answers
+-- from `w` to `u` the source gave some words, and `m` draws from these words have these answers
 abbrev pub IsAnswered : {W : Type 0} → (W → ℕ → W → Type 0) → ℕ → W → W → ℕ → List ℕ → Type 0
 IsAnswered gives c w u m answers =
     (words : List ℕ) × Takes gives w words u × (length answers ≡ m) × Answered c m words answers
@@ -123,8 +123,7 @@ all_answered gives c w u m count answers all had = (
       ∙ ap (λ l. draws_in c (m + 0) 0 l) (sym (append-nil had.0)) ∙ had.3 0 [] ∙ ap (following answers) (no_draw c),
 )
 
--- if `m` draws were answered and the next draw was spent, the results of all words taken are these answers, and then
--- `None`
+-- if `m` draws were answered and the next draw was spent, the words taken so far give these answers, and then `None`
 pub then_spent : {W : Type 0} (gives : W → ℕ → W → Type 0) (c : ℕ) (w u v : W) (m count : ℕ) (answers : List ℕ)
     (rejected : List ℕ) → m < count → IsAnswered gives c w u m answers → Spends gives c u rejected v →
     (taken : List ℕ) × Takes gives w taken v × (draws_in c count 0 taken ≡ Some (map Some answers ++ None ∷ []))

@@ -20,7 +20,7 @@ different_swap xs a b p q apart i j h k same =
     (sym (get_moved xs a b i p q) ∙ same ∙ get_moved xs a b j p q) in
     sym (moved_back a b i) ∙ ap (moved a b) one ∙ moved_back a b j
 
--- places above those of the draws do not change
+-- the items at places above `last` do not change
 untouched : (last : ℕ) (ds xs : List ℕ) (k : ℕ) → last < k → k < length xs → AreDraws last ds →
     get_or (exchanged last ds xs) k 0 ≡ get_or xs k 0
 untouched last [] xs k above low drawn = refl
@@ -30,7 +30,7 @@ untouched last (d ∷ ds) xs k above low drawn =
     ∙ get_moved xs last d k (omega arith) (omega (arith, drawn.0))
     ∙ ap (λ m. get_or xs m 0) (moved_other last d k (omega arith) (omega (arith, drawn.0)))
 
--- the first draw decides which item comes to the place `last`
+-- after the exchanges, the item at `last` is the one that was at the first drawn place
 last_item : (last d : ℕ) (ds xs : List ℕ) → 0 < last → last < length xs → AreDraws last (d ∷ ds) →
     get_or (exchanged last (d ∷ ds) xs) last 0 ≡ get_or xs d 0
 last_item last d ds xs some low drawn =
@@ -39,7 +39,7 @@ last_item last d ds xs some low drawn =
     ∙ get_moved xs last d last low (omega (arith, drawn.0))
     ∙ ap (λ m. get_or xs m 0) (moved_first last d)
 
--- lists of draws with the same result are equal
+-- if two lists of draws turn different items into the same order, the lists are equal
 one_list : (last : ℕ) (xs ds es : List ℕ) → AreDifferent xs → last < length xs → length ds ≤ last →
     length ds ≡ length es → AreDraws last ds → AreDraws last es → exchanged last ds xs ≡ exchanged last es xs → ds ≡ es
 one_list last xs [] [] apart low short n p q same = refl
@@ -124,7 +124,7 @@ some_draws (suc last) xs ys low n apart covers agree =
       subst (λ z. exchanged z rest.0 swapped ≡ ys) before rest.3,
     )
 
--- each order of a list that is not empty has a list of draws
+-- if a list is not empty, and its items are different, each order of the list has a list of draws
 ends : (xs ys : List ℕ) → 0 < length xs → AreDifferent xs → IsPermutation xs ys →
     (ds : List ℕ) × Makes xs ds ys
 ends xs ys some apart order =

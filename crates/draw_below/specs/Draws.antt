@@ -27,7 +27,7 @@ EachValueIsAsLikely = (c v : ℕ) → v < c → c < 2 ^ 32 → count c v (2 ^ 32
 abbrev pub IsRejected : ℕ → ℕ → Type 0
 IsRejected c r = accepts c r ≡ false
 
--- from `w` to `u` exactly these words were taken, in order
+-- the source `w` gave exactly these words, in order, and is `u` after them
 abbrev pub Takes : {W : Type 0} → (W → ℕ → W → Type 0) → W → List ℕ → W → Type 0
 Takes gives w [] u = w ≡ u
 Takes {W} gives w (r ∷ rs) u = (v : W) × gives w r v × Takes gives v rs u

@@ -22,16 +22,16 @@ DrawsEach gives last w [] u = w ≡ u
 DrawsEach {W} gives last w (d ∷ ds) u =
     (v : W) × (rejected : List ℕ) × Draws gives (last + 1) w rejected d v × DrawsEach gives (last - 1) v ds u
 
--- a shuffle so far: a number was drawn for each of the last places, and the item there was exchanged with the one at
--- that number
+-- a shuffle so far: for each place from the last down to some place, a number was drawn, and the items at the place and
+-- at that number were exchanged
 pub record Shuffles {W : Type 0} (gives : W → ℕ → W → Type 0) (before : List ℕ) (w : W) (draws : List ℕ)
     (after : List ℕ) (u : W) : Type 0 where
   pub drawn : DrawsEach gives (length before - 1) w draws u
   pub none_above : AreDraws (length before - 1) draws
   pub exchanges : after ≡ exchanged (length before - 1) draws before
 
--- the end of a shuffle: each place but the first had a draw, and `rejected` is empty; or fewer places had one, and the
--- next draw was spent: `rejected` is the words that it rejected
+-- the end of a shuffle. After success, each place but the first had a draw, and `rejected` is empty. Otherwise fewer
+-- places had a draw, the next draw was spent, and `rejected` contains the words that this draw rejected
 abbrev pub IsShuffle : {W : Type 0} → (W → ℕ → W → Type 0) → List ℕ → W → List ℕ → Result (Unit {0}) DrawSpent →
     List ℕ → W → Type 0
 IsShuffle gives before w rejected (Ok done) after u =

@@ -16,8 +16,8 @@ use Rattle.rng_core.specs.Settings.{first_setting}
 use Rattle.draw_below.specs.Draws.{accepts, value_of}
 use Rattle.draw_below.specs.declared.table_draws.Drawn.{Drawn}
 
--- the results from a spent draw on: only this draw's `None`, since a spent draw is the last; if a word is left, there
--- are no results
+-- the results that follow if the current draw is spent: only `None`, since a spent draw is the last one. If a word is
+-- left over, the function itself gives `None`
 abbrev pub spent_before : List ℕ → Option (List (Option ℕ))
 spent_before [] = Some (None ∷ [])
 spent_before (r ∷ rs) = None

@@ -1,4 +1,4 @@
-//! Numbers below a bound. Each number is as likely as any other if each word is.
+//! Numbers below a bound. If all words are equally likely, so are all numbers below the bound.
 ghost use Rattle.std.specs.Prelude.{◌≡◌, ◌<◌, ◌≤◌, ◌+◌, ◌-◌, ◌%◌, ◌^◌, nat_le, IfOk};
 ghost use Rattle.draw_below.specs.Draws.{IsDraw, IsDrawFrom};
 
@@ -22,8 +22,8 @@ fn is_accepted(c: u32, low: u32) -> bool
     low >= c || low >= c.wrapping_neg() % c
 }
 
-/// A number below `c`, as `__get_random_u32_below` of the kernel's drivers/char/random.c makes it. Each number is as
-/// likely as any other if each word is. For `c` 0 the result is the next word itself.
+/// A number below `c`, made as in `__get_random_u32_below` of the kernel's drivers/char/random.c. If all words are
+/// equally likely, so are all numbers below `c`. For `c` 0 the result is the next word itself.
 ///
 /// The product of a word and `c` has 64 bits, and its high half is the result. The word is accepted if and only if the
 /// low half is at least 2^32 mod `c`. After success `rejected` holds the words that were taken before the accepted one.
@@ -59,7 +59,7 @@ pub fn below<W: Words, R: Wait>(
 ///
 /// # Errors
 ///
-/// As [`below`].
+/// The same as for [`below`].
 pub fn between<W: Words, R: Wait>(
     rt: &R,
     words: &mut W,

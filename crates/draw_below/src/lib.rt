@@ -1,5 +1,5 @@
 //! Numbers below a bound from 32-bit words, made as `__get_random_u32_below` and `get_random_u32_inclusive` of
-//! drivers/char/random.c make them. Each number is as likely as any other if each word is.
+//! drivers/char/random.c make them. If all words are equally likely, so are all numbers below the bound.
 //!
 //! The words come out of a list, or are the integers that a caller reads by the calls of `rng_core`; the trait
 //! [`Words`] defines a source. Only [`draw_on_new_table`] allocates, for its table.

@@ -1,4 +1,4 @@
-//! Shuffles a list. Each order is as likely as any other if each word is.
+//! Shuffles a list. If all words are equally likely, so are all orders.
 ghost use Rattle.std.specs.Prelude.{◌≡◌, ◌≤◌, ◌^◌, length};
 ghost use Rattle.std.specs.List.Sorted.{IsPermutation};
 ghost use Rattle.draw_below.specs.Orders.{IsShuffle};
@@ -8,7 +8,7 @@ use crate::rejected::Rejected;
 use crate::words::Words;
 use std::sync::Wait;
 
-/// Shuffles a list of at most 65,536 items. Each order of different items is as likely as any other if each word is.
+/// Shuffles a list of at most 65,536 items. If all words are equally likely, so are all orders of different items.
 ///
 /// For each place from the last down to the second, the function draws one of the places up to this place, and
 /// exchanges the items at the two places. `rejected` is empty after success: the last of these draws has the bound 2,

@@ -26,8 +26,8 @@ pub struct Drawn {
     pub spent: bool,
 }
 
-/// Draws `count` numbers below `c`; `count` is at most 1,000. If `c` is 0, the words themselves are the numbers. A draw
-/// that is spent is the last one.
+/// Draws `count` numbers below `c`; `count` is at most 1,000. If `c` is 0, the words themselves are the numbers. If a
+/// draw is spent (`DrawSpent`), it is the last one.
 pub fn draw_each<W: Words, R: Wait>(rt: &R, words: &mut W, c: u32, count: u32) -> Drawn
     requires { count ≤ 1000 }
     ensures { (taken : List ℕ) × Takes W.gives words.old taken words.new
@@ -84,8 +84,8 @@ fn draw_by_pass<R: Wait>(
 
 /// Makes a core with one CPU ready by a first sample: 32 bytes that count up from 0, with a credit of 256 bits. Then it
 /// draws `count` numbers below `c`; `count` is at most 1,000. The words are the integers of 4 bytes that caller 0
-/// reads. If `c` is 0, the integers themselves are the numbers. A draw that is spent is the last one. All calls have
-/// CPU 0, the moment 0 and hardware words 0.
+/// reads. If `c` is 0, the integers themselves are the numbers. If a draw is spent (`DrawSpent`), it is the last one.
+/// All calls have CPU 0, the moment 0 and hardware words 0.
 ///
 /// # Errors
 ///

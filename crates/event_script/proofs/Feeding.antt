@@ -32,7 +32,8 @@ regroup rest lines end b more is =
     ∙ sym (append_assoc rest end (10 ∷ (b ++ more)))
     ∙ sym (append_assoc (rest ++ end) (10 ∷ []) (b ++ more))
 
--- the reader kept the start of a line; after it reads the end of that line, and whole lines, only `more` is unread
+-- if a reader keeps the start of a line, and then reads the end of that line and further whole lines, only `more` is
+-- unread
 pub lines_read : (text lines end b more line : List ℕ) (r next : ScriptReader) (mid : ScriptStage)
     → parts 10 lines ≡ end ∷ parts 10 b → line ≡ (r.rest.items ++ end) ++ 10 ∷ [] → next.rest.items ≡ []
     → LeadsTo r.stage line mid [] → LeadsTo mid b next.stage []
@@ -113,7 +114,7 @@ is_over text piece r fed many = elim (cases_lt 16777216 (length text)) [
 
 -- ---- one piece
 
--- after a piece is added to the text, exactly this piece is unread
+-- if all of `text` was read, then `piece` is the unread part of `text ++ piece`
 piece_begins : (text piece : List ℕ) (r : ScriptReader) → IsAfter text r [] → IsAfter (text ++ piece) r piece
 piece_begins text piece r at = record {
   same = λ later. ap (λ x. script_of_lines (parts 10 x)) (append_assoc text piece later) ∙ at.same (piece ++ later);
@@ -143,7 +144,8 @@ same_place text unread r next stage rest at = record {
   number = rw (stage, rest) at.number;
 }
 
--- a reader that reads a further piece has been fed the longer text, if that text is not too long
+-- if a reader was fed `text` and then reads `piece`, it was fed `text ++ piece`, provided that this text is not too
+-- long
 pub piece_read : (text piece lines front : List ℕ) (r begun read next : ScriptReader) → HasFed text r
     → length text + length piece ≤ 16777216 → piece ≡ lines ++ front → Lacks 10 front
     → begun.stage ≡ r.stage → begun.rest.items ≡ r.rest.items
@@ -163,7 +165,7 @@ piece_read text piece lines front r begun read next fed short is clean stage res
           clean same kept;
     }
 
--- if a text is too long, HasFed only requires that the reader counted too many bytes
+-- if the longer text is too long, HasFed requires only that the reader has counted more bytes than the limit
 pub too_long_now : (text piece : List ℕ) (r next : ScriptReader) → HasFed text r → 16777216 < length text + length piece
     → 16777216 < next.len → HasFed (text ++ piece) next
 too_long_now text piece r next fed many long =

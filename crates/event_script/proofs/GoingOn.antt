@@ -50,7 +50,7 @@ module _ (text : List ℕ) (d : Draft) (n : ℕ) (goes : GoesOnFrom text d n)
   pub closes : script_of_lines (parts 10 (text ++ end_line)) ≡ Ok (script_of_draft d)
   closes = goes end_line ∙ end_step d n (no_block_from _ (blocks_of d) none)
 
-  -- the draft meets all conditions of a well-formed script, except the one on the text's length
+  -- the draft meets all conditions of a well-formed script, except the limit on the length of its text
   pub is_whole : Whole d.version d.cpus (blocks_of d)
   is_whole = (lines_take (parts 10 (text ++ end_line)) (script_of_draft d) closes).whole
 
@@ -123,7 +123,7 @@ none_done (events ∷ done) is = absurd (omega (arith, is))
 pub no_blocks : (view : DraftView) (d : Draft) → IsViewOf view d → view.blocks ≡ 0 → d.done ≡ []
 no_blocks view d seen none = none_done d.done (sym none ∙ seen.blocks)
 
--- a draft meets IsLone if its view has no finished block and no event that forks
+-- if the view of a draft has no finished block and no event that forks, IsLone holds for the draft
 pub lone_view : (view : DraftView) (d : Draft) → IsViewOf view d → view.blocks ≡ 0 → ForkNone view.events.now → IsLone d
 lone_view view d seen none forks = record {
   first = no_blocks view d seen none;
@@ -250,7 +250,7 @@ extended d later begun one =
       events = both.1;
     }
 
--- if the draft after `more` is that of one caller without forks, that draft adds only events to the draft before
+-- if the draft after `more` has one block and no forks, that draft only adds events to the draft before `more`
 pub extends : (text more : List ℕ) (d later : Draft) (n m : ℕ) → GoesOnFrom text d n
     → GoesOnFrom (text ++ more) later m → IsLone later → Extends d later
 extends text more d later n m goes goes_later lone =
@@ -259,7 +259,7 @@ extends text more d later n m goes goes_later lone =
     (begins text (more ++ end_line) d n (script_of_draft later) goes
     (ap (λ x. script_of_lines (parts 10 x)) (sym (append_assoc text more end_line)) ∙ is)) lone.first
 
--- if the added text ends the script, and the script has one block, the text adds nothing but events to the draft
+-- if the added text ends the script, and the script has one block, the added text adds only events to the draft
 pub extends_ended : (text more : List ℕ) (d later : Draft) (n m : ℕ) → GoesOnFrom text d n
     → EndsWith (text ++ more) later m → later.done ≡ [] → Extends d later
 extends_ended text more d later n m goes ends one =
@@ -320,7 +320,7 @@ same_script d other is =
     let both = same_last d.done other.done d.events other.events (ap (λ (s : Script). s.callers) is) in
     same_parts d other (ap (λ (s : Script). s.version) is) (ap (λ (s : Script). s.cpus) is) both.0 both.1
 
--- a text has only one draft, if the script can end with that draft
+-- if the script can end with the draft of a text, the text has no other draft
 pub same_open : (text : List ℕ) (d other : Draft) (n m : ℕ) → GoesOnFrom text d n → GoesOnFrom text other m
     → has_orphan d ≡ false → other ≡ d
 same_open text d other n m goes goes_other none =

@@ -26,8 +26,8 @@ fine line = if list_any is_unprintable line then Err BadByte else Ok line
 abbrev with_cpus : ℕ → ℕ → List (List ℕ) → Result Script ScriptFault
 with_cpus version cpus lines = at_line 3 (start_in version cpus lines) >>= λ start. script_from start 4 (following lines)
 
--- After a draft, an incomplete line and an unknown word have different faults. `f` gives the two the same fault, so `f`
--- does not read on from a draft.
+-- When reading goes on from a draft, an incomplete line and an unknown word give different faults. `f` gives the same
+-- fault for both, so `f` does not read on from the draft `d`.
 two_faults : {A : Type 0} (n : ℕ) (kind : FaultKind) (d : Draft) (m : ℕ) (f : List (List ℕ) → Result Script ScriptFault)
     → f ([] ∷ []) ≡ Err (record { line = n; kind = kind }) → f (codes "x" ∷ [] ∷ []) ≡ Err (record { line = n; kind = kind })
     → f ([] ∷ []) ≡ script_from d m ([] ∷ []) → f (codes "x" ∷ [] ∷ []) ≡ script_from d m (codes "x" ∷ [] ∷ []) → A
@@ -97,7 +97,7 @@ start_is version cpus r start is =
     let what = step_ok (said version cpus line.0) (first_block version cpus) start line.2 in
     start_takes version cpus what.0 start what.2
 
--- each function reads one line of the head, and then later lines
+-- at each stage of the head, `goes` reads one line, and then goes on with the later lines
 
 version_by : (line later : List ℕ) → (at_line 1 (fine line >>= version_of) >>= λ version. goes (Cpus version)
     (parts 10 later)) ≡ goes Version (line ∷ parts 10 later)

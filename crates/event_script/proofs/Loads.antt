@@ -190,7 +190,7 @@ forks_none number (event ∷ events) all =
     let here = all.0.none number in
     sum_by-cons (λ e. cond (is_fork_of number e) 1 0) event events ∙ rw here (omega arith)
 
--- forks of consecutive numbers fork no other number
+-- if `number` is not among the `n` numbers from `from` on, the forks of these numbers do not fork `number`
 forks_others : (number from n : ℕ) → ((k : ℕ) → from ≤ k → k < from + n → k ≡ number → ⊥) →
     count_by (is_fork_of number) (map Fork (range_with_len from n)) ≡ 0
 forks_others number from zero others = refl
@@ -200,7 +200,7 @@ forks_others number from (suc n) others =
     sum_by-cons (λ e. cond (is_fork_of number e) 1 0) (Fork from) (map Fork (range_with_len (from + 1) n))
     ∙ rw (ne_eqb from number (others from (omega arith) (omega arith))) (omega arith)
 
--- forks of consecutive numbers fork each of these numbers once
+-- if `number` is among the `n` numbers from `from` on, the forks of these numbers fork `number` once
 forks_among : (number from n : ℕ) → from ≤ number → number < from + n →
     count_by (is_fork_of number) (map Fork (range_with_len from n)) ≡ 1
 forks_among number from zero low high = absurd (omega arith)
@@ -264,7 +264,7 @@ above_from f from (suc n) each =
     let next : from + 1 ≡ suc from = omega arith in
     (each from, subst (λ k. ForksAbove k (map f (range_with_len (from + 1) n))) next (above_from f (from + 1) n each))
 
--- callers after the first fork no caller
+-- callers other than caller 0 fork no caller
 later_fork_none : (start callers count from n number : ℕ) → 1 ≤ from →
     times_forked (map (load_events start callers count) (range_with_len from n)) number ≡ 0
 later_fork_none start callers count from n number later =

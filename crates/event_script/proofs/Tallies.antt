@@ -47,7 +47,7 @@ length_marked : (forked : List Bool) (child : Option ℕ) → length (marked for
 length_marked forked None = refl
 length_marked forked (Some child) = length-set forked child true
 
--- the counts determine whether an event exceeds the limits
+-- if the counts are those of a draft, `is_over` gives whether one more event exceeds the limits of this draft
 pub limits_are : (d : Draft) (e : Event) (count read acts : ℕ) (forked : List Bool) →
     Tallied (blocks_of d) d.events count read acts forked
     → is_over count (read + bytes_read e) (acts_after acts e) ≡ is_past_limits d e

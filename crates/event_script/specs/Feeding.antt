@@ -15,7 +15,7 @@ use Rattle.event_script.specs.declared.whole.stage.ScriptStage.TheVariants.{Vers
 abbrev pub IsWhole : List ℕ → Type 0
 IsWhole text = (text ≡ []) ⊎ ((front : List ℕ) × (text ≡ front ++ 10 ∷ []))
 
--- the script or the first fault of a text that was read up to this stage and goes on with these lines
+-- the script of a text, or its first fault: the text was read up to this stage, and these lines follow
 abbrev pub goes : ScriptStage → List (List ℕ) → Result Script ScriptFault
 goes Version lines = script_of_lines lines
 goes (Cpus version) lines = do
@@ -54,14 +54,14 @@ abbrev pub Leads : ScriptStage → List ℕ → Result (ScriptStage × Bor (List
 Leads stage text (Ok both) = LeadsTo stage text both.0 both.1.now × (length both.1.now < length text)
 Leads stage text (Err error) = FailsFrom stage text error
 
--- the reader has read the text, except the incomplete line that it keeps and the unread bytes after that line
+-- the reader has read `text`, except the incomplete line that the reader keeps and the bytes `unread` after that line
 pub record IsAfter (text : List ℕ) (reader : ScriptReader) (unread : List ℕ) : Type 0 where
   pub same : (later : List ℕ) → script_of_lines (parts 10 (text ++ later))
       ≡ goes reader.stage (parts 10 (reader.rest.items ++ (unread ++ later)))
   pub clean : All (λ b. (b == 10) ≡ false) reader.rest.items
   pub number : number_of reader.stage + length reader.rest.items + length unread ≤ length text + 1
 
--- the reader was fed this text; if the text is too long, nothing more is claimed
+-- the reader was fed this text; if the text is too long, only the reader's count of bytes is constrained
 pub record HasFed (text : List ℕ) (reader : ScriptReader) : Type 0 where
   pub len : length text ≤ 16777216 → reader.len ≡ length text
   pub long : 16777216 < length text → 16777216 < reader.len

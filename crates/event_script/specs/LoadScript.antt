@@ -15,7 +15,7 @@ calls len caller number =
 abbrev pub read_len : ℕ → ℕ → ℕ
 read_len start number = 1 + (17 * number + start) % 100
 
--- the kind of the call with this number, as a place in `calls`
+-- the kind of the call with this number, as an index into `calls`
 abbrev pub turn : ℕ → ℕ → ℕ → ℕ
 turn start caller number = (start + 3 * caller + number) % 8
 

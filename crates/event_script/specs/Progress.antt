@@ -71,7 +71,8 @@ pub record IsLone (d : Draft) : Type 0 where
 abbrev pub end_line : List ℕ
 end_line = codes "end\n"
 
--- the later draft adds events to the same block
+-- `d` has no finished block. `later` has the same version and number of CPUs, and its last block begins with the events
+-- of the last block of `d`
 pub record Extends (d later : Draft) : Type 0 where
   pub version : later.version ≡ d.version
   pub cpus : later.cpus ≡ d.cpus

@@ -17,12 +17,12 @@ abbrev pub FailsAt : {Y : Type 0} → ScriptError → Result Y ScriptFault → T
 FailsAt (Fault fault) given = given ≡ Err fault
 FailsAt NoMemory given = ⊤
 
--- `view` maps the answer to the given answer; an error is the given fault, unless memory ran out
+-- `view` maps the returned value to the given value; an error is the given fault, unless memory ran out
 abbrev pub GivesScript : {X Y : Type 0} → (X → Y) → Result X ScriptError → Result Y ScriptFault → Type 0
 GivesScript view (Ok x) given = given ≡ Ok (view x)
 GivesScript view (Err e) given = FailsAt e given
 
--- GivesScript for an error that also has the faulty line
+-- the same as GivesScript, for an error that also contains the faulty line
 abbrev pub GivesUnread : {X Y : Type 0} → (X → Y) → Result X Unread → Result Y ScriptFault → Type 0
 GivesUnread view (Ok x) given = given ≡ Ok (view x)
 GivesUnread view (Err unread) given = FailsAt unread.error given

@@ -19,8 +19,8 @@ pub record IsLight (event : Event) : Type 0 where
   pub unforked : fork_in event ≡ None
   pub waiting : (acts : ℕ) → acts_after acts event ≡ acts
 
--- Whether one more event exceeds a limit. `count` is the number of earlier events. `read` and `acts` are the bytes read
--- and the acts that wait once the event is added.
+-- Whether one more event exceeds a limit. `count` is the number of earlier events. `read` and `acts` are the numbers of
+-- bytes read and of waiting acts once the event is added.
 abbrev pub is_over : ℕ → ℕ → ℕ → Bool
 is_over count read acts = nat_le 65536 count || nat_lt 16777216 read || nat_lt 8 acts
 

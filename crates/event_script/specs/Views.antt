@@ -6,7 +6,7 @@ use Rattle.key_names.specs.Texts.ScriptFaults.{parts}
 use Rattle.event_script.specs.declared.whole.error.LineError.{LineError}
 use Rattle.event_script.specs.declared.whole.error.LineError.TheVariants.{Memory, Kind}
 
--- `view` maps the answer to the given answer, or the fault is the given fault
+-- `view` maps the returned value to the given value, or the returned fault is the given fault
 abbrev pub Tells : {X Y : Type 0} → (X → Y) → Result X FaultKind → Result Y FaultKind → Type 0
 Tells view (Ok x) given = given ≡ Ok (view x)
 Tells view (Err kind) given = given ≡ Err kind
@@ -15,7 +15,7 @@ abbrev pub Fails : {Y : Type 0} → LineError → Result Y FaultKind → Type 0
 Fails Memory given = ⊤
 Fails (Kind kind) given = given ≡ Err kind
 
--- `view` maps the answer to the given answer; an error is the given fault, unless memory ran out
+-- `view` maps the returned value to the given value; an error is the given fault, unless memory ran out
 abbrev pub Gives : {X Y : Type 0} → (X → Y) → Result X LineError → Result Y FaultKind → Type 0
 Gives view (Ok x) given = given ≡ Ok (view x)
 Gives view (Err e) given = Fails e given

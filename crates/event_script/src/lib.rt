@@ -2,9 +2,10 @@
 //! grammar, and returns the first fault of any other. The contracts use the grammar and the faults of `key_names`
 //! (`specs/Texts`).
 //!
-//! [`read`] reads a whole text, [`read_front`] a script at the start of a longer text, and a [`ScriptReader`] a text in
-//! pieces. A `ScriptReader` shows the events of the lines so far. [`Script`] also makes the script of a load. [`words`]
-//! and [`numbers`] also read the words and numbers of transcripts and command lines. `memchr` finds line ends.
+//! [`read`] reads a whole text, [`read_front`] reads a script at the start of a longer text, and a [`ScriptReader`]
+//! reads a text in pieces. A `ScriptReader` shows the events of the lines that it has read. [`Script::load`] makes the
+//! script of a load. [`words`] and [`numbers`] also read the words and numbers of transcripts and command lines.
+//! `memchr` finds line ends.
 //!
 //! # Example
 //!
@@ -22,17 +23,18 @@
 //!
 //! # Proved
 //!
-//! - [`read`], [`read_front`] and [`ScriptReader::finish`]: if memory does not run out, the result is a script exactly if the
-//!   text, or for `read_front` the text up to its first line `end`, is its only spelling. Otherwise it is the text's
-//!   first fault by the definition.
-//! - [`ScriptReader::progress`]: the events of the lines so far, or the first fault.
+//! - [`read`], [`read_front`] and [`ScriptReader::finish`]: if memory does not run out, the result is the script whose
+//!   only spelling is the text. If no script has this spelling, the result is the text's first fault by the definition.
+//!   For `read_front`, the text stops after its first line `end`.
+//! - [`ScriptReader::progress`]: the events of the lines read so far, or the first fault.
 //! - [`Script::load`]: the script of a load, as `specs/LoadScript.antt` defines it.
 //! - [`Script::version`]: every script is well-formed.
 //!
 //! # Tested only
 //!
-//! A reader shows an event once its line is whole, and a load has the events of its text: `event_script_tests` of
-//! `test_texts`. The fault of a long text is found in one pass, with no memory for more than the text: `long_texts`.
+//! A reader shows an event once the event's line is whole, and the text of a load spells the load's events:
+//! `event_script_tests` of `test_texts`. `long_texts` tests that the fault of a long text is found in one pass, with no
+//! memory for more than the text.
 #![tactic(auto)]
 
 mod load;

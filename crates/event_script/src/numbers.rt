@@ -88,8 +88,8 @@ fn read_on(most: u64, value: u64, seen: usize, text: &[u8]) -> Option<(u64, &[u8
 }
 
 /// Calls `read_on`. Most numbers end before this call is reached.
-// A function clears the space for its calls' results when it starts. Since `read_on` is called from a function of its
-// own, a number that ends earlier clears no space.
+// When a function starts, it clears the stack space for the results of its calls. `read_on` is called from this
+// separate function, so reading a number that ends earlier clears no space.
 #[inline(always)]
 fn read_on_apart(most: u64, value: u64, seen: usize, text: &[u8]) -> Option<(u64, &[u8])>
     requires digits { BeginsDigits text.now value seen }
@@ -104,7 +104,7 @@ fn read_on_apart(most: u64, value: u64, seen: usize, text: &[u8]) -> Option<(u64
 
 /// The number up to `most` at the start of a text, in decimal and without leading zeros, and the text after it.
 ///
-/// `None` if the text begins with no digit, if it begins with a zero and another digit, or if its first digits together
+/// `None` if the text begins with no digit, if it begins with a zero and another digit, or if the digits at its start
 /// spell more than `most`.
 #[inline(always)]
 pub fn number_front(most: u64, text: &[u8]) -> Option<(u64, &[u8])>
@@ -186,7 +186,7 @@ pub(crate) fn one_below(limit: u32, rest: Option<&[u8]>) -> Result<u32, FaultKin
     Ok(value as u32)
 }
 
-/// The two numbers after a word, at most `most` and at most `next`.
+/// The two numbers after a word. The first is at most `most`, the second at most `next`.
 pub(crate) fn two_numbers(
     most: u64,
     next: u64,

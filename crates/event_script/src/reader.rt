@@ -29,7 +29,7 @@ const END_BYTES: usize = 4;
 #[derive(Drop)]
 pub struct ScriptReader {
     stage: ScriptStage,
-    // The number of bytes so far.
+    // The number of bytes that were fed so far.
     len: usize,
     // The start of a line whose end was not read yet.
     rest: Vec<u8>,

@@ -101,8 +101,8 @@ impl ScriptReader {
     ///
     /// # Errors
     ///
-    /// `Fault` if the text is no script, with the text's first fault; the faulty line is returned too, if it was kept.
-    /// `NoMemory` if there is no memory for the script.
+    /// `Fault` with the text's first fault, if the text is no script. The faulty line is returned too, if the reader
+    /// kept it. `NoMemory` if there is no memory for the script.
     pub fn finish(self) -> Result<Script, Unread>
         requires { (text : List ℕ) × HasFed text self }
         ensures found { (text : List ℕ) → HasFed text self → IfOk result (λ script. IsScript script text) }
@@ -132,11 +132,11 @@ impl ScriptReader {
 pub fn read(alloc: Global, text: &[u8]) -> Result<Script, ScriptError>
     // The text is the spelling of the script.
     ensures found { IfOk result (λ script. IsScript script text.now) }
-    // Every script's text is read, unless memory runs out.
+    // If the text spells a script, the result is this script, unless memory runs out.
     ensures only { (script : Spelt) → IsScript script text.now → GivesScript (λ read. read) result (Ok script) }
-    // The error has the first fault.
+    // A `Fault` contains the text's first fault.
     ensures fault { IfErr result (λ error. IsFirstFault error text.now) }
-    // A text with a fault is no script, so it is not read.
+    // If the text has a fault, the result is an error.
     ensures faulted { (fault : ScriptFault) → first_fault text.now ≡ Some fault → IsErr result }
 {
     let mut reader = ScriptReader::new(alloc);

@@ -10,7 +10,7 @@ use Rattle.transcript_check.specs.Judged.{IsSound}
 use Rattle.fenloth_c.specs.declared.answer.Answer.{Answer}
 use Rattle.fenloth_c.specs.declared.answer.Answer.TheVariants.{Yes, NoTranscript, Fails, NoScript, NoMemory, TooLong, NoRoom}
 
--- the number that C sees
+-- the number that C gets
 abbrev pub code_of : Answer → ℕ
 code_of Yes = 0
 code_of NoTranscript = 1
@@ -23,13 +23,13 @@ code_of NoRoom = 11
 abbrev pub IsScriptText : List ℕ → Type 0
 IsScriptText script = (s : Script) × IsScript s script
 
--- the texts are those of a script and a transcript of which this holds
+-- the texts are those of a script and of a transcript, and `Holds` is true of both
 abbrev pub AreTexts : List ℕ → List ℕ → (Script → List (List SeenLine) → Type 0) → Type 0
 AreTexts script text Holds =
     (s : Script) × (t : List (List SeenLine)) × IsScript s script × IsTranscriptText text t × Holds s t
 
--- The answer is true of these two texts; if both are faulty, it is NoScript. Each function says what Yes, a clause and
--- NoRoom mean for a script and a transcript.
+-- The answer is true of these two texts; if both are faulty, the answer is NoScript. The three relations define what
+-- Yes, a clause and NoRoom mean for a script and a transcript.
 abbrev pub IsTrueOf : List ℕ → List ℕ → (Script → List (List SeenLine) → Type 0)
     → (Script → List (List SeenLine) → Clause → Type 0) → (Script → List (List SeenLine) → Type 0) → Answer → Type 0
 IsTrueOf script text IsYes Fail IsFull Yes = AreTexts script text IsYes
@@ -41,36 +41,38 @@ IsTrueOf script text IsYes Fail IsFull NoMemory = ⊤
 IsTrueOf script text IsYes Fail IsFull TooLong = IsScriptText script × (2 ^ 31 < length text)
 IsTrueOf script text IsYes Fail IsFull NoRoom = AreTexts script text IsFull
 
--- the check: the transcript is lawful, or this clause fails first
+-- the answer of the check is true: the transcript is lawful, or this clause is the first that fails
 abbrev pub IsChecked : List ℕ → List ℕ → Answer → Type 0
 IsChecked script text answer = IsTrueOf script text IsSound FirstFails (λ s t. ⊥) answer
 
--- made is the length of the text, which the buffer begins with; the rest of the buffer is as it was
+-- the buffer begins with the text of the transcript that was made, `made` is the length of this text, and the other
+-- bytes of the buffer are unchanged
 pub record IsMade (old new : List ℕ) (made : ℕ) (s : Script) (t : List (List SeenLine)) : Type 0 where
   pub remade : List (List SeenLine)
   pub is_the : IsTheTranscript s t remade
   pub buffer : new ≡ transcript_text remade ++ drop made old
   pub made_is : made ≡ length (transcript_text remade)
 
--- made is the length of the text, which is longer than the buffer
+-- the text of the transcript that was made is longer than the buffer, and `made` is the length of this text
 pub record IsLonger (old : List ℕ) (made : ℕ) (s : Script) (t : List (List SeenLine)) : Type 0 where
   pub remade : List (List SeenLine)
   pub is_the : IsTheTranscript s t remade
   pub made_is : made ≡ length (transcript_text remade)
   pub longer : length old < made
 
--- the replay: the only lawful transcript with these steps, in the buffer or too long for it, or the first clause on
--- lines, marks, forms and looks that fails
+-- the answer of the replay is true. Yes and NoRoom: the only lawful transcript with these steps is in the buffer, or is
+-- too long for the buffer. A clause: it is the first that fails among those on lines, marks, forms and looks
 abbrev pub IsRemade : List ℕ → List ℕ → List ℕ → List ℕ → ℕ → Answer → Type 0
 IsRemade script text old new made answer =
     IsTrueOf script text (IsMade old new made) StepsFail (IsLonger old made) answer
 
--- whether the text is at the start of the buffer now; if not, it is longer than the buffer, which is as it was
+-- if the flag is true, the buffer now begins with the text. If it is false, the text is longer than the buffer, and the
+-- buffer is unchanged
 abbrev pub IsPut : Bool → List ℕ → List ℕ → List ℕ → Type 0
 IsPut true text old new = new ≡ text ++ drop (length text) old
 IsPut false text old new = (new ≡ old) × (length old < length text)
 
--- no script was read, and this says why
+-- no script was read, and the answer is a true reason
 abbrev pub IsNoScript : List ℕ → Answer → Type 0
 IsNoScript script NoScript = (s : Script) → IsScript s script → ⊥
 IsNoScript script NoMemory = ⊤
@@ -80,7 +82,7 @@ IsNoScript script (Fails clause) = ⊥
 IsNoScript script TooLong = ⊥
 IsNoScript script NoRoom = ⊥
 
--- no transcript was read, and this says why
+-- no transcript was read, and the answer is a true reason
 abbrev pub IsNoTranscript : List ℕ → Answer → Type 0
 IsNoTranscript text NoTranscript = (t : List (List SeenLine)) → IsTranscriptText text t → ⊥
 IsNoTranscript text NoMemory = ⊤

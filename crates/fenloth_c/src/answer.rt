@@ -9,7 +9,7 @@ use judge_lines::clause::Clause;
 pub enum Answer {
     /// The transcript is lawful, or its lines were made again.
     Yes,
-    /// The text is no transcript's.
+    /// The text is not that of a transcript.
     NoTranscript,
     /// This clause is the first that fails.
     Fails(Clause),
@@ -24,7 +24,7 @@ pub enum Answer {
 }
 
 impl Answer {
-    /// The number that C sees: the one of `examples/clients/fenloth_texts.h`.
+    /// The number that C gets, which `examples/clients/fenloth_texts.h` lists.
     pub(crate) fn code(self) -> u32
         ensures { result ≡ code_of self }
     {

@@ -1,5 +1,5 @@
-//! The check and the replay of transcripts, as C functions over texts in the caller's memory: a static library. C calls
-//! them by `examples/clients/fenloth_texts.h`.
+//! A static library with the check and the replay of transcripts, as C functions over texts in the caller's memory.
+//! `examples/clients/fenloth_texts.h` declares the functions.
 //!
 //! # Example
 //!
@@ -15,17 +15,18 @@
 //!
 //! # Proved
 //!
-//! - [`fenloth_check`]: the result is the number of an [`answer::Answer`] that is true of the two texts. 0 means all that
-//!   `transcript_check` proves of a lawful transcript.
-//! - [`fenloth_replay`]: the same for the transcript made again. With 0 the buffer begins with its text; with 11 the
-//!   text is longer than the buffer. With any other result the buffer and `made` keep their values.
+//! - [`fenloth_check`]: the result is the number of an [`answer::Answer`] that is true of the two texts. If the result
+//!   is 0, all that `transcript_check` proves of a lawful transcript is true of this one.
+//! - [`fenloth_replay`]: the same for the transcript that is made again. If the result is 0, the buffer begins with the
+//!   text of this transcript; if it is 11, this text is longer than the buffer. After any other result the buffer and
+//!   `made` keep their values.
 //!
-//! Only "no memory" is always allowed.
+//! The answer "no memory" is allowed for any two texts. Every other answer must be true of the texts.
 //!
 //! # Tested only
 //!
-//! The calls from C and from Python, by `.ci/client_checks`. That C passes a pointer to as many bytes as it says is the
-//! caller's duty.
+//! The calls from C and from Python, by `.ci/client_checks`. The caller in C must pass a pointer to as many bytes as
+//! the length that it passes.
 #![tactic(auto)]
 
 ghost use Rattle.std.specs.Prelude.{◌≡◌, ◌≢◌};
@@ -42,9 +43,9 @@ use std::alloc::Global;
 
 /// Whether a transcript is lawful for a script.
 ///
-/// The result is the number of an [`answer::Answer`] that is true of the two texts: 0 if the transcript is lawful, 1 if
-/// the text is no transcript's, 2 to 7 for the first clause that fails, 8 if the script has a fault, 9 if memory ran
-/// out, 10 if the transcript has more than 2^31 bytes.
+/// The result is the number of an [`answer::Answer`] that is true of the two texts. It is 0 if the transcript is
+/// lawful, 1 if the text `transcript` spells no transcript, and 2 to 7 for the first clause that fails. It is 8 if the
+/// script has a fault, 9 if memory ran out, and 10 if the transcript has more than 2^31 bytes.
 #[unsafe(no_mangle)]
 pub extern "C" fn fenloth_check(alloc: Global, script: &[u8], transcript: &[u8]) -> u32
     ensures { (answer : Answered) × (result ≡ code_of answer) × IsChecked script.now transcript.now answer }
@@ -53,12 +54,12 @@ pub extern "C" fn fenloth_check(alloc: Global, script: &[u8], transcript: &[u8])
 }
 
 /// Makes the answers and data of a transcript again, from its words and steps alone. Writes the text of the resulting
-/// transcript to the start of `buffer`, and its number of bytes to `made`.
+/// transcript to the start of `buffer`, and the number of the text's bytes to `made`.
 ///
-/// The result is the number of an [`answer::Answer`] that is true of the two texts: 0 if the transcript was made, and
-/// 1 to 10 as for [`fenloth_check`], but never 5 and 6. It is 11 if the text is longer than the buffer; `made` is its
-/// number of bytes then too. The buffer keeps its bytes unless the result is 0, and `made` keeps its value unless the
-/// result is 0 or 11.
+/// The result is the number of an [`answer::Answer`] that is true of the two texts: 0 if the transcript was made, and 1
+/// to 10 as for [`fenloth_check`], but never 5 and 6. The result is 11 if the text is longer than the buffer. In this
+/// case too, `made` is the number of the text's bytes. The buffer keeps its bytes unless the result is 0, and `made`
+/// keeps its value unless the result is 0 or 11.
 #[unsafe(no_mangle)]
 pub extern "C" fn fenloth_replay(
     alloc: Global,

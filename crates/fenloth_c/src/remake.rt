@@ -33,7 +33,7 @@ fn put(text: &[u8], buffer: &mut [u8]) -> bool
     true
 }
 
-/// Makes the transcript with the same words and steps.
+/// Makes a transcript again, with the same words and steps.
 pub(crate) fn answer(
     alloc: Global,
     script: &[u8],

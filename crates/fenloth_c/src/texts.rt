@@ -12,7 +12,7 @@ use transcript_text::{TextError, Transcript};
 // The most bytes of a transcript.
 const MOST_BYTES: usize = 1 << 31;
 
-/// Reads a script. The error is the answer to give.
+/// Reads a script. The error is the answer that the C function gives.
 pub(crate) fn read_script(alloc: Global, text: &[u8]) -> Result<Script, Answer>
     ensures found { IfOk result (λ script. IsScript script text.now) }
     ensures unread { IfErr result (IsNoScript text.now) }
@@ -24,7 +24,7 @@ pub(crate) fn read_script(alloc: Global, text: &[u8]) -> Result<Script, Answer>
     }
 }
 
-/// Reads a transcript. The error is the answer to give.
+/// Reads a transcript. The error is the answer that the C function gives.
 pub(crate) fn read_transcript(alloc: Global, text: &[u8]) -> Result<Transcript, Answer>
     ensures found { IfOk result (λ lines. IsTranscriptText text.now lines) }
     ensures unread { IfErr result (IsNoTranscript text.now) }

@@ -1,5 +1,5 @@
--- If a call on a ready core runs to a point of its first attempt, or after a reseed to one of a second attempt, then
--- it stops there: it cannot end without coming to the point.
+-- If a call on a ready core is run to a point of its first attempt, it stops there: it cannot end without reaching the
+-- point. After a reseed, the same is true of each point of a second attempt.
 use Rattle.std.proofs.Common.{◌≡◌, ℕ, zero, suc, ◌<◌, ◌≤◌, false, List, [], ◌∷◌, ◌++◌, Some, None, refl, sym, subst, ap, ◌∙◌, arith}
 use Rattle.std.proofs.lemmas.Bool.{ne_eqb}
 use Rattle.key_names.specs.declared.names.Step.{Step}
@@ -39,7 +39,7 @@ in_first Written looked published found answer more = refl
 in_first Serve looked published found answer more = refl
 in_first End looked published found answer more = refl
 
--- a second attempt has each point after the point Serve of the first
+-- after the point Serve of the first attempt, a second attempt has each of its points
 in_second : (point : Point) (look published found : ℕ) (answer : SystemAnswer) (more : List HostStep) →
     ComesTo Second point 1 (at_point End false ∷ publishes look ∷ attempt_steps published answer found more)
 in_second Start look published found answer more = refl
@@ -108,7 +108,7 @@ module _ (law : ForksAreRecorded) (n : ℕ) (point : Point) (stop : Stop (IsCall
       (at_point End false ∷ publishes path.tried.found ∷ path.tried.more) stop.before misses.following misses.passes
       (path.looks ∙ ap (λ (l : List HostStep). publishes path.looked ∷ l) path.tried.steps_are)
 
-  -- at its start the first attempt found at most `mid`, as all looks before the stop did; at its end it finds at least
+  -- at its start the first attempt found at most `mid`, like each look before the stop; at its end it finds at least
   -- `next`
   known : path.tried.published ≤ mid
   known = (subst (Climbs low mid) parts.front before.climbs).1.1

@@ -257,7 +257,7 @@ module _ (turn : Turn) (point : Point) (n : ℕ) (p q w x : View) (left : Stage)
   abbrev half : View
   half = steps.child mid
 
-  -- the view of the child's pass after it took in the parent's
+  -- the view of the child's pass after this pass took in the parent's pass
   abbrev pub both : View
   both = both_of half over.parent_end
 

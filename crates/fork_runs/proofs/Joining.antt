@@ -33,7 +33,7 @@ one_of_them xs ys = go (nat_lt (length xs) (length ys))
     go true = inr refl
     go false = inl refl
 
--- if both views have seen the generation `low` as published, the joined view has seen it too
+-- if both views have seen a published generation of at least `low`, so has the joined view
 pub joined_floor : (low : ℕ) (v w : View) → length v.lanes ≡ length w.lanes → low ≤ published_by (floor v) →
     low ≤ published_by (floor w) → low ≤ published_by (floor (both_of v w))
 joined_floor low v w long first second =

@@ -56,8 +56,7 @@ reads_both cpus (system_call n flags answer ∷ xs) ys a b = (a.0, reads_both cp
 reads_both cpus (at_point point wiped ∷ xs) ys a b = reads_both cpus xs ys a b
 
 module _ (lists : Lists) (caller k : ℕ) where
-  -- if the part before a point is good after its first look, and the part after the point is good, the whole is good
-  -- after its first look
+  -- if `GoodAfter` holds of the steps before a point, and `Good` of those after it, `GoodAfter` holds of them all
   pub good_parts : (before after : List HostStep) (point : Point) (wiped : Bool) → GoodAfter lists caller k before →
       Good lists after → GoodAfter lists caller k (before ++ at_point point wiped ∷ after)
   good_parts [] after point wiped good rest g steps is some = cc
@@ -86,7 +85,7 @@ module _ (lanes : ℕ) (visits : ℕ → List Visit) (callers : StateLists) wher
     rises = subst (λ (l : List ℕ). Risen (floor v) l (floor w)) (sym (same_looks book did.made_steps))
         (sees_risen w (floor v) (floor w) did.made_steps did.recorded.went.sees)
 
-    -- the steps are good if the core was found ready before
+    -- `Good` holds of the steps if the core was found ready before
     pub good_here : 1 ≤ floor v → Good book steps
     good_here some =
         let g = published_by (floor v) in
@@ -94,7 +93,7 @@ module _ (lanes : ℕ) (visits : ℕ → List Visit) (callers : StateLists) wher
         (never_fall (floor v) (floor v ∷ looks_of effects) (floor w) (omega arith, rises))
         (floor v, effects, refl, (refl, shows)) g steps refl (publishes_some (floor v) some)
 
-    -- the steps are good if the call's own first look found the core ready
+    -- `GoodAfter` holds of the steps: they are good if the call's own first look found the core ready
     pub good_first : (caller k : ℕ) → GoodAfter book caller k steps
     good_first caller k = good_after book (setting_of set) steps effects there
         (never_fall (floor v) (looks_of effects) (floor w) rises) shows

@@ -1,5 +1,5 @@
--- Take a call without flags whose state is never wiped, and whose system calls do not fail. The call reaches each point
--- of an attempt that finds another generation than the state's.
+-- Take a call without flags whose state is never wiped, and whose system calls do not fail. If an attempt finds a
+-- generation other than the state's, the call reaches each point of this attempt.
 use Rattle.std.proofs.Common.{◌≡◌, ℕ, ◌<◌, ◌≤◌, Bool, true, false, List, [], ◌∷◌, ◌++◌, refl, subst, ap, ◌∙◌, arith, eqb-true}
 use Rattle.std.specs.Bool.{⊤}
 use Rattle.std.proofs.lemmas.Bool.{ne_eqb}
@@ -111,7 +111,7 @@ keying n c (read key visit) s steps attempt ok k smooth =
     }
 keying n c (failed errno) s steps attempt ok k smooth = absurd ok
 
--- the steps of an attempt that takes a new key, and those after it
+-- the steps of an attempt that takes a new key, and the steps `more` after the attempt
 abbrev pub attempt_steps : ℕ → SystemAnswer → ℕ → List HostStep → List HostStep
 attempt_steps published answer found more =
     publishes published ∷ at_point Start false ∷ at_point Written false ∷ system_call 32 0 answer

@@ -29,14 +29,14 @@ use Rattle.fork_runs.specs.Runs.{DidAll, ReachedStop}
 use Rattle.fork_runs.proofs.Joining.{floor_child, joined_floor}
 use Rattle.fork_runs.proofs.TwoStops.{stop_then}
 
--- a caller that has seen a generation as published has still seen it so after a call
+-- if a caller has seen a generation as published, the same is true after a call
 pub known_on : {P : List Effect → Type 0} (set : Setting) (left : Stage) (v w : View) (own : List Step) →
     published_or 0 left ≤ published_by (floor v) → DidAll P set v own w →
     published_or 0 left ≤ published_by (floor w)
 known_on set left v w own low did =
     let a = published_more (floor v) (floor w) (did_floor set (knowing v []) (knowing w own) did) in omega arith
 
--- after a fork both passes have seen as published each generation that the caller had seen as published before it
+-- if a caller has seen a generation as published before a fork, both passes have seen it as published after the fork
 pub parent_known : (stage : Stage) (v before w : View) → published_or 0 stage ≤ published_by (floor v) →
     floor v ≤ floor before → w ≡ halved before → published_or 0 stage ≤ published_by (floor w)
 parent_known stage v before w low up is =

@@ -246,7 +246,7 @@ readied set p q lanes first new three wide ends did =
     (subst (λ (z : Setting). (own : List Step)
     × DidAll (IsOutcomeOf (setting_of z) (Add (range_with_len 0 32) 256) Done no_data) z p own q) first did))
 
--- a load that changes nothing does not change the held lanes
+-- if the pass `p` holds no lane, and `p'` is the same pass, then `p'` holds no lane
 pub has_settled : (t : Lanes) (caller : ℕ) (p p' : Pass) → HoldsLanes t caller [] p → IsSamePass t p p' →
     p'.seat.me ≡ p.seat.me → HoldsLanes t caller [] p'
 has_settled t caller p p' k same is = record {

@@ -1,4 +1,4 @@
--- On a core that was seen to be ready, each system call reads its bytes, and a call that goes on ends with bytes.
+-- On a core that was seen to be ready, each system call reads its bytes, and the rest of a stopped call gives bytes.
 use Rattle.std.proofs.Common.{◌≡◌, ℕ, ◌≤◌, true, false, List, [], ◌∷◌, refl, sym, subst, arith}
 use Rattle.key_names.specs.Kernel.Flags.{is_bad}
 use Rattle.key_names.specs.Kernel.Vgetrandom.{HostStep, publishes, system_call, at_point}

@@ -1,4 +1,4 @@
--- In a part of a call, the steps of a host over the lanes are steps of the caller itself.
+-- In a part of a call whose host is a caller over the lanes, the host's steps are the caller's own steps.
 use Rattle.std.proofs.Common.{◌≡◌, ℕ, ◌<◌, ◌≤◌, arith, Bool, true, false, List, [], ◌∷◌, length, refl, ap, ◌∙◌, subst}
 use Rattle.std.specs.Prelude.{◌&&◌, Result}
 use Rattle.key_names.specs.declared.errno.Errno.{Errno}
@@ -43,7 +43,7 @@ never_both : (b : Bool) → (b && false) ≡ false
 never_both true = refl
 never_both false = refl
 
--- without acts no point wipes the state
+-- if a call has no acts, none of its points wipes the state
 unwiped : (steps : List HostStep) (s t : ActConform) → s.asks ≡ [] → DoesAll acting s steps t → AreUnwiped steps
 unwiped [] s t none does = tt
 unwiped (publishes g ∷ steps) s t none does = unwiped steps does.0 t (does.1.acts.asks ∙ none) does.2

@@ -1,5 +1,5 @@
--- A stop in the second attempt, after one in the first, is a stop of the whole call. After a fork at a stop, the
--- parent's call is one whose state was not wiped there, and the child's call is one whose state was wiped there.
+-- A stop in the second attempt, after a stop in the first, is a stop of the whole call. If a call forks at a stop, the
+-- state was not wiped there in the parent's call, and was wiped there in the child's call.
 use Rattle.std.proofs.Common.{◌≡◌, ℕ, false, true, List, [], ◌∷◌, ◌++◌, refl, sym, subst, append_assoc}
 use Rattle.std.specs.List.{AllByRecursion}
 use Rattle.key_names.specs.declared.entries.VEntry.{VEntry}

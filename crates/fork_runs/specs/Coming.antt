@@ -1,4 +1,4 @@
--- How far a call comes on a ready core: to each point of its first attempt, to each point of a second attempt if a
+-- How far a call gets on a ready core: to each point of its first attempt, to each point of a second attempt if a
 -- higher generation is published meanwhile, and to an end with bytes.
 use Rattle.std.specs.Prelude.{ℕ, ◌≡◌, ◌<◌, ◌≤◌, ⊤, false, None, List}
 use Rattle.key_names.specs.declared.point.Point.{Point}
@@ -46,7 +46,7 @@ IsGiven no_bytes = ⊥
 IsGiven (by_batch bytes) = ⊤
 IsGiven (by_system answer) = IsRead answer
 
--- from any place, the rest of a call with good flags gives bytes, if each system call reads its bytes
+-- if each system call reads its bytes, the rest of a call with good flags gives bytes, from any place on
 abbrev pub EndsGiveBytes : Type 0
 EndsGiveBytes = (n flags : ℕ) (place : Place) (out : List ℕ) (s : VgetrandomState) (steps : List HostStep)
     (outcome : Outcome) → is_bad flags ≡ false → AreServed steps → AfterPlace n flags place out s steps outcome →

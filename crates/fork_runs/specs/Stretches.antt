@@ -34,7 +34,7 @@ IsServed (at_point point wiped) = ⊤
 abbrev pub AreServed : List HostStep → Type 0
 AreServed steps = AllByRecursion IsServed steps
 
--- a call for `n` bytes came to a point of an attempt: the steps before the point, and the call's buffer and state
+-- a call for `n` bytes reached a point of an attempt: the steps before the point, and the call's buffer and state
 -- there. `From` relates the call's steps, before the point and after it, to the call's outcome
 pub record Stop (From : List HostStep → Outcome → Type 0) (n flags : ℕ) (turn : Turn) (point : Point) : Type 0 where
   pub place : Place
@@ -49,8 +49,8 @@ pub record Stop (From : List HostStep → Outcome → Type 0) (n flags : ℕ) (t
   pub leads : (rest : List HostStep) (outcome : Outcome) → AtPlace n flags place held state rest outcome →
       From (before ++ rest) (prefix_outcome entries outcome)
 
--- from `l` to `m` a caller ran a call to a stop; the call's stage, buffer and state went from `stage`, `held` and `s`
--- to `left`, `out` and `t`
+-- from `l` to `m` a caller ran a call to a stop; the call's stage, buffer and state changed from `stage`, `held` and
+-- `s` to `left`, `out` and `t`
 pub record StoppedOver (set : Setting) (n flags : ℕ) (stage : Stage) (held : List ℕ) (s : VgetrandomState)
     (turn : Turn) (point : Point) (left : Stage) (out : List ℕ) (t : VgetrandomState) (l m : Moment) : Type 0 where
   pub stop : Stop (RestOfCall stage n flags held s) n flags turn point

@@ -54,8 +54,8 @@ abbrev pub CallsUpTo : Lists → ℕ → Turn → Point → List HostStep → Li
 CallsUpTo lists n First point before calls = (own : List Step) × (calls ≡ own ∷ []) × IsShown lists 0 before own
 CallsUpTo lists n Second point before calls = CallsUpToSecond lists n point before calls
 
--- one end of the call: from the stop on, with this buffer and this state, a caller ran the call to its end by the
--- caller's own steps, and the call gave these bytes
+-- one end of the call: with this buffer and this state, a caller ran the call from the stop to its end. The steps are
+-- the caller's own, and the call gave these bytes
 pub record IsEnd (lists : Lists) (caller n : ℕ) (place : Place) (held : List ℕ) (s : VgetrandomState) (out : List ℕ)
     : Type 0 where
   pub steps : List HostStep
@@ -66,7 +66,7 @@ pub record IsEnd (lists : Lists) (caller n : ℕ) (place : Place) (held : List �
   pub own : List Step
   pub shown : IsShown lists caller steps own
 
--- the entries of a call in the list of a caller's first state, with no call before it
+-- the entries that a caller's first call left in the list of the caller's state 0
 abbrev pub call_entries : ℕ → List VEntry → StateEntries
 call_entries caller entries = record { caller = caller; state = 0; from = 0; count = length entries }
 
@@ -90,10 +90,10 @@ marks_of caller calls = flat_map (marks_from caller 0 0) calls
 abbrev pub stamps_of : List MarkBy → List ℕ
 stamps_of marks = map (λ by. by.mark.stamp) marks
 
--- a book of one CPU, lawful and disjoint, has exactly the visits of these calls: one `add`, which makes the core
--- ready; the parent's vgetrandom call up to its stop, with a reseed for a second attempt; the fork; the rest of the
--- parent's call; and the child's. The book's states are the parent's and the child's. The parent's and the child's
--- bytes are those with which their calls end. They are bytes of named spans, and no byte of a key is in both
+-- a book of one CPU, lawful and disjoint, has exactly the visits of these calls: one `add`, which makes the core ready;
+-- the parent's vgetrandom call up to its stop, with a reseed for a second attempt; the fork; the rest of the parent's
+-- call; and the rest of the child's call. The book's states are the parent's and the child's. The bytes of the parent
+-- and of the child are those with which their calls end. They are bytes of named spans, and no byte of a key is in both
 pub record AreForkedBytes (turn : Turn) (point : Point) (n : ℕ) (parent child : List ℕ) : Type 0 where
   pub book : Book
   pub cpus : length book.cpus ≡ 1
@@ -113,7 +113,7 @@ pub record AreForkedBytes (turn : Turn) (point : Point) (n : ℕ) (parent child 
   -- the two parts of the parent's call are one call, whose state was not wiped at the point
   pub parent_call : IsCall n 0 wiped_state (stop.before ++ at_point point false ∷ parent_end.steps)
       (prefix_outcome stop.entries parent_end.outcome)
-  -- the child's call is one whose state was wiped at the point, with the parent's steps before the point
+  -- the child's call has the parent's steps before the point, and its state was wiped at the point
   pub child_call : IsCall n 0 wiped_state (stop.before ++ at_point point true ∷ child_end.steps)
       (prefix_outcome stop.entries (prefix_outcome (Wipe ∷ []) child_end.outcome))
   -- if the batch of the child's state gives the bytes, the child read a key after the fork, in the attempt that gave
@@ -128,7 +128,7 @@ pub record AreForkedBytes (turn : Turn) (point : Point) (n : ℕ) (parent child 
   pub apart : Disjoint (origins_uses (lists_of book) (parent_line.origins ++ child_line.origins))
   pub visits : VisitsAre book (marks_of 0 (added ∷ calls ++ forked ∷ []) ++ marks_of 0 (parent_end.own ∷ [])
       ++ marks_of 1 (child_end.own ∷ []))
-  -- the stamps climb: to the fork, then to the end of the parent's call, and then to the end of the child's
+  -- the stamps climb: to the fork, then to the end of the parent's call, and then to the end of the child's call
   pub at_fork : ℕ
   pub parents_last : ℕ
   pub childs_last : ℕ

@@ -18,7 +18,7 @@ pub fn second_attempt_comes()
     forks_are_recorded();
 }
 
-/// The rest of a stopped call ends with bytes if its flags are good and each system call reads.
+/// The rest of a stopped call ends with bytes if its flags are good and each system call reads its bytes.
 pub fn ends_give_bytes()
     ensures { EndsGiveBytes }
 {}

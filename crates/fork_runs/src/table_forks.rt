@@ -52,8 +52,8 @@ fn make_ready<R: Wait>(rt: &R, lanes: &Lanes, pass: &mut Pass, set: Setting)
     lanes.settle(pass);
 }
 
-// Reseeds the core, which the caller has seen to be ready. This raises the generation above each one that the caller
-// had seen.
+// Reseeds the core, which the caller has seen to be ready. This raises the generation above each generation that the
+// caller had seen.
 fn reseed_once<R: Wait>(rt: &R, caller: &TableCaller, pass: &mut Pass)
     requires has { HoldsLanes caller.now.lanes.now caller.now.set.caller [] pass.old }
     requires moment { caller.now.set.now < 2 ^ 40 }
@@ -109,8 +109,8 @@ fn reach_first<R: Wait>(
     }
 }
 
-// Runs a new call to a stop in its second attempt. For that the call first stops at the point Serve of its first
-// attempt, and the core is reseeded there.
+// Runs a new call to a stop in its second attempt. The call first stops at the point Serve of its first attempt, and
+// the core is reseeded there.
 fn reach_second<R: Wait>(
     rt: &R,
     caller: &TableCaller,

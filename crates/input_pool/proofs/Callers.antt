@@ -1,4 +1,4 @@
--- For callers: a mix, or a mix and a credit after it, changes the pool as one entry of the pool's list does.
+-- For callers of the crate: a mix, or a mix followed by a credit, changes the pool like one entry of the pool's list.
 use Rattle.std.proofs.Common.{◌≡◌, ◌≢◌, ℕ, ◌<◌, ◌≤◌, List, ◌++◌, arith, append_assoc, refl, ◌∙◌, w32, w64}
 use Rattle.std.proofs.lemmas.Bool.{lt-ltb, le-ltb, ne_eqb}
 use Rattle.std.specs.Int.{to_le_bytes}
@@ -21,11 +21,11 @@ credit-none bits capped = omega arith
 pub credit-after_none : (bits more : ℕ) → credit (credit bits 0) more ≡ credit bits more
 credit-after_none bits more = omega arith
 
--- two mixes are one mix of the joined texts
+-- two mixes in sequence equal one mix of the joined texts
 pub mixed-mixed : (s : PoolState) (front rest : List ℕ) → mixed (mixed s front) rest ≡ mixed s (front ++ rest)
 mixed-mixed s front rest = rw (append_assoc s.text front rest, credit-after_none s.bits 0) refl
 
--- a mix and then a credit change the pool as one Mix entry does
+-- a mix and then a credit change the pool like one Mix entry
 pub PoolConforms-mix : (pool : PoolParts) (s : PoolState) (text : List ℕ) (bits : ℕ)
     → PoolConforms pool (mixed_and_credited s text bits) → PoolConforms pool (pool_step s (Mix text bits))
 PoolConforms-mix pool s text bits conforms = record {

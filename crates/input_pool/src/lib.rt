@@ -20,10 +20,11 @@
 //!
 //! # Proved
 //!
-//! - [`Pool::mix`], [`Pool::credit`] and [`Pool::extract`]: if the pool matched a state of the pool's list before, it
-//!   matches the state after the call's entry.
-//! - [`Pool::credit`]: the result is the bound that the bits crossed, and [`Crossing::Ready`] if they crossed both.
-//! - [`Pool::extract`]: the root is the defined one of that state and these hardware bytes.
+//! - [`Pool::mix`], [`Pool::credit`] and [`Pool::extract`]: if the pool matched a state of the pool's list before the
+//!   call, it matches the state after the call's entry.
+//! - [`Pool::credit`]: the result is the threshold that the bits crossed, and [`Crossing::Ready`] if they crossed both
+//!   thresholds.
+//! - [`Pool::extract`]: the root is the one that the definitions give for that state and these hardware bytes.
 //!
 //! # Tested only
 //!
@@ -32,7 +33,7 @@
 //!
 //! # Differs from the kernel
 //!
-//! - A credit only returns the bound that it crossed. In the kernel it also makes the core early or ready.
+//! - A credit only returns the threshold that it crossed. In the kernel it also makes the core early or ready.
 //! - An extraction gets 32 hardware bytes from its caller. The kernel asks for them word by word, and takes the cycle
 //!   counter for a refused word.
 #![tactic(auto)]

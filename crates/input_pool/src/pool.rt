@@ -30,7 +30,7 @@ pub enum Crossing {
 /// The kernel's `input_pool`: a BLAKE2s hash that every sample is mixed into, and the credited bits, 0 to 256.
 ///
 /// In contracts a pool is a `PoolParts` of specs/. `PoolConforms pool s` means that the hash and the bits match a state
-/// `s` of the pool's list. The clause of a call holds for each state that the pool matched before the call.
+/// `s` of the pool's list. The contract of each call is true for every state that the pool matched before the call.
 #[derive(Drop)]
 pub struct Pool {
     hash: Blake2s,
@@ -48,7 +48,7 @@ impl Model for Pool {
     ghost invariant = { λ p. p.bits ≤ 256 };
 }
 
-// The hash, under the seed, of the hardware's bytes and then a counter.
+// The hash, keyed with the seed, of the hardware's bytes followed by a counter.
 fn counted(seed: &[u8; 32], hw: &[u8; 32], counter: u64) -> [u8; 32]
     ensures { result ≡ blake2s (Some seed.now) (seed_block hw.now counter) }
 {
@@ -104,8 +104,8 @@ impl Pool {
     }
 
     /// Returns a root of 32 bytes, and starts a hash of no bytes under the next key (`extract_entropy`). The hash of
-    /// the pool so far is the seed. The next key is the hash, under the seed, of the hardware's bytes and a counter of
-    /// 0. The root is the hash, under the seed, of the same bytes and a counter of 1. The credited bits stay.
+    /// the pool so far is the seed. The next key is the hash, keyed with the seed, of the hardware's bytes and a
+    /// counter of 0. The root is the same hash with a counter of 1. The credited bits do not change.
     pub fn extract(&mut self, hw: &[u8; 32]) -> [u8; 32]
         ensures root { (s : PoolState) → PoolConforms self.old s → result ≡ root_of_extraction s hw.now }
         ensures rekeyed { (s : PoolState) (place : ℕ) → PoolConforms self.old s

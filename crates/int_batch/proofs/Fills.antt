@@ -1,4 +1,5 @@
--- For callers: a batch that is filled from a key, and then serves integer by integer, matches the CPU's list.
+-- For callers of the crate: a batch that is filled from a key, and then serves integer by integer, matches the CPU's
+-- list.
 use Rattle.std.proofs.Common.{◌≡◌, ℕ, suc, ◌+◌, ◌-◌, ◌*◌, ◌/◌, ◌<◌, ◌≤◌, Bool, None, List, ◌++◌, refl, ap, sym, ◌∙◌, arith, length, take, drop, replicate, length-append, length-drop, drop-drop}
 use Rattle.std.specs.Prelude.{◌==◌, not, ◌||◌, slice_range}
 use Rattle.std.proofs.lemmas.Bool.{le-leb}
@@ -8,7 +9,7 @@ use Rattle.key_names.specs.Kernel.Batches.{Fill, must_fill, batched_int, with_ze
 use Rattle.key_names.proofs.Standards.Keystreams.{length-keystream, slice_range-keystream}
 use Rattle.int_batch.specs.BatchValue.{BatchValue, start, wants, filled, next_bytes, after_serving, IsBatchOf}
 
--- a batch at its start has to be filled if and only if a width without a fill has to be
+-- a new batch has to be filled if and only if the definition requires a fill for a width that has had none
 pub wants-start : (look width : ℕ) → wants look width (start width) ≡ must_fill look width None
 wants-start look width = ap (λ (b : Bool). b || not (look == 0)) (le-leb (96 / width) (96 / width) (omega arith))
 
@@ -26,7 +27,7 @@ IsBatchOf-filled width key fill none = record {
 room : (width position : ℕ) → position < 96 / width → width * position + width ≤ 96
 room width position below = grind arith
 
--- the batch serves the integer that the definition of the CPU's list gives
+-- if the batch matches a fill and is not used up, its next bytes are the integer that `batched_int` gives for this fill
 pub next_bytes-batched_int : (width : ℕ) (key : List ℕ) (fill : Fill) (b : BatchValue) → IsBatchOf width key fill b →
     fill.count < 96 / width → next_bytes width b ≡ batched_int key width fill.count
 next_bytes-batched_int width key fill b is below =

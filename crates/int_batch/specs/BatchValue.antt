@@ -42,7 +42,8 @@ after_serving width b = record b {
 abbrev pub Serves : ℕ → BatchValue → List ℕ → BatchValue → Type 0
 Serves width b entry after = (entry ≡ next_bytes width b) × (after ≡ after_serving width b)
 
--- the batch serves this integer at generation g. If it has to be filled, it serves from bytes that Fills allows
+-- the batch serves this integer at generation g. If the batch has to be filled first, the new bytes are some that
+-- `Fills` allows
 abbrev pub ServesAt : ℕ → ℕ → (List ℕ → Type 0) → BatchValue → List ℕ → BatchValue → Type 0
 ServesAt width g Fills b entry after =
     MatchBool (wants g width b) ((bytes : List ℕ) × Fills bytes × Serves width (filled bytes g) entry after)

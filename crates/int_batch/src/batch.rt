@@ -43,8 +43,8 @@ impl<const W: usize> Batch<W> {
         }
     }
 
-    /// Whether the batch has to be filled before it serves an integer at generation `g`: it is used up, or is of
-    /// another generation.
+    /// Whether the batch has to be filled before it serves an integer at generation `g`: it is used up, or has another
+    /// generation.
     pub fn wants(&self, g: u64) -> bool
         ensures { result ≡ wants g W self.now }
     {
@@ -90,7 +90,7 @@ impl<const W: usize> Batch<W> {
         self.serve()
     }
 
-    /// Empties the batch, as when its CPU is prepared (`random_prepare_cpu`): the batch is again as at the start. The
+    /// Empties the batch, as when its CPU is prepared (`random_prepare_cpu`): afterwards it equals a new batch. The
     /// kernel only marks the bytes as used up, and leaves them.
     pub fn drop_rest(&mut self)
         ensures { self.new ≡ start W }

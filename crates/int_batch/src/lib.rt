@@ -1,5 +1,5 @@
-//! Batched integers: 96 bytes of a key's stream, served as integers of one width, as `get_random_u8` to
-//! `get_random_u64` of drivers/char/random.c do (`DEFINE_BATCHED_ENTROPY`). The caller supplies the 96 bytes. The crate
+//! Batched integers: 96 bytes of a key's stream, served as integers of one width. `get_random_u8` to `get_random_u64`
+//! of drivers/char/random.c work in this way (`DEFINE_BATCHED_ENTROPY`). The caller supplies the 96 bytes. The crate
 //! uses the definitions of `key_names` alone.
 //!
 //! # Example
@@ -19,11 +19,11 @@
 //!
 //! # Proved
 //!
-//! - [`Batch::next`]: a batch is filled exactly if it is used up or of another generation. Each integer is the next
-//!   bytes of the fill.
-//! - [`Batch::wants`], [`Batch::refill`] and [`Batch::serve`] are the same in three calls.
+//! - [`Batch::next`]: a batch is filled exactly if it is used up or has another generation. Each integer consists of
+//!   the next bytes of the fill.
+//! - [`Batch::wants`], [`Batch::refill`] and [`Batch::serve`] together do the same in three calls.
 //! - [`Batch::serve`]: the bytes of a served integer become 0.
-//! - [`Batch::drop_rest`]: the batch is as at the start.
+//! - [`Batch::drop_rest`]: the batch equals a new one ([`Batch::start`]).
 //!
 //! # Tested only
 //!

@@ -15,16 +15,17 @@ Appends-next a b c text rest n m first is next =
     ap (λ l. take n text ++ take m l) is ∙ sym (take-add n m text) in
     subst (Appends a c) joined (Appends-trans a b c (take n text) (take m rest) first next)
 
--- appending a whole text appends a prefix of it
+-- if a whole text was appended, a prefix of the text was appended
 pub AppendsPrefix-of_whole : (a b : Option (List ℕ)) (xs : List ℕ) → Appends a b xs → AppendsPrefix a b xs
 AppendsPrefix-of_whole a b xs h = (length xs, le_refl (length xs), subst (Appends a b) (sym (take-length xs)) h)
 
--- if a call that took nothing follows, the bytes taken in all are those taken before the call
+-- if at most `most` bytes were taken, and then a call took nothing, at most `most` bytes were taken in all
 pub ConsumesUpTo_kept : (most : ℕ) (a b c : Option (List ℕ)) (bs : List ℕ)
     → Consumes a b bs → Keeps b c → length bs ≤ most → ConsumesUpTo most a c
 ConsumesUpTo_kept most a b c bs first second few = (bs, few, Consumes-kept a b c bs first second)
 
--- two pieces that were taken one after another make a prefix of the bytes that were left before the first was taken
+-- if `bs` and then `cs` were taken, and both together have at most `most` bytes, then a prefix of at most `most` bytes
+-- was taken
 pub ConsumesUpTo_more : (most : ℕ) (a b c : Option (List ℕ)) (bs cs : List ℕ)
     → Consumes a b bs → Consumes b c cs → length bs + length cs ≤ most → ConsumesUpTo most a c
 ConsumesUpTo_more most a b c bs cs first second few =

@@ -1,4 +1,4 @@
--- How far a text was put, or an input taken, before a call failed.
+-- How much of a text was put, or how much of an input was taken, before a call failed.
 use Rattle.std.specs.Prelude.{ℕ, ◌≤◌, List, Option, length, take}
 use Rattle.std.specs.Io.KnownBytes.{Appends, Consumes}
 

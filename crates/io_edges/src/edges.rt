@@ -17,8 +17,8 @@ pub trait Source {
     ghost faults: { Self → ℕ };
 
     /// Takes bytes from the front of the input into the front of `buf`, and returns how many. If it returns 0 for a
-    /// buffer that is not empty, the input is at its end. The rest of `buf` is unspecified, and so is all of `buf`
-    /// after a failure.
+    /// buffer that is not empty, the input is at its end. The other bytes of `buf` are unspecified. After a failure all
+    /// bytes of `buf` are unspecified.
     ///
     /// # Errors
     ///

@@ -5,7 +5,7 @@ use crate::{Failed, Sink, Source};
 use std::marker::Model;
 
 /// A source over bytes in memory that never fails. Contracts can refer to the bytes that are left. A program that calls
-/// a run as a function can pass this source: the clauses of `run` then exclude a fault.
+/// the function `run` of `rng_tool` can pass this source. Then the clauses of `run` exclude a fault.
 #[derive(Drop)]
 pub struct NoFaultSource {
     bytes: Vec<u8>,

@@ -1,8 +1,8 @@
-//! Input and output: bytes in, bytes out, and how often either failed. The crate uses only std.
+//! Input and output: bytes in, bytes out, and counts of failures. The crate uses only std.
 //!
 //! The layers above take a [`Source`] and a [`Sink`] as type parameters. So one contract covers the standard streams,
-//! buffers in memory, and a test's planned failures. Each event of a caller comes after a call of a [`Gate`], with
-//! which a test can hold the caller back.
+//! buffers in memory, and a test's planned failures. A [`Gate`] is called before each event of a caller; in a test, a
+//! gate can hold the caller back.
 //!
 //! # Example
 //!
@@ -22,7 +22,8 @@
 //! - [`Sink`]: a sink holds exactly the bytes put into it. [`put_all`] puts a whole piece, or a prefix if the sink
 //!   counted a fault.
 //! - Every call reports a fault only if its source or sink counted one.
-//! - [`MemSource`] and [`MemSink`] fail exactly at the listed takes and puts, and a put also if its bytes find no room.
+//! - [`MemSource`] and [`MemSink`] fail exactly at the listed takes and puts; a put also fails if it has bytes and no
+//!   room is left.
 //!
 //! Whether the standard streams are real files is outside the contracts.
 //!

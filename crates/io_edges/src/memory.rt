@@ -49,8 +49,8 @@ impl Calls {
 
 /// A source over bytes in memory that gives at most `step` bytes a call.
 ///
-/// Calls are numbered from 1 up to `u64::MAX`, which all later calls share. A call fails if and only if its number
-/// is listed.
+/// Calls are numbered from 1. From call number `u64::MAX` on, all calls have this number. A call fails if and only if
+/// its number is listed.
 #[derive(Drop)]
 pub struct MemSource {
     bytes: Vec<u8>,
@@ -77,7 +77,7 @@ impl Model for MemSource {
 }
 
 impl MemSource {
-    /// A source with these bytes left that gives at most `step` bytes a call. Its calls start at number 1.
+    /// A source that has these bytes left, and gives at most `step` bytes a call. Its calls start at number 1.
     pub fn of(bytes: Vec<u8>, step: usize, fails: Vec<u64>) -> MemSource
         requires { 0 < step }
         ensures { result ≡ record { left = bytes.items; step = step; fails = fails.items; calls = 0; faults = 0 } }
@@ -124,8 +124,8 @@ impl Source for MemSource {
 
 /// A sink in memory that takes at most `step` bytes a put. It buffers no bytes.
 ///
-/// Puts are numbered from 1 up to `u64::MAX`, which all later puts share. A put fails if and only if its number is
-/// listed, or if it has bytes to put and no room is left. Either all flushes fail or none.
+/// Puts are numbered from 1. From put number `u64::MAX` on, all puts have this number. A put fails if and only if its
+/// number is listed, or if it has bytes to put and no room is left. Either all flushes fail or none.
 #[derive(Drop)]
 pub struct MemSink {
     bytes: Vec<u8>,

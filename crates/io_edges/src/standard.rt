@@ -59,9 +59,9 @@ impl<I: Read + Drop> Source for StdSource<I> {
     }
 }
 
-/// A writer as a sink. The sink exposes its bytes if the writer does; standard output exposes none. The writer's buffer
-/// gathers the puts, and a put as long as the buffer bypasses it. The bytes that the sink holds end with the buffered
-/// bytes.
+/// A writer as a sink. The sink exposes its bytes if the writer does; standard output exposes none. The writer buffers
+/// the pieces that are put, but a piece as long as the buffer bypasses the buffer. The bytes that the sink holds end
+/// with the buffered bytes.
 #[derive(Drop)]
 pub struct StdSink<O: Write + Drop> {
     writer: BufWriter<O>,

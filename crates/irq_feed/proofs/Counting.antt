@@ -86,7 +86,8 @@ none_after x xs f e = ⊎_elim
     (λ (t : (x.feeder == f ≡ false) × (x.feeder ≢ f)). sym (of_else x xs f t.1) ∙ e)
     (eqb_tells x.feeder f)
 
--- if all samples are of feeders below `n`, their number is the sum over these feeders
+-- if all samples of a list are of feeders below `n`, the list's length is the sum of these feeders' numbers of samples
+-- in the list
 pub counted : (n : ℕ) (xs : List Sample) → ((f : ℕ) → n ≤ f → of_feeder f xs ≡ [])
     → length xs ≡ sum_below n (λ f. length (of_feeder f xs))
 counted n [] none = sym (sum_none n)

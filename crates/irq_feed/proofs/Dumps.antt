@@ -53,7 +53,7 @@ none_dumped = record {
   bits = refl;
 }
 
--- the number of samples gives the number of dumps
+-- the number of dumps is the number of samples divided by 1,024, rounded down
 pub dumps_are : (samples : List Sample) (cpu : List CpuEntry) (pool : List PoolEntry) (d : Dumped samples cpu pool) →
     length samples / 1024 ≡ d.q
 dumps_are samples cpu pool d = ap (λ n. n / 1024) d.many ∙ div-mul-add d.q 1024 d.r d.low

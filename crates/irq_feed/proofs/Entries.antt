@@ -72,8 +72,8 @@ parts_count i (x ∷ xs) ys c =
     let same : suc i + length xs ≡ i + suc (length xs) = omega arith in
     ((c.0, rest.0), subst (λ k. CountUp k ys) same rest.1)
 
--- there are as many marks `ms` as pairs `xs`; if the marks' places count up from `i`, the list has the entries of `xs`
--- there
+-- there are as many marks `ms` as pairs `xs`. If the marks' places count up from `i`, so do the places of the pairs,
+-- and the list has the pairs' entries there
 pub record Seen {E : Type 0} (es : List E) (ms : List Mark) (xs : List (ℕ × E)) : Type 0 where
   pub counts : (i : ℕ) → CountUp i ms → Counts es i xs
   pub many : length ms ≡ length xs

@@ -490,7 +490,7 @@ module _ (xs : List Sample) (v w : View) (m : Mixes (first_setting 0) 0 xs v w) 
         (let l = left.pool_len in let k = pool_long in omega arith) in
         subst (λ (t : List CpuEntry × List PoolEntry). Dumped xs t.0 t.1) (λ i. (cpu i, pool i)) left.dumped
 
--- the sums are those of the book
+-- if all samples were mixed on a new table, and the sums are computed from the number of samples, `IsFed` holds
 pub is_fed : (first feeders each : ℕ) (feeds : Numbers) (worker : FeedPass) (mixed : Mixed) (sums : FeedSums) (v w : View) →
     feeds ≡ numbers first feeders each → AllMixed feeds worker mixed → Mixes (first_setting 0) 0 (mixed_in mixed) v w →
     v ≡ start → Ended 3 w → sums.samples ≡ length (mixed_in mixed) → sums.dumps ≡ length (mixed_in mixed) / 1024 →

@@ -56,13 +56,15 @@ mixes_then set event (x ∷ xs) ys v u w before after = (
       subst (λ n. Mixes set n ys u w) e after),
 )
 
--- interrupts of `xs`, and then of `ys`, are interrupts of both lists, with all events numbered from 0
+-- if interrupts of `xs` are followed by interrupts of `ys`, together they are interrupts of `xs ++ ys`, in events
+-- numbered from 0
 pub mixes_on : (set : Called) (xs ys zs : List Sample) (v u w : View) → zs ≡ xs ++ ys → Mixes set (length xs) ys u w
     → Mixes set 0 xs v u → Mixes set 0 zs v w
 mixes_on set xs ys zs v u w is after before = subst (λ l. Mixes set 0 l v w) (sym is)
     (mixes_then set 0 xs ys v u w before (subst (λ n. Mixes set n ys u w) (sym (zero-add (length xs))) after))
 
--- the worker took one more sample, and made an interrupt of it
+-- if the worker took and mixed `xs`, then takes the sample `x` and makes an interrupt of it, the worker has taken and
+-- mixed `xs ++ x`
 pub one_more : (set : Called) (v₀ v₁ v₂ : Known) (xs ys : List Sample) (x : Sample) (v u w : View) → IsWorker v₀
     → v₁ ≡ with_taken v₀ xs → Popped v₁ x v₂ → ys ≡ xs ++ x ∷ [] → Mixes set 0 xs v u
     → Interrupted set (length xs) x u w → (v₂ ≡ with_taken v₀ ys) × Mixes set 0 ys v w
@@ -77,7 +79,8 @@ one_more set v₀ v₁ v₂ xs ys x v u w worker before popped is mixes last = (
     took (Feeder p) worker e = absurd worker
     took Nobody worker e = absurd worker
 
--- the worker mixed one more sample of a direct feeder
+-- if the worker mixed the first `index` samples of a direct feeder, and then mixes sample `index`, it has mixed the
+-- first `index + 1` samples
 pub direct_more : (set : Called) (feeds : Numbers) (number index : ℕ) (xs ys zs : List Sample) (x : Sample)
     (v u w : View) → ys ≡ xs ++ first_samples feeds number index → zs ≡ ys ++ x ∷ [] → x ≡ sample feeds number index
     → Mixes set (length xs) (first_samples feeds number index) v u → Interrupted set (length ys) x u w

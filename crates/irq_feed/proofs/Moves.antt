@@ -55,7 +55,8 @@ of_one x f e = ap (λ b. cond b (x ∷ []) []) (eq-eqb x.feeder f e)
 of_none : (x : Sample) (f : ℕ) → x.feeder ≢ f → of_feeder f (x ∷ []) ≡ []
 of_none x f other = ap (λ b. cond b (x ∷ []) []) (ne_eqb x.feeder f other)
 
--- after one more sample at the end, each feeder's samples are still its first ones
+-- if a feeder's next sample is added to the end of the list, the samples of each feeder in the list are still that
+-- feeder's first samples
 ordered_more : (feeds : Numbers) (pushed : ℕ → ℕ) (xs : List Sample) (x : Sample) (number : ℕ)
     → ((f : ℕ) → of_feeder f xs ≡ first_samples feeds f (pushed f)) → x ≡ sample feeds number (pushed number)
     → (f : ℕ) → of_feeder f (xs ++ x ∷ []) ≡ first_samples feeds f (changed pushed number (suc (pushed number)) f)
@@ -78,7 +79,7 @@ ordered_more feeds pushed xs x number before is f =
 
 -- ---- the feeders that ended
 
--- what the worker knows about the feeders that ended stays right if none of these feeders changes
+-- if no feeder that has ended changes, `HasEnded` still holds for each of them
 ends_kept : (next next' : ℕ) (seat seat' : ℕ → Option ℕ) (pushed pushed' : ℕ → ℕ) (es : List Ended) → next ≤ next'
     → ((f : ℕ) → f < next → seat f ≡ None → (seat' f ≡ None) × (pushed' f ≡ pushed f))
     → AllByRecursion (HasEnded next seat pushed) es → AllByRecursion (HasEnded next' seat' pushed') es
@@ -112,7 +113,7 @@ begins = record {
 
 -- ---- a push
 
--- what other passes know stays right when the feeder with pass `j` pushes
+-- when the feeder with pass `j` pushes, the knowledge of each other pass stays correct
 push_kept : (feeds : Numbers) (worker : ℕ) (seat : ℕ → Option ℕ) (pushed : ℕ → ℕ) (taken : List Sample)
     (number j k : ℕ) → seat number ≡ Some j → k ≢ j → (u : Known) → Fits feeds worker seat pushed taken k u
     → Fits feeds worker seat (changed pushed number (suc (pushed number))) taken k u
@@ -177,7 +178,7 @@ pushes n pass (Feeder p) x may items views room h at =
 
 -- ---- a pop
 
--- what other passes know stays right when the worker's pass takes a sample
+-- when the worker's pass takes a sample, the knowledge of each other pass stays correct
 pop_kept : (feeds : Numbers) (worker : ℕ) (seat : ℕ → Option ℕ) (pushed : ℕ → ℕ) (taken taken' : List Sample)
     (k : ℕ) → k ≢ worker → (u : Known) → Fits feeds worker seat pushed taken k u
     → Fits feeds worker seat pushed taken' k u
@@ -217,7 +218,7 @@ pops pass (Worker d) may x items views h at =
 
 -- ---- a split
 
--- what feeders know stays right when a number without a pass gets a pass
+-- when a number without a pass gets a pass, the knowledge of each feeder stays correct
 seat_kept : (feeds : Numbers) (worker : ℕ) (seat : ℕ → Option ℕ) (pushed : ℕ → ℕ) (taken : List Sample)
     (number : ℕ) (o : Option ℕ) (k : ℕ) → seat number ≡ None → k ≢ worker → (u : Known)
     → Fits feeds worker seat pushed taken k u → Fits feeds worker (changed seat number o) pushed taken k u
@@ -272,7 +273,7 @@ splits pass (Worker d) may items views h at =
           })) (at_more vs r u j e);
     }
 
--- what other passes know stays right when the worker, before its first sample and first number, learns its feeds
+-- if no feeder has a pass yet and the worker learns its feeds, the knowledge of each other pass stays correct
 begin_kept : (feeds feeds' : Numbers) (worker : ℕ) (seat : ℕ → Option ℕ) (pushed : ℕ → ℕ) (taken : List Sample) (k : ℕ)
     → ((f : ℕ) → seat f ≡ None) → k ≢ worker → (u : Known) → Fits feeds worker seat pushed taken k u
     → Fits feeds' worker seat pushed taken k u
@@ -309,7 +310,7 @@ tells_feeds pass v feeds is items views h at =
 
 -- ---- a join
 
--- what feeders know stays right when the pass of another number is taken in
+-- when the pass of a feeder is taken in, the knowledge of each other feeder stays correct
 free_kept : (feeds : Numbers) (worker : ℕ) (seat : ℕ → Option ℕ) (pushed : ℕ → ℕ) (taken : List Sample)
     (number j k : ℕ) → seat number ≡ Some j → k ≢ j → k ≢ worker → (u : Known)
     → Fits feeds worker seat pushed taken k u → Fits feeds worker (changed seat number None) pushed taken k u

@@ -24,8 +24,8 @@ mixed_in m = m.samples.items
 abbrev pub is_direct : Mixed → ℕ → Bool
 is_direct m feeder = slice_index_or m.direct feeder false
 
--- all samples of each feeder were mixed, in order and each once. First come the samples from the queue, in the order
--- in which the worker took them, and then the samples of the direct feeders
+-- each sample of each feeder was mixed once, and the samples of one feeder in their order. First come the samples from
+-- the queue, in the order in which the worker took them, and then the samples of the direct feeders
 pub record AllMixed (feeds : Numbers) (worker : FeedPass) (m : Mixed) : Type 0 where
   pub each : (feeder : ℕ) → feeder < feeds.feeders
       → of_feeder feeder (mixed_in m) ≡ first_samples feeds feeder feeds.each
@@ -91,7 +91,7 @@ pub record HasBegun (queue : FeedQueue) (feeds : Numbers) (number next owed : �
 abbrev pub CanStart : FeedQueue → Numbers → ℕ → ℕ → FeedPass → Mixed → Type 0
 CanStart queue feeds number owed worker m = HasBegun queue feeds number number owed worker m
 
--- as `HasBegun`, except that the feeder `number` already got its pass
+-- `HasBegun` holds for the feeders below `number`, and feeder `number` already has its pass
 abbrev pub CanTakeBack : FeedQueue → Numbers → ℕ → ℕ → FeedPass → Mixed → Type 0
 CanTakeBack queue feeds number owed worker m =
     (number < feeds.feeders) × HasBegun queue feeds number (number + 1) owed worker m

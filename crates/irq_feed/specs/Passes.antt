@@ -1,4 +1,4 @@
--- The passes of a queue, and what they know, as the clauses use them.
+-- The passes of a queue and their knowledge, in the terms that the contracts use.
 use Rattle.std.specs.Prelude.{◌≡◌, ℕ, List, []}
 use Rattle.crossbeam_queue.specs.Passes as ruled
 use Rattle.irq_feed.specs.declared.samples.Sample.{Sample}

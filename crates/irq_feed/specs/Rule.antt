@@ -26,7 +26,7 @@ ended feeder pushed = record { feeder = feeder; pushed = pushed }
 
 -- The rule
 
--- the feeder's number was given out, no pass has the number any more, and the feeder pushed this number of samples
+-- the feeder's number was given out, no pass has this feeder number any more, and the feeder pushed `e.pushed` samples
 abbrev pub HasEnded : ℕ → (ℕ → Option ℕ) → (ℕ → ℕ) → Ended → Type 0
 HasEnded next seat pushed e = (e.feeder < next) × (seat e.feeder ≡ None) × (pushed e.feeder ≡ e.pushed)
 
@@ -50,8 +50,8 @@ Fits feeds worker seat pushed taken pass (Worker d) = (pass ≡ worker) × IsWor
 Fits feeds worker seat pushed taken pass (Feeder p) = IsFeederKnowledge feeds seat pushed pass p
 Fits feeds worker seat pushed taken pass Nobody = ⊤
 
--- `seat` maps each feeder to its pass, if it has one, and `pushed` to the number of samples that it pushed; `taken`
--- has the samples that the worker took, and `worker` is the worker's pass
+-- `seat` maps each feeder to its pass, if the feeder has one. `pushed` maps each feeder to the number of samples that
+-- the feeder pushed. `taken` lists the samples that the worker took, and `worker` is the worker's pass
 pub record InOrder (items : List Sample) (views : List Known) : Type 0 where
   pub feeds : Numbers
   pub worker : ℕ

@@ -61,8 +61,8 @@ dumps_in (e ∷ es) = dump_here e + dumps_in es
 abbrev pub irq_entry : Sample → CpuEntry
 irq_entry x = Irq x.v1 x.v2 0
 
--- the book of a table with one CPU: the book and its samples are lawful, and the book is disjoint. Its visits are
--- exactly those of one call for each sample, call after call
+-- the book of a table with one CPU: the book and its samples are lawful, and the book is disjoint. The book's visits
+-- are exactly those of a sequence of calls, one call for each sample
 pub record IsFedBook (samples : List Sample) (book : Book) : Type 0 where
   pub cpus : length book.cpus ≡ 1
   pub lawful : LawfulLanes (lists_of book)

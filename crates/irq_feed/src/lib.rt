@@ -1,10 +1,11 @@
 //! Interrupt samples of several feeders, handed to one worker through a queue. The worker makes one interrupt of each
-//! (`rng_core::irq`, `add_interrupt_randomness` of drivers/char/random.c).
+//! sample (`rng_core::irq`, `add_interrupt_randomness` of drivers/char/random.c).
 //!
 //! [`feed`] starts a thread for each feeder. A feeder pushes its samples into a bounded queue, in order. The caller is
-//! the worker, and the only thread that visits a CPU. If a feeder gets no thread, the worker mixes its samples itself,
-//! after all others. The crate uses only the contracts of `rng_core` and of a queue of `crossbeam_queue`, whose rule
-//! is: for each feeder, the samples that the worker took and those in the queue are its first samples.
+//! the worker, and the only thread that visits a CPU. If a feeder gets no thread, the worker mixes that feeder's
+//! samples itself, after all others. The crate uses only the contracts of `rng_core` and of a queue of
+//! `crossbeam_queue`. The queue's rule is: for each feeder, the samples that the worker took and those in the queue are
+//! the feeder's first samples.
 //!
 //! # Example
 //!
@@ -27,12 +28,12 @@
 //!
 //! For every interleaving of the threads:
 //!
-//! - [`feed`]: a call that succeeds has mixed each sample of each feeder once, and those of one feeder in their order.
-//!   If memory runs out, it has mixed none.
-//! - [`feed_on_new_table`]: the sums are those of the table's visits.
+//! - [`feed`]: a call that succeeds has mixed each sample of each feeder once, and the samples of one feeder in their
+//!   order. If memory runs out, the call has mixed none.
+//! - [`feed_on_new_table`]: the sums that it returns are those of the table's visits.
 //!
-//! Not promised: that a call returns, that two feeders ever run at once, and in which order the samples of different
-//! feeders come.
+//! Not promised: that a call returns, that two feeders ever run at once, or any order between the samples of different
+//! feeders.
 //!
 //! # Tested only
 //!

@@ -75,7 +75,7 @@ impl Join<Known> for Next {
     ghost spent = { Nobody };
 }
 
-/// A type that names the feeds of a queue, for `Begin`. Only `tell_feeds` has to choose such a type.
+/// A type parameter of `Begin`. The type determines the feeds of a queue, and only `tell_feeds` has to choose one.
 pub trait Naming {
     ghost use Rattle.irq_feed.specs.Feeds.{Numbers};
 

@@ -25,11 +25,11 @@ use std::thread::{Scope, Threads};
 /// Hands the samples of all feeders to this caller, which makes an interrupt of each sample
 /// (`add_interrupt_randomness`).
 ///
-/// Each feeder has its own thread. It calls the gate before each sample, pushes the sample, and waits while the queue
-/// is full. The caller takes the samples out and makes one `irq` of each, at the moment and on the CPU of the setting.
-/// The events are numbered from 0. If a feeder got no thread, the caller mixes that feeder's samples itself, after all
-/// others, with the gate before each. A test checks that the caller does so only in this case. Samples of one feeder
-/// keep their order; those of different feeders may come in any order.
+/// Each feeder has its own thread. The feeder calls the gate before each sample, pushes the sample, and waits while the
+/// queue is full. The caller takes the samples out and makes one `irq` of each sample, at the moment and on the CPU of
+/// the setting. The events are numbered from 0. If a feeder got no thread, the caller mixes that feeder's samples
+/// itself, after all others, and calls the gate before each. A test checks that the caller does so only for a feeder
+/// without a thread. Samples of one feeder keep their order; those of different feeders may come in any order.
 ///
 /// After the first feeder has started, only thread creation allocates. The call waits for the lanes and for its
 /// feeders. It always returns the worker's pass. After success that pass knows all samples that it took from the queue.
@@ -201,7 +201,12 @@ fn start_rest<'s, E, R: Threads + Wait + Sync, G: Gate>(
 }
 
 // Takes in the pass of a feeder that got no thread. If that feeder pushed nothing, the worker has to mix its samples.
-fn take_back<G: Gate>(intake: &FeedIntake<G>, hand: &mut WorkerState, number: u32, fed: FeederResult)
+fn take_back<G: Gate>(
+    intake: &FeedIntake<G>,
+    hand: &mut WorkerState,
+    number: u32,
+    fed: FeederResult,
+)
     requires start { CanTakeBack intake.now.queue.now intake.now.feeds.now number hand.old.owed hand.old.worker
         hand.old.mixed }
     requires fed { IsFeeder intake.now.queue.now intake.now.feeds.now number fed.pushed fed.pass }

@@ -49,8 +49,7 @@ fn sums(samples: u32) -> FeedSums
 
 /// Makes a table with one CPU, and feeds it as [`feed`] does, by caller 0 at moment 0. There are `feeders` feeders,
 /// with `each` samples for each. Sample `i` of feeder `f` has the words `start` + `i` and `f`. The function computes
-/// the sums, and they are proved to be those of the table's visits.
-///
+/// the sums from the number of samples. They are proved to be the sums over the table's visits.
 /// # Errors
 ///
 /// Memory for the table, for the queue, or for the list of mixed samples ran out. Then no feeder has started.

@@ -43,7 +43,7 @@ fn pop<R: Wait>(rt: &R, queue: &FeedQueue, worker: &mut FeedPass) -> Sample
     unreachable!()
 }
 
-// Makes an interrupt from a sample. Its event has as its number how many interrupts were made before.
+// Makes an interrupt from a sample. The number of the interrupt's event is the number of interrupts made before it.
 fn mix<R: Wait>(
     rt: &R,
     lanes: &Lanes,

@@ -58,7 +58,8 @@ module _ (after : Option ℕ → Step → Option ℕ) (May : Option ℕ → Step
     abbrev begun : ℕ → Option ℕ
     begun c = fold after None (start_of callers c)
 
-    -- each step of caller c's order may follow; if caller c forks another, the values along its own steps are kept
+    -- each step of caller c's order may follow the value carried to it; if c forks another caller, the values along c's
+    -- own steps are kept
     pub record KeptOf (c : ℕ) (kept : List (Vec (Option ℕ))) : Type 0 where
       pub conforms : Along after May None (start_of callers c ++ calls_steps (list_at callers c))
       pub values : Vec (Option ℕ)
@@ -66,7 +67,7 @@ module _ (after : Option ℕ → Step → Option ℕ) (May : Option ℕ → Step
       pub along : is_parent_in c (all_forks 0 callers) ≡ true →
           AreAlong after (fold after None (start_of callers c)) (calls_steps (list_at callers c)) values.items
 
-    -- caller c begins with the value carried along the steps before its own, and each step before its own may follow
+    -- caller c begins with the value carried along the steps before its own, and each of these steps may follow
     pub record Begins (c : ℕ) (kept : List (Vec (Option ℕ))) (forks : List Fork) : Type 0 where
       pub value : begin_in kept (front_in c forks) ≡ fold after None (start_of callers c)
       pub conforms : Along after May None (start_of callers c)
@@ -76,8 +77,8 @@ module _ (after : Option ℕ → Step → Option ℕ) (May : Option ℕ → Step
       abbrev started : Option Parent → List Step
       started o = inherited_steps (ancestors_steps callers c) o
 
-      -- suppose caller c begins after the first n own steps of its parent p. Then c begins with p's value after these
-      -- steps, and each step before c's own may follow
+      -- suppose caller c begins after the first n own steps of its parent p. Then the start value of c is p's value
+      -- after these steps, and each step before c's own steps may follow
       following : (p n : ℕ) → p < c → is_parent_in p (all_forks 0 callers) ≡ true →
           start_of callers c ≡ start_of callers p ++ take n (own p) → n ≤ length (own p) →
           (kept_at (slice_get kept p) n ≡ begun c) × Along after May None (start_of callers c)
@@ -138,7 +139,7 @@ module _ (after : Option ℕ → Step → Option ℕ) (May : Option ℕ → Step
         orders_long (ancestors_steps callers (length callers)) callers in omega arith) in
         subst (λ (s : List Step). Along after May None s) (sym (order_is_start_and_own callers c low')) (each c low').conforms)
 
-    -- if all steps of all orders may follow, all own steps of a caller may follow, carried from its start value on
+    -- if all steps of all orders may follow, then all own steps of caller c may follow, from the start value of c on
     pub own_follow : (c : ℕ) → c < length callers → AllByRecursion (Along after May None) (caller_orders callers) →
         Along after May (fold after None (start_of callers c)) (calls_steps (list_at callers c))
     own_follow c low all =

@@ -47,7 +47,7 @@ vread_last (x ∷ es) e is (suc k) =
     vread_last es e is k
     ∙ (let n : nat_lt k (length es + 1) ≡ nat_lt (suc k) (suc (length es) + 1) = grind (arith, nat_tests) in n)
 
--- a last event that is no vread does not change whether a tail of the events has a vread
+-- if an event that is not a vread is appended, the same tails of the events have a vread
 other_last : (es : List Event) (e : Event) → is_vread e ≡ false → (k : ℕ) →
     has_vread (drop k (es ++ e ∷ [])) ≡ has_vread (drop k es)
 other_last es e is zero = has_more es e ∙ ap (λ b. has_vread es || b) is ∙ or_false (has_vread es)
@@ -75,7 +75,7 @@ alone_first w (Vread n f) es l ls not_vread not_inside = absurd (not_vread n f r
 alone_first w (Inside p a) es l ls not_vread not_inside = absurd (not_inside p a refl)
 alone_first w e es l ls not_vread not_inside = refl
 
--- the first n events made `calls`, and their acts `waiting` still wait; `e` is the next event, and `l` is its line
+-- the first n events made `calls`, and their acts in `waiting` have no vread yet; `e` is the next event, `l` its line
 module _ (events : List Event) (lines : List BareLine) (n : ℕ) (e : Event) (l : BareLine) (low : n < length events)
     (low' : n < length lines) (is : e ≡ get_or events n e) (is' : l ≡ get_or lines n l) (calls : List CalledLines)
     (waiting : List ActLine) (whole : List Call)

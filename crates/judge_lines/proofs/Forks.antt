@@ -1,5 +1,5 @@
--- The fork that the code finds for a caller is that of the definitions: the same parent, and the same steps before the
--- child's.
+-- The code and the definitions find the same fork for a caller: the parent is the same, and so are the steps before the
+-- child's steps.
 use Rattle.std.proofs.Common.{◌≡◌, ℕ, suc, ◌+◌, ◌<◌, Bool, true, false, Option, Some, None, List, [], ◌∷◌, ◌++◌, length, take, refl, sym, subst, ap, ◌∙◌, arith, append_assoc, length-append}
 use Rattle.std.specs.Prelude.{◌==◌, if◌then◌else◌}
 use Rattle.std.specs.List.{AllByRecursion}
@@ -93,7 +93,7 @@ at_point c p k n (alone (ForkEvent child) line ∷ calls) more = by (child == c)
 at_point c p k n (call ∷ calls) more = one_more c p k n call calls more (fork_point c calls) refl
     (at_point c p (suc k) (n + length (call_steps call)) calls more)
 
--- the first of `callers` has number p; the first fork among theirs that makes caller c is made by caller p + k
+-- `callers` are numbered from p on; caller p + k makes the first fork among `callers` that makes caller c
 pub record FoundIn (c p : ℕ) (callers : List (List Call)) (parent : Parent) : Type 0 where
   pub fork : Fork
   pub here : front_in c (all_forks p callers) ≡ Some fork
@@ -152,7 +152,7 @@ at_parent c p (calls ∷ callers) =
       front = at.front;
     }
 
--- if each fork's parent is below its child, then the parent of the fork that makes caller c is below c
+-- if each fork's parent has a lower number than its child, the parent of caller c has a lower number than c
 pub rises : (c : ℕ) (forks : List Fork) (fork : Fork) → AllByRecursion (λ f. f.parent < f.child) forks →
     front_in c forks ≡ Some fork → fork.parent < c
 rises c [] fork all here = cc

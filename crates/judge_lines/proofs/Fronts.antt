@@ -1,5 +1,5 @@
--- A loop goes through a list from its front. The output of the finished part and that of the rest together are the
--- whole.
+-- A loop goes through a list from its front. The output for the finished part, then the output for the rest, is the
+-- whole output.
 use Rattle.std.specs.Prelude.{slice_get}
 use Rattle.std.proofs.Common.{Some, zero, suc, ◌≡◌, ℕ, ◌+◌, ◌<◌, ◌≤◌, List, [], ◌∷◌, ◌++◌, length, get_or, take, drop, map, sym, ap, ◌∙◌, append_assoc}
 use Rattle.std.proofs.lemmas.List.{map-append, take_more, drop_more, at_drop_all, append-nil}
@@ -22,7 +22,7 @@ found_or [] i x is = cc
 found_or (y ∷ xs) zero x is = same_Some y x is
 found_or (y ∷ xs) (suc i) x is = found_or xs i x is
 
--- the output of the next element moves from the rest to the finished part
+-- the output `piece` for the next element moves from the output for the rest to the finished output `done`
 pub goes_on : {X Y : Type 0} (F G : List X → List Y) (xs : List X) (i : ℕ) (x : X) (done piece whole : List Y) →
     i < length xs → x ≡ get_or xs i x → F (x ∷ drop (i + 1) xs) ≡ piece ++ G (drop (i + 1) xs) →
     done ++ F (drop i xs) ≡ whole → (done ++ piece) ++ G (drop (i + 1) xs) ≡ whole
@@ -30,7 +30,7 @@ goes_on F G xs i x done piece whole low is splits so_far =
     append_assoc done piece (G (drop (i + 1) xs))
     ∙ ap (λ r. done ++ r) (sym splits ∙ ap F (sym (dropped xs i x low is))) ∙ so_far
 
--- at the end of the list, the finished part is the whole
+-- at the end of the list, the finished output `done` is the whole output
 pub all_done : {X Y : Type 0} (F : List X → List Y) (xs : List X) (i : ℕ) (done whole : List Y) → length xs ≤ i →
     F [] ≡ [] → done ++ F (drop i xs) ≡ whole → done ≡ whole
 all_done F xs i done whole high none so_far =

@@ -62,7 +62,7 @@ module _ (c : LaneFacts) (set : Setting) where
 
   -- ---- integers
 
-  -- if the first look found 0, an integer has the inferred entries of a kernel's read
+  -- if the first look found 0, the entries inferred for an integer are those inferred for a read by the kernel
   as_int : (w : ℕ) (first : Sign) (a b : Sign) (ds : List Effect) →
       AllFill (Fills c set (reads (Kernel w)) first) a b ds →
       AllFill (Fills c set (ints w) (saw 0)) a b ds
@@ -73,7 +73,7 @@ module _ (c : LaneFacts) (set : Setting) where
   as_int w first a b (at_cpu v ∷ ds) h = (h.0, as_int w first b (in_cpu v.cpu v.place) ds h.1)
   as_int w first a b (nothing_there ∷ ds) h = (tt, as_int w first b nowhere ds h.1)
 
-  -- if the entry of an integer without a refill fits, the integer fills its batch exactly if it must
+  -- if the entry of an integer without a refill fits, the integer fills its batch exactly if `must_fill` is true
   batch_fills : (s : CpuState) (e : CpuEntry) (look w : ℕ) (filled : Bool) → e ≡ Int look None w filled → CpuFits s e →
       e ≡ Int look None w (must_fill look w (s.fills w))
   batch_fills s e look w filled is fits =

@@ -46,7 +46,7 @@ module _ (c : LaneFacts) (set : Setting) (early taken : Taken) (first : Sign) wh
   read_by a g ds (inl f) = draw_by a g ds f.1
   read_by a g ds (inr f) = cpu_read_by a (saw g) ds f
 
--- a resume that fits found a base with a generation, so the inferred entry is a resume too
+-- if a resume fits, the base had a generation of at least 1, so the inferred entry is a resume too
 went_on : (s : BaseState) (e : BaseEntry) → e ≡ Resume → BaseFits s e →
     e ≡ (if nat_le 1 s.generation then Resume else Interrupt)
 went_on s e p fits =
@@ -192,7 +192,8 @@ module _ (c : LaneFacts) (set : Setting) (early taken : Taken) (first : Sign) wh
       (fill.0, in_front (at_cpu v ∷ xs) h ys b (sign_of d) there.1 fill.1 more)
   in_front (d ∷ nothing_there ∷ xs) h ys a b there fill more = absurd there.1.0
 
--- a fitting system call for a key has the inferred entries, if the look after the call and the later steps have theirs
+-- suppose that the entries of a system call for a key fit. If the look after the call and the later steps have the
+-- inferred entries, the steps of the call have them too
 pub key_inferred : KeyCallIsInferred
 key_inferred c set n first xs h ys a b there form fit more =
     in_front c set (User 32) (User n) first xs h ys a b there

@@ -173,7 +173,8 @@ module _ (c : LaneFacts) (set : Setting) where
 
   -- ---- credits
 
-  -- the steps after a credit are those of its crossing, if they have the inferred entries and their kinds are a row
+  -- suppose that the steps after a credit have the inferred entries, and that their kinds are a row. Then they are the
+  -- steps of the credit's crossing
   cross_row : (v : PoolVisit) (crossed : Crossed) (r : List Effect) →
       crossing_of crossed ≡ crossing v.before.bits v.after.bits →
       c.crossed_at v.place ≡ crossing v.before.bits v.after.bits → IsAfterCredit crossed (kinds_of set.cpu r) →

@@ -80,7 +80,7 @@ module _ (c : LaneFacts) (set : Setting) (sooner : Taken) (n : ℕ) (first : Sig
   abbrev FillU : Sign → Sign → List Effect → Type 0
   FillU = AllFill (FillsPart c set sooner (User n) first)
 
-  -- a visit that ends a wait is an interrupt, unless its kind is that of a resume
+  -- a visit that ends a wait is an interrupt if its kind is `Base` and not `Resumed`
   not_resumed : (v : BaseVisit) → FillsBase c woken v → base_kind v.entry ≡ Base → v.entry ≡ Interrupt
   not_resumed v fills kind = go (nat_le 1 v.before.generation) fills
     where
@@ -95,7 +95,7 @@ module _ (c : LaneFacts) (set : Setting) (sooner : Taken) (n : ℕ) (first : Sig
       go true is = is
       go false is = (let k : Base ≡ Resumed = sym (ap base_kind is) ∙ kind in cc)
 
-  -- a wait's entry, a resume, and the steps of a read are a wait that went on
+  -- if a wait's entry and a resume are followed by the steps of a read, these steps together are a wait that went on
   goes_on : (ds : List Effect) (v w : BaseVisit) (rest : List Effect) → ds ≡ at_base v ∷ at_base w ∷ rest →
       v.entry ≡ Wait → w.entry ≡ Resume → MatchBool (n == 0) (rest ≡ []) (CpuReadForm set (User n) rest) →
       Waited set n ds
@@ -243,7 +243,7 @@ system_rows c set n flags effects fill row =
     system_by c set (User n) n flags (first_sign effects) nowhere nowhere effects
     (unlike c set (User n) (first_sign effects) nowhere nowhere effects fill) row
 
--- the entry inferred for a step before a look is also the one inferred if the line ends with that step
+-- a step before a look has the same inferred entry as if the line ended with that step
 module _ (c : LaneFacts) (set : Setting) (sooner taken : Taken) (first : Sign) where
   abbrev OneOf : Taken → Sign → Sign → Sign → Effect → Type 0
   OneOf t a b following d = Fills c set (reads t) first (record { second_before = a; before = b; following = following }) d

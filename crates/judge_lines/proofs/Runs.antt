@@ -1,5 +1,5 @@
--- In marks sorted by lane and stamp, each lane's marks are one run. So the places of each lane count up exactly if
--- those of each run do.
+-- In marks sorted by lane and stamp, each lane's marks are one run. So the places of each lane count up exactly if the
+-- places of each run do.
 use Rattle.std.proofs.Common.{◌≡◌, ℕ, suc, ◌+◌, ◌<◌, ◌≤◌, Bool, true, false, cond, Option, Some, None, List, [], ◌∷◌, length, get_or, drop, map, inl, inr, refl, sym, subst, ap, ◌∙◌, arith}
 use Rattle.std.specs.Prelude.{◌↔◌, ◌⊎◌, ◌==◌, MatchBool, nat_lt, IsSortedByKey}
 use Rattle.std.specs.Ordering.{is_lt, ordering_then, nat_cmp}
@@ -292,7 +292,7 @@ runs_more last marks i d low = rw (drop_more marks i d low) ((λ h. h), (λ h. h
 pub runs_end : (last : Option Mark) (marks : List MarkOf) (i : ℕ) → length marks ≤ i → RunsCount last (drop i marks)
 runs_end last marks i high = rw (at_drop_all (λ x. x) marks i high) tt
 
--- in marks sorted by lane, the places of each lane count up exactly if the runs do
+-- in marks sorted by lane, the places of each lane count up exactly if the places of each run do
 pub runs_conform : (marks : List MarkOf) → IsSortedByLane marks →
     RunsCount None marks ↔ ((lane : LaneId) → PlacesConform (lane_marks lane (map seen_mark marks)))
 runs_conform marks sorted = (

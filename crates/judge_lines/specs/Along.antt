@@ -12,8 +12,8 @@ module _ (after : Option ℕ → Step → Option ℕ) where
   Along MayFollow carried [] = ⊤
   Along MayFollow carried (step ∷ steps) = MayFollow carried step × Along MayFollow (after carried step) steps
 
-  -- `on` is `walk` after these steps. The value of `on` is that of `walk` carried along them, and `on` follows exactly
-  -- if `walk` does and each step may follow
+  -- `on` is `walk` after `steps`. Its value is the value of `walk` carried along `steps`. `on.follows` is true exactly
+  -- if `walk.follows` is true and each step may follow
   pub record HasGone (MayFollow : Option ℕ → Step → Type 0) (walk : OrderWalk) (steps : List Step) (on : OrderWalk) : Type 0 where
     pub carried : on.carried ≡ fold after walk.carried steps
     pub follows : IsTrue on.follows ↔ IsTrue walk.follows × Along MayFollow walk.carried steps

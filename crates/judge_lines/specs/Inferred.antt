@@ -104,7 +104,7 @@ telling set (Vmfork word text) = vmforks (device_entry word text)
 telling set (Irq v1 v2) = samples v1 v2
 telling set _ = silent
 
--- the root of the preceding step, if that step is a visit of the pool and so an extraction
+-- if the preceding step is a visit of the pool, it is an extraction, and its place names the root; otherwise none
 abbrev pub root_before : Sign → Option ℕ
 root_before (in_pool p) = Some p
 root_before _ = None
@@ -201,7 +201,7 @@ abbrev pub cpu_read_inferred : Taken → Sign → Sign → CpuInferred
 cpu_read_inferred taken second_before (in_base b) = cpu_is (CpuRead (look_in second_before) (Some b) taken)
 cpu_read_inferred taken second_before before = cpu_is (CpuRead (look_in before) None taken)
 
--- an integer after a refill fills its batch; without a refill, the CPU's state determines whether the integer does
+-- an integer after a refill fills its batch; without a refill, the CPU's state determines whether the integer fills it
 abbrev pub cpu_int_inferred : ℕ → Sign → Sign → CpuInferred
 cpu_int_inferred width second_before (in_base b) = cpu_is (Int (look_in second_before) (Some b) width true)
 cpu_int_inferred width second_before before = batch (look_in before) width

@@ -6,7 +6,7 @@ use Rattle.key_names.specs.Callers.Effects.{Effect, looked, at_pool, at_base, at
 use Rattle.judge_lines.specs.declared.kind.Kind.{Kind}
 use Rattle.judge_lines.specs.declared.kind.Kind.TheVariants.{Unready, Ready, Pool, Base, Resumed, Cpu, OtherCpu}
 
--- a look that found generation 0 has another kind than one that found more
+-- a look that found generation 0 and a look that found a higher generation have different kinds
 abbrev pub look_kind : ℕ → Kind
 look_kind g = if g == 0 then Unready else Ready
 
@@ -15,7 +15,7 @@ abbrev pub base_kind : BaseEntry → Kind
 base_kind Resume = Resumed
 base_kind _ = Base
 
--- a visit of the line's CPU has another kind than one of a different CPU
+-- a visit of the line's CPU and a visit of another CPU have different kinds
 abbrev pub cpu_kind : Bool → Kind
 cpu_kind true = Cpu
 cpu_kind false = OtherCpu

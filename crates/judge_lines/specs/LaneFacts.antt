@@ -26,7 +26,7 @@ facts_of lists = record {
 }
 
 -- if the effect is a visit of the base or of a CPU, its entry fits the lane's state before it; if the effect is a visit
--- of the pool, the facts have its crossing
+-- of the pool, the facts have the visit's crossing
 abbrev pub EffectFits : LaneFacts → Effect → Type 0
 EffectFits c (looked g) = ⊤
 EffectFits c (at_pool v) = c.crossed_at v.place ≡ crossing v.before.bits v.after.bits
@@ -47,7 +47,7 @@ first_crossing (at_base v ∷ ds) = first_crossing ds
 first_crossing (at_cpu v ∷ ds) = first_crossing ds
 first_crossing (nothing_there ∷ ds) = first_crossing ds
 
--- if the effect is a visit of the pool, the facts have its crossing
+-- if the effect is a visit of the pool, the facts have the visit's crossing
 abbrev pub CrossingKnown : LaneFacts → Effect → Type 0
 CrossingKnown c (looked g) = ⊤
 CrossingKnown c (at_pool v) = c.crossed_at v.place ≡ crossing v.before.bits v.after.bits

@@ -1,4 +1,4 @@
--- The laws of forms, rows and inferred entries. The functions of src/laws.rt state each as a contract.
+-- The laws of forms, rows and inferred entries. Each law is the contract of a function in src/laws.rt.
 use Rattle.std.specs.Prelude.{ℕ, ◌≡◌, List, [], ◌∷◌, ◌++◌}
 use Rattle.key_names.specs.declared.entries.Taken.TheVariants.{User}
 use Rattle.key_names.specs.declared.events.Event.{Event}
@@ -75,7 +75,7 @@ ActForm set WipeAct effects = effects ≡ []
 ActForm set (VreadAct n) effects = SysForm set n 0 effects
 ActForm set ReseedAct effects = Form set Reseed effects
 
--- in lawful lists, the entries of any steps fit
+-- if the lists are lawful, the entries of any steps fit
 abbrev pub LawfulListsFit : Type 0
 LawfulListsFit = (lists : Lists) → ForwardLawful lists → (steps : List Step) →
     AllFit (facts_of lists) (effects_of lists steps)
@@ -96,19 +96,19 @@ ActFormIsRow = (c : LaneFacts) (set : Setting) (act : InsideAct) (effects : List
     AllFit c effects → IsActRow act (kinds_of set.cpu effects)
 
 -- suppose the entries of an attempt's system call for a key fit. If the steps after the call have the inferred entries,
--- the steps of the call have theirs
+-- the steps of the call have them too
 abbrev pub KeyCallIsInferred : Type 0
 KeyCallIsInferred = (c : LaneFacts) (set : Setting) (n : ℕ) (first : Sign) (call : List Effect) (h : ℕ) (rest : List Effect)
     (a b : Sign) → AllThere call → SysForm set 32 0 call → AllFit c call →
     ((a b : Sign) → AllFill (FillsPart c set (User 32) (User n) first) a b (looked h ∷ rest)) →
     AllFill (FillsPart c set (User 32) (User n) first) a b (call ++ looked h ∷ rest)
 
--- the visits of the system call at the end of a vread have the inferred entries, if the call's entries fit
+-- if the entries of the system call at the end of a vread fit, the visits of this call have the inferred entries
 abbrev pub LastCallIsInferred : Type 0
 LastCallIsInferred = (c : LaneFacts) (set : Setting) (n flags : ℕ) (first : Sign) (call : List Effect) (a b : Sign) →
     SysForm set n flags call → AllFit c call → AllFill (FillsPart c set (User 32) (User n) first) a b call
 
--- a vread's steps before a look are the system call for a key, if they have its kinds and the inferred entries
+-- a vread's steps before a look are the system call for a key if they have this call's kinds and the inferred entries
 abbrev pub KeyRowIsCall : Type 0
 KeyRowIsCall = (c : LaneFacts) (set : Setting) (n : ℕ) (first : Sign) (call : List Effect) (h : ℕ) (rest : List Effect)
     (a b : Sign) → AllThere call → AllFill (FillsPart c set (User 32) (User n) first) a b (call ++ looked h ∷ rest) →

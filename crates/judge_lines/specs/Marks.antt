@@ -31,7 +31,7 @@ lane_rank (CpuLane c) = 2 + c
 abbrev pub NotAfter : Mark → Mark → Type 0
 NotAfter a b = (lane_rank a.lane < lane_rank b.lane) ⊎ ((lane_rank a.lane ≡ lane_rank b.lane) × (a.stamp ≤ b.stamp))
 
--- each mark and the next are in order
+-- each mark and the mark after it are in order
 abbrev pub IsSortedByLane : List MarkOf → Type 0
 IsSortedByLane [] = ⊤
 IsSortedByLane (a ∷ []) = ⊤

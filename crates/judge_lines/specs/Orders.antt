@@ -6,7 +6,7 @@ use Rattle.key_names.specs.Callers.Calls.{Call, alone}
 use Rattle.key_names.specs.Callers.History.{call_steps, through_visit}
 use Rattle.judge_lines.specs.declared.order.Fork.{Fork}
 
--- the fork that a call of caller p makes, after k of p's calls and n of its steps
+-- the fork that a call of caller p makes, if p made k calls and n steps before this call
 abbrev pub fork_here : ℕ → ℕ → ℕ → Call → List Fork
 fork_here p k n (alone (ForkEvent child) line) =
     record { parent = p; child = child; calls = k; steps = n + length (through_visit line.steps) } ∷ []
@@ -16,7 +16,7 @@ abbrev pub is_fork : Call → Bool
 is_fork (alone (ForkEvent child) line) = true
 is_fork _ = false
 
--- the forks that some calls of caller p make, after k of its calls and n of its steps
+-- the forks that some calls of caller p make, if p made k calls and n steps before the first of these calls
 abbrev pub forks_in : ℕ → ℕ → ℕ → List Call → List Fork
 forks_in p k n [] = []
 forks_in p k n (call ∷ calls) = fork_here p k n call ++ forks_in p (suc k) (n + length (call_steps call)) calls

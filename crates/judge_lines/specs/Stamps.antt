@@ -1,4 +1,4 @@
--- `stamp_after` carries the stamp of the last visit over a step; by `IsAbove`, the next visit has a higher stamp.
+-- `stamp_after` is the stamp of the last visit, after one more step. By `IsAbove`, a further visit has a higher stamp.
 use Rattle.std.specs.Prelude.{ℕ, ◌<◌, ⊤, Option, Some, None}
 use Rattle.key_names.specs.declared.names.Step.{Step}
 use Rattle.key_names.specs.declared.names.Step.TheVariants.{Look, Visit as Marked}

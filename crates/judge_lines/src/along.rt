@@ -48,7 +48,7 @@ impl OrderWalk {
         }
     }
 
-    // Goes along a step.
+    // Advances the walk by one step.
     fn pass<C: Carry>(&mut self, carry: &C, step: Step)
         ensures { HasGone (C.after carry.now) (C.MayFollow carry.now) self.old (step ∷ []) self.new }
     {
@@ -56,7 +56,7 @@ impl OrderWalk {
         self.carried = carry.after(self.carried, step);
     }
 
-    // Goes along some steps.
+    // Advances the walk by some steps.
     fn go<C: Carry>(&mut self, carry: &C, steps: &[Step])
         ensures { HasGone (C.after carry.now) (C.MayFollow carry.now) self.old steps.now self.new }
     {
@@ -65,7 +65,7 @@ impl OrderWalk {
         }
     }
 
-    // Goes along the steps of the acts at a point.
+    // Advances the walk by the steps of the acts at a point.
     fn go_at_point<C: Carry>(&mut self, carry: &C, acts: &[ActLine<'_>], point: Point)
         ensures { HasGone (C.after carry.now) (C.MayFollow carry.now) self.old
             (steps_at_point (map seen_act acts.now) point) self.new }
@@ -79,7 +79,7 @@ impl OrderWalk {
         self.go_at_point(carry, rest, point);
     }
 
-    // Goes along a `vread` with the acts inside it.
+    // Advances the walk by the steps of a `vread` and of the acts inside it.
     fn go_vread<C: Carry>(&mut self, carry: &C, steps: &[Step], acts: &[ActLine<'_>])
         ensures { HasGone (C.after carry.now) (C.MayFollow carry.now) self.old
             (vread_steps steps.now (map seen_act acts.now)) self.new }
@@ -94,7 +94,7 @@ impl OrderWalk {
         self.go(carry, rest);
     }
 
-    // Goes along the steps of a call.
+    // Advances the walk by the steps of a call.
     fn go_call<C: Carry>(&mut self, carry: &C, call: &CalledLines<'_>)
         ensures { HasGone (C.after carry.now) (C.MayFollow carry.now) self.old (call_steps (seen_call call.now)) self.new }
     {

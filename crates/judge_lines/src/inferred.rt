@@ -45,8 +45,8 @@ pub enum PoolInferred {
 pub enum BaseInferred {
     /// This entry.
     Is(BaseEntry),
-    /// The entry after a crossing. If the credit at this place of the pool made the core ready, it is a reseed with
-    /// this root at this moment; otherwise it is an early key from the root.
+    /// The entry after a crossing. If the credit at this place of the pool made the core ready, the entry is a reseed
+    /// with this root at this moment. Otherwise the entry is an early key from the root.
     Crossed { root: u64, now: u64, credit: u64 },
     /// The end of a wait: the caller went on if the base had a generation, and was interrupted otherwise.
     Woken,
@@ -80,7 +80,7 @@ fn pool_place_in(sign: Sign) -> u64
     }
 }
 
-/// The place that a visit of the base shows; 0 for any other step.
+/// The place of a visit of the base; 0 for any other step.
 pub fn base_place_in(sign: Sign) -> u64
     ensures { result ≡ inferred.base_place_in sign }
 {
@@ -183,8 +183,8 @@ fn forked_inferred(child: u32, second_before: Sign, before: Sign) -> BaseInferre
     }
 }
 
-/// The inferred entry of a visit of the base, in a line of an event. A caller's last line is inferred like an event
-/// without visits of the base.
+/// The inferred entry of a visit of the base, in a line of an event. The entry in a caller's last line is inferred as
+/// for an event without visits of the base.
 pub fn base_inferred(set: &LineSetting, event: &Event, neighbours: Neighbours) -> BaseInferred
     ensures { result ≡ inferred.base_inferred set.now (inferred.telling set.now event.now) neighbours }
 {

@@ -63,7 +63,7 @@ pub fn system_form_is_row()
     ensures { SystemFormIsRow }
 {}
 
-/// In lawful lists, the entries of any steps fit.
+/// If lists are lawful, the entries of any steps fit.
 #[tactic(auto, using(crate::proofs::ActLines::lists_fit))]
 pub fn lawful_lists_fit()
     ensures { LawfulListsFit }
@@ -105,13 +105,13 @@ pub fn last_call_is_inferred()
     ensures { LastCallIsInferred }
 {}
 
-/// Steps inside a `vread` are the system call for a key, if they have its kinds and the inferred entries.
+/// If steps inside a `vread` have the kinds of the system call for a key and the inferred entries, they are this call.
 #[tactic(auto, using(crate::proofs::RowReads::key_row))]
 pub fn key_row_is_call()
     ensures { KeyRowIsCall }
 {}
 
-/// Steps at the end of a `vread` are its system call, if they have its kinds and the inferred entries.
+/// If steps at the end of a `vread` have the kinds of its system call and the inferred entries, they are this call.
 #[tactic(auto, using(crate::proofs::RowReads::last_row))]
 pub fn last_row_is_call()
     ensures { LastRowIsCall }

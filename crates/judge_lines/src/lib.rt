@@ -1,8 +1,8 @@
 //! A transcript's lines, without answers and data: their calls, marks, forks and forms.
 //!
 //! [`begin::begin`] checks two clauses. Lines: each caller has its lines. Marks: in each lane the places of the visits
-//! count up from 0, with rising stamps. Stamps also rise along each caller's steps, which follow its ancestors' steps
-//! before the fork.
+//! count up from 0, with rising stamps. Stamps also rise along each caller's order: its ancestors' steps before the
+//! fork, and then its own.
 //!
 //! The crate uses the definitions of `key_names`, and `input_pool` for the crossings of a credit. It takes scripts and
 //! transcripts that were already read. It does not look at lists or values, nor check what the lanes' lists require.
@@ -27,8 +27,8 @@
 //! - [`along::all_may_follow`]: whether each step in each caller's order may follow the value carried to it.
 //! - [`rows`] decides the forms that the steps of a line can have, by rows of kinds. [`inferred`] infers the entry of each
 //!   visit from the steps around it.
-//! - [`laws`]: suppose that all entries fit, and that the samples of the line hold. Then steps are a form of their
-//!   event exactly if their kinds are a row of the event and each visit has the inferred entry.
+//! - [`laws`]: suppose that all entries fit, and that the samples of the line are correct. Then steps are a form of
+//!   their event exactly if their kinds are a row of the event and each visit has the inferred entry.
 //!
 //! # Tested only
 //!

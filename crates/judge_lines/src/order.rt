@@ -38,8 +38,8 @@ fn visits_in_front(steps: &[Step]) -> usize
     }
 }
 
-// The number of these steps that come before the points `Serve` and `End`. The steps are those of a `vread` from its
-// third on.
+// How many of these steps come before the points `Serve` and `End`. These steps are the steps of a `vread` without its
+// first two.
 fn rekey_end(steps: &[Step]) -> usize
     ensures within { result ≤ length steps.now }
     ensures front { take result steps.now ≡ (cut_after_rekey steps.now).0 }

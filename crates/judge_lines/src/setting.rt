@@ -4,7 +4,7 @@ use std::marker::Model;
 
 /// A caller's CPU, its moment in milliseconds and its hardware words.
 ///
-/// In contracts it is the `LineSetting` of the calls.
+/// In contracts, a `LineSetting` is a `Setting` of `key_names` (`specs/Callers/Calls`).
 #[derive(Drop)]
 pub struct LineSetting {
     cpu: u32,
@@ -35,7 +35,7 @@ impl LineSetting {
         }
     }
 
-    /// A copy.
+    /// A copy of the setting.
     pub fn again(&self) -> LineSetting
         ensures { result ≡ self.now }
     {
@@ -46,7 +46,7 @@ impl LineSetting {
         }
     }
 
-    /// Changes the setting as the event does.
+    /// Applies the event's change to the setting.
     pub fn follow(&mut self, event: &Event)
         ensures { self.new ≡ setting_after self.old event.now }
     {

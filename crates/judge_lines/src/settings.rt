@@ -11,7 +11,7 @@ use crate::order::{Fork, front_of};
 use crate::setting::LineSetting;
 use std::alloc::{AllocError, Global};
 
-// Changes the setting as the call does.
+// Applies the changes of a call to the setting.
 fn follow(set: &mut LineSetting, call: &CalledLines<'_>)
     ensures { set.new ≡ setting_after_call set.old (seen_call call.now) }
 {

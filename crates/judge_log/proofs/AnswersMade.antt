@@ -1,4 +1,4 @@
--- The answers and data that the code makes for calls are those of the definitions.
+-- For each call, the code makes the same answers and data as the definitions.
 pub mod MetEffects
 pub mod MetSays
 pub mod CallMeant

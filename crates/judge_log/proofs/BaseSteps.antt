@@ -1,5 +1,5 @@
--- The loop of replay_base: after i entries, the code's base is the one of the definitions, the code has the data to
--- keep of these entries, and each entry was allowed.
+-- The loop of replay_base: after i entries, the code's base equals that of the definitions. The code has kept the right
+-- data about these entries, and each of them was allowed.
 use Rattle.std.proofs.Common.{◌≡◌, ◌<◌, ◌≤◌, ◌+◌, ℕ, suc, List, [], ◌∷◌, ◌++◌, length, take, Option, Some, None, refl, sym, subst, ap, ◌∙◌, arith, ◌⊎◌, inl, inr}
 use Rattle.std.specs.Prelude.{slice_get, option_and_then, nat_le, if◌then◌else◌}
 use Rattle.key_names.specs.declared.entries.PoolEntry.{PoolEntry}
@@ -29,7 +29,7 @@ use Rattle.judge_log.proofs.Dumps.{some_or_none, and_then_is}
 use Rattle.judge_log.proofs.Filling.{closed_fills, closes_base}
 use Rattle.judge_log.proofs.Loops.{After, after_more, at_too, fold_at}
 
--- ---- the data kept of the pool
+-- ---- the data kept about the pool
 
 root_place : (s : PoolState) (e : PoolEntry) →
     option_and_then (λ (root : KeptRoot). Some root.base_place) (root_kept s e) ≡ base_place_of e
@@ -49,7 +49,8 @@ module _ (lists : Lists) (pool : List KeptPool) (keeps : KeepsPoolLane pool list
   abbrev state : ℕ → PoolState
   state p = pool_after (take p lists.pool)
 
-  -- at place p both lists have an element (`Both`), or neither list has one (`Neither`)
+  -- at place `p`, the kept data and the entries of the pool both have an element (`Both`), or neither has one
+  -- (`Neither`)
   pub record Both (p : ℕ) : Type 0 where
     pub kept : KeptPool
     pub entry : PoolEntry
@@ -163,7 +164,7 @@ BaseMay lists i e = BaseMayCome lists.pool (base_after (take i lists.base)) e
 abbrev pub BaseKeeps : Lists → ℕ → KeptBase → BaseEntry → Type 0
 BaseKeeps lists i k e = KeepsBase (base_used_at lists.pool lists.base i) k (base_visit lists i e)
 
--- after the first i entries, `base`, `least` and the kept data `made` are those of the definitions
+-- after the first `i` entries, `base`, `least` and the kept data `made` equal what the definitions give
 pub record BaseAfter (lists : Lists) (i : ℕ) (base : BaseValue) (least : ℕ) (made : List KeptBase) : Type 0 where
   pub following : After (BaseMay lists) (BaseKeeps lists) lists.base i made
   pub base_conforms : base ≡ base_at (base_after (take i lists.base)) (base_value_after lists.pool (take i lists.base))

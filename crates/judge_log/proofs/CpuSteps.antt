@@ -1,5 +1,5 @@
--- The loop of replay_cpu: after i entries, the code's CPU is the one of the definitions, the code has the data to keep
--- of these entries, and each entry was allowed.
+-- The loop of replay_cpu: after i entries, the code's CPU equals that of the definitions. The code has kept the right
+-- data about these entries, and each of them was allowed.
 use Rattle.std.proofs.Common.{◌≡◌, ◌<◌, ◌≤◌, ◌+◌, ◌/◌, ℕ, suc, List, [], ◌∷◌, ◌++◌, take, true, false, Bool, not, Option, Some, None, refl, sym, subst, ap, ◌∙◌, arith, inl, inr}
 use Rattle.std.specs.Prelude.{slice_get, option_and_then, option_map, IsSome, nat_le, ◌||◌, ◌==◌, if◌then◌else◌}
 use Rattle.key_names.specs.declared.names.KeyName.{KeyName}
@@ -33,12 +33,12 @@ use Rattle.judge_log.proofs.Loops.{After, after_none, after_more, at_too, fold_a
 
 -- ---- batches
 
--- the data kept of a fill, given the key in use at each place
+-- the data kept about a fill; `keys` has the key in use at each place
 abbrev kept_fill : (ℕ → List ℕ) → Option Fill → Option LastFill
 kept_fill keys None = None
 kept_fill keys (Some fill) = Some (record { look = fill.look; key = keys fill.place; count = fill.count })
 
--- `f` keeps the last fill of each width
+-- for each width, `f` has the data kept about the last fill in `fills`
 pub record FillsConform (keys : ℕ → List ℕ) (fills : ℕ → Option Fill) (f : LastFills) : Type 0 where
   pub one : f.one ≡ kept_fill keys (fills 1)
   pub two : f.two ≡ kept_fill keys (fills 2)
@@ -65,7 +65,7 @@ module _ (keys : ℕ → List ℕ) (fills : ℕ → Option Fill) (f : LastFills)
       go None = refl
       go (Some fill) = refl
 
--- a batch that is not used up has bytes left
+-- if a batch of width `w` is not used up, it has served fewer than 96 integers
 used_up : (w count : ℕ) → IsWidth w → (b : Bool) → nat_le (96 / w) count || b ≡ false → count < 96
 used_up w count wide b is = elim wide [
   | inl e ↦ (let P : ℕ → Type 0 = λ x. nat_le (96 / x) count || b ≡ false in let h = subst P e is in below 96 h (omega arith))
@@ -104,7 +104,7 @@ module _ (keys : ℕ → List ℕ) where
       let n : fill.count + 1 ≡ suc fill.count = omega arith in
       ap (λ c. Some (record { look = fill.look; key = keys fill.place; count = c })) n
 
-  -- if an integer fills its batch, the code's fills are still those of the definitions
+  -- if `f` has the kept data of all last fills, `f` still has them after an integer fills its batch
   filled_more : (fills : ℕ → Option Fill) (f : LastFills) (place look w : ℕ) (name : Option KeyName) → IsWidth w →
       (refill : Option ℕ) → FillsConform keys fills f → FillsConform keys
       (fills_after place (Int look refill w true) name fills)
@@ -124,7 +124,7 @@ module _ (keys : ℕ → List ℕ) where
       P x = FillsConform keys (fills_after place (Int look refill x true) name fills)
           (put x (Some (record { look = look; key = keys place; count = 1 })) f)
 
-  -- if an integer is served from a filled batch, the code's fills are still those of the definitions
+  -- if `f` has the kept data of all last fills, `f` still has them after an integer is served from a filled batch
   served_more : (fills : ℕ → Option Fill) (f : LastFills) (place look w : ℕ) (name : Option KeyName) → IsWidth w →
       (refill : Option ℕ) → FillsConform keys fills f → FillsConform keys
       (fills_after place (Int look refill w false) name fills) (put w (one_more_kept (slot f w)) f)
@@ -163,7 +163,7 @@ module _ (keys : ℕ → List ℕ) where
   fills_more fills f place name Online wide h =
       record { one = h.one; two = h.two; four = h.four; eight = h.eight }
 
-  -- the source of an integer's bytes is made from the last fill of its batch
+  -- the data kept about a batch's last fill give the same source of bytes as the fill itself
   source_in_is : (o : Option Fill) → source_kept (kept_fill keys o) ≡ source_in keys o
   source_in_is None = refl
   source_in_is (Some fill) = refl
@@ -179,7 +179,7 @@ module _ (keys : ℕ → List ℕ) where
   source_is fills f place Prepare wide h = refl
   source_is fills f place Online wide h = refl
 
-  -- an entry fits by the kept fills exactly if it fits by the definition
+  -- if `f` has the kept data of all last fills, an entry fits `f` exactly if it fits by the definition
   fits_is : (s : CpuState) (f : LastFills) (e : CpuEntry) → EntryIsWide e → FillsConform keys s.fills f →
       (FitsKept s.generation f e → CpuFits s e) × (CpuFits s e → FitsKept s.generation f e)
   fits_is s f (Read look refill taken) wide h = (
@@ -226,7 +226,7 @@ refill_keeps Interrupt named is = cc
 refill_keeps Stall named is = cc
 refill_keeps Unstall named is = cc
 
--- a visit of the base that refills a CPU erases the key in use, so that key is kept
+-- if each erased key is kept, the data kept about a refill of a CPU have a key
 pub handed_none : (base : List KeptBase) → KeysKept base → (c place look b : ℕ) (kept : KeptBase) →
     slice_get base b ≡ Some kept → NamesIn c place look (Some kept) → kept.key ≡ None → ⊥
 handed_none base keys c place look b kept is names none =
@@ -368,7 +368,7 @@ CpuMay lists c k e = CpuMayCome lists.base c (cpu_after lists.base c (take k (cp
 abbrev pub CpuKeeps : Lists → ℕ → ℕ → KeptCpu → CpuEntry → Type 0
 CpuKeeps lists c place k e = KeepsCpu (cpu_used_at lists c) k (cpu_visit lists c place e)
 
--- after the first i entries, `cpu`, the fills `f` and the kept data `made` are those of the definitions
+-- after the first `i` entries, `cpu`, the fills `f` and the kept data `made` equal what the definitions give
 pub record CpuAfter (lists : Lists) (c i : ℕ) (cpu : CpuValue) (f : LastFills) (made : List KeptCpu) : Type 0 where
   pub following : After (CpuMay lists c) (CpuKeeps lists c) (cpu_list lists c) i made
   pub cpu_conforms : cpu ≡ cpu_at (cpu_after lists.base c (take i (cpu_list lists c)))

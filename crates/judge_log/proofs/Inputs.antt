@@ -1,4 +1,4 @@
--- An input event changes the code's pool and timer as it changes the pool of the definitions.
+-- An input event has the same effect on the code's pool and timer as on the pool of the definitions.
 use Rattle.std.proofs.Common.{◌≡◌, ◌≢◌, ℕ, ◌<◌, ◌≤◌, List, sym, ap, ◌∙◌, subst, arith}
 use Rattle.key_names.specs.declared.entries.PoolEntry.TheVariants.{Input}
 use Rattle.key_names.specs.Kernel.InputTimer.{InputTimer, input_timer_after, timer_bits}
@@ -8,7 +8,8 @@ use Rattle.input_pool.proofs.Callers.{mixed, mixed_and_credited, input_bytes, cr
 use Rattle.sample_credit.specs.LastInput.{LastInput}
 use Rattle.judge_log.specs.PoolLane.{LaneConforms}
 
--- the input event has another value than the last one; its sample was mixed, and `kept` has its value
+-- an input event whose value differs from the last one: `between` is the pool after the sample was mixed, and `kept`
+-- has the new value
 pub record Mixed (s : PoolState) (word kind code value : ℕ) (before between : PoolParts) (last kept : LastInput)
     (text : List ℕ) : Type 0 where
   pub pool : PoolConforms before s

@@ -1,4 +1,4 @@
--- A loop goes along a list. P holds of each place that the loop has passed, and S of the item kept for that place.
+-- A loop over a list: P holds of each place that the loop has passed, and S holds of the item kept for that place.
 use Rattle.std.proofs.Common.{◌≡◌, ◌<◌, ◌+◌, ℕ, zero, suc, List, [], ◌∷◌, ◌++◌, length, take, Some, None, get_or, refl, sym, subst, ap, ◌∙◌, arith, inl, inr, ◌⊎◌}
 use Rattle.std.specs.Prelude.{slice_get}
 use Rattle.std.specs.List.{fold}
@@ -102,7 +102,7 @@ module _ {K E : Type 0} (P : ℕ → E → Type 0) (S : ℕ → K → E → Type
     record { count = h.count ∙ sym all; each = h.each },
   )
 
--- a list is lawful exactly if each of its entries is allowed at its place
+-- if each entry of a list is allowed at its place, the list is lawful
 pub lawful_by_place : {S E : Type 0} (May : S → E → Type 0) (step : S → E → S) (s : S) (list : List E) →
     AllPlaces (λ i e. May (fold step s (take i list)) e) list → LawfulFrom May step s list
 lawful_by_place May step s [] all = tt

@@ -17,7 +17,7 @@ use Rattle.judge_log.specs.Tables.{Tables}
 use Rattle.judge_log.proofs.Filling.{SameLanes}
 
 module _ (l : Lists) (states : List (List (List VEntry))) where
-  -- lists with the same lanes and other vgetrandom states
+  -- the lists `l`, with `states` instead of the lists of vgetrandom states
   abbrev pub with_states : Lists
   with_states = record { pool = l.pool; base = l.base; cpus = l.cpus; callers = states }
 

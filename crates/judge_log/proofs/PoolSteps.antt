@@ -1,5 +1,5 @@
--- The loop of replay_pool: after i entries, the code's pool is the one of the definitions, the code has the data to
--- keep of these entries, and each mix of a dump names a dump.
+-- The loop of replay_pool: after i entries, the code's pool equals that of the definitions. The code has kept the right
+-- data about these entries, and each mix of a dump names a dump.
 use Rattle.std.proofs.Common.{◌≡◌, ◌<◌, ◌+◌, ℕ, List, [], ◌∷◌, ◌++◌, length, take, Option, Some, None, sym, subst, ap, ◌∙◌, inl, inr}
 use Rattle.std.specs.Prelude.{slice_get}
 use Rattle.key_names.specs.declared.entries.PoolEntry.{PoolEntry}
@@ -29,7 +29,8 @@ Any p e = Unit {0}
 abbrev pub PoolKeeps : Lists → ℕ → KeptPool → PoolEntry → Type 0
 PoolKeeps lists p k e = KeepsPool k (pool_visit lists p e)
 
--- after the first i entries, `lane` and the kept data `made` are those of the definitions, and each mix names a dump
+-- after the first `i` entries, `lane` and the kept data `made` equal what the definitions give, and each mix of a dump
+-- names a dump
 pub record PoolAfter (inferred : Tables) (i : ℕ) (lane : PoolReplay) (made : List KeptPool) : Type 0 where
   pub conforms : LaneConforms lane (pool_after (take i (closed inferred).pool))
   pub mixed : (j : ℕ) (t : InferredPool) → j < i → slice_get inferred.pool j ≡ Some t → MixConforms (closed inferred) t

@@ -31,7 +31,7 @@ use Rattle.judge_log.proofs.Filling.{closed_fills, fills_same}
 use Rattle.judge_log.proofs.Loops.{lawful_by_place}
 use Rattle.judge_log.proofs.Moved.{kept_of_same, lawful_of_same}
 
--- if each kept item has its entry's name, a look-up at any place gives the same name in both lists
+-- if `f` of each kept item equals `g` of its entry, a look-up at any place gives equal results in both lists
 names_same : {K E B : Type 0} (f : K → Option B) (g : E → Option B) (kept : List K) (list : List E) →
     length kept ≡ length list →
     ((i : ℕ) (k : K) (e : E) → slice_get kept i ≡ Some k → slice_get list i ≡ Some e → f k ≡ g e) → (i : ℕ) →
@@ -135,7 +135,8 @@ pub cpus_may_come : (lists : Lists) → LawfulLanes lists → AllCpusMay lists
 cpus_may_come lists h c k e is =
     may_at (CpuMayCome lists.base c) (cpu_step lists.base c) cpu_start (cpu_list lists c) k e (h.forward.cpus c) is
 
--- a CPU that does not exist has no entries, so all CPUs satisfy AllCpuMay if the CPUs of the lists do
+-- if AllCpuMay holds of each CPU in `lists`, it holds of every CPU number, since a CPU that does not exist has no
+-- entries
 pub cpus_may : (lists : Lists) → AllPlaces (λ c lane. AllCpuMay lists c) lists.cpus → AllCpusMay lists
 cpus_may lists all c k e is = all c (list_at lists.cpus c) (list_there lists.cpus c k e is) k e is
 

@@ -1,4 +1,4 @@
--- The base, as the code replays it along its list.
+-- The state of the base while the code replays the base's list.
 use Rattle.std.specs.Prelude.{ℕ, ◌≡◌, ◌≤◌, ⊤, Option, Some, None, List, take, slice_get, option_and_then}
 use Rattle.key_names.specs.declared.entries.BaseEntry.{BaseEntry}
 use Rattle.key_names.specs.Lanes.PoolList.{Crossing, none}
@@ -26,7 +26,7 @@ state_of b = record {
 abbrev pub Fits : BaseValue → BaseEntry → Type 0
 Fits b e = BaseFits (state_of b) e
 
--- the crossing of the entry at a place of the pool
+-- the crossing in the data kept about a visit of the pool; none if there is no visit
 abbrev pub crossing_kept : Option KeptPool → Crossing
 crossing_kept None = none
 crossing_kept (Some kept) = crossing_of kept.crossing
@@ -41,7 +41,7 @@ root_in pool r = option_and_then (λ (kept : KeptPool). kept.root) (slice_get po
 abbrev pub root_value_in : List KeptPool → ℕ → Option (List ℕ)
 root_value_in pool r = option_and_then (λ (root : KeptRoot). Some root.value) (root_in pool r)
 
--- the place of a named root is not below `least`, and the extraction there names this place of the base
+-- if a root is named, its place in the pool is at least `least`, and the extraction there names `place` of the base
 abbrev pub RootConformsIn : List KeptPool → ℕ → ℕ → Option ℕ → Type 0
 RootConformsIn pool least place None = ⊤
 RootConformsIn pool least place (Some r) =

@@ -1,4 +1,4 @@
--- A CPU, as the code replays it along its list.
+-- The state of a CPU while the code replays the CPU's list.
 use Rattle.std.specs.Prelude.{ℕ, ◌+◌, ◌/◌, ◌≡◌, ◌≤◌, ◌<◌, ◌↔◌, ◌⊎◌, ⊤, Bool, true, false, not, ◌||◌, ◌==◌, nat_le}
 use Rattle.std.specs.Prelude.{Option, Some, None, List, take, slice_get, IsSome, if◌then◌else◌}
 use Rattle.key_names.specs.declared.entries.CpuEntry.{CpuEntry}
@@ -90,7 +90,7 @@ refill_named Online = None
 abbrev pub KeysKept : List KeptBase → Type 0
 KeysKept base = (b : ℕ) (kept : KeptBase) → slice_get base b ≡ Some kept → base_erases kept.entry ≡ true → IsSome kept.key
 
--- the base's visit is a refill for this place of this CPU, and its generation is at least the look
+-- the base's visit is a refill for this place of this CPU, and the generation after this visit is at least the look
 abbrev pub NamesIn : ℕ → ℕ → ℕ → Option KeptBase → Type 0
 NamesIn cpu place look None = ⊥
 NamesIn cpu place look (Some kept) = (refill_of kept.entry ≡ Some (cpu, place)) × (look ≤ kept.generation)

@@ -30,11 +30,11 @@ abbrev pub dump_inferred : FastPool → CpuInferred → Option Dumped
 dump_inferred f (cpu_is e) = dump_by f e
 dump_inferred f (batch look width) = None
 
--- a CPU's fast pool before a place of its list
+-- the fast pool of a CPU before place `k` of the CPU's list
 abbrev pub fast_at : Lists → ℕ → ℕ → FastPool
 fast_at lists c k = fast_after (take k (cpu_list lists c))
 
--- an interrupt at this place makes a dump due exactly if its line dumps
+-- an interrupt at this place makes a dump due exactly if its line has a dump
 abbrev pub DueAt : Tables → ℕ → ℕ → CpuEntry → Type 0
 DueAt inferred c k e = (t : InferredCpu) → slice_get (list_at inferred.cpus c) k ≡ Some t →
     DueConforms (fast_at (closed inferred) c k) t.dumps e

@@ -47,7 +47,7 @@ abbrev pub taken_recipe : List ℕ → Taken → Recipe
 taken_recipe key (User n) = user_recipe key n
 taken_recipe key (Kernel n) = kernel_recipe key n
 
--- the bytes of an integer, if its batch of 96 bytes has them
+-- the bytes of an integer; none if its batch of 96 bytes is used up
 abbrev pub batch_recipe : List ℕ → ℕ → ℕ → Recipe
 batch_recipe key width count = if nat_lt (width * count) 96 then int_recipe key width count else no_recipe
 
@@ -143,7 +143,8 @@ module _ (kept : KeptLists) (set : Setting) where
   alone_says event steps =
       record { answer = event_says event (met_in kept steps); shows = event_shows event (met_in kept steps) }
 
-  -- the answer and data are made from the steps if these have the kinds of a form; otherwise there are none
+  -- if the steps have the kinds of a form, the result is the answer and data made from the steps; otherwise there is no
+  -- result
   abbrev pub IsAloneSaid : Event → List Step → Option MadeLine → Type 0
   IsAloneSaid event steps None = AloneConforms event steps → ⊥
   IsAloneSaid event steps (Some said) = AloneConforms event steps × (said ≡ alone_says event steps)

@@ -1,4 +1,4 @@
--- Call by call, the visits of all lines have the inferred entries.
+-- The visits of all lines have the inferred entries. This is defined call by call.
 use Rattle.std.specs.Prelude.{ℕ, ◌<◌, ⊤, List, [], ◌∷◌, length}
 use Rattle.std.specs.List.{AllByRecursion}
 use Rattle.key_names.specs.declared.entries.Taken.TheVariants.{User}

@@ -1,4 +1,4 @@
--- What the tables of a transcript are, and how they relate to its lines.
+-- The tables of a transcript, and their relation to the transcript's lines.
 use Rattle.std.specs.Prelude.{ℕ, ◌≡◌, ◌↔◌, List, length}
 use Rattle.std.specs.List.{AllByRecursion}
 use Rattle.key_names.specs.declared.names.LaneId.TheVariants.{Pool as PoolLane, Base as BaseLane, Cpu as CpuLane}

@@ -1,4 +1,4 @@
--- The data kept of lists.
+-- The data kept about the entries of lists.
 use Rattle.std.specs.Prelude.{ℕ, ◌≡◌, Option, Some, None, List, map, true, false, if◌then◌else◌}
 use Rattle.key_names.specs.declared.entries.PoolEntry.{PoolEntry}
 use Rattle.key_names.specs.declared.entries.PoolEntry.TheVariants.{Mix, Input, Bits, Extract}
@@ -31,7 +31,7 @@ pub record KeepsPool (k : KeptPool) (v : PoolVisit) : Type 0 where
   pub crosses : crossing_of k.crossing ≡ crossing v.before.bits v.after.bits
   pub root : k.root ≡ root_kept v.before v.entry
 
--- `k` has the data to keep of this visit of the base; `used` is the value of the key in use there
+-- `k` has the right data about this visit of the base; `used` is the value of the key in use at the visit
 pub record KeepsBase (used : List ℕ) (k : KeptBase) (v : BaseVisit) : Type 0 where
   pub entry : k.entry ≡ v.entry
   pub generation : k.generation ≡ v.after.generation
@@ -54,7 +54,7 @@ source_of used fills place (Dump now) = no_source
 source_of used fills place Prepare = no_source
 source_of used fills place Online = no_source
 
--- `k` has the data to keep of this visit of a CPU; `used` is the value of the key in use at each of the CPU's places
+-- `k` has the right data about this visit of a CPU; `used` is the value of the key in use at each of the CPU's places
 pub record KeepsCpu (used : ℕ → List ℕ) (k : KeptCpu) (v : CpuVisit) : Type 0 where
   pub entry : k.entry ≡ v.entry
   pub generation : k.generation ≡ v.after.generation
@@ -70,7 +70,7 @@ KeepsBaseLane kept lists =
 abbrev pub KeepsCpuLane : Lists → ℕ → List KeptCpu → List CpuEntry → Type 0
 KeepsCpuLane lists c kept es = AllKept (λ place k e. KeepsCpu (cpu_used_at lists c) k (cpu_visit lists c place e)) kept es
 
--- `kept` has the data to keep of each visit of each lane
+-- `kept` has the right data about each visit of each lane
 pub record Keeps (kept : KeptLists) (lists : Lists) : Type 0 where
   pub pool : KeepsPoolLane kept.pool.items lists
   pub base : KeepsBaseLane kept.base.items lists

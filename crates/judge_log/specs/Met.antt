@@ -1,4 +1,4 @@
--- The data kept of a line's steps, and the line's seen steps.
+-- The data kept about a line's steps, and the line's seen steps.
 use Rattle.std.specs.Prelude.{ℕ, ◌==◌, Bool, true, false, Option, Some, None, List, map, slice_get, unwrap_or}
 use Rattle.std.specs.Prelude.{if◌then◌else◌}
 use Rattle.std.specs.Global.{Vec}
@@ -40,7 +40,7 @@ mark_met kept PoolLane place = pool_met (slice_get kept.pool.items place)
 mark_met kept BaseLane place = base_met (slice_get kept.base.items place)
 mark_met kept (CpuLane cpu) place = lane_met cpu place (slice_get kept.cpus.items cpu)
 
--- a step with the data kept of its visit
+-- a step, with the data kept about its visit
 abbrev pub met_at : KeptLists → Step → KeptStep
 met_at kept (Look found) = Looked found
 met_at kept (Marked mark) = mark_met kept mark.lane mark.place

@@ -1,4 +1,4 @@
--- The kept data determine whether entries name each other.
+-- Whether entries name each other, determined from the kept data.
 use Rattle.std.specs.Prelude.{ℕ, ◌≡◌, ⊤, Option, Some, None, List, slice_get, option_and_then}
 use Rattle.key_names.specs.Lanes.BaseList.{root_of, refill_of}
 use Rattle.key_names.specs.Lanes.CpuList.{base_refill_of}

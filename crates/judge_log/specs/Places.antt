@@ -1,4 +1,4 @@
--- Facts of each place of a list.
+-- Facts about each place of a list.
 use Rattle.std.specs.Prelude.{ℕ, ◌≡◌, Some, List, length, slice_get}
 
 -- P holds of each place and its element

@@ -55,7 +55,7 @@ pub record PoolRowAt (inferred : Tables) (set : Setting) (t : Telling) (neighbou
   pub is : slice_get inferred.pool place ≡ Some row
   pub tells : IsPoolRow set t (pool_inferred t neighbours) row
 
--- an interrupt's sample is followed by a dump if the line visits a CPU next
+-- whether a sign is a visit of a CPU; after the sample of an interrupt, such a visit is a dump
 abbrev pub is_on_cpu : Sign → Bool
 is_on_cpu (in_cpu c k) = true
 is_on_cpu _ = false
@@ -98,7 +98,7 @@ module _ (inferred : Tables) where
   abbrev pub ActRows : Setting → BoundAct → Type 0
   ActRows set bound = LineRows set (λ neighbours. act_telling bound.act) bound.line.steps
 
-  -- for a call with this setting, the marks of its lines have their rows
+  -- the marks of a call's lines have their rows; `set` is the setting of the call
   abbrev pub CallRows : Setting → Call → Type 0
   CallRows set (alone event line) = LineRows set (λ neighbours. telling set event) line.steps
   CallRows set (vread_call n flags line acts) =

@@ -26,11 +26,11 @@ pub record NotedAt {Noted : Type 0} (IsNoted : ℕ → MadeLine → Noted → Ty
   pub is : slice_get notes event ≡ Some note
   pub noted : IsNoted event one note
 
--- the note is the answer and data themselves
+-- a note that is the whole answer and data
 abbrev pub itself : ℕ → ℕ → MadeLine → MadeLine → Type 0
 itself caller event said noted = noted ≡ said
 
--- the answer and data at the line's event number are those of the line's meaning
+-- the answer and data at the line's event number equal those of the line's meaning
 pub record SaysIt (At : ℕ → MadeLine → Type 0) (line : SeenLine) (m : LineMeaning) : Type 0 where
   pub one : MadeLine
   pub is : At line.event one
@@ -43,7 +43,7 @@ pub record IsSaid (lists : Lists) (set : Setting) (calls : List Call) (At : ℕ 
   pub mean : CallerMeans lists set calls meanings
   pub says : EachLine (SaysIt At) calls meanings
 
--- the calls are those of the events, each event has its line, and all looks are below 2^63
+-- the calls group these events and lines, each event has its line, and all looks are below 2^63
 pub record AreCallsOf (events : List Event) (lines : List SeenLine) (calls : List Call) : Type 0 where
   pub caller : ℕ
   pub fit : LinesFit caller 0 events lines

@@ -57,7 +57,7 @@ call_spots set (vread_call n flags line acts) = acts_spots set acts ++ line_spot
 call_spots set (unbound bound) = line_spots set (λ neighbours. silent) bound.line.steps
 call_spots set (ending line) = line_spots set (λ neighbours. silent) line.steps
 
--- the spots of a caller's calls, each call with its setting; below, the spots of all callers
+-- the spots of a caller's calls; `sets` has the setting of each call
 abbrev pub calls_spots : List Call → List Setting → List Spot
 calls_spots [] sets = []
 calls_spots (call ∷ calls) [] = []
@@ -115,7 +115,7 @@ pub record IsLonger (lane : LaneId) (old new : Tables) : Type 0 where
   pub rows : (other : LaneId) →
       rows_in new other ≡ (if is_same_lane lane other then suc (rows_in old other) else rows_in old other)
 
--- the lane is that of a CPU that does not exist
+-- the lane is a CPU that does not exist
 abbrev pub IsAbsent : ℕ → LaneId → Type 0
 IsAbsent cpus PoolLane = ⊥
 IsAbsent cpus BaseLane = ⊥

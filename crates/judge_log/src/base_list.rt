@@ -74,7 +74,7 @@ fn crossed_at(pool: &[KeptPool], place: u64) -> Crossing
     }
 }
 
-/// Completes an inferred entry from the base before this entry and from the data kept of the pool.
+/// Completes an inferred entry, given the base before this entry and the data kept about the pool.
 fn close(base: &Base, inferred: BaseInferred, pool: &[KeptPool]) -> BaseEntry
     ensures { result ≡ base_entry (crossed_of pool.now) (state_of base.now) inferred }
 {
@@ -111,7 +111,7 @@ fn root_value(pool: &[KeptPool], least: u64, place: u64, named: Option<u64>) -> 
     }
 }
 
-/// Replays the base's list, and returns the data kept of it. `None` if the list is not lawful.
+/// Replays the base's list, and returns the data kept about its visits. `None` if the list is not lawful.
 pub(crate) fn replay_base(
     alloc: Global,
     inferred: &InferredEntries,

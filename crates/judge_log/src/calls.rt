@@ -32,7 +32,7 @@ use key_names::{Answer, Event};
 use std::alloc::{AllocError, Global};
 
 impl<N: Note> CallerWalk<'_, N> {
-    // Takes a single event. Returns whether the steps of its line are a form of the event.
+    // Handles a single event. Returns whether the steps of its line match a form of the event.
     fn alone(
         &mut self,
         set: &LineSetting,
@@ -54,7 +54,7 @@ impl<N: Note> CallerWalk<'_, N> {
         Ok(true)
     }
 
-    // Takes an act that no `vread` follows. Such an act is not done. Returns whether its line has no steps.
+    // Handles an act that no `vread` follows. Such an act is not done. Returns whether the act's line has no steps.
     fn unbound(&mut self, bound: &ActLine<'_>) -> Result<bool, AllocError>
         ensures lists { self.new.lists ≡ self.old.lists }
         ensures notes { self.new.notes ≡ record self.old.notes { noted = self.new.notes.noted } }
@@ -70,7 +70,7 @@ impl<N: Note> CallerWalk<'_, N> {
         Ok(true)
     }
 
-    // Takes a caller's last line. Returns whether its steps are a form of the end.
+    // Handles a caller's last line. Returns whether the line's steps match a form of the end.
     fn ending(&mut self, set: &LineSetting, line: BareLine<'_>) -> Result<bool, AllocError>
         ensures lists { self.new.lists ≡ self.old.lists }
         ensures notes { self.new.notes ≡ record self.old.notes { noted = self.new.notes.noted } }
@@ -91,7 +91,7 @@ impl<N: Note> CallerWalk<'_, N> {
         Ok(true)
     }
 
-    // Takes one call. Returns whether its steps are those of a form of the call.
+    // Handles one call. Returns whether the steps of its lines match a form of the call.
     fn call(&mut self, set: &LineSetting, call: &CalledLines<'_>) -> Result<bool, AllocError>
         requires { CallInRange (seen_call call.now) }
         ensures lists { self.new.lists ≡ self.old.lists }
@@ -122,7 +122,7 @@ impl<N: Note> CallerWalk<'_, N> {
     }
 }
 
-// Takes the calls in sequence, beginning with the caller's first.
+// Handles all calls of a caller in sequence.
 fn calls_said<N: Note>(
     alloc: Global,
     calls: &[CalledLines<'_>],
@@ -157,7 +157,7 @@ fn calls_said<N: Note>(
     Ok(Some(walk.notes.noted))
 }
 
-/// The notes of a caller's lines, indexed by event number. `None` if the steps of some line are no form of its call.
+/// The notes of a caller's lines, indexed by event number. `None` if the steps of some line match no form of its call.
 ///
 /// # Errors
 ///

@@ -41,7 +41,7 @@ fn refill_named(entry: CpuEntry) -> Option<(u64, u64)>
     }
 }
 
-/// Whether a visit of the base is a refill for this place of this CPU, with a generation of at least the look.
+/// Whether a visit of the base is a refill for this place of this CPU, and leaves a generation of at least `look`.
 fn refills(kept: &KeptBase, cpu: u32, place: u64, look: u64) -> bool
     ensures { IsTrue result ↔ NamesIn cpu place look (Some kept.now) }
 {
@@ -54,14 +54,14 @@ fn refills(kept: &KeptBase, cpu: u32, place: u64, look: u64) -> bool
     }
 }
 
-/// The data kept of the base's visit at a place.
+/// The data kept about the base's visit at a place.
 fn kept_at(base: &[KeptBase], place: u64) -> Option<KeptBase>
     ensures { result ≡ slice_get base.now place }
 {
     base.get(place as usize).copied()
 }
 
-/// The key and generation that the base hands over at this visit. `None` if no key was kept of the visit.
+/// The key and generation that the base hands over at this visit. `None` if no key was kept for the visit.
 fn hand_over(kept: &KeptBase) -> Option<Cpu>
     ensures { MatchOption result (kept.now.key ≡ None) (λ handed. (key : List ℕ) → kept.now.key ≡ Some key
         → handed ≡ record { key = keystream key 32 32; generation = kept.now.generation }) }
@@ -71,8 +71,8 @@ fn hand_over(kept: &KeptBase) -> Option<Cpu>
 }
 
 /// The key and generation that an entry at this place of the CPU gets from the refill that it names, or `Some(None)` if
-/// it names no refill. `None` if the named visit of the base is no refill for this place, or has a generation below the
-/// look.
+/// it names no refill. `None` if the named visit of the base is no refill for this place, or leaves a generation below
+/// the look.
 fn handed(base: &[KeptBase], cpu: u32, place: u64, entry: CpuEntry) -> Option<Option<Cpu>>
     requires { KeysKept base.now }
     ensures { MatchOption result (RefillConformsIn base.now cpu place (refill_named entry) → ⊥) (λ handed.
@@ -96,7 +96,7 @@ pub(crate) struct CpuReplay {
 }
 
 impl CpuReplay {
-    /// Completes an inferred entry, from the last fills of the batches.
+    /// Completes an inferred entry, given the last fills of the batches.
     fn close(&self, inferred: CpuInferred) -> CpuEntry
         requires { CpuIsWide inferred }
         ensures { result ≡ cpu_closed self.now.fills inferred }
@@ -209,7 +209,7 @@ impl CpuReplay {
     }
 }
 
-/// Replays a CPU's list, and returns the data kept of it. `None` if the list is not lawful.
+/// Replays a CPU's list, and returns the data kept about its visits. `None` if the list is not lawful.
 fn replay_cpu(
     alloc: Global,
     inferred: &InferredEntries,
@@ -248,7 +248,7 @@ fn replay_cpu(
     Ok(Some(kept))
 }
 
-/// Replays the lists of all CPUs, and returns the data kept of them. `None` if some list is not lawful.
+/// Replays the lists of all CPUs, and returns the data kept about their visits. `None` if some list is not lawful.
 pub(crate) fn replay_cpus(
     alloc: Global,
     inferred: &InferredEntries,

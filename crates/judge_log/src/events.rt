@@ -6,7 +6,7 @@ ghost use Rattle.judge_log.specs.EventSays.{recipe_met, last_recipe, found_unrea
 ghost use Rattle.judge_log.specs.EventSays.{reseed_says, tick_says, event_says, bits_shown, event_shows, act_says};
 ghost use Rattle.judge_log.specs.EventSays.{unused, IsAloneSaid, IsActSaid, EndConforms};
 
-use crate::met::{LineSpace, KeptStep, put_kinds, put_met};
+use crate::met::{KeptStep, LineSpace, put_kinds, put_met};
 use crate::said::{MadeLine, ShownRecipe};
 use crate::{KeptBase, KeptCpu, Lists};
 use input_pool::Crossing;
@@ -37,7 +37,7 @@ fn taken_served(key: &[u8; 32], taken: Taken) -> Served
     }
 }
 
-// The bytes of an integer, if its batch of 96 bytes has them.
+// The bytes of an integer; none if its batch of 96 bytes is used up.
 fn int_served(key: &[u8; 32], width: u8, count: u32) -> Served
     ensures { result ≡ batch_recipe key.now width count }
 {
@@ -99,10 +99,11 @@ fn was_interrupted(met: &[KeptStep]) -> bool
     ensures { result ≡ was_interrupted met.now }
 {
     match met {
-        [KeptStep::Looked(_), KeptStep::InBase(_), KeptStep::InBase(ended)] => matches!(
-            ended.entry,
-            BaseEntry::Interrupt
-        ),
+        [
+            KeptStep::Looked(_),
+            KeptStep::InBase(_),
+            KeptStep::InBase(ended),
+        ] => matches!(ended.entry, BaseEntry::Interrupt),
         _ => false,
     }
 }
@@ -132,7 +133,7 @@ fn reseed_says(met: &[KeptStep]) -> Answer
     }
 }
 
-// A tick fired if it extracted a root.
+// The answer of a tick: the tick fired if it extracted a root.
 fn tick_says(met: &[KeptStep]) -> Answer
     ensures { result ≡ tick_says met.now }
 {
@@ -190,7 +191,7 @@ fn event_cpu(event: &Event, set: &LineSetting) -> u32
     }
 }
 
-/// The answer and data of a single event. `None` if the steps of its line are no form of the event.
+/// The answer and data of a single event. `None` if the steps of its line match no form of the event.
 ///
 /// # Errors
 ///
@@ -244,8 +245,8 @@ pub fn unused() -> MadeLine
     }
 }
 
-/// The answer and data of an act inside a `vread`. `None` if the steps of its line are no form of the act. An act whose
-/// point was not reached must have no steps.
+/// The answer and data of an act inside a `vread`. `None` if the steps of its line match no form of the act. An act
+/// whose point was not reached must have no steps.
 ///
 /// # Errors
 ///
@@ -275,7 +276,7 @@ pub fn act_said(
     Ok(Some(act_says(act, &room.met)))
 }
 
-/// Whether the steps of a caller's last line are a form of the caller's end.
+/// Whether the steps of a caller's last line match a form of the caller's end.
 ///
 /// # Errors
 ///

@@ -144,7 +144,7 @@ fn pool_row<'a>(
     }
 }
 
-// What a read inside a `vread` of `len` bytes takes: `len` bytes if no step follows, and otherwise a key.
+// What a read inside a `vread` takes: if no step follows, the `len` bytes of the `vread`; otherwise a key.
 fn taken(len: u32, following: Sign) -> Taken
     ensures { result ≡ forms.taken_by (User 32) (User len) following }
 {
@@ -194,7 +194,7 @@ fn cpu_entry(
     }
 }
 
-// Whether the line dumps a CPU's fast pool after this visit.
+// Whether the step after this visit is a dump of a CPU's fast pool.
 fn dumps(set: &LineSetting, line_kind: LineKind<'_>, neighbours: Neighbours) -> bool
     ensures { result ≡ dumps_inferred (tells_by set.now line_kind.entry neighbours) neighbours }
 {
@@ -388,7 +388,7 @@ fn add_row(inferred: &mut InferredEntries<'_>, lane: LaneId) -> Result<bool, All
     Ok(true)
 }
 
-// Tables with an unfilled row for each mark. `None` if a mark is of a CPU that the script does not have.
+// Tables with an unfilled row for each mark. `None` if a mark names a CPU that the script does not have.
 fn bare_rows<'a>(
     alloc: Global,
     cpus: u32,

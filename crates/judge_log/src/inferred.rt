@@ -5,7 +5,7 @@ use key_names::PoolNote;
 /// The inferred entry of a visit of the pool.
 #[derive(Clone, Copy)]
 pub enum InferredPool<'a> {
-    /// This entry: the event's own entry, or an extraction.
+    /// A known entry: the event's own entry, or an extraction.
     Is(PoolNote<'a>),
     /// The mix of the dump at this place of a CPU.
     Dumped { cpu: u32, place: u64 },
@@ -19,8 +19,8 @@ pub struct InferredCpu {
     pub dumps: bool,
 }
 
-/// The entries that are inferred from a transcript's steps. Each lane has one for each visit, in the order of places.
-/// There is a table for each CPU of the script.
+/// The entries that are inferred from a transcript's steps. Each lane has one entry for each visit, in the order of
+/// places. Each CPU of the script has its own table.
 #[derive(Drop)]
 pub struct InferredEntries<'a> {
     pub pool: Vec<InferredPool<'a>>,

@@ -1,4 +1,4 @@
-//! The data kept of the lanes' lists. Answers and bytes are made from these data.
+//! The data kept about each visit when a lane's list is replayed. Answers and bytes are made from these data.
 ghost use Rattle.std.specs.Prelude.{◌≡◌};
 ghost use Rattle.judge_log.specs.Kept.{no_source};
 
@@ -12,7 +12,7 @@ pub struct KeptRoot {
     pub base_place: u64,
 }
 
-/// The data kept of a visit of the pool.
+/// The data kept about a visit of the pool.
 #[derive(Clone, Copy, Debug, PartialEq, Eq)]
 pub struct KeptPool {
     /// The pool's bits before the visit, 0 to 256.
@@ -23,7 +23,7 @@ pub struct KeptPool {
     pub root: Option<KeptRoot>,
 }
 
-/// The data kept of a visit of the base.
+/// The data kept about a visit of the base.
 #[derive(Clone, Copy, Debug, PartialEq, Eq)]
 pub struct KeptBase {
     pub entry: BaseEntry,
@@ -54,7 +54,7 @@ impl BytesSource {
     }
 }
 
-/// The data kept of a visit of a CPU.
+/// The data kept about a visit of a CPU.
 #[derive(Clone, Copy, Debug, PartialEq, Eq)]
 pub struct KeptCpu {
     pub entry: CpuEntry,
@@ -63,7 +63,7 @@ pub struct KeptCpu {
     pub source: BytesSource,
 }
 
-/// The data kept of the lanes' lists, by place.
+/// The data kept about the visits of each lane, by place.
 #[derive(Drop)]
 pub struct Lists {
     pub pool: Vec<KeptPool>,

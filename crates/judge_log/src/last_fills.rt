@@ -63,7 +63,7 @@ impl LastFills {
         }
     }
 
-    /// Whether an integer of this width fills its batch first. The integer does if the batch was never filled, is used
+    /// Whether an integer of this width must first fill its batch. This is so if the batch was never filled, is used
     /// up, or was filled with another look.
     pub(crate) fn wants(&self, look: u64, width: u8) -> bool
         requires { IsWidth width }

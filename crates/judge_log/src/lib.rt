@@ -1,13 +1,15 @@
-//! The entries of a transcript's visits, inferred from its steps; the lists of the lanes, replayed from them; and each
-//! line's answer and data, made again from the lists. `judge_vread` follows the reads of vgetrandom states.
+//! Infers the entries of a transcript's visits from its steps, and replays the lists of the lanes from these entries.
+//! From the lists it makes each line's answer and data again. The crate `judge_vread` follows the reads of vgetrandom
+//! states.
 //!
 //! [`gather::gather`] makes a row for each mark: the entry of the visit, inferred from the steps around it and from its
-//! caller's setting (`judge_lines`). Such an entry leaves four things open: what a credit crossed, whether a waiting
-//! caller went on, whether an integer filled its batch, and what a dump mixed. [`replay_lists`] completes the entries
-//! in the order CPUs' fast pools, pool, base, CPUs. It replays each list on the code's own parts, such as the input
-//! pool. Of each visit it keeps the data from which the answer and bytes of the visit's line are made.
-//! [`calls::caller_said`] goes through the calls of one caller, with its sixteen vgetrandom states, and makes the
-//! answer of each line and a recipe for the bytes. Its user chooses the notes of both ([`said::Note`]).
+//! caller's setting (`judge_lines`). An inferred entry leaves four things open: what a credit crossed, whether a
+//! waiting caller went on, whether an integer filled its batch, and what a dump mixed. [`replay_lists`] completes the
+//! entries in the order CPUs' fast pools, pool, base, CPUs. It replays each list with the parts that the core also
+//! uses, such as the input pool. For each visit it keeps the data from which the answer and bytes of the visit's line
+//! are made. [`calls::caller_said`] goes through the calls of one caller, with its sixteen vgetrandom states, and makes
+//! the answer of each line and a recipe for the bytes. The argument `how` ([`said::Note`]) determines what is noted of
+//! both.
 //!
 //! # Example
 //!
@@ -28,9 +30,9 @@
 //!
 //! - [`gather::gather`]: lists match these tables exactly if each line's visits have the entries that are inferred from
 //!   the line's own steps. The dumps of the tables are lawful exactly if the samples of interrupts are.
-//! - [`replay_lists`]: the data kept of the lists that match, and `None` exactly if no lawful lists match the tables.
+//! - [`replay_lists`]: the data kept about the lists that match, or `None` exactly if no lawful lists match the tables.
 //!   `specs/Fills` defines the lists that match, `specs/Lawful` the lawful ones, and `specs/Kept` the data.
-//! - [`calls::caller_said`]: the notes of each line. `None` exactly if some line's steps are no form of its call.
+//! - [`calls::caller_said`]: the notes of each line. `None` exactly if some line's steps match no form of its call.
 //!
 //! # Tested only
 //!
@@ -72,8 +74,8 @@ use pool_list::replay_pool;
 use samples::all_dumps;
 use std::alloc::{AllocError, Global};
 
-/// Replays the lists that match the inferred entries, and returns the data kept of them. `None` if no lawful lists
-/// match.
+/// Replays the lists that match the inferred entries, and returns the data kept about their visits. `None` if no lawful
+/// lists match.
 ///
 /// # Errors
 ///

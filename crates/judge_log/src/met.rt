@@ -1,4 +1,4 @@
-//! Looks up the data kept of a line's steps, and makes the line's seen steps and kinds from them.
+//! Looks up the data kept about a line's steps, and makes the line's seen steps and kinds from them.
 ghost use Rattle.std.specs.Prelude.{◌≡◌, ℕ, List, [], OnOk, slice_get, unwrap_or};
 ghost use Rattle.key_names.specs.Keys.KeyInUse.{zero_key};
 ghost use Rattle.judge_lines.specs.Kinds.{is_resume};
@@ -12,7 +12,7 @@ use judge_vread::seen::SeenStep;
 use key_names::{BaseEntry, LaneId, Step};
 use std::alloc::{AllocError, Global};
 
-/// A step with the data kept of its visit.
+/// A step, with the data kept about its visit.
 #[derive(Clone, Copy)]
 pub enum KeptStep {
     Looked(u64),
@@ -124,7 +124,9 @@ fn seen_of(cpu: u32, met: &KeptStep) -> SeenStep
         KeptStep::Looked(found) => SeenStep::Ready(*found),
         KeptStep::InPool(_) => SeenStep::Pool,
         KeptStep::InBase(kept) => base_seen(kept),
-        KeptStep::InCpu(on, kept) if *on == cpu => SeenStep::Cpu(kept.source.key.unwrap_or([0; 32])),
+        KeptStep::InCpu(on, kept) if *on == cpu => SeenStep::Cpu(
+            kept.source.key.unwrap_or([0; 32]),
+        ),
         KeptStep::InCpu(..) | KeptStep::Nothing => SeenStep::Elsewhere,
     }
 }
@@ -153,7 +155,7 @@ fn base_kind(entry: BaseEntry) -> Kind
     }
 }
 
-// The kind of a step. No key is copied for it.
+// The kind of a step. This copies no key.
 fn kind_met(cpu: u32, met: &KeptStep) -> Kind
     ensures { result ≡ kind_met cpu met.now }
 {

@@ -59,7 +59,7 @@ fn refill_at(cpus: &[Vec<KeptCpu>], cpu: u32, place: u64) -> Option<u64>
     base_refill_of(cpus.get(cpu as usize)?.get(place as usize)?.entry)
 }
 
-/// Whether this visit of the base is no refill, or is named back by the CPU's entry that it names.
+/// If this visit of the base is a refill, whether the named entry of a CPU names the refill back. Otherwise true.
 fn refill_answered(kept: &KeptBase, place: u64, cpus: &[Vec<KeptCpu>]) -> bool
     ensures { IsTrue result ↔ AnsweredBy (map (λ lane. lane.items) cpus.now) place (refill_of kept.now.entry) }
 {

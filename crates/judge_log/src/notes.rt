@@ -40,7 +40,7 @@ impl<N: Note> Notes<'_, N> {
             self.noted.push(one)?;
             return Ok(());
         }
-        // An earlier event without a note gets the note of an act that was not done. Its own note replaces this note
+        // Earlier events that have no note yet get the note of an act that was not done. Their own notes replace it
         // later.
         while self.noted.len() <= place {
             let none = self.note(self.noted.len() as u32, unused());

@@ -140,8 +140,8 @@ fn visit(
     }
 }
 
-/// Replays the pool's list, and returns the data kept of it. `None` if a visit mixes a dump that its CPU does not have
-/// at the named place.
+/// Replays the pool's list, and returns the data kept about its visits. `None` if a visit mixes a dump that its CPU
+/// does not have at the named place.
 pub(crate) fn replay_pool(
     alloc: Global,
     inferred: &InferredEntries,

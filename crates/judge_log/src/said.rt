@@ -1,11 +1,11 @@
-//! The answer and data of a line, and notes of them.
+//! The answer and data of a line, and the notes of both.
 ghost use Rattle.std.specs.Prelude.{◌≡◌, ℕ};
 ghost use Rattle.judge_log.specs.declared.said.MadeLine.{MadeLine as SaidOfLine};
 
 use judge_vread::served::Served;
 use key_names::Answer;
 
-/// The data of a line: nothing, a number, or the bytes of a recipe, if it makes any.
+/// The data of a line: nothing, a number, or the bytes of a recipe, if the recipe makes any.
 #[derive(Drop)]
 pub enum ShownRecipe {
     Nothing,
@@ -24,7 +24,7 @@ pub struct MadeLine {
 pub trait Note {
     type Noted: Drop;
 
-    /// This is a note of the answer and data of an event. The numbers are those of the caller and of the event.
+    /// The last argument is a note of this answer and data. The two numbers are those of the caller and of the event.
     ghost IsNoted: { Self → ℕ → ℕ → SaidOfLine → Self.Noted → Type 0 };
 
     /// Makes the note of this event of this caller.

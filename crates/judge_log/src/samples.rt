@@ -1,5 +1,5 @@
 //! Replays the fast pools of the CPUs. Makes the bytes of each dump, and checks that an interrupt makes a dump due
-//! exactly if its line dumps.
+//! exactly if its line has a dump.
 ghost use Rattle.std.specs.Prelude.{◌≡◌, ◌↔◌, ◌<◌, IsTrue, IfOk, IfSome, IsSome, map, length};
 ghost use Rattle.key_names.specs.Lanes.Book.{list_at, cpu_list};
 ghost use Rattle.judge_log.specs.Closed.{closed, fast_inferred};
@@ -16,7 +16,7 @@ use std::alloc::{AllocError, Global};
 /// The effect of a CPU's visit on its fast pool.
 #[derive(Drop)]
 pub(crate) struct SampleEffect {
-    /// Whether, if the visit is an interrupt, its line dumps if and only if the interrupt makes a dump due.
+    /// For an interrupt: whether it makes a dump due exactly if its line has a dump. For any other visit: true.
     pub(crate) fits: bool,
     /// The dump, if the visit is one.
     pub(crate) dump: Option<Dump>,
@@ -52,8 +52,8 @@ fn take_sample(fast: &mut FastPool, inferred: &InferredCpu) -> SampleEffect
     }
 }
 
-/// The dump of each visit of a CPU. `None` if some interrupt makes a dump due but its line does not dump, or if its
-/// line dumps but no dump is due.
+/// The dump of each visit of a CPU. `None` if some interrupt makes a dump due but its line has no dump, or makes none
+/// due but its line has one.
 fn dumps_of(
     alloc: Global,
     inferred: &InferredEntries,
@@ -78,8 +78,8 @@ fn dumps_of(
     Ok(Some(dumps))
 }
 
-/// The dump of each visit of each CPU. `None` if some interrupt makes a dump due but its line does not dump, or if its
-/// line dumps but no dump is due.
+/// The dump of each visit of each CPU. `None` if some interrupt makes a dump due but its line has no dump, or makes
+/// none due but its line has one.
 pub(crate) fn all_dumps(
     alloc: Global,
     inferred: &InferredEntries,

@@ -1,4 +1,4 @@
-//! Takes a `vread` with the acts inside it.
+//! Handles a `vread` with the acts inside it.
 ghost use Rattle.std.specs.Prelude.{◌≡◌, ◌^◌, ◌≤◌, IfOk, MatchBool, map};
 ghost use Rattle.std.specs.List.{AllByRecursion};
 ghost use Rattle.key_names.specs.Callers.Calls.{vread_call};
@@ -38,7 +38,7 @@ fn inside_of(acts: &[ActLine<'_>]) -> Inside
 
 impl<N: Note> CallerWalk<'_, N> {
     // Notes the answer and data of each act, which depend on the points that the `vread` reached. Returns whether the
-    // steps of each act are a form of the act.
+    // steps of each act match a form of the act.
     fn acts(
         &mut self,
         set: &LineSetting,
@@ -72,7 +72,8 @@ impl<N: Note> CallerWalk<'_, N> {
         Ok(true)
     }
 
-    /// Takes a `vread`. Returns whether the steps of the `vread`, and of the acts inside it, are the steps of one call.
+    /// Handles a `vread`. Returns whether the steps of the `vread`, and of the acts inside it, are the steps of one
+    /// call.
     ///
     /// # Errors
     ///

@@ -1,5 +1,5 @@
--- An attempt by the definitions has one of a few shapes: a list of effects, and a result. The code follows the seen steps
--- of each shape to the same result.
+-- An attempt of the definitions has one of a few shapes: a list of effects, with a result. For the seen steps of each
+-- shape the code computes the same result.
 use Rattle.std.proofs.Common.{◌≡◌, ℕ, zero, suc, ◌<◌, ◌≤◌, ◌^◌, Bool, true, false, List, [], ◌∷◌, ◌++◌, Some, None, ◌⊎◌, inl, inr, refl, sym, subst, ap, ◌∙◌, append_assoc, arith}
 use Rattle.std.specs.Prelude.{◌==◌, ◌&&◌, not, ⊤, MatchBool, Option, if◌then◌else◌}
 use Rattle.key_names.specs.declared.point.Point.TheVariants.{Start, Written, Serve, End}
@@ -52,12 +52,12 @@ Known (nothing_there ∷ ds) = Known ds
 pub known_at : {ds xs : List Effect} → ds ≡ xs → Known ds → Known xs
 known_at {ds = ds} {xs = xs} p h = let P : List Effect → Type 0 = λ x. Known x in subst P p h
 
--- `points`, with Written before them if the attempt read a key
+-- the points of an attempt: `points`, with Written before them if the attempt read a key
 abbrev pub with_written : Bool → Bool → List PointReached → List PointReached
 with_written true wiped points = reached Written wiped ∷ points
 with_written false wiped points = points
 
--- the effect of acts that wipe, or do not wipe, at each of the four points
+-- the effect of acts on a state; each of the last four bools is true if an act wipes the state at that point
 abbrev pub wiping : Bool → Bool → Bool → Bool → Bool → Inside
 wiping any w1 w2 w3 w4 = record { any = any; start = w1; written = w2; serve = w3; end = w4 }
 
@@ -73,7 +73,7 @@ pub matches_at : (a a' : Attempt) (b : After) → a ≡ a' → Matches a' b → 
 matches_at a a' b is m = let P : Attempt → Type 0 = λ x. Matches x b in subst P (sym is) m
 
 module _ (set : Setting) (more : List HostStep) where
-  -- ---- from Serve on
+  -- ---- an attempt from its point Serve on
 
   pub record Copied (n c : ℕ) (s : VgetrandomState) (steps : List HostStep) (ds : List Effect) (a : Attempt) : Type 0 where
     pub w3 : Bool
@@ -113,7 +113,7 @@ module _ (set : Setting) (more : List HostStep) where
 
   -- ---- a system call for a key
 
-  -- a system call for a key has two looks, then a visit of the base or none, and then a visit of a CPU
+  -- a system call for a key has two looks, then at most one visit of the base, and then a visit of a CPU
   record KeyRead (seen : List SeenStep) (rest : List Effect) (answer : SystemAnswer) : Type 0 where
     key : List ℕ
     visit : Option CpuPlace

@@ -34,7 +34,7 @@ use Rattle.judge_vread.proofs.CalledRows.{called_row}
 use Rattle.judge_vread.proofs.CalledSays.{called_says}
 use Rattle.judge_vread.proofs.AttemptShapes.{published_is, with_written, Matches}
 
--- the kinds of a recognized system call are one of its rows
+-- if a system call is recognized, the kinds of its steps are one of the rows of a system call
 pub row_of_called : (set : Setting) (n flags : ℕ) (seen : List SeenStep) (s : Shape set.cpu seen) (c : SystemCallResult) →
     called n flags seen ≡ Some c → IsSystemCall n flags (kinds_of set.cpu (effects_in set.cpu seen s))
 row_of_called set n flags seen s c e =
@@ -66,7 +66,7 @@ module _ (cf : LaneFacts) (set : Setting) (n : ℕ) (first : Sign) where
   found_at inside c s effects {b = b} {b' = b'} e found =
       let is : b ≡ b' = cc in let P : After → Type 0 = λ x. Found inside c s effects x in subst P is found
 
-  -- these steps come before a look, and are a system call for this key
+  -- the steps `call`, which come before a look, are a system call that reads this key
   record KeyCall (call : List Effect) (key : List ℕ) : Type 0 where
     form : SysForm set 32 0 call
     answer : read (keystream key 32 32) (last_place call) ≡ answer_after 0 call
@@ -116,8 +116,8 @@ module _ (cf : LaneFacts) (set : Setting) (n : ℕ) (first : Sign) where
         })
     current t _ sh b x y fill fits e = absurd cc
 
-    -- an attempt that reads a key consists of a look, a system call for the key, and the steps of the attempt from its
-    -- second look on
+    -- if the state's generation is not the published one, a look, a system call for a key, and the steps from a second
+    -- look on are together an attempt
     keyed : (s1.generation == published g) ≡ false → (call : List Effect) (key : List ℕ) → KeyCall call key → (h : ℕ) →
         1 ≤ h → h < 2 ^ 63 → (following : List SeenStep) (sh : Shape set.cpu following) (x y : Sign) →
         Fill x y (effects_in set.cpu following sh) → AllByRecursion LookFits following →

@@ -1,4 +1,5 @@
--- The code and the definitions agree on the points that a call reached, and on the wipes that its acts make there.
+-- The code and the definitions agree on the points that a call reached, and on the wipes that acts make at these
+-- points.
 use Rattle.std.proofs.Common.{◌≡◌, ◌⊎◌, inl, inr, Bool, true, false, List, [], ◌∷◌, refl, sym, subst, ap, ◌∙◌}
 use Rattle.std.specs.Prelude.{not, MatchBool}
 use Rattle.std.specs.List.{AllByRecursion}
@@ -35,7 +36,7 @@ EndPoints ps = (ps ≡ []) ⊎ Second ps
 abbrev pub Unwiped : List PointReached → Type 0
 Unwiped ps = (ps ≡ []) ⊎ ((keyed : Bool) × (ps ≡ attempt_points keyed false false false false []))
 
--- ---- from the followed points to the relation
+-- ---- from the points that the code followed to `WipesConform`
 
 pub none_conform : (acts : List BoundAct) (ps : List PointReached) → ps ≡ [] → WipesConform acts ps
 none_conform acts ps is =
@@ -106,9 +107,9 @@ which_reached keyed w1 w2 w3 w4 all ps is following act = ap (λ x. is_reached x
     go true ps (inr second) = ap (λ x. is_reached (attempt_points true w1 w2 w3 w4 x) act) second.is
     go false ps (inr second) = ap (λ x. is_reached (attempt_points false w1 w2 w3 w4 x) act) second.is
 
--- ---- from the relation to the followed points
+-- ---- from `WipesConform` to the points that the code followed
 
--- an act wipes at a point exactly if the attempt's state is wiped there
+-- at each point that the attempt reached, the state is wiped exactly if one of the acts wipes it there
 pub record AsInferred (acts : List BoundAct) (keyed w1 w2 w3 w4 : Bool) : Type 0 where
   pub start : w1 ≡ is_wiped acts Start
   pub written : keyed ≡ true → is_wiped acts Written ≡ w2

@@ -1,4 +1,4 @@
--- A system call is recognized exactly if the kinds of its seen steps are one of its rows.
+-- Seen steps are recognized as a system call exactly if their kinds are one of the rows of a system call.
 use Rattle.std.proofs.Common.{◌≡◌, ℕ, Bool, true, false, ◌⊎◌, inl, inr, List, [], ◌∷◌, Option, Some, refl, subst}
 use Rattle.std.specs.Prelude.{◌==◌, ◌&&◌, ◌||◌, not, map, MatchBool, if◌then◌else◌}
 use Rattle.key_names.specs.declared.events.Answer.{Answer}
@@ -64,7 +64,7 @@ wait_row n (Base wait ∷ Base interrupt ∷ []) c e = inl refl
 wait_row n (Base wait ∷ Resumed ∷ seen) c e = inr (kinds seen, refl, on_row n seen c e)
 wait_row n _ c e = absurd cc
 
--- if the code recognizes the steps after a look, their kinds are a row
+-- if the code recognizes the steps after the first look of a system call, the kinds of these steps are a row
 after_row : (n flags : ℕ) (ready : Bool) (seen : List SeenStep) (c : SystemCallResult) → after_look n flags ready seen ≡ Some c →
     IsAfterLook n flags ready (kinds seen)
 after_row n flags ready seen c e = go ready (is_insecure flags) (is_nonblock flags) e

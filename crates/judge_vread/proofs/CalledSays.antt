@@ -35,8 +35,8 @@ use Rattle.judge_vread.specs.Seen.{ServesBy}
 use Rattle.judge_vread.specs.Called.{serving, no_more, cpu_read, unready_read, read, waited, after_look, by_look, called}
 use Rattle.judge_vread.proofs.SeenShapes.{Shape, effects_in}
 
--- `c` has the answer and the bytes of these steps. They are also those of a line that reports the host's answer to
--- these steps
+-- `c` has the answer and the bytes of `effects`. A line that reports what the host returned for `effects` has the same
+-- answer and bytes
 pub record Says (flags : ℕ) (effects : List Effect) (c : SystemCallResult) : Type 0 where
   pub answer : c.answer ≡ system_answer flags effects
   pub bytes : bytes_made c.served ≡ served_bytes effects
@@ -103,7 +103,7 @@ module _ (cf : LaneFacts) (set : Setting) (sooner : Taken) (n flags : ℕ) (firs
   abbrev Fill : Sign → Sign → List Effect → Type 0
   Fill = AllFill (FillsPart cf set sooner (User n) first)
 
-  -- suppose that a call whose first look found g does not fail with EAGAIN
+  -- suppose that the first look of a call found `g`, and that the call does not fail with EAGAIN
   module _ (g : ℕ) (on : (found_unready (looked g ∷ []) && (is_nonblock flags && not (is_insecure flags))) ≡ false) where
     goes_done : (ds : List Effect) (recipe : Recipe) → was_interrupted (looked g ∷ ds) ≡ false →
         bytes_made recipe ≡ served_bytes (looked g ∷ ds) → Says flags (looked g ∷ ds) (serving recipe)

@@ -63,7 +63,8 @@ module _ (cf : LaneFacts) (set : Setting) (n flags : ℕ) (first : Sign) where
   call_at {Leads = Leads} {Points = Points} {r = r} {effects = effects} {f = f} {f' = f'} e inferred =
       let is : f ≡ f' = cc in let P : Followed → Type 0 = λ x. CallInferred Leads Points r effects x in subst P is inferred
 
-  -- the system answers the call; `s` is the state of the definitions, and `t` is the state that the code followed
+  -- if the code follows steps as a call that the system answers, they are such a call; `s` and `t` are equal states of
+  -- the definitions and of the code
   system_inferred : (r : Reached) (s t : VgetrandomState) → s ≡ t → (seen : List SeenStep) (sh : Shape set.cpu seen)
       (f : Followed) (x y : Sign) → F x y (ds seen sh) → leaving t (path.by_system n flags r seen) ≡ Some f →
       CallInferred (BySystem n flags s) None_ r (ds seen sh) f
@@ -112,7 +113,7 @@ module _ (cf : LaneFacts) (set : Setting) (n flags : ℕ) (first : Sign) where
   })
   batch_inferred r a recipe t out same (z ∷ seen) sh f e = absurd cc
 
-  -- an attempt was found at the start of some steps, and more steps come after it
+  -- an attempt was found at the start of the steps `seen`, and more steps come after the attempt
   module _ (inside : Inside) (c : ℕ) (s : VgetrandomState) (seen : List SeenStep) (sh : Shape set.cpu seen) (b : After)
       (found : Found cf set n first inside c s (ds seen sh) b) where
     ended : (t : Bool) → b.tried.holds ≡ t → found.attempt.end ≡ (if t then holds else outdated)

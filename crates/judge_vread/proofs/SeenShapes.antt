@@ -29,7 +29,7 @@ module _ (cpu : ℕ) where
     pub on : v.cpu ≡ cpu
     pub serves : ServesBy key v.entry v.serves
 
-  -- the look or visit of a seen step
+  -- the shape of a seen step: the look or visit that it shows
   abbrev pub One : SeenStep → Type 0
   One Unready = ⊤
   One (Ready g) = 1 ≤ g
@@ -96,7 +96,7 @@ module _ (cpu : ℕ) where
   kinds_seen (x ∷ xs) [] h = absurd h
   kinds_seen (x ∷ xs) (d ∷ ds) h = let p = kind_seen x d h.0 in let q = kinds_seen xs ds h.1 in cc
 
-  -- a seen step shows the look or visit that its shape has
+  -- a seen step shows the look or visit in the step's shape
   one_seen : (x : SeenStep) (p : One x) → IsSeen cpu x (effect x p)
   one_seen Unready p = refl
   one_seen (Ready g) p = (refl, p)

@@ -20,7 +20,8 @@ pub few_made : (front key : List ℕ) (k from len : ℕ) (r : Recipe) → k ≤ 
 few_made front key k from len r within few is =
     subst (λ n. n < 2 ^ 32) (length_made front key k from len within ∙ ap (λ r. length (bytes_made r)) is) few
 
--- appending the stream's first `done` bytes and then its next `next` bytes appends its first done + next bytes
+-- if the stream's first `done` bytes are appended and then its next `next` bytes, its first `done + next` bytes are
+-- appended
 pub put_more : (old items more part key : List ℕ) (from done next : ℕ) → items ≡ old ++ keystream key from done →
     part ≡ keystream key (from + done) next → more ≡ items ++ part → more ≡ old ++ keystream key from (done + next)
 put_more old items more part key from done next were is made =

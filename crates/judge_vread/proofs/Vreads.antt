@@ -170,7 +170,8 @@ module _ (cf : LaneFacts) (n flags : ℕ) (acts : List BoundAct) (before : Calle
   AttemptResult effects f = (entries : List VEntry)
       × Looked (LocalOrCall n flags acts (meaning_of before effects ms entries f)) effects
 
-  -- if the first look does not allow a copy without a call, the followed steps are a call
+  -- if the first look found a generation at which the state allows no copy without a call, the followed steps are a
+  -- call
   not_local : (g : ℕ) (rest : List Effect) (f : Followed) → serves_locally (published_by g) s n ≡ false →
       Is (looked g ∷ rest) f → AttemptResult (looked g ∷ rest) f
   not_local g rest f other k =
@@ -405,7 +406,7 @@ followed_of_vread cf n flags acts m seen v sees fits fit =
     by_ways cf n flags acts m v.looks fit seen sees fits (looks_rise m.before.setting.cpu 0 seen w.0
     (from_zero (looks_of (effects_in m.before.setting.cpu seen w.0)) (subst P w.1 v.looks))) v.done_by
 
--- ---- the rest
+-- ---- laws about system calls and about acts
 
 pub call_says : CalledSays
 call_says c set n flags effects seen inferred sees fill e =
@@ -415,7 +416,7 @@ call_says c set n flags effects seen inferred sees fill e =
     let k = called_says c set (User n) n flags (first_sign effects) nowhere nowhere seen w.0 inferred (subst F w.1 fill) e in
     subst P (sym w.1) (k.answer, k.bytes)
 
--- One more act at the end of a list changes the effect of the list as `inside_after` does.
+-- If an act is appended to a list of acts, the effect of the longer list is `inside_after` of the list's effect.
 or_false : (b : Bool) → (b || false) ≡ (false || b)
 or_false true = refl
 or_false false = refl

@@ -1,4 +1,4 @@
--- Recognizes a system call by its seen steps. The cases are those of the code, and of the rows of kinds.
+-- Recognizes a system call by its seen steps. The cases are the same as in the code, and as in the rows of kinds.
 use Rattle.std.specs.Prelude.{ℕ, ◌==◌, ◌||◌, Bool, true, false, Option, Some, None, List, [], ◌∷◌, if◌then◌else◌}
 use Rattle.key_names.specs.declared.events.Answer.{Answer}
 use Rattle.key_names.specs.declared.events.Answer.TheVariants.{Ok as Done, Again, Invalid, Interrupted}
@@ -11,7 +11,7 @@ use Rattle.judge_vread.specs.Recipe.{Recipe, no_recipe, user_recipe}
 abbrev pub serving : Recipe → SystemCallResult
 serving recipe = record { answer = Done; served = recipe }
 
--- this answer without bytes if no steps are left, and otherwise none
+-- the answer, without bytes, if no steps are left; otherwise no result
 abbrev pub no_more : Answer → List SeenStep → Option SystemCallResult
 no_more answer [] = Some (record { answer = answer; served = no_recipe })
 no_more answer _ = None
@@ -50,6 +50,6 @@ by_look n flags (Unready ∷ rest) = after_look n flags false rest
 by_look n flags (Ready found ∷ rest) = after_look n flags true rest
 by_look n flags _ = None
 
--- the answer and bytes of a system call of n bytes with these flags; none if these are not its steps
+-- the answer and bytes of a system call of n bytes with these flags; none if `seen` are not the steps of such a call
 abbrev pub called : ℕ → ℕ → List SeenStep → Option SystemCallResult
 called n flags seen = if is_bad flags then no_more Invalid seen else by_look n flags seen

@@ -1,4 +1,4 @@
--- What the acts inside a call do to its state, and the points that the first attempt reached.
+-- What the acts inside a call do to the call's state, and which points the first attempt reached.
 use Rattle.std.specs.Prelude.{◌==◌, not, Bool, true, false, List, [], ◌∷◌, length}
 use Rattle.std.specs.List.{list_any}
 use Rattle.key_names.specs.declared.point.Point.{Point}

@@ -69,7 +69,7 @@ VreadIsFollowed = (c : LaneFacts) (n flags : ℕ) (acts : List BoundAct) (m : Ca
     VreadMeans n flags acts m → AllSeen m.before.setting.cpu seen m.own.effects → AllByRecursion LookFits seen →
     AllFit c m.own.effects → IsFollowed n flags acts m seen
 
--- a system call is recognized only if the kinds of its steps are one of its rows
+-- a system call is recognized only if the kinds of its steps are one of the rows of a system call
 abbrev pub CalledIsRow : Type 0
 CalledIsRow = (n flags : ℕ) (seen : List SeenStep) (c : SystemCallResult) → called n flags seen ≡ Some c →
     IsSystemCall n flags (map seen_kind seen)
@@ -85,7 +85,7 @@ CalledSays = (c : LaneFacts) (set : Setting) (n flags : ℕ) (effects : List Eff
     called n flags seen ≡ Some inferred →
     (inferred.answer ≡ system_answer flags effects) × (bytes_made inferred.served ≡ served_bytes effects)
 
--- one more act at the end of a list changes the effect of the list as `inside_after` does
+-- if an act is appended to a list of acts, the effect of the longer list is `inside_after` of the list's effect
 abbrev pub ActJoins : Type 0
 ActJoins = (acts : List BoundAct) (act : BoundAct) →
     inside_of (acts ++ act ∷ []) ≡ inside_after (inside_of acts) act.point act.act

@@ -1,4 +1,4 @@
--- Follows a vread over its seen steps. The cases are those of the code.
+-- Follows a vread over its seen steps. The cases are the same as in the code.
 use Rattle.std.specs.Prelude.{ℕ, ◌+◌, ◌-◌, ◌^◌, ◌==◌, ◌||◌, min, Bool, true, false, Option, Some, None, List, [], ◌∷◌}
 use Rattle.std.specs.Prelude.{if◌then◌else◌}
 use Rattle.std.specs.Option.{option_map}
@@ -20,7 +20,7 @@ use Rattle.judge_vread.specs.Seen.{rises}
 use Rattle.judge_vread.specs.Inside.{inside_of, reached_by}
 use Rattle.judge_vread.specs.Called.{called}
 
--- the published generation at a look, from the base's generation that the look found
+-- the published generation at a look; `found` is the base's generation that the look found
 abbrev pub published : ℕ → ℕ
 published found = min (found + 1) (2 ^ 64 - 1)
 
@@ -133,7 +133,7 @@ abbrev pub by_vgetrandom : ℕ → ℕ → Inside → VgetrandomState → List S
 by_vgetrandom n flags inside s seen =
     if is_bad flags then leaving s (by_system n flags Nothing seen) else from_look n flags inside s seen
 
--- a copy out of the state if the state allows one without a call, and a call otherwise
+-- if the state allows a copy without a call, the copy; otherwise a call
 abbrev pub copy_or_call : ℕ → ℕ → Inside → VgetrandomState → List SeenStep → Option Followed
 copy_or_call n flags inside s (Ready found ∷ rest) =
     if serves_locally (published found) s n
@@ -141,7 +141,8 @@ copy_or_call n flags inside s (Ready found ∷ rest) =
     else by_vgetrandom n flags inside s (Ready found ∷ rest)
 copy_or_call n flags inside s seen = by_vgetrandom n flags inside s seen
 
--- for a vread of n bytes with these flags: its result, and the state after it; none if these are not its steps
+-- for a vread of n bytes with these flags: its result, and the state after it; none if `seen` are not the steps of such
+-- a vread
 abbrev pub followed : ℕ → ℕ → Inside → VgetrandomState → List SeenStep → Option Followed
 followed n flags inside s seen =
     if rises 0 seen

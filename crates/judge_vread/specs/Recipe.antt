@@ -1,4 +1,4 @@
--- How the bytes of a read are made: at first come bytes that exist already, and then a piece of a key's stream.
+-- How the bytes of a read are made: the first bytes exist already, and the others are a piece of a key's stream.
 use Rattle.std.specs.Prelude.{ℕ, ◌+◌, ◌-◌, ◌*◌, min, List, [], ◌++◌, take, drop, nat_lt, if◌then◌else◌}
 use Rattle.key_names.specs.Kernel.Keystream.{keystream}
 use Rattle.key_names.specs.Keys.KeyInUse.{zero_key}

@@ -19,7 +19,7 @@ pub struct AttemptResult {
     pub next_block: u64,
 }
 
-/// The generation that is published at a look, from the base's generation that the look found.
+/// The generation that is published at a look; `found` is the base's generation that the look found.
 pub(crate) fn published(found: u64) -> u64
     ensures { result ≡ published found }
 {

@@ -1,7 +1,8 @@
 //! The laws of following a `vread`, each as the contract of a function without code.
 //!
-//! If each visit of some steps has the inferred entry and the steps can be followed, they are a `vread`. If the entries
-//! of a `vread` fit, it can be followed, and the result has the same answer, bytes and state.
+//! If each visit of some steps has the inferred entry and the steps can be followed, the steps are a `vread`. If the
+//! entries of a `vread` fit, the `vread` can be followed, and the result has the answer, bytes and state of its
+//! meaning.
 ghost use Rattle.judge_vread.specs.Laws.{FollowedIsVread, VreadIsFollowed, CalledIsRow, RowIsCalled, CalledSays};
 ghost use Rattle.judge_vread.specs.Laws.{ActJoins, VreadIsInferred};
 
@@ -11,12 +12,13 @@ pub fn followed_is_vread()
     ensures { FollowedIsVread }
 {}
 
-/// If the entries of a `vread` fit, it can be followed, and the result has the answer, bytes and state of its meaning.
+/// If the entries of a `vread` fit, the `vread` can be followed, and the result has the answer, bytes and state of its
+/// meaning.
 pub fn vread_is_followed()
     ensures { VreadIsFollowed }
 {}
 
-/// The kinds of a recognized system call are one of its rows.
+/// If a system call is recognized, the kinds of its steps are one of the rows of a system call.
 #[tactic(auto, using(crate::proofs::CalledRows::called_row))]
 pub fn called_is_row()
     ensures { CalledIsRow }
@@ -34,7 +36,7 @@ pub fn called_says()
     ensures { CalledSays }
 {}
 
-/// One more act at the end of a list of acts changes the list's effect as `Inside::add` does.
+/// If an act is appended to a list of acts, the list's effect changes as `Inside::add` changes it.
 #[tactic(auto, using(crate::proofs::Vreads::act_joins))]
 pub fn act_joins()
     ensures { ActJoins }

@@ -1,9 +1,10 @@
-//! The reads of a transcript, made again. The crate makes recipes for the bytes of reads, and recognizes system calls
-//! by their seen steps. It follows `vread`s over the steps of their lines, on the caller's own vgetrandom state.
+//! Makes the answers and bytes of a transcript's reads again. The crate makes recipes for the bytes of reads, and
+//! recognizes system calls by their seen steps. It follows `vread`s over the steps of their lines, on the caller's own
+//! vgetrandom state.
 //!
 //! Each function that follows a line has the same cases as a function of `specs/`. The crate uses the forms of
-//! `judge_lines` and the state of `vdso_state`. Its callers must check that the lanes have a line's steps at their
-//! places, and that the line's entries are the inferred ones.
+//! `judge_lines` and the state of `vdso_state`. Code that uses the crate must check that the lanes have a line's visits
+//! at their places, and that the line's entries are the inferred ones.
 //!
 //! # Example
 //!
@@ -23,11 +24,12 @@
 //!
 //! # Proved
 //!
-//! - [`follow::follow`] returns the path of `specs/`, and changes the state as it does.
-//! - [`system_call::system_call`]: the answer and the bytes of a system call, or `None` if these are not its steps.
+//! - [`follow::follow`]: the result, and the state after the call, are those that `followed` of `specs/Path` defines.
+//! - [`system_call::system_call`]: the answer and the bytes of a system call, or `None` if the steps are not those of
+//!   such a call.
 //! - [`served::Served::put`] appends the bytes of a recipe.
-//! - [`laws`]: if the entries fit and are the inferred ones, there is a path exactly if the line's steps are such a
-//!   call by the definitions of `key_names` (`specs/Callers/Meaning.antt`).
+//! - [`laws`]: if the entries fit and are the inferred ones, a line can be followed exactly if its steps are a `vread`
+//!   by the definitions of `key_names` (`specs/Callers/Meaning.antt`).
 //!
 //! # Tested only
 //!

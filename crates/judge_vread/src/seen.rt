@@ -1,4 +1,4 @@
-//! Seen steps: what is kept of a line's steps in order to make the line's bytes.
+//! Seen steps: the data kept about a line's steps in order to make the line's bytes.
 ghost use Rattle.std.specs.Prelude.{◌≡◌};
 ghost use Rattle.judge_vread.specs.Seen.{rises};
 

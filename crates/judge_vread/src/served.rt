@@ -160,8 +160,8 @@ fn are_same(a: &[u8], b: &[u8]) -> bool
     a == b
 }
 
-/// Appends `len` bytes of the key's stream to `out`, from position `from` of the stream on. The buffer in which they
-/// are made is no longer than needed, since it is cleared for each read.
+/// Appends `len` bytes of the key's stream to `out`, from position `from` of the stream on. The bytes are made in a
+/// buffer. The buffer is cleared for each read, so it is no longer than needed.
 fn put_key(key: &[u8; 32], from: u64, len: usize, out: &mut Vec<u8>) -> Result<(), AllocError>
     requires { from + len < 2 ^ 40 }
     ensures made { IfOk result (λ _. out.new.items ≡ out.old.items ++ keystream key.now from len) }

@@ -33,7 +33,7 @@ use Rattle.key_audit.specs.Kept.{KeepsBook}
 use Rattle.key_audit.proofs.CutStates.{cut_bare, cut_states, ends_bare, lines_bare}
 use Rattle.key_audit.proofs.VisitMarks.{marks_visits}
 
--- if the states and lines are right for the calls, the kept book has the data of the book that the steps make
+-- if `states` and `lines` match the calls, the kept book has the data of the book that the steps make
 pub keeps_book : (script : Script) (t : List (List SeenLine)) (basis : Basis) → BasisConforms script t basis →
     (m : MadeBook script t) (states : Vec (Vec (Vec StateEntry))) (lines : Vec (Vec LineEnd)) →
     AreStateLists (seen_calls basis.parts.calls.items) (all_lists_in states.items) →
@@ -91,7 +91,7 @@ module _ (script : Script) (t : List (List SeenLine)) (book : Book) (ms : List (
         visits = of.visits;
       }
 
-  -- a kept book that is right for the bare lines is also right for the lines themselves
+  -- a kept book that matches the bare lines also matches the lines themselves
   pub kept_of_bare : (kept : KeptBook) →
       ((made : MadeBook script (map (map bare) t)) → KeepsBare kept made.book made.meanings) →
       KeepsBook kept t (script_calls script t) book ms

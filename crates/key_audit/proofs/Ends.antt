@@ -1,5 +1,5 @@
--- An output is right for an input's text if it is right for the script and the transcript in the input, or for the
--- reason why the input has none.
+-- An output is right for an input if it is right for the input's script and transcript, or for the reason why the input
+-- is not a script with a transcript.
 use Rattle.std.proofs.Common.{◌≡◌, ℕ, List, refl, sym, subst, ◌∙◌, inl, inr}
 use Rattle.std.specs.Prelude.{Option, Some, None, true, Result, Ok, Err, IfOk}
 use Rattle.std.specs.Option.{is_some}
@@ -58,14 +58,14 @@ is_limited ask = record {
   };
 }
 
--- if no held key or rest was used, `TellsHeld` gives `TellsLive`
+-- if no held key or rest was used, `TellsHeld` implies `TellsLive`
 pub live_listed : {E : Type 0} (lists : Lists) (callers : List (List Call)) (book : Book) (ms : List (List CallMeaning))
     (r : Result (Vec ℕ) E) → HoldsUnused lists → IfOk r (λ text. TellsHeld lists callers book ms text.items) →
     IfOk r (λ text. TellsLive lists callers book ms text.items)
 live_listed lists callers book ms (Ok text) unused listed = record { listed = listed; unused = unused }
 live_listed lists callers book ms (Err e) unused listed = tt
 
--- if no held key or rest was used, `TellsHeld` of the lists after a line gives `TellsAfter`
+-- if no held key or rest was used in the lists after a line, `TellsHeld` of these lists implies `TellsAfter`
 pub after_listed : {E : Type 0} (line : LineOf) (end : LineEnd) (callers : List (List Call)) (book : Book)
     (ms : List (List CallMeaning)) (r : Result (Vec ℕ) E) → line_end callers line ≡ Some end →
     HoldsUnused (lists_after line end callers book ms) →
@@ -75,7 +75,7 @@ after_listed line end callers book ms (Ok text) is unused listed =
     record { end = end; is = is; live = record { listed = listed; unused = unused } }
 after_listed line end callers book ms (Err e) is unused listed = tt
 
--- if an end was found for a line, there is a `LineEnd` that was found
+-- if `is_some o` is true, `o` contains a `LineEnd`
 pub found_end : (o : Option LineEnd) → is_some o ≡ true → (end : LineEnd) × (o ≡ Some end)
 found_end None there = absurd cc
 found_end (Some end) there = (end, refl)

@@ -1,4 +1,4 @@
--- If the number of one more row is inserted, the index stays right. A search for a key in the whole index finds a row
+-- If the number of one more row is inserted, the index stays correct. A search for a key in the whole index finds a row
 -- of this key.
 use Rattle.std.proofs.Common.{◌≡◌, ◌<◌, ◌+◌, ◌⊎◌, ℕ, true, true≢false, List, inl, inr, refl, sym, ap, subst, ◌∙◌, arith, rules}
 use Rattle.std.specs.Option.{is_some}

@@ -1,5 +1,5 @@
--- Moments that are made of a book's kept marks are those of the book's visits. The kept visits have these moments'
--- stamps.
+-- The moments made from a book's kept marks are the moments of the book's visits. The kept visits have the stamps of
+-- these moments.
 use Rattle.std.proofs.Common.{◌≡◌, ℕ, suc, ◌<◌, List, [], ◌∷◌, length, map, refl, sym, ap, ◌∙◌, arith}
 use Rattle.std.specs.Global.{Vec}
 use Rattle.std.proofs.lemmas.List.{length-map}
@@ -58,7 +58,7 @@ all_ends_are (lists ∷ callers) = λ i. caller_ends lists.items i ∷ all_ends_
 
 module _ (kept : KeptBook) (t : List (List SeenLine)) (callers : List (List Call)) (book : Book)
     (ms : List (List CallMeaning)) (keeps : KeepsBook kept t callers book ms) (moments : Moments) where
-  -- moments that are made of a book's kept marks are those of the book's visits
+  -- the moments made from a book's kept marks are the moments of the book's visits
   pub kept_moments : HasMarks (length kept.lanes.cpus.items) (map seen_mark kept.marks.items) moments →
       state_moments_in moments.callers.items ≡ all_moments kept.states.items → AreMoments callers book ms moments
   kept_moments has states =

@@ -119,7 +119,7 @@ module _ (edges : List Edge) (i : ℕ) (d : Edge) (low : i < length edges) (firs
   }
 
   -- if edge `i` leads to no new key, the walk along the first `i + 1` edges found a new key exactly if the walk along
-  -- the first `i` edges did
+  -- the first `i` edges found one
   pub none_new : (before : Bool) → PassedTo edges i first old before → Follows (get_or edges i d) old new false →
       PassedTo edges (i + 1) first new before
   none_new before passed follows = record {

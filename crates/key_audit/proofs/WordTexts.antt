@@ -137,7 +137,7 @@ live_word word with is (LiveAfter line) asks = (asks.0, (second word with (codes
 live_word word with is (OneLine line) asks =
     absurd (not_both word is (second word with (codes "line") (line_text line) asks.1).0)
 
--- if the test that two texts are equal was passed, the texts are equal
+-- if the test for the equality of two texts returned true, the texts are equal
 pub same_text : (text wanted : List ℕ) (b : Bool) → b ≡ bytes_eq text wanted → b ≡ true → text ≡ wanted
 same_text text wanted b test passed = (bytes_eq-Decides text wanted).0 (sym test ∙ passed)
 

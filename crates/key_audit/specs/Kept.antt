@@ -25,7 +25,7 @@ pub record KeepsBook (kept : KeptBook) (t : List (List SeenLine)) (callers : Lis
   pub lanes : Keeps kept.lanes (lists_of book)
   -- `states` has the entries of each vgetrandom state
   pub states : all_lists_in kept.states.items ≡ book.callers
-  -- however each caller's lists are cut, the kept entries are those of the caller's first calls
+  -- for any cuts of the callers' lists, the kept entries are those that each caller's first calls left
   pub cut : (cuts : ℕ → Cut) →
       all_lists_by cuts 0 kept.states.items ≡ map state_lists (first_calls (calls_cut cuts callers) 0 ms)
   -- each entry is listed with the end of the call that left the entry

@@ -55,8 +55,8 @@ lists_until until callers book ms = lists_of (book_at (until_stamp until) (calls
 abbrev pub lists_at_stamp : ℕ → List (List Call) → Book → List (List CallMeaning) → Lists
 lists_at_stamp stamp callers book ms = lists_until (ToStamp stamp) callers book ms
 
--- the lists after a line. Of the line's caller, the calls up to the line's call are kept. Let `end.stamp` be the stamp
--- when that call was over: of any other caller, the calls that were over by this stamp are kept
+-- the lists after a line. The calls of the line's caller are kept up to the line's call. The calls of any other caller
+-- are kept if they were over by `end.stamp`, the stamp when the line's call was over
 abbrev pub lists_after : LineOf → LineEnd → List (List Call) → Book → List (List CallMeaning) → Lists
 lists_after line end callers book ms = lists_until (ToCall end.stamp line.caller end.call) callers book ms
 
@@ -89,7 +89,7 @@ became_key (Served by) = false
 became_key (GivenUp by) = false
 became_key HeldFate = false
 
--- a word, and then a row; of the row's pieces only those that became keys are shown
+-- a word, and then a row with only those of its pieces that became keys
 abbrev pub kept_line : List ℕ → Moments → KeyRow → List ℕ
 kept_line word moments row =
     word ++ key_text moments row
@@ -115,6 +115,6 @@ rest_line rest = codes "rest " ++ name_text rest.span.key ++ codes " " ++ batch_
 abbrev pub name_at : List KeyRow → ℕ → Option KeyName
 name_at rows n = option_map (λ row. row.key) (slice_get rows n)
 
--- `numbers` has for each held key, in order, the number of the key's row
+-- `numbers` lists, for each held key in order, the number of the key's row
 abbrev pub AreRowsOf : List KeyRow → List HeldKey → List ℕ → Type 0
 AreRowsOf rows keys numbers = map (name_at rows) numbers ≡ map (λ held. Some held.key) keys

@@ -49,8 +49,8 @@ pub record TellsKeys (callers : List (List Call)) (book : Book) (ms : List (List
   pub ordered : RowsByMaking moments rows
   pub text : output ≡ rows_text moments rows
 
--- `lists` are beginnings of the book's lists. The output has the lines of the keys and rests that are held after them,
--- and the lines of the keys and bytes that can be computed from these keys and rests
+-- `lists` are prefixes of the book's lists. The output has the lines of the keys and rests that are held at the end of
+-- these prefixes. It also has the lines of the keys and bytes that can be computed from these keys and rests
 pub record TellsHeld (lists : Lists) (callers : List (List Call)) (book : Book) (ms : List (List CallMeaning))
     (output : List ℕ) : Type 0 where
   pub moments : Moments
@@ -98,7 +98,8 @@ Tells (Line line) script callers book ms output = TellsLine line script callers 
 
 -- ---- for a transcript
 
--- the transcript is lawful, and has the stamp or the line that the command names. The output is right for its book
+-- the transcript is lawful, and has the stamp or the line that the command names. The output is right for this
+-- transcript's book
 pub record TellsLawful (ask : Ask) (script : Script) (t : List (List SeenLine)) (output : List ℕ) : Type 0 where
   pub sound : IsSound script t
   pub there : is_there ask (script_calls script t) t ≡ true

@@ -74,7 +74,7 @@ copied_bytes moments is_known rests rows = flat_map (copied_row moments is_known
 abbrev pub copied_text : Copied → List ℕ
 copied_text one = codes " " ++ span_text one.span ++ codes "<" ++ name_text one.span.key
 
--- the newline that ends the output line begun last, if there is such a line
+-- the line feed after the output line that was begun last, if there is such a line
 abbrev pub line_end : Option LineOf → List ℕ
 line_end None = []
 line_end (Some line) = 10 ∷ []
@@ -83,7 +83,7 @@ abbrev pub is_line : Option LineOf → LineOf → Bool
 is_line None line = false
 is_line (Some last) line = same_lines.eq last line
 
--- the end of the output line before, and the beginning of the next; if `line` is the line of `last`, nothing
+-- if `line` is not the line `last`: the end of the previous output line, and the beginning of the next
 abbrev pub line_begin : Option LineOf → LineOf → List ℕ
 line_begin last line = if is_line last line then [] else line_end last ++ codes "line " ++ line_text line
 

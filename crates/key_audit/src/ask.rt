@@ -52,7 +52,8 @@ fn line_of(text: &[u8]) -> Option<LineOf>
     })
 }
 
-/// The command that the word after `live` names. If the word names a line, `live C.E`; if it is a stamp, `live T`.
+/// The command that `live` and this word spell: `live C.E` if the word names a line, and `live T` if the word is a
+/// stamp.
 fn live_of(text: &[u8]) -> Option<Ask>
     ensures found { IfSome result (LiveText text.now) }
     ensures only { (ask : Ask) → LiveText text.now ask → result ≡ Some ask }

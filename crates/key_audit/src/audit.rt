@@ -63,14 +63,14 @@ fn audit_input<S: Source, K: Sink>(alloc: Global, ask: Ask, source: &mut S, sink
 /// - `ReadFault`: the source failed. Nothing is written.
 /// - `Refused`: the input has a fault. The line with the first fault was written, as `rng check` writes it.
 /// - `No`: the transcript is not lawful for the script, and the line with the number of the first clause that fails was
-///   written. Or the transcript is lawful, but lacks this line, or a visit with this stamp or a higher one: `no line`
-///   or `no stamp` was written.
+///   written. Or the transcript is lawful, but lacks the line that the command names, or a visit with the named stamp
+///   or a higher one: `no line` or `no stamp` was written.
 /// - `WriteFault`: the sink failed at a put, or at the flush after the last put. In this call the sink got a prefix of
 ///   the output.
 /// - `NoMemory`: memory ran out. Nothing is written. `live` would also end with this status if a held key had no row.
 ///   It is not proved that each held key has a row.
-/// - `Done`: the input was read to its end, the transcript is lawful and has that stamp or line, and the whole output
-///   was written.
+/// - `Done`: the input was read to its end, the transcript is lawful and has the stamp or the line that the command
+///   names, and the whole output was written.
 ///
 /// If the whole output was written, the sink has handed all of it on.
 pub fn audit<S: Source, K: Sink>(

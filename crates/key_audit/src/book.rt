@@ -24,7 +24,8 @@ use transcript_text::Transcript;
 pub struct KeptBook {
     /// The kept visits of each lane.
     pub lanes: Lists,
-    /// For each caller and each of its sixteen vgetrandom states, the state's entries. Each has the call that left it.
+    /// For each caller and each of its sixteen vgetrandom states, the state's entries. Each entry has the call that
+    /// left it.
     pub states: Vec<Vec<Vec<StateEntry>>>,
     /// The lines of each caller, and the call of each line.
     pub lines: Vec<Vec<LineEnd>>,
@@ -40,7 +41,7 @@ pub enum AuditedBook {
     Unlawful(Clause),
 }
 
-// The kept book, made from the lists that the check of a transcript made of the transcript's steps.
+// The kept book. `basis` has the lists that the check of a transcript made from the transcript's steps.
 fn book_of(alloc: Global, basis: Basis<'_>) -> Result<KeptBook, AllocError>
     ensures { (script : ScriptLines) (t : List (List SeenLine)) → BasisConforms script t basis.entry →
         (made : MadeBook script t) →

@@ -54,7 +54,8 @@ fn turned(edge: Edge) -> Edge
     }
 }
 
-/// The edges turned back: each leads from a key to the key whose bytes became it. The last edge comes first.
+/// The edges in reverse: if bytes of one key became another key, an edge leads from the second key to the first. The
+/// last edge comes first.
 ///
 /// # Errors
 ///

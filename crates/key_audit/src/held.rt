@@ -72,7 +72,7 @@ fn became_key(fate: Fate) -> bool
     matches!(fate, Fate::Became(_))
 }
 
-// Adds those pieces that became keys.
+// Adds those pieces of a row that became keys.
 fn put_became(
     text: &mut TextBuffer,
     moments: &Moments,
@@ -89,7 +89,7 @@ fn put_became(
     Ok(())
 }
 
-/// Adds a word, and then a row. Of the row's pieces only those that became keys are added.
+/// Adds a word, and then a row with only those of its pieces that became keys.
 ///
 /// # Errors
 ///

@@ -1,4 +1,4 @@
-//! The moment at which each entry of a book was left, and the line of the entry.
+//! The moment of each entry of a book: a stamp, and the line that left the entry.
 ghost use Rattle.std.specs.Prelude.{ℕ, ◌≡◌, ◌<◌, ◌++◌, ◌==◌, ◌∷◌, [], IfOk, OnOk, length, map, if◌then◌else◌};
 ghost use Rattle.key_names.specs.Lanes.Book.{list_at};
 ghost use Rattle.audit_keys.specs.Cut.{moment_lists};

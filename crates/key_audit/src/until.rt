@@ -9,8 +9,8 @@ use audit_keys::entry::Cut;
 pub(crate) enum Until {
     /// The visits up to this stamp, and the calls that were over by this stamp.
     Stamp(u64),
-    /// The visits up to `stamp`. Of the caller `caller`, the calls up to and including number `call`. Of each other
-    /// caller, the calls that were over by `stamp`.
+    /// The visits up to `stamp`, the calls of `caller` up to and including number `call`, and the calls of each other
+    /// caller that were over by `stamp`.
     Call {
         stamp: u64,
         caller: u32,

@@ -1,4 +1,4 @@
--- The rules of the kernel and its primitives, each by itself.
+-- The rules of the kernel and its primitives, each in its own module.
 pub mod Blake2s
 pub mod Keystream
 pub mod InputTimer

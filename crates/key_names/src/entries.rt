@@ -7,8 +7,8 @@ use crate::text::Text;
 /// Whether a read is for a user or for the kernel, and the number of bytes that its call asked for.
 #[derive(Clone, Copy, Debug, PartialEq, Eq)]
 pub enum Taken {
-    /// For a user. If the read is of more than 32 bytes, the visit takes one key, which makes all these bytes
-    /// (`get_random_bytes_user`).
+    /// For a user. If the read has more than 32 bytes, the visit takes one key, and this key makes all bytes of the
+    /// read (`get_random_bytes_user`).
     User(u32),
     /// For the kernel. The visit itself makes only the read's first bytes, at most 32 (`get_random_bytes`).
     Kernel(u32),
@@ -80,8 +80,8 @@ pub enum CpuEntry {
         refill: Option<u64>,
         taken: Taken,
     },
-    /// An integer of `width` bytes from its batch. The batch is `filled` first if it has no fill, is used up, or is of
-    /// another generation (`get_random_u8` to `get_random_u64`).
+    /// An integer of `width` bytes from its batch. The batch is `filled` first if it has no fill, is used up, or was
+    /// filled at another generation (`get_random_u8` to `get_random_u64`).
     Int {
         look: u64,
         refill: Option<u64>,

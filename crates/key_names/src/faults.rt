@@ -2,8 +2,8 @@
 ghost use Rattle.std.specs.Prelude.{◌≡◌};
 
 /// The kind of a script's fault. If a line has several faults, the kind that comes first in this list counts, with two
-/// exceptions. `Unfinished` is checked right after `TooLong`. Of `BadNumber` and `BadHex`, the leftmost bad field
-/// decides.
+/// exceptions. `Unfinished` is checked right after `TooLong`. If a line has both `BadNumber` and `BadHex`, the kind of
+/// the leftmost bad field counts.
 #[derive(Clone, Copy, Debug, PartialEq, Eq)]
 pub enum FaultKind {
     /// The script has more than 16 MiB.

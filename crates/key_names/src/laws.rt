@@ -58,13 +58,13 @@ pub fn transcript_is_lawful()
     ensures { TranscriptIsLawful }
 {}
 
-/// The steps of a transcript make at most one book, and give its calls at most one meaning.
+/// The steps of a transcript make at most one book, and give each of its calls at most one meaning.
 pub fn transcript_book_is_unique()
     ensures { BookIsUnique }
 {}
 
-/// The book does not depend on answers and data: if two transcripts differ only in them, the steps of both make one
-/// book.
+/// The book does not depend on answers and data: if two transcripts differ only in answers and data, the steps of both
+/// make the same book.
 #[tactic(auto, using(crate::proofs::Unique::BareMeanings::steps_make_the_book))]
 pub fn steps_make_the_book()
     ensures { StepsMakeTheBook }
@@ -99,7 +99,7 @@ pub fn transcript_prints_named()
     ensures { TranscriptPrintsNamed }
 {}
 
-/// The text of a script gives back that script. A text is the text of a script if and only if it has no fault.
+/// Reading the text of a script gives that script. A text is the text of a script if and only if it has no fault.
 pub fn text_is_script_or_faulty()
     ensures { TextIsScriptOrFaulty }
 {}
@@ -117,14 +117,14 @@ pub fn start_is_a_front()
     ensures { StartIsAFront }
 {}
 
-/// A look depends on its caller's earlier steps only by the greatest generation seen in them.
+/// Whether a look is allowed depends on its caller's earlier steps only through the greatest generation seen in them.
 #[tactic(auto, using(crate::proofs::History::CallerOrders::looks_are_counted))]
 pub fn looks_are_counted()
     ensures { LooksAreCounted }
 {}
 
-/// The looks of a list of steps can be checked in two parts: the front, and then the back, from the greatest generation
-/// seen by the end of the front.
+/// The looks of a list of steps can be checked in two parts: first the front, and then the back. The check of the back
+/// starts from the greatest generation seen by the end of the front.
 #[tactic(auto, using(crate::proofs::History::CallerOrders::looks_in_parts))]
 pub fn looks_in_parts()
     ensures { LooksInParts }

@@ -2,8 +2,8 @@
 //! all other crates use. The definitions follow drivers/char/random.c and lib/vdso/getrandom.c of Linux 6.11, RFC 7693
 //! and RFC 8439; docs/DEFINITIONS.md has a paragraph for each.
 //!
-//! It uses no other crate of the repository. A keystream is, by definition, the one that `rand_chacha` states for its
-//! words. BLAKE2s is defined here.
+//! It uses no other crate of the repository. A keystream is, by definition, the one that the specification of
+//! `rand_chacha` gives. BLAKE2s is defined here.
 //!
 //! # Example
 //!
@@ -30,7 +30,7 @@
 //!
 //! - The functions of this crate read and write its types, each by its definition.
 //! - [`laws::lawful_is_disjoint`]: in a lawful book no byte of a key is used twice.
-//! - [`laws::lawful_is_erased`]: no replaced key is still held in it.
+//! - [`laws::lawful_is_erased`]: in a lawful book no replaced key is still held.
 //! - [`laws::transcript_is_lawful`]: the book of a lawful transcript is lawful.
 //! - [`laws::transcript_book_is_unique`]: the steps of a transcript make at most one book.
 //! - [`laws::transcript_prints_named`]: a lawful transcript of a well-formed script prints bytes of named spans, and
@@ -38,8 +38,8 @@
 //!
 //! # Tested only
 //!
-//! The definitions do what Linux does: recorded boots (`.ci/boot_checks`, docs/RECORDING.md) and the rows of
-//! `test_vectors`.
+//! The definitions describe what Linux does: tested with recorded boots (`.ci/boot_checks`, docs/RECORDING.md) and with
+//! the rows of `test_vectors`.
 //!
 //! # Differs from the kernel
 //!

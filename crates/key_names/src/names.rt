@@ -34,10 +34,10 @@ pub struct Who {
 /// The name of a key: where the key was made. A place is the number of a visit in its lane's list, from 0.
 ///
 /// - `Root(p)`: the root that visit `p` of the pool extracted.
-/// - `Base(i)`: the key that visit `i` of the base kept, bytes 0 to 32 of the keystream that it used.
-/// - `Cpu(c, k)`: the key that visit `k` of CPU `c` kept, made in the same way.
+/// - `Base(i)`: the key that visit `i` of the base kept: bytes 0 to 32 of the keystream that the visit used.
+/// - `Cpu(c, k)`: the key that visit `k` of CPU `c` kept: bytes 0 to 32 of the keystream that the visit used.
 /// - `Call(lane, i)`: bytes 32 to 64 of the keystream that visit `i` of the lane used, if they become a key.
-/// - `Vdso(caller, state, n)`: the key that this vgetrandom state kept when it made its batch `n`, from 0.
+/// - `Vdso(caller, state, n)`: the key that this vgetrandom state kept when it made batch `n`, counted from 0.
 #[derive(Clone, Copy, Debug, PartialEq, Eq, PartialOrd, Ord)]
 pub enum KeyName {
     Root(u64),

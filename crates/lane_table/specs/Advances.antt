@@ -1,4 +1,4 @@
--- The looks and visits of a pass between two moments, with their entries, in order.
+-- The steps of a pass between two moments, in order: its looks, and its visits with their entries.
 use Rattle.std.specs.Prelude.{◌≡◌, ℕ, suc, ◌+◌, ◌<◌, ◌==◌, ◌≤◌, ◌↔◌, max, ⊤, List, [], ◌∷◌, ◌++◌, take, length, if◌then◌else◌}
 use mathlib.Core.Option.{some}
 use lib.ListN.{get_elem?}
@@ -38,7 +38,8 @@ pub record IsMarkOf (v : View) (mark : Mark) (who : Who) (e : LaneEntry) : Type 
 abbrev pub maker : ℕ → ℕ → ℕ → Who
 maker caller event step = record { caller = caller; event = event; step = step }
 
--- the view knows each visit as one made by this event of the caller; the event's steps are numbered from `n` on
+-- the view has each visit among the steps, made by this event of the caller. The first step has number `n`, and the
+-- numbers rise by one from step to step
 abbrev pub AllConform : View → ℕ → ℕ → ℕ → List MadeStep → Type 0
 AllConform v caller event n [] = ⊤
 AllConform v caller event n (looked g ∷ made_steps) = AllConform v caller event (suc n) made_steps
@@ -61,8 +62,8 @@ stamps_in [] = []
 stamps_in (looked g ∷ made_steps) = stamps_in made_steps
 stamps_in (visited mark e ∷ made_steps) = mark.stamp ∷ stamps_in made_steps
 
--- each stamp is above the one before it, the first is above `low`, and the last is `high`; without stamps `high` is
--- `low`
+-- each stamp is above the one before it, the first stamp is above `low`, and the last stamp is `high`. If there are no
+-- stamps, `high` is `low`
 abbrev pub Climbs : ℕ → List ℕ → ℕ → Type 0
 Climbs low [] high = low ≡ high
 Climbs low (stamp ∷ stamps) high = (low < stamp) × Climbs stamp stamps high
@@ -88,7 +89,8 @@ Sees w low (visited mark e ∷ made_steps) high = (mid : ℕ) × (low ≤ mid)
 abbrev pub Agrees : BaseValue → Type 0
 Agrees b = (b.phase ≡ ready) ↔ (1 ≤ b.generation)
 
--- from `v` to `w` the pass made exactly these steps, in this event of the caller; they are numbered from `n` on
+-- from view `v` to view `w` the pass made exactly the steps `made_steps`, in this event of the caller. The first step
+-- has number `n`
 pub record Advances (caller event n : ℕ) (v w : View) (made_steps : List MadeStep) : Type 0 where
   pub same : SameView v w
   pub grows : Grows v w

@@ -25,41 +25,41 @@ use Rattle.lane_table.specs.References.{Closed, LawfulLists, AllAnswered, AllHal
 use Rattle.lane_table.specs.WorldRule.{Begins, known_of}
 use Rattle.lane_table.specs.BookLists.{StateLists, book_lists}
 
--- the lists are those of a pool, a base and some CPUs, and each is lawful; if an entry names a visit of the parent
+-- the lists belong to a pool, a base and some CPUs, and each list is lawful. If an entry names a visit of the parent
 -- lane, that visit names the entry
 pub record ClosedLanes (lanes : ℕ) (visits : ℕ → List Visit) : Type 0 where
   pub low : 2 ≤ lanes
   pub closed : Closed lanes visits
   pub lawful : LawfulLists lanes visits
 
--- each of these lists continues the one that the view knows
+-- for each lane, the list that the view knows is a prefix of the lane's list in `visits`
 pub record Continues (lanes : ℕ) (v : View) (visits : ℕ → List Visit) : Type 0 where
   pub long : length v.lanes ≡ lanes
   pub begins : (lane : ℕ) → lane < lanes → Begins (known_of v lane) (visits lane)
   pub closed : ClosedLanes lanes visits
 
--- closed lists make a book in which the lists of the base and the CPUs are lawful, and the roots and refills that they
--- name fit
+-- closed lists make a book in which the lists of the base and the CPUs are lawful. If an entry of these lists names a
+-- root or a refill, the entry at the named place names it back
 abbrev pub ClosedIsForwardLawful : Type 0
 ClosedIsForwardLawful = (lanes : ℕ) (visits : ℕ → List Visit) (callers : StateLists) →
     ClosedLanes lanes visits →
     ForwardLawful (book_lists lanes visits callers)
 
--- an extraction or a refill names the place that takes its key. If the visit at each such place answers the entry, or
--- the place is beyond the end of its list, the book is half finished
+-- suppose that `ClosedLanes` holds. An extraction or a refill names the place that takes its key. If each such place
+-- has a visit that names it back, or is beyond the end of its list, the book is half finished
 abbrev pub HalfAnsweredIsHalfFinished : Type 0
 HalfAnsweredIsHalfFinished = (lanes : ℕ) (visits : ℕ → List Visit) (callers : StateLists) →
     ClosedLanes lanes visits → AllHalfAnswered lanes visits →
     HalfFinishedLanes (book_lists lanes visits callers)
 
--- an extraction or a refill names the place that takes its key. If the visit at each such place answers the entry, the
--- book is lawful
+-- suppose that `ClosedLanes` holds. An extraction or a refill names the place that takes its key. If each such place
+-- has a visit that names it back, the book is lawful
 abbrev pub AnsweredIsLawful : Type 0
 AnsweredIsLawful = (lanes : ℕ) (visits : ℕ → List Visit) (callers : StateLists) →
     ClosedLanes lanes visits → AllAnswered lanes visits →
     LawfulLanes (book_lists lanes visits callers)
 
--- a batch's last fill as a lane keeps it: without its key and place
+-- a fill without its key and its place, since a lane keeps neither with a batch
 abbrev pub bare : Option Fill → Option Fill
 bare None = None
 bare (Some fill) = Some (record { key = None; place = 0; count = fill.count; look = fill.look })
@@ -99,8 +99,8 @@ pub record VisitsGive (lanes : ℕ) (visits : ℕ → List Visit) (lists : Lists
       slice_get (visits (c + 2)) place ≡ Some x → x.entry ≡ CpuVisited (Read look refill taken) →
       x.gave.key ≡ cpu_call_value lists c place
 
--- in closed lanes, each lane's model is the one that the book gives. By `ClosedGives`, so is the key that each visit
--- hands on
+-- `ClosedReplays`: in closed lanes, each lane's model is the one that the book gives. `ClosedGives`: in closed lanes,
+-- the key that each visit hands on is the one that the book gives
 abbrev pub ClosedReplays : Type 0
 ClosedReplays = (lanes : ℕ) (visits : ℕ → List Visit) (callers : StateLists) →
     ClosedLanes lanes visits →

@@ -12,7 +12,7 @@ use Rattle.lane_table.specs.declared.view.LaneEntry.{LaneEntry}
 use Rattle.lane_table.specs.declared.view.LaneEntry.TheVariants.{Pool, Base, Cpu}
 use Rattle.lane_table.specs.declared.view.Visit.{Visit}
 
--- the entry, if it is of this kind: of the pool, of the base, or of a CPU
+-- the entry, if it belongs to the pool, to the base, or to a CPU; otherwise `None`
 abbrev pub pool_entry : LaneEntry → Option PoolEntry
 pool_entry (Pool e) = Some e
 pool_entry (Base e) = None
@@ -28,14 +28,14 @@ cpu_entry (Pool e) = None
 cpu_entry (Base e) = None
 cpu_entry (Cpu e) = Some e
 
--- a visit in the form of the book, if its entry is of this kind
+-- a visit as the book has it, without keys, if `of` accepts the visit's entry
 abbrev pub book_visit : {E : Type 0} → (LaneEntry → Option E) → Visit → Option (of_book.Visit E)
 book_visit of x = option_map (λ e. record { stamp = x.stamp; who = x.who; entry = e }) (of x.entry)
 
 abbrev pub book_visits : {E : Type 0} → (LaneEntry → Option E) → List Visit → List (of_book.Visit E)
 book_visits of xs = filter_map (book_visit of) xs
 
--- the entries of this kind only
+-- the entries that `of` accepts, in the order of the visits
 abbrev pub entries : {E : Type 0} → (LaneEntry → Option E) → List Visit → List E
 entries of xs = entries_of (book_visits of xs)
 

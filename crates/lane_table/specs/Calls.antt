@@ -46,7 +46,7 @@ pub record IsPassOf (t : Lanes) (p : Pass) : Type 0 where
 abbrev pub plan_of : ℕ → ℕ → TableSize
 plan_of count first = record { count = count; first = first }
 
--- the pass `q` is one of the table, with the caller of `p`
+-- `q` is a pass of the table, and has the same caller as `p`
 pub record IsSamePass (t : Lanes) (p q : Pass) : Type 0 where
   pub pass : IsPassOf t q
   pub caller : q.caller ≡ p.caller
@@ -85,8 +85,8 @@ pub record CanPut (t : Lanes) (p : Pass) (h : Held) (e : LaneEntry) : Type 0 whe
   pub fits : Fits (replay (known_of (view p) h.turn.lane)) (handed h.turn.lane e (view p)) e
   pub names : MayName h.turn.lane e (view p)
 
--- this hold changed nothing: the value is as it was taken, no entry waits for this place, and the generation was not
--- raised
+-- this hold changed nothing: the value is the one that was taken, no entry waits for this place, and the generation was
+-- not raised
 pub record CanLeave (t : Lanes) (p : Pass) (h : Held) : Type 0 where
   pub holds : Holds t p h
   pub value : ValueRepresents h.turn.lane h.state (replay (known_of (view p) h.turn.lane))
@@ -107,14 +107,15 @@ pub record SameHistory (j : ℕ) (v w : View) : Type 0 where
   pub places : (at j w).places ≡ (at j v).places
   pub heard : (at j w).heard ≡ (at j v).heard
 
--- at lane `j` the pass's stage, what it owes and raised, its visits and its heard lists are as before
+-- at lane `j` the stage, `owes`, `raised`, the visits and the heard lists are as before
 pub record SameOtherLane (j : ℕ) (v w : View) : Type 0 where
   pub stage : (at j w).stage ≡ (at j v).stage
   pub owed : (at j w).owes ≡ (at j v).owes
   pub raise : (at j w).raised ≡ (at j v).raised
   pub still : SameHistory j v w
 
--- all is as before at a lane that the pass holds, except that the pass may owe an answer there now
+-- at a lane `j` that the pass holds, the known list, the stage, `raised`, the visits and the heard lists are as before;
+-- the pass may owe an answer there now
 pub record SameHeldLane (j : ℕ) (v w : View) : Type 0 where
   pub known : known_of w j ≡ known_of v j
   pub stage : (at j w).stage ≡ (at j v).stage
@@ -149,7 +150,8 @@ pub record Taken (lane : ℕ) (h : Held) (m m' : Seated) : Type 0 where
 abbrev pub DrewTooLate : ℕ → Seated → Seated → Type 0
 DrewTooLate lane m m' = (m'.0.drawn ≡ m.0.drawn + 1) × (2 ^ 62 ≤ last_stamp m'.0.first (known_of m'.0 lane))
 
--- the pass's stamp, or the ticket that was read, or the last stamp of the lane that was got, is 2^62 or more
+-- one of these is 2^62 or more: the pass's stamp, the ticket number that was read, or the last stamp of the lane that
+-- was got
 abbrev pub IsSpent : ℕ → Seated → Seated → Type 0
 IsSpent lane m m' = (2 ^ 62 ≤ m.0.stamp) ⊎ (2 ^ 62 ≤ (at lane m'.0).found) ⊎ DrewTooLate lane m m'
 
@@ -195,7 +197,7 @@ pub record Added (lane : ℕ) (x : Visit) (m m' : Seated) : Type 0 where
   pub consistent : Consistent m'.0
   pub same : SameView m.0 m'.0
   pub here : at lane m'.0 ≡ visited x (at lane m.0)
-  -- if the entry names a place ahead, the pass now owes the answer at the lane that takes the entry's key
+  -- if the entry names a place in a lane that takes its key, the pass now owes the answer at that lane
   pub ahead : (l b : ℕ) → ahead_of x.entry ≡ Some (l, b) → l < length m.0.lanes
       → at l m'.0 ≡ record (at l m.0) { owes = Some (length (known_of m.0 lane)) }
   pub others : (j : ℕ) → j ≢ lane → ((l b : ℕ) → ahead_of x.entry ≡ Some (l, b) → j ≢ l) → at j m'.0 ≡ at j m.0
@@ -225,7 +227,8 @@ pub record Left (lane : ℕ) (m m' : Seated) : Type 0 where
   pub stamps : m'.0.stamps ≡ m.0.stamps
   pub drawn : m'.0.drawn ≡ m.0.drawn
 
--- the pass looked, and found a generation that is at least each one that it knows from looks, the base or the CPUs
+-- the pass looked and found the generation `g`. `g` is at least each generation that the pass knows from looks, from
+-- the base or from the CPUs
 pub record Looked (g : ℕ) (m m' : Seated) : Type 0 where
   pub consistent : Consistent m'.0
   pub same : SameView m.0 m'.0
@@ -255,7 +258,7 @@ pub record Raised (g : ℕ) (m m' : Seated) : Type 0 where
   pub stamps : m'.0.stamps ≡ m.0.stamps
   pub drawn : m'.0.drawn ≡ m.0.drawn
 
--- at the end the pass with the whole share knows each lane's whole list, and has counted each visit of the list once
+-- at the end the pass knows each lane's whole list, and has counted each visit of the list once
 pub record Ended (lanes : ℕ) (v : View) : Type 0 where
   pub lawful : LawfulLists lanes (known_of v)
   pub closed : Closed lanes (known_of v)

@@ -56,7 +56,8 @@ abbrev pub cpu_lane : Option (ℕ × ℕ) → Option (ℕ × ℕ)
 cpu_lane None = None
 cpu_lane (Some named) = Some (named.0 + 2, named.1)
 
--- the lane that takes the key that an entry hands on, and the place there that the entry names
+-- the lane to which an entry hands a key, and the place in that lane that takes the key; `None` if the entry hands no
+-- key to another lane
 abbrev pub ahead_of : LaneEntry → Option (ℕ × ℕ)
 ahead_of (Pool e) = base_lane (base_place_of e)
 ahead_of (Base e) = cpu_lane (refill_of e)
@@ -66,7 +67,7 @@ abbrev pub once : Option ℕ → ℕ
 once None = 0
 once (Some now) = 1
 
--- by how much an entry raises the generation
+-- the number by which an entry raises the generation: 0 or 1
 abbrev pub raise_of : LaneEntry → ℕ
 raise_of (Pool e) = 0
 raise_of (Base e) = once (reseeds_at e)
@@ -149,7 +150,7 @@ made_of s e got = record {
 abbrev pub call_key : List ℕ → List ℕ
 call_key used = keystream used 32 32
 
--- the key that an entry of each kind hands on
+-- the key that an entry hands on: of the pool, and then of the base and of a CPU
 abbrev pub pool_gives : PoolState → PoolEntry → Handed
 pool_gives s (Mix text bits) = nothing
 pool_gives s (Input word kind code value now) = nothing
@@ -183,8 +184,8 @@ model_step s x = made_of s x.entry x.got
 abbrev pub replay : List Visit → Model
 replay xs = fold model_step start_model xs
 
--- the state of a list, made from a model. So the definitions about the lists of the base and of a CPU can be applied to
--- the model; the fields that these definitions do not use are empty
+-- a list's state made from a model, so that the definitions about the lists of the base and of a CPU apply to the
+-- model. The fields that these definitions do not use are empty
 abbrev pub base_state : BaseValue → BaseState
 base_state b = record {
   place = 0;
@@ -200,7 +201,7 @@ base_state b = record {
 abbrev pub cpu_state : CpuModel → CpuState
 cpu_state c = record { place = 0; generation = c.cpu.generation; key = None; fills = c.fills }
 
--- if an entry has a refill, the entry's look is at most the generation that the refill hands over
+-- if an entry names a refill, the entry's look is at most the generation that the refill hands over
 abbrev pub Reaches : Option ℕ → ℕ → Handed → Type 0
 Reaches None look got = ⊤
 Reaches (Some place) look got = look ≤ got.generation
@@ -223,7 +224,7 @@ abbrev pub IsLater : ℕ → Option ℕ → Type 0
 IsLater least None = ⊤
 IsLater least (Some place) = least ≤ place
 
--- if a lane is named, it exists
+-- if the entry names another lane, that lane exists
 abbrev pub NamesWithin : ℕ → Option (ℕ × ℕ) → Type 0
 NamesWithin lanes None = ⊤
 NamesWithin lanes (Some named) = named.0 < lanes
@@ -239,8 +240,8 @@ pub record MayCome (lanes lane : ℕ) (s : Model) (x : Visit) : Type 0 where
 abbrev pub LawfulLane : ℕ → ℕ → List Visit → Type 0
 LawfulLane lanes lane xs = LawfulFrom (MayCome lanes lane) model_step start_model xs
 
--- a value of the pool represents a state of its list; several values can represent one state, since a hash can
--- represent a text in several ways
+-- a value of the pool represents a state of the pool's list. Several values can represent one state, since a hash state
+-- can represent one text in several ways
 pub record PoolLaneConforms (lane : PoolLane) (s : PoolState) : Type 0 where
   pub pool : PoolConforms lane.pool s
   pub value : lane.timer.value ≡ s.value

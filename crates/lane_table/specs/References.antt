@@ -18,11 +18,11 @@ abbrev pub Answered : ℕ → List Visit → List Visit → Type 0
 Answered lane following here = (p b : ℕ) (x : Visit) → get_elem? following p ≡ some x → ahead_of x.entry ≡ Some (lane, b)
     → (y : Visit) × (get_elem? here b ≡ some y) × (after_of y.entry ≡ Some p)
 
--- the references of each lane to its parent lane agree
+-- `Pointed` holds for each lane and its parent lane
 abbrev pub Closed : ℕ → (ℕ → List Visit) → Type 0
 Closed lanes lists = (lane : ℕ) → 1 ≤ lane → lane < lanes → Pointed lane (lists (parent lane)) (lists lane)
 
--- all references ahead are answered, so no visit is half finished
+-- `Answered` holds for each lane and its parent lane, so no visit is half finished
 abbrev pub AllAnswered : ℕ → (ℕ → List Visit) → Type 0
 AllAnswered lanes lists = (lane : ℕ) → 1 ≤ lane → lane < lanes → Answered lane (lists (parent lane)) (lists lane)
 

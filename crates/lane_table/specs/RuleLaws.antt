@@ -34,8 +34,8 @@ HasTicket Away t = ⊥
 HasTicket (Queued u) t = u ≡ t
 HasTicket (Holding u) t = u ≡ t
 
--- the tickets in use are those from the serving number up to the ticket number, and each belongs to one pass; the
--- holder of the lane has the served ticket
+-- the tickets in use are the numbers from the serving number up to the ticket number. Each ticket in use belongs to one
+-- pass, and the holder of the lane has the served ticket
 pub record Tickets (s : St) (lane : ℕ) : Type 0 where
   pub ordered : serving_of s lane ≤ ticket_of s lane
   pub counted : serving_of s lane + sum_by (λ a. has_ticket a.stage) (column lane s.views) ≡ ticket_of s lane
@@ -61,8 +61,8 @@ NumbersAre first v = (s : St) (j lane : ℕ) → WorldRule first s → IsView s 
     (ticket_of s lane ≡ first) × (serving_of s lane ≡ first)
 
 -- each pass knows a prefix of each lane's list, and the pass that holds the lane knows the whole list. If a pass knows
--- an entry that names an entry of the parent lane, the pass knows the named entry too. The lists that the lane's value
--- carries have the same properties
+-- an entry that names an entry of the parent lane, the pass knows the named entry too. `Carries` holds for the lists
+-- that each lane's value carries
 pub record KnownLists (s : St) (logs : ℕ → List Visit) : Type 0 where
   pub known : (j lane : ℕ) (v : View) → IsView s j v → lane < length s.homes → Begins (known_of v lane) (logs lane)
   pub heard : (j lane : ℕ) (v : View) → IsView s j v → lane < length s.homes → AllBegin (at lane v).heard (logs lane)

@@ -104,8 +104,8 @@ Grows v w = (j : ℕ) → j < length v.lanes → Begins (known_of v j) (known_of
 abbrev pub OwesNothing : ℕ → View → Type 0
 OwesNothing lane v = ((at lane v).owes ≡ None) × (lane ≡ 1 → (at 1 v).raised ≡ 0)
 
--- the pass's turn came: it knows the lane's whole list. Of each other lane it knows at least the list that the value of
--- this lane carries
+-- the pass's turn came, and it knows the lane's whole list. For each other lane, the pass knows at least the list that
+-- this lane's value carries
 pub record Got (lane t : ℕ) (m m' : Seated) : Type 0 where
   pub log : List Visit
   pub content : Content
@@ -160,8 +160,9 @@ pub record NamesHeld (lane : ℕ) (v : View) (ahead place : ℕ) : Type 0 where
   pub holding : IsHolding (at ahead v)
   pub free : (at ahead v).owes ≡ None
 
--- an entry may hand a key only to a place that the pass holds. In the parent lane it names the entry that waits for
--- this hold's answer, or none if no entry waits. It raises the generation if and only if this hold did
+-- an entry may hand a key only to a place that the pass holds. If an entry of the parent lane waits for an answer at
+-- the held place, the new entry names it; otherwise the new entry names none. The new entry raises the generation if
+-- and only if this hold did
 pub record MayName (lane : ℕ) (e : LaneEntry) (v : View) : Type 0 where
   pub ahead : (ahead_of e ≡ None) ⊎ ((l : ℕ) × (b : ℕ) × (ahead_of e ≡ Some (l, b)) × NamesHeld lane v l b)
   pub following : after_of e ≡ (at lane v).owes
@@ -194,7 +195,8 @@ leaves st m r m' = (lane : ℕ) → st.word ≡ serving_word lane → m' ≡ lef
 abbrev pub saw : ℕ → Seated → Seated
 saw g m = (record m.0 { seen = g; looks = m.0.looks ++ g ∷ [] }, m.1)
 
--- a look finds a generation at least as high as each one that the pass has seen, and as the one it knows of the base
+-- a look finds a generation that is at least each one that the pass has seen. The generation is also at least the
+-- number of raises in the base's list, as far as the pass knows the list
 abbrev pub looks : Step (Option Content) → Seated → ℕ → Seated → Type 0
 looks st m r m' = st.word ≡ 0
     → (m.0.seen ≤ r) × (raises (known_of m.0 1) ≤ r) × (r < 2 ^ 63) × (m' ≡ saw r m) × Consistent m'.0
@@ -213,7 +215,7 @@ raises_generation st m r m' = (m' ≡ raised r m) × Consistent m'.0
 abbrev pub halved : View → View
 halved v = record v { halvings = v.halvings + 1 }
 
--- the part of a lane for a pass that is split off: the same knowledge, but no visits and no tickets of its own
+-- a new pass's part of a lane after a split: the same knowledge, but no visits and no tickets of its own
 abbrev pub recorded : LaneView → LaneView
 recorded a = record a { made = 0; places = []; tickets = 0; stage = Away; owes = None; raised = 0 }
 
@@ -224,7 +226,8 @@ abbrev pub with_list : List Visit → List (List Visit) → List (List Visit)
 with_list [] lists = lists
 with_list (x ∷ xs) lists = (x ∷ xs) ∷ lists
 
--- `heard` keeps both known lists, since the pass does not learn that the longer one begins with the shorter one
+-- a part of a lane after a join. `heard` keeps both known lists, since the join does not show that the shorter list is
+-- a prefix of the longer one
 abbrev pub merged : LaneView → LaneView → LaneView
 merged a b = record a {
   known = longer a.known b.known;

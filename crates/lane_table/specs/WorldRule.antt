@@ -85,7 +85,7 @@ at lane v = slice_index_or v.lanes lane blank
 abbrev pub known_of : View → ℕ → List Visit
 known_of v lane = (at lane v).known
 
--- all views' parts of a lane
+-- the part of one lane in each view
 abbrev pub column : ℕ → List View → List LaneView
 column lane views = map (at lane) views
 
@@ -179,8 +179,8 @@ abbrev pub AllPending : ℕ → (ℕ → List Visit) → List View → Type 0
 AllPending lanes logs views = (lane : ℕ) → 1 ≤ lane → lane < lanes
     → Pending lane (logs (parent lane)) (logs lane) views
 
--- a lane's value carries the lists that its last holder knew when it gave the value back: of each other lane a prefix
--- of the list, and of this lane the whole list
+-- a lane's value carries the lists that its last holder knew at the release: the whole list of this lane, and a prefix
+-- of each other lane's list
 pub record Carries (lanes : ℕ) (logs : ℕ → List Visit) (lane : ℕ) (lists : ℕ → List Visit) : Type 0 where
   pub begins : (j : ℕ) → j < lanes → Begins (lists j) (logs j)
   pub own : lists lane ≡ logs lane

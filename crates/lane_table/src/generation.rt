@@ -8,8 +8,8 @@ use crate::lanes::{GENERATION, Held, Lanes, Pass};
 use crate::plays::{Look, Raise};
 
 impl Lanes {
-    /// One look at the generation: a load, which takes no lane and never waits. The result is below 2^63. It is at
-    /// least each generation that the pass found or raised before, and each generation of the base or a CPU that the
+    /// One look at the generation: a load, which takes no lane and never waits. The result is below 2^63. The result is
+    /// at least each generation that the pass found or raised before, and each generation of the base or a CPU that the
     /// pass knows.
     pub fn generation(&self, pass: &mut Pass) -> u64
         requires { IsPassOf self.now pass.old }
@@ -19,8 +19,8 @@ impl Lanes {
         self.table.shared.load::<Look>(&mut pass.seat, GENERATION)
     }
 
-    /// Stores `g` in the generation word: the generation that the entry of this hold will give the base. The hold's
-    /// `put` comes after this store.
+    /// Stores `g` in the generation word, while the pass holds the base. `g` is the base's generation plus one, which
+    /// the base gets in the later `put` of this hold.
     pub fn raise(&self, pass: &mut Pass, _held: &Held, g: u64)
         requires pass { IsPassOf self.now pass.old }
         requires held { Holds self.now pass.old _held.now }

@@ -1,4 +1,4 @@
-//! Gives back a lane that is held, with a visit or without.
+//! Releases a held lane, with a visit or without.
 ghost use Rattle.std.specs.Prelude.{◌≡◌, ◌+◌, ◌*◌, ◌-◌, ◌^◌, ◌<◌, ◌++◌, ◌∷◌, [], Some, None, max};
 ghost use Rattle.atomic_table.specs.Table.{rest};
 ghost use Rattle.lane_table.specs.declared.view.TicketStage.TheVariants.{Holding};
@@ -73,8 +73,8 @@ impl Lanes {
         pass.stamp = stamp;
     }
 
-    /// Releases the lane with a visit at the held place. The visit's stamp is the first one above the pass's and the
-    /// lane's, and becomes the stamp of both.
+    /// Releases the lane with a visit at the held place. The visit's stamp is one above the greater of the pass's stamp
+    /// and the lane's last stamp. This stamp becomes the pass's stamp and the lane's last stamp.
     pub fn put<E: Entry>(&self, pass: &mut Pass, held: Held, who: Who, entry: E) -> Mark
         requires pass { IsPassOf self.now pass.old }
         requires entry { CanPut self.now pass.old held (E.entry entry) }
@@ -108,7 +108,7 @@ impl Lanes {
         }
     }
 
-    /// Gives the lane back as it was taken, without a visit.
+    /// Releases the lane without a visit. The lane's value must be unchanged since the take.
     pub fn back(&self, pass: &mut Pass, held: Held)
         requires pass { IsPassOf self.now pass.old }
         requires held { CanLeave self.now pass.old held }

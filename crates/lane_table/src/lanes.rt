@@ -11,7 +11,8 @@ use atomic_table::{Seat, Table};
 use key_names::LaneId;
 use std::alloc::Global;
 
-// The words of the table: the generation, and for each lane a ticket word and a serving word on their own 128 bytes.
+// The words of the table. Word 0 is the generation. Each lane has a ticket word and a serving word, which share their
+// 128 bytes with no other lane.
 pub(crate) const GENERATION: usize = 0;
 
 pub(crate) const LINE: usize = 16;
@@ -32,7 +33,8 @@ pub(crate) fn serving_word(lane: usize) -> usize
 
 /// The pool, the base and some CPUs, each a lane with its own ticket lock, and the generation word.
 ///
-/// In contracts a pass's knowledge is its view. The clauses of a call compare the view before with the view after.
+/// In contracts a pass's knowledge is its view. A call's contract compares the view before the call with the view after
+/// it.
 #[derive(Drop)]
 pub struct Lanes {
     pub(crate) table: Table<Slot, View, TableSize, World, Global>,
@@ -78,7 +80,7 @@ pub enum TakeFault {
     Busy { serving: u64, ticket: u64 },
 }
 
-// `index_of` is the number of a lane, and `lane_at` is the lane with a number.
+// `index_of` returns the number of a lane, and `lane_at` returns the lane that has a number.
 pub(crate) fn index_of(lane: LaneId) -> usize
     ensures { result ≡ index_of lane }
 {
@@ -159,7 +161,7 @@ impl Held {
         self.state.get()
     }
 
-    /// The value of the lane, to be changed. `put` has a precondition about the new value.
+    /// The value of the lane, for changes. `put` requires the changed value to be the one that its entry defines.
     pub fn state_mut(&mut self) -> &mut LaneState
         ensures* writes_back { sem 𝓛 (LendsState self.entry result) }
         ensures value { result.now ≡ self.old.state }

@@ -1,7 +1,8 @@
-//! The lanes of the core: the input pool, the base and each CPU's generator, each with its own ticket lock, and the
-//! generation word, which is read without a lock. They are the values under `input_pool.lock`, `base_crng.lock` and a
-//! CPU's `local_lock` in drivers/char/random.c, and the word is `base_crng.generation`. The words and the slots come
-//! from `atomic_table`. The parts define how an entry changes a value.
+//! The lanes of the core: the input pool, the base and each CPU's generator. Each lane has its own ticket lock. The
+//! generation word is read without a lock. In drivers/char/random.c the lanes' values are guarded by `input_pool.lock`,
+//! `base_crng.lock` and a CPU's `local_lock`, and the word is `base_crng.generation`. The words and the slots come from
+//! `atomic_table`. The part crates, such as `input_pool`, `base_gen` and `cpu_gen`, define how an entry changes a
+//! value.
 //!
 //! # Example
 //!
@@ -26,7 +27,7 @@
 //! - [`Lanes::take`]: the value in the lane represents the lane's list, and the hold has the list's next place.
 //! - [`Lanes::put`]: the visit gets the held place, so each visit has one place in its lane's list. Its stamp is above
 //!   those of the pass and the lane.
-//! - [`Lanes::generation`]: a look never finds less than an earlier look of the pass.
+//! - [`Lanes::generation`]: a look never finds a lower generation than an earlier look of the pass.
 //! - [`Lanes::settle`]: an idle pass that has the whole share knows each lane's whole list.
 //! - [`laws`]: one rule over all lanes holds between any two atomic steps. Most laws state a part of it.
 //!
@@ -34,8 +35,8 @@
 //!
 //! # Tested only
 //!
-//! A held CPU stops no caller of another CPU (`hold_tests` of `test_core`). A look finds the generation that another
-//! pass raised before it put the base (`lane_table_tests`).
+//! A caller that holds a CPU does not block a caller on another CPU (`hold_tests` of `test_core`). A look finds the
+//! generation that another pass raised before it put the base (`lane_table_tests`).
 //!
 //! # Differs from the kernel
 //!

@@ -106,8 +106,8 @@ impl Lanes {
         }
     }
 
-    /// Makes a pass for another caller, with the knowledge and the stamp of `pass`. Each of the two has half of the
-    /// share.
+    /// Makes a pass for another caller, with the knowledge and the stamp of `pass`. Each of these two passes has half
+    /// of the share that `pass` had.
     pub fn split(&self, pass: &mut Pass, caller: u32) -> Pass
         requires { IsPassOf self.now pass.old }
         ensures pass { IsSamePass self.now pass.old pass.new }
@@ -123,7 +123,7 @@ impl Lanes {
         }
     }
 
-    /// Takes in another pass. Then this pass has the knowledge, the visits and the shares of both, and the greater
+    /// Joins `other` to `pass`. Then `pass` has the knowledge, the visits and the shares of both, and the greater
     /// stamp.
     pub fn join(&self, pass: &mut Pass, other: Pass)
         requires pass { IsPassOf self.now pass.old }
@@ -141,8 +141,8 @@ impl Lanes {
         pass.stamp = pass.stamp.max(stamp);
     }
 
-    /// Changes nothing. If the pass is idle and has the whole share, it knows each lane's whole list, and has counted
-    /// all visits. A pass has the whole share once it has joined all others.
+    /// Changes nothing. If the pass is idle and has the whole share, the pass knows each lane's whole list, and has
+    /// counted all visits. A pass has the whole share once it has joined all other passes.
     pub fn settle(&self, pass: &mut Pass)
         requires { IsPassOf self.now pass.old }
         ensures pass { IsSamePass self.now pass.old pass.new }

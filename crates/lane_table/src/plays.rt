@@ -39,7 +39,7 @@ impl Play<Slot, View> for DrawTicket {
     ghost then = { draws };
 }
 
-/// An exchange of the ticket word that also keeps the number it found.
+/// An exchange of the ticket word. The pass also keeps the number that it found.
 pub struct TryTicket;
 
 impl Play<Slot, View> for TryTicket {

@@ -79,7 +79,7 @@ impl Lanes {
         unreachable!()
     }
 
-    // Waits until the lane serves the ticket. A load that finds another number leaves the view as it was.
+    // Waits until the lane serves the ticket. A load that finds another number does not change the view.
     fn wait_for<R: Wait>(&self, rt: &R, pass: &mut Pass, lane: usize, ticket: u64)
         requires pass { IsPassOf self.now pass.old }
         requires lane { (lane < count_of self.now) × ((at lane (view pass.old)).stage ≡ Queued ticket) }

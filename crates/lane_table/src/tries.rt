@@ -114,15 +114,15 @@ impl Lanes {
         Ok(held(lane, serving, content))
     }
 
-    /// Takes a lane if that needs no wait. A refusal changes neither the lane's value nor its place nor its stamp.
-    /// It draws no ticket, except if the lane's last stamp is 2^62 or more: that stamp is read after the ticket was
-    /// drawn, and then the lane is given back.
+    /// Takes a lane if that needs no wait. A refusal changes neither the lane's value nor its place nor its stamp. A
+    /// refused call draws a ticket only if the lane's last stamp is 2^62 or more. It reads that stamp after it drew the
+    /// ticket, and then gives the lane back.
     ///
     /// # Errors
     ///
-    /// `Spent` if and only if a number that would have to grow is 2^62 or more: the stamp of the pass, the ticket word
-    /// as read last, or the lane's last stamp, which is read after the lane was got. `Busy` if the number read from the
-    /// ticket word was above the loaded serving number; then no ticket was drawn.
+    /// `Spent` if and only if a number that would have to grow is 2^62 or more. These numbers are the stamp of the
+    /// pass, the ticket word as read last, and, if the call got the lane, the lane's last stamp. `Busy` if the number
+    /// read from the ticket word was above the loaded serving number; then no ticket was drawn.
     pub fn try_take(&self, pass: &mut Pass, lane: LaneId) -> Result<Held, TakeFault>
         requires pass { IsPassOf self.now pass.old }
         requires lane { index_of lane < count_of self.now }

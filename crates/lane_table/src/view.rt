@@ -16,13 +16,13 @@ pub enum LaneEntry {
     Cpu(CpuEntry),
 }
 
-/// The key that an entry hands to the entry that it names, and the generation of the lane that hands the key over.
+/// A key that one entry hands to another, and the generation of the lane that hands it over.
 pub struct Handed {
     pub key: LinkedList<u8>,
     pub generation: u64,
 }
 
-/// One visit of a lane. It received `got` from the entry that it names, and hands on `gave`.
+/// One visit of a lane. `got` is the key that the visit received, and `gave` is the key that the visit hands on.
 pub struct Visit {
     pub who: Who,
     pub stamp: u64,
@@ -31,7 +31,8 @@ pub struct Visit {
     pub gave: Handed,
 }
 
-/// The state of a caller at a lane: it has no ticket, or waits with a ticket, or holds the lane with it.
+/// The stage of a caller at a lane: the caller has no ticket, or waits with a ticket, or holds the lane with its
+/// ticket.
 pub enum TicketStage {
     Away,
     Queued(u64),
@@ -44,8 +45,8 @@ pub enum TicketStage {
 /// - `made` and `places`: the number of visits that the caller made, and their places in the list.
 /// - `tickets`: the number of the lane's tickets that the caller drew.
 /// - `stage`: the caller's state at the lane.
-/// - `owes`: if an entry of another lane already names the place held here, that entry's place. The visit made here has
-///   to answer the entry.
+/// - `owes`: the place of another lane's entry that already names the place held here, if there is such an entry. The
+///   visit made here has to answer that entry.
 /// - `raised`: 1 if the caller raised the generation in this hold, else 0.
 /// - `loaded` and `found`: the serving number and the ticket number that the caller read last.
 /// - `heard`: for each join, the prefixes of the list that this pass and the joined one knew.

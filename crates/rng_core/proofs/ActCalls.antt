@@ -1,5 +1,5 @@
--- Each act that runs at a site has the effect `DoesAct`: a wipe makes no call of the core, a read and a reseed make
--- one.
+-- Each act that runs at a site has the effect `DoesAct`. A wipe makes no call of the core; a read makes one call, and
+-- so does a reseed.
 use Rattle.std.proofs.Common.{◌≡◌, ℕ, ◌+◌, Ok, List, length, refl, arith}
 use Rattle.std.specs.Prelude.{Result}
 use Rattle.key_names.specs.declared.errno.Errno.{Errno}

@@ -1,5 +1,5 @@
--- Acts that run at a point only add to a pass's knowledge, leave the caller's own steps as they are, and have the
--- meanings of their lines.
+-- Acts that run at a point extend the pass's knowledge, and do not change the caller's own steps. Each act has the
+-- meaning of its line.
 use Rattle.std.proofs.Common.{◌≡◌, ℕ, ◌≤◌, Bool, true, false, not, List, [], ◌∷◌, ◌++◌, length, map, refl, sym, ap, ◌∙◌, subst, arith, append-nil, append_assoc}
 use Rattle.std.specs.Prelude.{MatchBool, ◌&&◌, ◌||◌, ⊤}
 use Rattle.std.specs.List.{AllByRecursion, list_any}
@@ -103,8 +103,8 @@ sees_risen w low high (visited mark e ∷ made_steps) h =
 
 -- The caller's own steps, with those of acts between them
 
--- from `l` to `m` these are the caller's own steps, and P holds for their effects; if there are no acts (`Alone`), the
--- caller made no other steps
+-- from `l` to `m` the caller's own steps are `made_steps`, and P holds for their effects. If there are no acts
+-- (`Alone`), the caller made no other steps
 pub record Own (set : Setting) (Alone : Type 0) (P : List Effect → Type 0) (l m : Moment) : Type 0 where
   pub made_steps : List MadeStep
   pub trace : m.steps ≡ l.steps ++ map step_of made_steps

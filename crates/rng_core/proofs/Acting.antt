@@ -1,4 +1,4 @@
--- What a caller does, step by step, as the host of a vgetrandom call with acts inside.
+-- The work of a caller, step by step, as the host of a vgetrandom call with acts inside.
 use Rattle.std.proofs.Common.{◌≡◌, Bool, true, false, List, [], ◌∷◌, ◌++◌, length, ◌<◌, refl, sym, ap, ◌∙◌, subst, arith}
 use Rattle.std.specs.Prelude.{MatchBool, ◌&&◌, if◌then◌else◌}
 use Rattle.std.specs.List.{AllByRecursion}
@@ -60,7 +60,8 @@ step_onward s t (at_point point wiped) k = ran_onward s.core.set point s.asks (i
 
 -- Points of the attempts
 
--- the points that are still to come in the first attempt (`active`) and after it (`resting`), given the current attempt
+-- `active` gives the points that are still to come in the first attempt, and `resting` those after the first attempt.
+-- Both depend on the current attempt
 abbrev pub active : Attempt → List PointReached → List PointReached
 active Before points = first_points points
 active First points = before_start points
@@ -139,7 +140,8 @@ acted_own (at_point point wiped ∷ steps) set asks s t same is_asks two does =
     (subst (λ (l : List Ask). Ran s.core.set point l (is_first does.0.attempt) s.core.moment.view
     does.0.core.moment.view s.outcomes does.0.outcomes) (is_asks ∙ none) k.ran)) own
 
--- a point of the first attempt wipes the state if and only if an act of the point is a wipe; no later point wipes it
+-- `WipedSo`: a point of the first attempt wipes the state if and only if an act of the point is a wipe. No later point
+-- wipes the state
 abbrev AsAsked : List Ask → PointReached → Type 0
 AsAsked asks reached = reached.wiped ≡ wipes_at asks reached.point
 

@@ -1,4 +1,4 @@
--- The effects of each path of a read, a reseed and a tick complete the call's event.
+-- On each path of a read, a reseed or a tick, the call's effects complete the call's event.
 use Rattle.std.proofs.Common.{◌≡◌, ℕ, zero, suc, ◌<◌, ◌≤◌, List, [], ◌∷◌, length, Some, None, refl, sym, ap, ◌∙◌, subst, inl, inr, arith, Bool, cond}
 use Rattle.std.proofs.lemmas.Bool.{ne_eqb}
 use Rattle.std.specs.Prelude.{MatchBool, ◌==◌}

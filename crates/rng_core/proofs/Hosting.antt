@@ -1,4 +1,4 @@
--- What a caller does as the host of its own vgetrandom calls: how it publishes generations and answers system calls.
+-- A caller as the host of its own vgetrandom calls: how the caller publishes generations and answers system calls.
 use Rattle.std.proofs.Common.{◌≡◌, ℕ, zero, suc, ◌+◌, ◌<◌, ◌≤◌, true, Option, Some, None, Ok, Err, List, [], ◌∷◌, ◌++◌, length, map, refl, sym, ap, ◌∙◌, arith}
 use Rattle.std.specs.Prelude.{IsOk, Result, slice_get}
 use mathlib.Core.Option.{some}
@@ -84,7 +84,8 @@ visit_of [] = None
 visit_of (made_step ∷ []) = place_in made_step
 visit_of (made_step ∷ next ∷ made_steps) = visit_of (next ∷ made_steps)
 
--- the visit that `visit_of` finds is also the last one of the steps' effects, in all lists that continue the known ones
+-- in all lists that continue the known ones, the visit that `visit_of` finds is also the last visit of the steps'
+-- effects
 module _ (lanes : ℕ) (v : View) (visits : ℕ → List Visit) (callers : List (List (List VEntry)))
     (k : Continues lanes v visits) where
   abbrev book : Lists
@@ -177,7 +178,8 @@ answered_after flags (Err errno) bytes visit effects a s v =
     ap (λ (o : Option Errno). answer_with o effects) (sym (errno_is errno))
     ∙ ap (λ (w : Answer). answer_with (errno_of w) effects) a
 
--- a completed read is a system call with the answer for its result
+-- if a read of `n` bytes completed its event, it is a system call, with the answer that `answer_by` gives for the
+-- read's result
 pub system_called : (set : Setting) (n flags : ℕ) (result : Result (Unit {0}) Errno) (bytes : List ℕ) (l m : Moment)
     (k : Makes (IsOutcomeOf (setting_of set) (Read n flags) (result_answer result) (bytes_or_none (given result bytes)))
     set

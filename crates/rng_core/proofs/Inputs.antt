@@ -1,4 +1,4 @@
--- What an input event does to the pool and its timer is a step of the pool's list (`pool_step`).
+-- An input event changes the pool and its timer as one step of the pool's list (`pool_step`) does.
 use Rattle.std.proofs.Common.{◌≡◌, ◌≢◌, ℕ, ◌<◌, ◌≤◌, List, sym, ap, ◌∙◌, subst, arith}
 use Rattle.key_names.specs.declared.entries.PoolEntry.TheVariants.{Input}
 use Rattle.key_names.specs.Kernel.InputTimer.{InputTimer, input_timer_after, timer_bits}
@@ -12,7 +12,7 @@ pub record InputConforms (parts : PoolParts) (last : LastInput) (s : PoolState) 
   pub value : last.value ≡ s.value
   pub timer : last.timer ≡ s.timer
 
--- the bytes were mixed, and the value was kept
+-- the event's bytes were mixed into the pool, and the event's value was kept as the last value
 pub record Mixed (s : PoolState) (word kind code value : ℕ) (before between : PoolParts) (last kept : LastInput)
     (text : List ℕ) : Type 0 where
   pub stood : InputConforms before last s

@@ -220,7 +220,8 @@ pub did_look : (set : Setting) (l m : Moment) (g : ℕ) → TraceRecords set l m
     Makes (λ (effects : List Effect). effects ≡ looked g ∷ []) set l m
 did_look set l m g a = record { made_steps = went.looked g ∷ []; recorded = a; conforms = λ lanes visits callers c. refl }
 
--- a visit of the pool that credits bits, with the steps after it for the threshold crossed, has the form of a credit
+-- a visit of the pool that credits bits, together with the steps for the threshold that it crossed, has the form of a
+-- credit
 pub did_credit : (set : Setting) (l m n : Moment) (place : ℕ) (s : Model) (e : PoolEntry) (got : Handed)
     (crossed : Crossing) → Visited set l m 0 place s (Pool e) got →
     crossed ≡ crossing s.pool.bits (pool_step s.pool e).bits
@@ -256,7 +257,8 @@ did_bits set m n place b s got x is = record {
   };
 }
 
--- the effects are those of a first call, which meet P, and then those of a second, which meet Q
+-- the effects are those of two successive calls. P holds for the effects of the first call, and Q for those of the
+-- second
 pub record After (P Q : List Effect → Type 0) (effects : List Effect) : Type 0 where
   pub first : List Effect
   pub rest : List Effect
@@ -288,7 +290,7 @@ pub did_then : {P Q : List Effect → Type 0} (set : Setting) (l m n : Moment) �
     Makes (After P Q) set l n
 did_then set l m n a b = did_in_then set l m n a b
 
--- the effects begin with a look that found `g`, and the effects after it meet P
+-- the effects begin with a look that found `g`, and P holds for the effects after the look
 pub record AfterLook (g : ℕ) (P : List Effect → Type 0) (effects : List Effect) : Type 0 where
   pub rest : List Effect
   pub effects_are : effects ≡ looked g ∷ rest

@@ -1,4 +1,4 @@
--- Two successive reads out of one state of a caller meet the conditions of the law of own states.
+-- Two successive reads out of one state of a caller satisfy the conditions of the law of own states.
 use Rattle.std.proofs.Common.{◌≡◌, ℕ, ◌+◌, ◌<◌, ◌≤◌, cond, List, [], ◌∷◌, ◌++◌, length, get_or, refl, sym, ap, ◌∙◌, subst, arith}
 use Rattle.std.specs.Prelude.{◌==◌}
 use Rattle.std.specs.List.{sum_by}
@@ -22,7 +22,8 @@ use Rattle.rng_core.specs.OwnStates.{OwnUse, by_vread, IsKnown, OwnStates, visit
 use Rattle.rng_core.proofs.OwnStates.{own_states_are_lawful}
 use Rattle.rng_core.proofs.Readings.{stayed}
 
--- over one read the view keeps its lanes, its known lists grow, and its places get those of the read's visits
+-- during one read the number of lanes stays the same, and the known lists grow. The read's visits add their places to
+-- the view's places
 module _ {n flags : ℕ} {s t : VgetrandomState} {answer : Answer} {shown : Shown} {set : Setting} {l m : Moment}
     (k : VreadMakes n flags s t answer shown set l m) where
   lanes : k.looked.lanes ≡ l.view.lanes
@@ -41,7 +42,7 @@ module _ {n flags : ℕ} {s t : VgetrandomState} {answer : Answer} {shown : Show
       (at lane m.view).places ≡ (get_or z lane blank).places ++ places_in lane k.did.made_steps)
       lanes k.did.recorded.went.places
 
--- one view counts at most as many visits as all views together
+-- if `f` is 0 for the blank view, `f` of one view is at most the sum of `f` over all views
 one_of_all : (f : View → ℕ) (views : List View) (j : ℕ) (v : View) (s : St) → views ≡ s.views → IsView s j v →
     f nobody ≡ 0 → f v ≤ sum_by f views
 one_of_all f views j v s are is none = let e = sum_at_set f s.views j v nobody is in

@@ -132,7 +132,7 @@ module _ (lists : Lists) (s : VgetrandomState) (n : ℕ) (some : 1 ≤ n) (left 
     holds = λ caller x h. replay.copy_holds lists caller 0 x s 0 n some h;
   }
 
--- a read, by its meaning
+-- a read that is given by its meaning
 module _ (lists : Lists) (set : CallSetting) (n flags : ℕ) (acts : List BoundAct) (steps : List MadeStep)
     (s t : VgetrandomState) (answer : Answer) (shown : Shown) (lines : List LineMeaning) (es : List VEntry) where
   abbrev effects : List Effect
@@ -243,7 +243,7 @@ module _ (lists : Lists) where
 
 -- The states together
 
--- the list of a caller's own state, and of each other state of the book
+-- the lists that one caller of the book has: the list of its own state, and no other
 abbrev own : List OwnUse → List (List VEntry)
 own uses = entries_left uses ∷ []
 
@@ -282,7 +282,7 @@ all_within lists c p (uses ∷ states) all = let here = within_left lists c p us
     let rest = all_within lists c p states all.1 in
     omega (arith, sum_by-cons (λ (us : List OwnUse). sum_by (visits_at c p) us) uses states)
 
--- only the first state of a caller has entries
+-- only state 0 of a caller can have a read as its key
 none_else : (states : List (List OwnUse)) (i k n : ℕ) (read : ℕ × ℕ) →
     rekey_at (list_at (list_at (map own states) i) k) n ≡ Some read → k ≡ 0
 none_else [] i k n read is = absurd (cc is)

@@ -72,7 +72,7 @@ pub record Path (v w : View) (marks : List MarkBy) : Type 0 where
   pub climbs : Climbs v.stamp (stamps_of marks) w.stamp
   pub known : AllByRecursion (IsKnown w) marks
 
--- known visits stay known
+-- if `w` continues `v`, each visit that `v` knows is known to `w`
 pub known_grown : (v w : View) (marks : List MarkBy) → length w.lanes ≡ length v.lanes → Grows v w →
     AllByRecursion (IsKnown v) marks → AllByRecursion (IsKnown w) marks
 known_grown v w marks sized grows = each_weaker (IsKnown v) (IsKnown w) marks

@@ -104,8 +104,7 @@ ending_is n (by_system (failed errno)) result buf long none e =
 
 -- Reads
 
--- from `v` to `w` the batch did not serve a read: the known lists are as they were, and the generation seen did not
--- fall
+-- from `v` to `w` the batch did not serve a read. The known lists did not change, and the generation seen did not fall
 pub record Stayed (v w : View) : Type 0 where
   pub same : SameView v w
   pub lanes : w.lanes ≡ v.lanes
@@ -262,8 +261,8 @@ module _ (n flags : ℕ) (s t : VgetrandomState) (answer : Answer) (shown : Show
           (knowing m.view z) o) same called_did;
     }
 
--- if the batch did not serve the read (`LeftToSystem`), and then a call of vgetrandom was made (`Called`), the two
--- together are the read
+-- suppose that the batch did not serve the read (`LeftToSystem`), and that a call of vgetrandom followed (`Called`).
+-- Together they have the effect of the read (`VreadMakes`)
 pub left_read : (n n' flags : ℕ) (s s' t : VgetrandomState) (answer : Answer) (shown : Shown) (set : Setting)
     (l m o : Moment) → s.generation ≤ published_by (floor l.view) → n' ≡ n →
     LeftToSystem n flags s s' l m → Called n' flags s' t answer shown set m o →

@@ -30,7 +30,8 @@ does_bits h k bits l m n a b is = does_following (λ set visits. IsOutcomeOf (se
     a.walked a.trace
     (does_visited 0 k (Pool Bits) m n b (λ x. did_bits m.set (at m) (at n) _ bits _ _ x is))
 
--- a visit of the pool that credits bits, with the steps after it for the threshold crossed, has the form of a credit
+-- a visit of the pool that credits bits, together with the steps for the threshold that it crossed, has the form of a
+-- credit
 pub does_credit : (h k : Held) (e : PoolEntry) (crossed : Crossing) (j l m n : Site) → Entered pool_lane h j l →
     VisitedIdly pool_lane k (Pool e) l m →
     crossed ≡ crossing (lane_of l pool_lane).pool.bits (pool_step (lane_of l pool_lane).pool e).bits →
@@ -50,7 +51,7 @@ pub does_met : (h : Held) (e : CpuEntry) (m n : Site) → IsIntOfBatch e → Vis
 does_met h e m n fits b = does_visited (own_lane m) h (Cpu e) m n b
     (λ x. did_met m.set (at m) (at n) m.set.cpu h.turn.place _ e _ fits x)
 
--- when a caller takes its CPU, the next place there is beyond all places that the caller knew before
+-- when a caller takes its CPU, the CPU's next place is beyond all places of the CPU that the caller knew before
 pub taken_after : (h : Held) (l m : Site) → IsIdle 4 l → IsOnCpu l → Entered (own_lane m) h l m →
     own_places l ≤ h.turn.place
 taken_after h l m idle cpu a =

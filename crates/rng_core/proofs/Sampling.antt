@@ -1,4 +1,5 @@
--- The samples of an interrupt: its CPU visits find the fast pool that the caller knows, and a dump has its effect.
+-- The samples of an interrupt: its CPU visits find the fast pool that the caller knows, and a dump and its mix satisfy
+-- `DumpConforms`.
 use Rattle.std.proofs.Common.{◌≡◌, ℕ, ◌+◌, ◌<◌, ◌≤◌, inl, inr, false, List, [], ◌∷◌, ◌++◌, length, refl, sym, ap, ◌∙◌, subst, arith}
 use Rattle.std.specs.Prelude.{IsTrue}
 use Rattle.std.specs.List.{AllByRecursion}

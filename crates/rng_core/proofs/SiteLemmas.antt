@@ -34,7 +34,7 @@ same_then l m n a b = record {
   trace = b.trace ∙ a.trace;
 }
 
--- a fact about one site's setting holds for an equal setting
+-- if `l` and `m` have the same setting, and `MakesIn` holds with the setting of `m`, it holds with the setting of `l`
 pub by_set : (P : Setting → (ℕ → List Visit) → List Effect → Type 0) (l m n : Site) → Same l m →
     MakesIn (P m.set) m.set (at m) (at n) → MakesIn (P l.set) l.set (at m) (at n)
 by_set P l m n same k = subst (λ (s : Setting). MakesIn (P s) s (at m) (at n)) same.set k
@@ -46,7 +46,7 @@ walked_then l m n xs ys a b = record {
       (subst (λ (s : Setting). TraceRecords s (at m) (at n) ys) a.same.set b.recorded);
 }
 
--- a call with a property has each weaker property too
+-- if P implies Q, a call for which P holds is a call for which Q holds
 pub does_in_map : {P Q : (ℕ → List Visit) → List Effect → Type 0} (steps : ℕ) (m n : Site) →
     ((visits : ℕ → List Visit) (effects : List Effect) → P visits effects → Q visits effects) → DoesIn steps P m n →
     DoesIn steps Q m n

@@ -26,7 +26,8 @@ use Rattle.rng_core.specs.Sites.{at, HasInHands, HoldsWith, IsMade, Same, Took, 
 use Rattle.rng_core.proofs.TellLemmas.{recorded_idly, visited_after}
 use Rattle.rng_core.proofs.SiteLemmas.{walked_then}
 
--- if the next site's pass holds these lanes of the same table for the same caller, so does the next site
+-- if `Same` holds for `m` and `n`, and the pass of `n` holds the lanes `hands` of the table of `m` for its caller,
+-- `HasInHands` holds for `n`
 pub held_at : (hands : List HeldLane) (m n : Site) → Same m n → HoldsLanes m.lanes.now m.set.caller hands n.pass.now →
     HasInHands hands n
 held_at hands m n same k = subst (λ (t : Lanes). HoldsLanes t n.set.caller hands n.pass.now) (sym same.lanes)
@@ -77,7 +78,7 @@ took_later lane h l m n same trace is tried hands k = record {
   agrees = k.agrees;
 }
 
--- if a lane was taken while another was held, it may be given back with an entry that names the other
+-- if a lane was taken while the lane `outer` was held, it may be put back with an entry that names the place of `outer`
 pub can_put_naming : (lane : ℕ) (h : Held) (outer : HeldLane) (e : LaneEntry) (s : Site) →
     HasInHands (hand h.turn (after_of e) (raise_of e) ∷ outer ∷ []) s → h.turn.lane ≡ lane → IsOf lane e →
     ahead_of e ≡ Some (outer.lane, outer.place) → 1 ≤ outer.lane → parent outer.lane ≡ lane → outer.owes ≡ None →
@@ -154,7 +155,7 @@ pub visited_later : (F : Setting → LaneEntry) (lane place : ℕ) (s : Model) (
 visited_later F lane place s got l m n a v = visited_after _ _ _ _ _ _ _ _ _ a.recorded
     (subst (λ (x : Setting). Visited x (at m) (at n) lane place s (F x) got) a.same.set v)
 
--- if a lane is taken while another is held, the other one keeps its hold and its value
+-- if a lane is taken while another lane is held, the model of the held lane does not change
 pub kept_under : (lane outer : ℕ) (h o : Held) (owes : Option ℕ) (raised : ℕ) (l m : Site) →
     HoldsWith owes raised outer o l → outer ≢ lane → Took lane h l m → lane_of m outer ≡ lane_of l outer
 kept_under lane outer h o owes raised l m holds other k = let in_hand = holds.has.held.0 in

@@ -1,4 +1,4 @@
--- The effects of each path of getrandom have the form of the system call, and its answer.
+-- On each path of getrandom, the effects have the form of the system call and give its answer.
 use Rattle.std.proofs.Common.{◌≡◌, ℕ, ◌<◌, List, [], ◌∷◌, ◌++◌, refl, sym, ap, ◌∙◌, subst, inl, inr, ◌⊎◌, ⊎_elim, arith, append-nil, Bool, true, false, cond}
 use Rattle.std.specs.Prelude.{MatchBool, ◌==◌, ◌&&◌, not}
 use Rattle.std.proofs.lemmas.Bool.{ne_eqb, eq-eqb}

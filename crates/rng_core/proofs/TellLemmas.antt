@@ -1,4 +1,4 @@
--- What the trace records: the steps of successive calls, no step if nothing happened, and exactly the visits made.
+-- The trace records the steps of successive calls, no step if nothing happened, and exactly the visits made.
 use Rattle.std.proofs.Common.{◌≡◌, ℕ, List, [], ◌∷◌, ◌++◌, map, take, length, ◌+◌, ◌<◌, ◌≤◌, ◌^◌, max, sym, refl, ap, ◌∙◌, subst, arith, append_assoc, append-nil, length-append}
 use Rattle.std.proofs.lemmas.List.{map-append}
 use Rattle.std.proofs.Math.Seq.{take-append_seam}
@@ -64,7 +64,7 @@ lane_fits PoolLane low = tt
 lane_fits BaseLane low = tt
 lane_fits (CpuLane c) low = omega arith
 
--- the mark of a visit fits, if the lane was held with these numbers
+-- if the lane was held with this place and these stamps, the mark of the visit fits (`MarkFits`)
 pub mark_fits : (mark : Mark) (lane place stamp own : ℕ) → index_of mark.lane ≡ lane → lane < 258 →
     mark.place ≡ place → place ≤ stamp → stamp < 2 ^ 62 → own ≤ 2 ^ 62 → mark.stamp ≡ max own stamp + 1 → MarkFits mark
 mark_fits mark lane place stamp own on near there low early late is = record {
@@ -73,7 +73,8 @@ mark_fits mark lane place stamp own on near there low early late is = record {
   stamp = omega arith;
 }
 
--- a lane that was given back with a visit got exactly that visit
+-- if a pass gave back the lane with a visit (`Added`), and the trace records the visit's mark, `Visited` holds for this
+-- visit
 pub visited_by_put : (set : Setting) (m m' : Seated) (recorded recorded' : List Step) (mark : Mark) (who : Who) (e : LaneEntry)
     (lane : ℕ) → index_of mark.lane ≡ lane → mark.place ≡ length (known_of m.0 lane) → lane < length m.0.lanes →
     1 < length m.0.lanes → who ≡ maker set.caller set.event (length recorded)
@@ -125,7 +126,7 @@ pub visited_is : (set : Setting) (m n : Moment) (lane place : ℕ) (s : Model) (
     e ≡ e' → Visited set m n lane place s e got → Visited set m n lane place s e' got
 visited_is set m n lane place s e e' got is k = subst (λ (z : LaneEntry). Visited set m n lane place s z got) is k
 
--- if the held lane was given back with a visit, exactly one visit of the lane was made
+-- as `visited_by_put`, but the lane is given by two equal numbers
 pub visited_at : (set : Setting) (m m' : Seated) (recorded recorded' : List Step) (mark : Mark) (who : Who) (e : LaneEntry)
     (held lane : ℕ) → held ≡ lane → index_of mark.lane ≡ held → mark.place ≡ length (known_of m.0 held) →
     held < length m.0.lanes → 1 < length m.0.lanes
@@ -138,7 +139,7 @@ visited_at set m m' recorded recorded' mark who e held lane same on there near t
     mark.place (replay (known_of m.0 l)) e (handed l e m.0)) same
     (visited_by_put set m m' recorded recorded' mark who e held on there near two by trace fits k)
 
--- a visit at a place is one at any equal place
+-- if the places `p` and `q` are equal, a visit at `p` is a visit at `q`
 pub visited_place : (set : Setting) (m n : Moment) (lane p q : ℕ) (s : Model) (e : LaneEntry) (got : Handed) → p ≡ q →
     Visited set m n lane p s e got → Visited set m n lane q s e got
 visited_place set m n lane p q s e got is k = subst (λ (z : ℕ). Visited set m n lane z s e got) is k

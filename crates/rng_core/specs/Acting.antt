@@ -1,4 +1,4 @@
--- A caller as the host of a vgetrandom call with acts inside: what the caller does over the lanes at each step of the
+-- A caller as the host of a vgetrandom call with acts inside: the caller's work over the lanes at each step of the
 -- host.
 use Rattle.std.specs.Prelude.{◌≡◌, ℕ, ◌&&◌, Bool, true, false, MatchBool, List, if◌then◌else◌}
 use Rattle.key_names.specs.declared.point.Point.{Point}
@@ -15,7 +15,8 @@ use Rattle.rng_core.specs.Traces.{BeginsWithLook}
 use Rattle.rng_core.specs.Hosted.{Conform, Published, Answered}
 use Rattle.rng_core.specs.Acts.{Ask, ActOutcome, ActsAt, wipes_at}
 
--- the attempt after the call came to a point: the first point begins the first attempt, and each later Start a new one
+-- the attempt after the call reached a point. The first point begins the first attempt, and each later `Start` begins a
+-- new attempt
 abbrev pub attempt_at : Attempt → Point → Attempt
 attempt_at Before point = First
 attempt_at First point = if is_same_point point Start then Later else First
@@ -37,7 +38,7 @@ abbrev pub act_conform : Conform → Attempt → List Ask → List ActOutcome �
 act_conform core attempt asks outcomes =
     record { core = core; attempt = attempt; asks = asks; outcomes = outcomes }
 
--- the acts changed nothing
+-- the attempt, the requests and the outcomes are unchanged
 pub record SameActs (s t : ActConform) : Type 0 where
   pub attempt : t.attempt ≡ s.attempt
   pub asks : t.asks ≡ s.asks
@@ -71,9 +72,8 @@ pub record ActPassed (s : ActConform) (point : Point) (wiped : Bool) (t : ActCon
 abbrev pub acting : Doings ActConform
 acting = doings ActPublished ActAnswered ActPassed
 
--- between two moments the caller ran a call for `n` bytes on the state `s`, which became `t`. `steps` are the steps of
--- the call's host, each with the caller's work over the lanes; `to` maps the attempt in which the call ended to the
--- last moment
+-- the caller ran a call for `n` bytes on the state `s`, which became `t`. `steps` are the steps of the call's host, and
+-- the caller does each of them over the lanes. The call began at `from`; if it ended in attempt `a`, it ended at `to a`
 pub record InsideRan (n flags : ℕ) (s t : VgetrandomState) (from : ActConform) (to : Attempt → ActConform) : Type 0 where
   pub steps : List HostStep
   pub outcome : Outcome

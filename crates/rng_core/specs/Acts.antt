@@ -60,7 +60,7 @@ abbrev pub wipes_at : List Ask → Point → Bool
 wipes_at [] point = false
 wipes_at (a ∷ asks) point = (is_same_point a.point point && is_wipe a.act) || wipes_at asks point
 
--- an act that can still run, or has run, and reads no more bytes than a read may
+-- the act reads at most 2^20 bytes, and either it was done, or its trace is empty
 abbrev pub is_ready : Bound → Bool
 is_ready b = nat_le (wants b.act) (2 ^ 20) && (b.done || length b.trace == 0)
 
@@ -68,7 +68,7 @@ abbrev pub all_ready : List Bound → Bool
 all_ready [] = true
 all_ready (b ∷ bounds) = is_ready b && all_ready bounds
 
--- the acts can still run, or have run, and `out` has a part for the bytes of each act
+-- each act is ready (`is_ready`), and `out` is as long as the reads of all acts together
 pub record AreReady (bounds : List Bound) (out : List ℕ) : Type 0 where
   pub fits : length out ≡ all_wanted (asks_of bounds)
   pub ready : all_ready bounds ≡ true

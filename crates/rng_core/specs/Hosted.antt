@@ -1,4 +1,4 @@
--- A caller as the host of its own vgetrandom calls: what the caller does over the lanes at each step of the host.
+-- A caller as the host of its own vgetrandom calls: the caller's work over the lanes at each step of the host.
 use Rattle.std.specs.Prelude.{◌≡◌, ℕ, ◌<◌, ◌≤◌, ⊤, Bool, true, false, IsTrue, List, [], ◌∷◌, length}
 use Rattle.std.proofs.Props.{props}
 use Rattle.std.specs.Coded.{Coded-set}
@@ -56,7 +56,7 @@ pub record Published (s : Conform) (g : ℕ) (t : Conform) : Type 0 where
   pub known : found ≤ floor t.moment.view
   pub recorded : recorded.TraceRecords s.set s.moment t.moment (looked found ∷ [])
 
--- these are the effects of a system call, and this is its answer
+-- `effects` are those of a system call for `n` bytes with these flags, and `answer` is the call's answer
 pub record SystemCall (set : CallSetting) (n flags : ℕ) (answer : SystemAnswer) (effects : List Effect) : Type 0 where
   pub form : SysForm set n flags effects
   pub answers : answer ≡ answer_after flags effects
@@ -66,7 +66,8 @@ abbrev pub IsRead : SystemAnswer → Type 0
 IsRead (read bytes visit) = ⊤
 IsRead (failed errno) = ⊥
 
--- the caller made this system call, which reads its bytes if the flags are good and the caller had seen the core ready
+-- the caller made this system call. If the flags are good and the caller had seen the core ready, the call reads its
+-- bytes
 pub record Answered (s : Conform) (n flags : ℕ) (answer : SystemAnswer) (t : Conform) : Type 0 where
   pub same : t.set ≡ s.set
   pub did : Makes (SystemCall (setting_of s.set) n flags answer) s.set s.moment t.moment

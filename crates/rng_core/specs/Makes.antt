@@ -1,4 +1,4 @@
--- The effect of a call on the book. What is said of the effect holds for all final lists of visits that continue those
+-- The effect of a call on the book. A statement about the effect holds for all lists of visits that continue the lists
 -- that the pass knows.
 use Rattle.std.specs.Prelude.{◌≡◌, ℕ, List, [], map, Bool, true, false, Result, Ok, Err}
 use Rattle.key_names.specs.declared.entries.VEntry.{VEntry}

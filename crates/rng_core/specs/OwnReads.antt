@@ -10,8 +10,9 @@ use Rattle.rng_core.specs.Traces.{Moment}
 use Rattle.rng_core.specs.VreadMakes.{VreadMakes}
 use Rattle.rng_core.specs.OwnStates.{OwnUse, by_vread, OwnBook, own_lists}
 
--- two reads meet the clause of `vread`, and the second begins with the state and the view that the first left. While a
--- pass of the table has the view after both reads, `OwnBook` holds for the table's lists and this state's entries
+-- suppose that two reads have the effect `VreadMakes`, and that the first one begins with a wiped state. The second
+-- begins with the state and the view that the first left. If a pass of the table has the view after both reads,
+-- `OwnBook` holds for the table's lists and this state's entries
 abbrev pub TwoReadsHaveABook : Type 0
 TwoReadsHaveABook = (n₁ n₂ flags₁ flags₂ : ℕ) (t₁ t₂ : VgetrandomState) (answer₁ answer₂ : Answer)
     (shown₁ shown₂ : Shown) (set₁ set₂ : Setting) (l₁ m₁ l₂ m₂ : Moment)

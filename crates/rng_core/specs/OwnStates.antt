@@ -25,7 +25,8 @@ use Rattle.rng_core.specs.Acts.{Ask, ActOutcome}
 use Rattle.rng_core.specs.VreadMakes.{VreadMakes, LocallyServed}
 use Rattle.rng_core.specs.InsideMakes.{InsideMakes}
 
--- a use of a state: a read, with the clause of vread, vread_inside or vread_local, or a wipe
+-- a use of a state: a read by `vread`, `vread_inside` or `vread_local`, with the effect that the function's contract
+-- gives, or a wipe
 pub data OwnUse : Type 0 where
   by_vread : (n flags : ℕ) (s t : VgetrandomState) (answer : Answer) (shown : Shown) (set : Setting) (l m : Moment) →
       VreadMakes n flags s t answer shown set l m → OwnUse
@@ -83,7 +84,7 @@ abbrev pub Follow : VgetrandomState → List OwnUse → Type 0
 Follow s [] = ⊤
 Follow s (u ∷ us) = (before_use u ≡ s) × Follow (after_use u) us
 
--- the state after some uses, and the list of the uses' entries
+-- the state after these uses, and below the entries that these uses leave
 abbrev pub after_uses : VgetrandomState → List OwnUse → VgetrandomState
 after_uses s [] = s
 after_uses s (u ∷ us) = after_uses (after_use u) us
@@ -99,16 +100,16 @@ visits_at c p u = times p (places_in (c + 2) (steps_of u))
 abbrev pub all_visits_at : ℕ → ℕ → List (List OwnUse) → ℕ
 all_visits_at c p states = sum_by (λ uses. sum_by (visits_at c p) uses) states
 
--- these are the uses of each own state up to a moment of the table. Each state is wiped before its first use, and is
--- between two calls. Some pass knows what the caller of each use knew, and the passes together made all visits of the
--- uses
+-- `states` lists the uses of each own state up to a moment of the table. Each state is wiped before its first use, and
+-- is between two calls. Some pass knows what the caller of each use knew. The visits of the uses are among those that
+-- the passes made
 pub record OwnStates (s : St) (states : List (List OwnUse)) : Type 0 where
   pub follow : AllByRecursion (Follow wiped_state) states
   pub known : AllByRecursion (AllByRecursion (UseIsKnown s)) states
   pub counted : (c p : ℕ) → c + 2 < length s.homes →
       all_visits_at c p states ≤ sum_by (λ v. times p (at (c + 2) v).places) s.views
 
--- the book of the table's lists so far and of the states: each state is state 0 of a caller of the book
+-- the book of the table's lists so far and of these states. In the book each state is state 0 of a caller
 abbrev pub own_lists : St → (ℕ → List Visit) → List (List OwnUse) → Lists
 own_lists s logs states = book_lists (length s.homes) logs (map (λ uses. entries_left uses ∷ []) states)
 

@@ -5,13 +5,13 @@ use Rattle.key_names.specs.Kernel.Keystream.{keystream}
 use Rattle.rng_core.specs.Reading.{taken_count}
 use Rattle.rng_core.specs.declared.crng.rest.Rest.{Rest}
 
--- the read is of this number of bytes, at least one and at most 2^20
+-- the read asks for as many bytes as `bytes` has: at least one, and at most 2^20
 pub record Asks (taken : Taken) (bytes : List ℕ) : Type 0 where
   pub count : taken_count taken ≡ length bytes
   pub some : 0 < length bytes
   pub short : length bytes ≤ 2 ^ 20
 
--- the bytes that a rest has made, and then those of the key's next blocks
+-- the bytes that were made so far, followed by bytes of the key's next blocks
 abbrev pub finished : Rest → List ℕ → List ℕ
 finished r bytes = take r.made bytes ++ keystream r.key.key (64 * r.key.next_block) (length bytes - r.made)
 

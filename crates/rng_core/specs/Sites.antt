@@ -97,19 +97,20 @@ IsTimely s = s.set.now < 2 ^ 40
 abbrev pub HasRoom : ℕ → Site → Type 0
 HasRoom steps s = length s.trace.now + steps ≤ 20
 
--- the caller holds only this lane, and has not changed the lane's value; the hold owes the answer `owes`, and has
--- raised the generation this often
+-- the caller holds only this lane, and has not changed the lane's value. The hold owes the answer `owes`, and raised
+-- the generation `raised` times
 pub record HoldsWith (owes : Option ℕ) (raised lane : ℕ) (h : Held) (s : Site) : Type 0 where
   pub has : HasInHands (hand h.turn owes raised ∷ []) s
   pub lane_is : h.turn.lane ≡ lane
   pub value : ValueRepresents lane h.state (lane_of s lane)
   pub early : s.pass.now.stamp ≤ last_stamp
 
--- the caller holds only this lane, with the value as it was taken; the hold owes no answer and raised nothing
+-- the caller holds only this lane, and has not changed the lane's value. The hold owes no answer, and did not raise the
+-- generation
 abbrev pub Holds : ℕ → Held → Site → Type 0
 Holds lane h s = HoldsWith None 0 lane h s
 
--- the generation may be raised to the next one of the base
+-- the caller may raise the generation: it has seen no generation above the base's, and the base's is below 2^62
 pub record IsLow (s : Site) : Type 0 where
   pub seen : (view s.pass.now).seen ≤ (lane_of s base_lane).base.generation
   pub low : (lane_of s base_lane).base.generation < 2 ^ 62
@@ -134,7 +135,7 @@ pub record IsFill (look width : ℕ) (filled : Bool) (s : Site) : Type 0 where
   pub fills : filled ≡ must_fill look width ((own_cpu s).fills width)
   pub fresh : (filled ≡ false) ⊎ (look ≡ (own_cpu s).cpu.generation)
 
--- the caller holds only this lane, and may give it back with a visit of the entry
+-- the caller holds only this lane, and may put it back with the entry `e`
 pub record CanVisit (lane : ℕ) (h : Held) (e : LaneEntry) (s : Site) : Type 0 where
   pub has : HasInHands (hand h.turn (after_of e) (raise_of e) ∷ []) s
   pub lane_is : h.turn.lane ≡ lane
@@ -191,7 +192,7 @@ pub record KeepsTrace (m n : Site) : Type 0 where
   pub trace : n.trace.now ≡ m.trace.now
   pub has : HasInHands [] n
 
--- a lane was given back as it was taken
+-- a lane was given back with an unchanged value
 pub record GaveBack (m n : Site) : Type 0 where
   pub walked : Walked [] m n
   pub trace : n.trace.now ≡ m.trace.now

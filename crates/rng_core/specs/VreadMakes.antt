@@ -92,16 +92,16 @@ vread_meaning effects answer shown entries before t = record {
   after = with_state before t;
 }
 
--- if a caller has this setting and this current state, these are the effects of a read that changes the state from `s`
--- to `t`
+-- for each caller with this setting and with `s` as its current state, these are the effects of a read that changes the
+-- state to `t`
 abbrev pub VreadLine : CallSetting → ℕ → ℕ → VgetrandomState → VgetrandomState → Answer → Shown → List VEntry →
     List Effect →
     Type 0
 VreadLine set n flags s t answer shown entries effects = (before : CallerState) → before.setting ≡ set →
     current_state before ≡ s → VreadMeans n flags [] (vread_meaning effects answer shown entries before t)
 
--- from `l` to `m` the caller read `n` bytes with these flags. Either the batch served the read, or a call did. Before
--- the call, only a look that is no step may lie between `l` and the view `looked`
+-- from `l` to `m` the caller read `n` bytes with these flags, by a copy out of the batch or by a call. Between `l` and
+-- the view `looked` the caller made at most one look, which is no step of the trace
 pub record VreadMakes (n flags : ℕ) (s t : VgetrandomState) (answer : Answer) (shown : Shown) (set : Setting)
     (l m : Moment) : Type 0 where
   pub looked : View

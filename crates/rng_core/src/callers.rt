@@ -3,7 +3,8 @@
 //! The kernel does not count running callers, so no function here follows one of the kernel's:
 //!
 //! - `fork`: records the child, and splits the caller's pass.
-//! - `stall`, `unstall`: the caller stops running while a child runs in its thread, and runs again.
+//! - `stall`: the caller stops running, while a child runs in the caller's thread.
+//! - `unstall`: the caller runs again.
 //! - `end`: the caller's end.
 
 pub(crate) mod forks;

@@ -3,8 +3,8 @@
 //! lanes, the caller's pass, the trace of its steps, and the caller's setting. The folders follow the sections of
 //! random.c.
 //!
-//! The knowledge of a pass is defined in `lane_table`, and the change that an entry makes to a value in the parts. A
-//! read out of a caller's own state is in `vdso_state`.
+//! `lane_table` defines the knowledge of a pass. The part crates, such as `cpu_gen`, define how an entry changes a
+//! value. `vdso_state` contains the read out of a caller's own state.
 //!
 //! # Example
 //!
@@ -25,16 +25,16 @@
 //! # Proved
 //!
 //! - [`getrandom`], [`kernel_read`], [`mix`] and the other calls: for every interleaving of the callers, the steps that
-//!   the call adds to its trace are exactly its looks and visits. They are a form of its event, with its answer and its
-//!   bytes. The call ends with no lane held. Only one look is left out: the one by which [`vread_local`], alone or in
-//!   [`vread`], finds that the batch cannot serve.
+//!   the call adds to its trace are exactly its looks and visits. These steps are a form of the call's event, with the
+//!   call's answer and bytes. The call ends with no lane held. The trace leaves out only one look: the one by which
+//!   [`vread_local`], alone or in [`vread`], finds that the batch cannot serve.
 //! - [`getrandom`] and [`random_file`]: each error has its cause. `EAGAIN` and `EINTR` need a first look that found the
 //!   core not ready.
 //! - [`reseed`]: after success the caller has seen a higher generation than before.
 //! - [`laws::own_states_are_lawful`]: between any two atomic steps the table's lists, and those of vgetrandom states
-//!   that are between two calls, make a lawful book, except for visits that are half finished. No byte of a key was
-//!   used twice in it.
-//! - Not promised: that a wait ends. A call may wait for a lane, and a blocking read for readiness.
+//!   that are between two calls, make a lawful book, except for visits that are half finished. In this book no byte of
+//!   a key was used twice.
+//! - Not promised: that a wait ends. A call may wait for a lane, and a blocking read may wait for readiness.
 //!
 //! # Tested only
 //!
@@ -45,8 +45,8 @@
 //!
 //! - Some visits are several steps in the kernel: a sample is mixed and credited in one visit, and a reseed extracts
 //!   its root while it holds the base.
-//! - A blocking read fails with `EINTR` once no running caller is left. The kernel waits on, and gathers jitter if it
-//!   has a cycle counter.
+//! - A blocking read fails with `EINTR` once no running caller is left. The kernel continues to wait, and gathers
+//!   jitter if it has a cycle counter.
 //! - A dump of a fast pool is made at once, by the caller that took the interrupt. docs/TRUST.md lists the other
 //!   differences.
 #![tactic(auto)]

@@ -1,5 +1,5 @@
-//! Macros that use a lane's value as that of the pool, the base or a CPU; the contract of the caller says which of the
-//! three it is.
+//! Macros that use a lane's value as that of the pool, the base or a CPU. The contract of the function that uses the
+//! macro ensures that the value is of this kind.
 
 /// Runs an expression with the value of the pool's lane.
 macro_rules! with_pool {

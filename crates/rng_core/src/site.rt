@@ -80,7 +80,7 @@ impl Site<'_> {
         self.look_on()
     }
 
-    /// Gives the base back as it was taken.
+    /// Releases the base unchanged, without a visit.
     pub(crate) fn give_back(&mut self, base: Held)
         requires { Holds base_lane base self.old }
         ensures { GaveBack self.old self.new }

@@ -1,4 +1,4 @@
--- If neither the source nor the sink failed, a command has its answer, or memory ran out.
+-- If neither the source nor the sink failed, a command gave its answer, or memory ran out.
 use Rattle.std.proofs.Common.{ℕ, ◌≡◌, ◌≤◌, ◌⊎◌, ltb, false, length, List, Option, None, Some, ap, sym, ◌∙◌, refl, inl, inr}
 use Rattle.std.specs.Prelude.{IfSome}
 use Rattle.std.proofs.lemmas.Bool.{le-ltb}
@@ -27,7 +27,7 @@ not_judge_refused script text output short is refusal =
     not_refused script (front text) output is
     (record { fault = refusal.fault; first = sym same ∙ refusal.first; line = refusal.line })
 
--- if the status after the end of the output is a read fault, so was the status before it
+-- if the status after the flush at the end of the output is a read fault, the status before the flush was one too
 pub read_before : (status result : Status) (m n : ℕ) → AtOutputEnd status result m n → result ≡ ReadFault
     → status ≡ ReadFault
 read_before status result m n ended is = elim ended [
@@ -62,7 +62,7 @@ module _ (left_after a b : Option (List ℕ)) where
   judge_completes judge WriteFault (Some all) e read written = absurd (written refl)
   judge_completes judge Usage (Some all) e read written = absurd e
 
--- a command that reads no input is done or out of memory, if it ended without a write fault
+-- if a command that reads no input ended without a write fault, it is done, or memory ran out
 pub ends_completes : (Of : List ℕ → Type 0) (status : Status) (a b : Option (List ℕ)) → EndsWith Of status a b
     → (status ≡ WriteFault → ⊥) → (status ≡ Done) ⊎ (status ≡ NoMemory)
 ends_completes Of Done a b e written = inl refl

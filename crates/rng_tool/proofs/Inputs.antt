@@ -1,4 +1,5 @@
--- An input that gets an answer is not above the limit, and all inputs above the limit have the same refusal.
+-- If the status for an input is `Done` or `No`, the input is within the limit. All inputs above the limit have the same
+-- refusal.
 use Rattle.std.proofs.Common.{ℕ, ◌≡◌, ◌≤◌, ◌<◌, true, ltb, List, Some, length, sym, ap, ◌∙◌, arith, refl}
 use Rattle.std.proofs.lemmas.Bool.{lt-ltb}
 use Rattle.key_names.specs.declared.faults.FaultKind.TheVariants.{TooLong}

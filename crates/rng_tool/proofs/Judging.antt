@@ -1,4 +1,4 @@
--- An answer that is right for a script and a transcript is right for the input that is their text.
+-- If an answer is right for a script and a transcript, it is right for the input that consists of their texts.
 use Rattle.std.proofs.Common.{◌≡◌, ℕ, List, Option, sym, subst, refl, ◌∙◌, inl, inr}
 use Rattle.std.specs.Prelude.{IfSome}
 use Rattle.key_names.specs.Transcripts.IsTranscript.{HasLines, clause_number, lines_clause}
@@ -35,7 +35,7 @@ gives_back script t made fits is = record {
   };
 }
 
--- an answer that is right for a script and a transcript is right for the input
+-- if an answer is right for a script and a transcript, and `input` is their text, the answer is right for `input`
 pub pair_said : (judge : Judge) (input : List ℕ) (script : Script) (t : List (List SeenLine)) → IsPair input script t →
     (s : Status) (o : List ℕ) → SaidOf judge script t s o → JudgeCalls judge input s o
 pair_said judge input script t pair Done o said = record { script = script; lines = t; pair = pair; says = said }
@@ -72,7 +72,7 @@ clause_said judge input number fails = elim fails.clause [
   )
 ]
 
--- the refusal of a text that fails clause 1 or 2 is a right answer
+-- if a text fails clause 1 or 2, the line `no 1` or `no 2` is a right answer
 text_said : (judge : Judge) (input : List ℕ) (number : ℕ) → FailsAsText input number → (s : Status) (o : List ℕ) →
     (s ≡ No) × (o ≡ no_line number) → JudgeCalls judge input s o
 text_said judge input number is s o said = subst (λ status. JudgeCalls judge input status o) (sym said.0) (record {
@@ -84,7 +84,7 @@ text_said judge input number is s o said = subst (λ status. JudgeCalls judge in
   line = said.1;
 })
 
--- the refusal of an input that is not read is a right answer for this input
+-- if an input is not read as a script and a transcript, the refusal for this reason is a right answer
 pub none_said : (judge : Judge) (input : List ℕ) (why : NotRead) → IsNoPair input why → (s : Status) (o : List ℕ) →
     RefusalOf why s o → JudgeCalls judge input s o
 none_said judge input SourceFails is s o said = absurd is

@@ -1,4 +1,4 @@
--- How a session ends once its answer was written, and then after the flush at the end of the output.
+-- How a session ends: first after its answer was written, and then after the flush at the end of the output.
 use Rattle.std.proofs.Common.{◌≡◌, ℕ, ◌+◌, ◌⊎◌, inl, inr, Option, None, Some, List, [], ◌++◌, refl, sym, ap, subst, ◌∙◌, append-nil, append_assoc, length, arith}
 use Rattle.std.specs.Prelude.{IfSome, Err, take}
 use Rattle.std.specs.Io.KnownBytes.{Appends, Consumes, Keeps}
@@ -23,7 +23,7 @@ use Rattle.rng_tool.specs.declared.stop.Stop.TheVariants.{NoMemory, NotAlone, Re
 use Rattle.rng_tool.proofs.LiveLines.{event_dooms, fails_hopeless}
 use Rattle.rng_tool.proofs.WrittenLines.{prefix_after}
 
--- if a whole text was appended, and then the sink was kept as it was, a prefix of the text was appended
+-- if a whole text was appended and the sink then did not change, a prefix of the text was appended
 whole_cut : (a b c : Option (List ℕ)) (text : List ℕ) → Appends a b text → Keeps b c → AppendsPrefix a c text
 whole_cut a b c text whole kept = AppendsPrefix-of_whole a c text (appends_kept a b c text whole kept)
 
@@ -37,14 +37,15 @@ memory_ends left left_after held now after ends kept = record {
   written = whole_cut held now after ends.output ends.written kept;
 }
 
--- ---- with the line of a refusal
+-- ---- sessions that end with the line of a refusal
 
 module _ (left left_after held now after : Option (List ℕ)) (text emitted line : List ℕ) (all : EmittedAll text emitted)
     (refusal : RefusesBy left left_after text line) where
   refuses : EmittedRefusal left left_after text (emitted ++ line)
   refuses = record { emitted = emitted; line = line; all = all; refusal = refusal; output_is = refl }
 
--- the line was written, or the sink failed
+-- after a session was refused, the line of the refusal is written or the sink fails; in both cases the session ends as
+-- `LiveEnds` states
 refused_by : (left left_after held now after : Option (List ℕ)) (result : Status) (line wanted : List ℕ)
     (Is : List ℕ → List ℕ → Type 0) → (t : Emitted Is left left_after held now)
     → ((text emitted : List ℕ) → Is text emitted → EmittedAll text emitted × RefusesBy left left_after text wanted)

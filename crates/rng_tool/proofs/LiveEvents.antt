@@ -33,7 +33,7 @@ use Rattle.rng_tool.proofs.LiveRuns.{going, one_emitted}
 use Rattle.rng_tool.proofs.LiveTexts.{lined_up, no_bytes}
 use Rattle.rng_tool.proofs.WrittenLines.{next_line}
 
--- ---- parts of a contract
+-- ---- parts of the contracts of `SessionWriter`
 
 pub starts : WaitsAt [] []
 starts = record {
@@ -64,7 +64,7 @@ cut_writes (Err stop) held held_now text is prefix =
 pub at_open : (t : SessionWriter) (text emitted : List ℕ) → IsAt text emitted t → t.is_over ≡ false → At false t.run text emitted
 at_open t text emitted at is = subst (λ b. At b t.run text emitted) is at
 
--- ---- with no event
+-- ---- a line that adds no event
 
 pub waits_goes : (t : SessionWriter) (text line emitted : List ℕ) (start held : Option (List ℕ)) → IsAt text emitted t
     → t.is_over ≡ false → IsPart line → IsWaiting (lined_up text line) → Appends start held emitted

@@ -1,4 +1,4 @@
--- After one more line of its script a session is at the next line, or it has stopped as `StopsAt` states.
+-- After one more line of its script, a session waits for the next line, or has stopped as `StopsAt` states.
 use Rattle.std.proofs.Common.{◌≡◌, ℕ, ◌+◌, ◌<◌, ◌≤◌, ◌⊎◌, inl, inr, Bool, true, false, Option, None, Some, List, [], ◌∷◌, ◌++◌, refl, sym, ap, subst, ◌∙◌, append_assoc, append-nil, length, arith}
 use Rattle.std.specs.Prelude.{Result, Ok, Err, codes}
 use Rattle.std.specs.Io.KnownBytes.{Appends}
@@ -46,7 +46,7 @@ faulty_hopeless text fault faulty = λ s more is.
       | inr short ↦ fails_hopeless text more fault s (faulty.short (omega (arith, short))) is
     ]
 
--- if no script of one caller begins with `front` and a line, the session can tell nothing after `front`
+-- if no script of one caller begins with `front` and `line`, none begins with `front` and whole lines from `line` on
 last_by : (front line more : List ℕ) → IsPart line
     → ((s : Script) (later : List ℕ) → IsScript s (lined_up front line ++ later) → IsEmittedByOne s → ⊥)
     → IsLast front (line ++ 10 ∷ more)
@@ -148,7 +148,7 @@ module _ (text line : List ℕ) (clean : IsPart line) where
   whole_now : IsWhole (lined_up text line)
   whole_now = inr (text ++ line, sym (append_assoc text line (10 ∷ [])))
 
-  -- after one more line the script fails, ends or goes on, if `rest` is the first part of this line
+  -- if `rest` is the first part of the next line, the script fails, ends or goes on after this line
   turn_now : (front rest : List ℕ) (d : Draft) (n : ℕ) → text ≡ front ++ rest → IsPart rest → IsLone d
       → GoesOnFrom front d n → Turn (lined_up text line) d n
   turn_now front rest d n parts part lone goes =
@@ -219,9 +219,10 @@ module _ (text line : List ℕ) (clean : IsPart line) where
     rest_is = inr (runs_on run emitted r waits r.rest_is);
   }
 
-  -- ---- a doomed line
+  -- ---- a line after which no script of one caller is possible
 
-  -- if no script of one caller begins with the text and this line, the session can tell nothing after `front`
+  -- if no script of one caller begins with `text` and `line`, none begins with `front` and the whole lines after
+  -- `front`
   last_now : (front rest more : List ℕ) → text ≡ front ++ rest → IsPart rest ⊎ IsStuck front rest
       → ((s : Script) (later : List ℕ) → IsScript s (lined_up text line ++ later) → IsEmittedByOne s → ⊥)
       → IsLast front (rest ++ (line ++ 10 ∷ more))
@@ -333,7 +334,7 @@ has_ended front emitted text run h last ends short lawful fits = record {
       (h.lines ++ last ∷ []) (each_more LineFits h.lines last h.fit fits) lawful);
 }
 
--- if `emitted` was written, and then `more`, the sink has both
+-- if `emitted` was written and then `more`, the sink holds both
 written_more : (start held held_now : Option (List ℕ)) (emitted more : List ℕ) → Appends start held emitted
     → Appends held held_now more → Appends start held_now (emitted ++ more)
 written_more start held held_now emitted more before now = Appends-trans start held held_now emitted more before now

@@ -32,7 +32,7 @@ use Rattle.rng_tool.proofs.LiveTexts.{lined_up}
 same_err : {A : Type 0} (f g : ScriptFault) → ◌≡◌ {A = Result A ScriptFault} (Err f) (Err g) → f ≡ g
 same_err f g e = cc
 
--- `bare` is how a text is read if nothing follows it, and `wordless` how it is read if the line `x` follows it
+-- `bare`: how a text is read if nothing follows. `wordless`: how a text is read if the line `x` follows
 abbrev bare : List ℕ → Result Script ScriptFault
 bare text = script_of_lines (parts 10 (text ++ []))
 
@@ -59,7 +59,7 @@ wordless_goes text d n goes = goes (codes "x\n") ∙ unknown d n
 bare_ends : (text : List ℕ) (d : Draft) (n : ℕ) → EndsWith text d n → bare text ≡ Ok (script_of_draft d)
 bare_ends text d n ends = ends []
 
--- a text that fails does not go on
+-- no text both fails and goes on
 pub fails_not_goes : (text : List ℕ) (fault : ScriptFault) (d : Draft) (n : ℕ) → FailsWith text fault
     → GoesOnFrom text d n → ⊥
 fails_not_goes text fault d n fails goes =
@@ -166,7 +166,7 @@ awaits_not_goes text d n a on = awaits_not_from text d n a.next a.goes on
 
 -- ---- a line of the head
 
--- a text with one more line is the same text, however the parts are grouped
+-- a text, a line and later text are read in the same way, however they are grouped
 with_line : (text line later : List ℕ) → IsPart line
     → script_of_lines (parts 10 (lined_up text line ++ later)) ≡ script_of_lines (parts 10 (text ++ (line ++ 10 ∷ later)))
 with_line text line later clean =
@@ -354,7 +354,7 @@ emitted_unforked event one = refl
 
 module _ (text : List ℕ) (d other : Draft) (e : Event) (n m : ℕ) (lone : IsLone d)
     (goes : GoesOnFrom text (with_event d e) n) (seen : GoesOnFrom text other m) where
-  -- if no fork waits for its block, the reader's draft has the event too
+  -- if no fork waits for its block, the reader's draft is `d` with the event `e`
   pub shows_event : has_orphan other ≡ false
       → (other.version ≡ d.version) × (other.cpus ≡ d.cpus) × (other.done ≡ []) × (other.events ≡ d.events ++ e ∷ [])
   shows_event none =
@@ -402,7 +402,7 @@ script_lines_again s text is =
       | inr short ↦ rw short at ok
     ]
 
--- a faulty text begins no script
+-- no script begins with a faulty text
 pub fails_hopeless : (text more : List ℕ) (fault : ScriptFault) (s : Script) → FailsWith text fault
     → IsScript s (text ++ more) → ⊥
 fails_hopeless text more fault s fail is =

@@ -1,4 +1,4 @@
--- A text that has no room for the line `end` begins no script.
+-- If a text leaves no room for the line `end`, no script begins with this text.
 use Rattle.std.proofs.Common.{◌≡◌, ℕ, ◌+◌, ◌<◌, ◌≤◌, ◌==◌, inl, inr, false, List, [], ◌∷◌, ◌++◌, map, length, refl, sym, ap, subst, ◌∙◌, append_assoc, arith}
 use Rattle.std.specs.Fmt.{decimal}
 use Rattle.std.specs.Prelude.{codes}
@@ -51,7 +51,7 @@ end_clean =
     All-cons (λ x. (x == 10) ≡ false) 101 (110 ∷ 100 ∷ []) refl
     (All-cons (λ x. (x == 10) ≡ false) 110 (100 ∷ []) refl (All-cons (λ x. (x == 10) ≡ false) 100 [] refl no_bytes))
 
--- if whole lines reach into the line `end` of a script, they have all of this line
+-- if whole lines contain a part of a script's line `end`, they contain all of this line
 all_there : (front mid more body : List ℕ) → front ++ 10 ∷ [] ≡ body ++ mid → mid ++ more ≡ end_line → 0 < length mid
     → more ≡ []
 all_there front mid more body is end some =
@@ -79,7 +79,7 @@ all_there front mid more body is end some =
         cut_last part (before ++ part) before lines refl
         (let tails : before ++ part ≡ lines ++ 10 ∷ [] = cc in tails) some
 
--- whole lines that go on, but leave no room for the line `end`, begin no script
+-- if events may follow some whole lines, but the line `end` has no room after these lines, no script begins with them
 pub full_hopeless : (text : List ℕ) (d : Draft) (n : ℕ) → GoesOnFrom text d n → IsWhole text
     → 16777216 < length text + 4 → IsHopeless text
 full_hopeless text d n goes (inl none) full = absurd (omega (arith, full, ap length none))

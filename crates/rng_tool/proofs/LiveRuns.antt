@@ -1,4 +1,4 @@
--- If a session's run has made the events so far, and is closed, `emitted` is the output for the script so far.
+-- If a session's run has made the events so far and is then closed, `emitted` is the output for the script so far.
 use Rattle.std.proofs.Common.{◌≡◌, ℕ, ◌⊎◌, inl, inr, Bool, true, false, Option, None, Some, List, [], ◌∷◌, ◌++◌, map, refl, sym, ap, subst, ◌∙◌, append-nil}
 use Rattle.std.specs.Prelude.{IfSome, IsSomeAnd, codes}
 use Rattle.std.specs.List.{AllByRecursion}
@@ -30,7 +30,7 @@ module _ (front emitted : List ℕ) (run : LoneRun) (h : HasRun front emitted ru
   pub is_well : WellFormed (script_of_draft h.draft)
   is_well = well_formed front h.draft h.next h.goes (lone_blocks h.draft h.lone) h.room
 
-  -- the script could end here
+  -- the run so far is also a run of the script that ends here
   pub going : IsGoing (script_of_draft h.draft) [] run h.lines
   going = h.made (script_of_draft h.draft) [] is_well (one_emitted h.draft h.lone h.once) refl
       (rw h.lone.first (ap (λ e. e ∷ []) (sym (append-nil h.draft.events))))

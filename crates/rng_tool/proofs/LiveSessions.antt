@@ -60,7 +60,7 @@ line_goes (Ok u) start held text s goes fed = record {
 }
 line_goes (Err stop) start held text s goes fed = goes
 
--- ---- more of a piece
+-- ---- a session after a part of a piece
 
 part_stays : (text more emitted : List ℕ) (t : SessionWriter) → TellsPart text emitted t → TellsPart (text ++ more) emitted t
 part_stays text more emitted t p = record {
@@ -174,7 +174,8 @@ stops_reading (Ok u) stop left left_after start held text s is takes stops = abs
 stops_reading (Err x) stop left left_after start held text s is takes stops =
     subst (λ y. SessionReads (Err y) left left_after start held s) (sym is) (text, takes, stops)
 
--- `TakesText` holds after one more piece was taken
+-- if `text` and then `piece` were taken, together at most one byte more than a script may have, `TakesText` holds of
+-- both together
 pub more_taken : (left now after : Option (List ℕ)) (text piece : List ℕ) → Consumes left now text → Consumes now after piece
     → length (text ++ piece) ≤ 16777217 → TakesText left after (text ++ piece)
 more_taken left now after text piece before read few =

@@ -33,7 +33,7 @@ no_feed (b ∷ text) [] rest clean is = no_feed_byte b text clean (let one : b �
 no_feed (b ∷ text) (x ∷ front) rest clean is =
     no_feed text front rest (part_after b text clean) (let tails : text ≡ front ++ 10 ∷ rest = cc in tails)
 
--- whole lines at the front of a text begin with the text's first line
+-- if whole lines are at the front of a text, they begin with the text's first line
 pub first_feed : (line more front rest : List ℕ) → IsPart line → line ++ 10 ∷ more ≡ front ++ 10 ∷ rest
     → (mid : List ℕ) × (front ++ 10 ∷ [] ≡ line ++ 10 ∷ mid)
 first_feed [] more [] rest clean is = ([], refl)
@@ -45,7 +45,7 @@ first_feed (b ∷ line) more (x ∷ front) rest clean is =
     (let tails : line ++ 10 ∷ more ≡ front ++ 10 ∷ rest = cc in tails) in
     (found.0, ap (λ t. x ∷ t) found.1 ∙ ap (λ c. c ∷ (line ++ 10 ∷ found.0)) (let one : x ≡ b = cc in one))
 
--- if only a part of a line follows a text, all whole lines are in the text
+-- if only a part of a line follows a text, all whole lines at the front are in the text
 pub fed_before : (text more front rest : List ℕ) → IsPart more → text ++ more ≡ front ++ 10 ∷ rest
     → (left : List ℕ) × (text ≡ front ++ 10 ∷ left)
 fed_before [] more front rest clean is = absurd (no_feed more front rest clean is)
@@ -54,7 +54,8 @@ fed_before (x ∷ text) more (y ∷ front) rest clean is =
     let found = fed_before text more front rest clean (let tails : text ++ more ≡ front ++ 10 ∷ rest = cc in tails) in
     (found.0, ap (λ t. x ∷ t) found.1 ∙ ap (λ b. b ∷ (front ++ 10 ∷ found.0)) (let one : x ≡ y = cc in one))
 
--- if a line follows a text, whole lines are in the text, or have all of the text and the line
+-- suppose that a line follows a text; then whole lines at the front are all in the text, or contain the text and the
+-- line
 pub fed_around : (text line more front rest : List ℕ) → IsPart line
     → text ++ (line ++ 10 ∷ more) ≡ front ++ 10 ∷ rest
     → ((left : List ℕ) × (text ≡ front ++ 10 ∷ left)) ⊎ ((mid : List ℕ) × (front ++ 10 ∷ [] ≡ text ++ (line ++ 10 ∷ mid)))
@@ -69,7 +70,7 @@ fed_around (x ∷ text) line more (y ∷ front) rest clean is =
           inr (found.0, ap (λ t. y ∷ t) found.1 ∙ ap (λ b. b ∷ (text ++ (line ++ 10 ∷ found.0))) (sym same))
     ]
 
--- ---- more of a text
+-- ---- a text with more text after it
 
 -- a text with a line and more text after it is the same, however the three are grouped
 pub line_and_more : (text line more : List ℕ) → lined_up text line ++ more ≡ text ++ (line ++ 10 ∷ more)
@@ -92,8 +93,8 @@ pub unopened_more : (text more : List ℕ) → IsPart more → IsUnopened text �
 unopened_more text more clean unopened = λ front rest is goes.
     unopened front (fed_before text more front rest clean is).0 (fed_before text more front rest clean is).1 goes
 
--- an unopened text, with one more line and more text after it, is unopened, if no events may follow a text that begins
--- with it and that line
+-- if `text` is unopened, and events may follow no text that begins with `text` and `line`, then `text` and `line` are
+-- unopened with any text after them
 pub unopened_line : (text line more : List ℕ) → IsPart line → IsUnopened text
     → ((mid : List ℕ) → GoesOn (text ++ (line ++ 10 ∷ mid)) → ⊥) → IsUnopened (text ++ (line ++ 10 ∷ more))
 unopened_line text line more clean unopened none = λ front rest is goes.

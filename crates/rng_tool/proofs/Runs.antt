@@ -1,4 +1,4 @@
--- The transcript of a run of a script's callers is one that `RunOf` allows.
+-- `RunOf` allows the transcript of each run of a script's callers.
 use Rattle.std.proofs.Common.{◌≡◌, ℕ, suc, refl, List, [], ◌∷◌, length, arith}
 use Rattle.std.specs.List.{AllByRecursion}
 use Rattle.key_names.specs.declared.events.Event.{Event}

@@ -1,4 +1,4 @@
--- How many bytes lines show, counted by their data.
+-- The number of bytes that lines show, computed from the lengths of their data.
 use Rattle.std.proofs.Common.{◌≡◌, ℕ, List, [], ◌∷◌, length, drop, refl, ap, sym, ◌∙◌, All, arith}
 use Rattle.std.specs.List.{sum_by, AllByRecursion}
 use Rattle.std.proofs.lemmas.List.{length-append, length-drop, length-take}

@@ -1,4 +1,4 @@
--- The numbers of points are 1 to 4, and those of attempts are 1 and 2.
+-- Points have the numbers 1 to 4, and attempts have the numbers 1 and 2.
 use Rattle.std.proofs.Common.{◌≤◌, arith}
 use Rattle.key_names.specs.declared.point.Point.{Point}
 use Rattle.key_names.specs.declared.point.Point.TheVariants.{Start, Written, Serve, End}

@@ -28,7 +28,7 @@ use Rattle.rng_tool.proofs.Runs.{run_of, under_own_number}
 abbrev Known : Type 0
 Known = Option (List ℕ)
 
--- the text of a transcript's first line and of these lines
+-- the text of a transcript's first line, followed by the text of `lines`
 abbrev pub text_so_far : List SeenLine → List ℕ
 text_so_far lines = codes "rngtranscript 1\n" ++ text_of lines
 
@@ -40,7 +40,7 @@ pub record Wrote (written : Result (Unit {0}) Failed) (held held_now : Known) (f
   pub cause : OnErr written (Rose faults faults_now)
   pub not_counted : OnOk written (faults_now ≡ faults)
 
--- ---- more of it
+-- ---- more text
 
 -- a prefix of a text is also a prefix of a longer text
 pub prefix_longer : (a b : Known) (text more : List ℕ) → AppendsPrefix a b text → AppendsPrefix a b (text ++ more)
@@ -72,7 +72,7 @@ wrote_more (Ok u) (Err e) a b c f g h text more ok k whole prefix cause same = r
   not_counted = tt;
 }
 
--- if a call had failed, what was put is also a prefix of `text ++ more`
+-- if a call had failed, the bytes that were put are also a prefix of `text ++ more`
 pub wrote_no_more : (w : Result (Unit {0}) Failed) (a b : Known) (f g : ℕ) (text more : List ℕ) → is_ok w ≡ false
     → Wrote w a b f g text → Wrote w a b f g (text ++ more)
 wrote_no_more (Ok u) a b f g text more failed k = cc
@@ -83,7 +83,7 @@ wrote_no_more (Err e) a b f g text more failed k = record {
   not_counted = tt;
 }
 
--- ---- of a run
+-- ---- the output of a run
 
 module _ (script : Script) (a b : Known) (f g : ℕ) (text : List ℕ) (run : RunOf script text) where
   pub was_whole : (w : Result (Unit {0}) Failed) → Wrote w a b f g text → OnOk w (WasWritten (RunOf script) a b)
@@ -167,7 +167,7 @@ alone_run script well lines fits is = let fit = is.1.transcript.lines in record 
   };
 }
 
--- with the caller's last line and the line `end`, the output is that of a run that has ended
+-- if a run is closed, its lines, the caller's last line and the line `end` are together the output of a whole run
 pub ended_run : {script : Script} {run : LoneRun} {shown : SeenLine} (lines : List SeenLine) (line : SeenLine) →
     IsGoing script [] run lines → AllByRecursion LineFits lines → shown ≡ line → LineFits shown →
     IsLawful script (lines ++ line ∷ []) → RunOf script (text_so_far (lines ++ line ∷ []) ++ codes "end\n")

@@ -23,7 +23,7 @@ Asks words (Draw draw) = IsDraw words draw.bound draw.count
 Asks words (Vfork vfork) = IsVfork words vfork.point vfork.attempt vfork.len
 Asks words (Feed feed) = IsFeed words feed.start feed.feeders feed.samples
 
--- the words are no form of the command line
+-- the words match no form of the command line
 pub record IsNoForm {A : Type 0} (words : List (String A)) : Type 0 where
   pub no_run : IsRun words → ⊥
   pub no_live : IsLive words → ⊥

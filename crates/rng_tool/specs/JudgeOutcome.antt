@@ -48,8 +48,8 @@ pub record JudgeAnswer (judge : Judge) (input output : List ℕ) : Type 0 where
   pub pair : IsPair input script lines
   pub says : Says judge script lines output
 
--- the text after the script is no transcript's text, and the number is 1; or it is a transcript's text, and the number
--- is that of the clause that fails
+-- the number is 1, and the text is not that of a transcript; or the text is that of a transcript, and the number is
+-- that of the failing clause
 abbrev pub IsClause : Judge → Script → List ℕ → ℕ → Type 0
 IsClause judge script text number =
     (number ≡ 1) × IsNoTranscript text

@@ -32,7 +32,8 @@ pub record EmittedSoFar (text output : List ℕ) : Type 0 where
   pub sound : IsSound script ((lines ++ last ∷ []) ∷ [])
   pub emitted : output ≡ lined (codes "rngtranscript 1" ∷ map line_text lines)
 
--- the text is a script of one such caller, and the output is the output of a run
+-- the text is a script of one caller, who forks nobody and acts inside no call; the output is that of a run of this
+-- script
 pub record EmittedWhole (text output : List ℕ) : Type 0 where
   pub script : Script
   pub is_script : IsScript script text
@@ -48,7 +49,7 @@ pub record EmittedPart (text output : List ℕ) : Type 0 where
 
 -- ---- the output for all of the script that was read
 
--- some script of one such caller begins with the text
+-- the text begins some script of one caller, who forks nobody and acts inside no call
 pub record BeginsScript (text : List ℕ) : Type 0 where
   pub script : Script
   pub more : List ℕ
@@ -76,7 +77,8 @@ pub record EmittedFront (text output : List ℕ) : Type 0 where
   pub so_far : EmittedSoFar front output
   pub stops : (line more : List ℕ) → rest ≡ line ++ 10 ∷ more → BeginsScript (front ++ line ++ 10 ∷ []) → ⊥
 
--- a prefix of the text is a whole script, and the output is that of a run; other text may follow
+-- a prefix of the text is a whole script, and the output is that of a run of this script; other text may follow the
+-- prefix
 pub record EmittedScript (text output : List ℕ) : Type 0 where
   pub front : List ℕ
   pub rest : List ℕ
@@ -96,8 +98,8 @@ pub record FailsInside (text : List ℕ) (fault : ScriptFault) : Type 0 where
   pub parts : text ≡ front ++ rest
   pub fails : FailsWith front fault
 
--- the text is the whole input, or the front of the input with one byte more than a script may have; the fault is the
--- text's first
+-- the text is the whole input, or the first part of a longer input: one byte more than a script may have. The fault is
+-- the first fault of the text
 pub record FailsAtEnd (left left_after : Option (List ℕ)) (text : List ℕ) (fault : ScriptFault) : Type 0 where
   pub read : WasRead most_script left left_after text
   pub first : first_fault text ≡ Some fault
@@ -112,11 +114,11 @@ pub record IsNotAlone (text : List ℕ) (number : ℕ) : Type 0 where
   pub goes : GoesOnFrom front (with_event draft event) (number + 1)
   pub not_once : IsEmittedOnce event → ⊥
 
--- the refusal of such a line, of kind 13
+-- the refusal of a line that is a fork, or an act inside a call: its kind is 13
 abbrev pub not_alone_line : ℕ → List ℕ
 not_alone_line number = lined (spaced (codes "refused" ∷ decimal number ∷ codes "13" ∷ []) ∷ [])
 
--- the line is that of a refusal: for a fault of the text, or for a fork or an act
+-- the line refuses the text: for a fault, or for a fork or an act
 abbrev pub RefusesBy : Option (List ℕ) → Option (List ℕ) → List ℕ → List ℕ → Type 0
 RefusesBy left left_after text line =
     ((fault : ScriptFault) × (FailsInside text fault ⊎ FailsAtEnd left left_after text fault) × (line ≡ refusal_line fault))
@@ -132,7 +134,7 @@ pub record EmittedRefusal (left left_after : Option (List ℕ)) (text output : L
 
 -- ---- the ends
 
--- this text was taken from the source, at most one byte more than a script may have
+-- this text was taken from the source; it has at most one byte more than a script may have
 pub record WasTaken (left left_after : Option (List ℕ)) (text : List ℕ) : Type 0 where
   pub read : Consumes left left_after text
   pub few : length text ≤ most_script + 1

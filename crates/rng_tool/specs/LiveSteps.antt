@@ -28,7 +28,7 @@ use Rattle.rng_tool.specs.declared.session_writer.SessionWriter.{SessionWriter}
 
 -- ---- what was written
 
--- the text of a transcript's first line and of these lines
+-- the text of a transcript's first line, followed by the text of `lines`
 abbrev pub begun : List SeenLine → List ℕ
 begun lines = codes "rngtranscript 1\n" ++ text_of lines
 
@@ -54,7 +54,7 @@ pub record HasEnded (front emitted : List ℕ) : Type 0 where
   pub one : IsEmittedByOne (script_of_draft draft)
   pub run : RunOf (script_of_draft draft) emitted
 
--- `emitted` is the output for `front`, a part of a script; the bool is whether the script is over
+-- `emitted` is the output for `front`, a part of a script; the bool is true if the script is over
 abbrev pub HasEmitted : Bool → Option LoneRun → List ℕ → List ℕ → Type 0
 HasEmitted true run front emitted = (run ≡ None) × HasEnded front emitted
 HasEmitted false None front emitted = emitted ≡ []
@@ -119,7 +119,7 @@ At false (Some run) text emitted = RunsAt run text emitted
 abbrev pub IsAt : List ℕ → List ℕ → SessionWriter → Type 0
 IsAt text emitted t = At t.is_over t.run text emitted
 
--- one more line was read, and `progress` is how far the script has come
+-- one more line was read, and `progress` is the script's progress after this line
 pub record ReadsLine (text line emitted : List ℕ) (progress : ScriptProgress) (t : SessionWriter) : Type 0 where
   pub at : IsAt text emitted t
   pub goes_on : t.is_over ≡ false
@@ -161,7 +161,7 @@ pub record IsFaultyIn (text : List ℕ) (fault : ScriptFault) : Type 0 where
   pub parts : text ≡ front ++ rest
   pub is : IsFaulty front fault
 
--- the output of a session: `Is` holds of it, and it was written as `Written` states
+-- the output of a session: `Is` and `Written` hold of `emitted`
 pub record StopsBy (Is : List ℕ → Type 0) (Written : List ℕ → Type 0) : Type 0 where
   pub emitted : List ℕ
   pub is : Is emitted
@@ -185,14 +185,14 @@ abbrev pub GoesTo : Result (Unit {0}) Stop → Option (List ℕ) → Option (Lis
 GoesTo (Ok u) start held text t = StopsBy (λ emitted. IsAt text emitted t) (Appends start held)
 GoesTo (Err stop) start held text t = StopsAt stop start held text t
 
--- the sink counted a fault if the session stopped with a write fault, and none otherwise
+-- if the session stopped with a write fault, the sink counted a fault; otherwise the sink counted none
 pub record CountsStop (result : Result (Unit {0}) Stop) (faults faults_after : ℕ) : Type 0 where
   pub cut : result ≡ Err WriteFault → Rose faults faults_after
   pub not_counted : (result ≡ Err WriteFault → ⊥) → faults_after ≡ faults
 
 -- ---- writing
 
--- the text was written; or a prefix of it, since the sink failed
+-- the whole text was written, or the sink failed after a prefix of the text
 abbrev pub Writes : Result (Unit {0}) Stop → Option (List ℕ) → Option (List ℕ) → List ℕ → Type 0
 Writes (Ok u) held held_after text = Appends held held_after text
 Writes (Err WriteFault) held held_after text = AppendsPrefix held held_after text
@@ -201,14 +201,14 @@ Writes (Err NoMemory) held held_after text = ⊥
 Writes (Err (Refused fault)) held held_after text = ⊥
 Writes (Err (NotAlone number)) held held_after text = ⊥
 
--- the run was opened, and the first line of the transcript written; or memory ran out
+-- the run was opened and the first line of the transcript was written (or the sink failed); or memory ran out
 abbrev pub Opens : ℕ → Result (Unit {0}) Stop → Option LoneRun → Option LoneRun → Option (List ℕ) → Option (List ℕ)
     → Type 0
 Opens cpus (Err NoMemory) run run_after held held_after = (run_after ≡ run) × Keeps held held_after
 Opens cpus result run run_after held held_after =
     IsSomeAnd run_after (λ r. HasMade cpus [] r []) × Writes result held held_after (codes "rngtranscript 1\n")
 
--- the run was ended, and the last lines of the transcript written
+-- the run was ended, and the last lines of the transcript were written
 abbrev pub Ends : Script → List SeenLine → Result (Unit {0}) Stop → Option (List ℕ) → Option (List ℕ) → Type 0
 Ends script lines result held held_after =
     (last : SeenLine) × IsLawful script (lines ++ last ∷ []) × LineFits last
@@ -245,7 +245,7 @@ SessionReads (Ok u) left left_after held held_after s =
 SessionReads (Err stop) left left_after held held_after s =
     (text : List ℕ) × TakesText left left_after text × StoppedAt stop held held_after text s.session_writer
 
--- the source counted a fault if the session stopped with a read fault, and none otherwise
+-- if the session stopped with a read fault, the source counted a fault; otherwise the source counted none
 pub record CountsReadStop (result : Result (Unit {0}) Stop) (faults faults_after : ℕ) : Type 0 where
   pub read_fault : result ≡ Err ReadFault → Rose faults faults_after
   pub no_read_fault : (result ≡ Err ReadFault → ⊥) → faults_after ≡ faults

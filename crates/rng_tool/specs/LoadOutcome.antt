@@ -45,7 +45,7 @@ abbrev pub data_len : Data → ℕ
 data_len (Bytes len start) = len
 data_len _ = 0
 
--- the output is one line with the numbers of callers and of events of the load's script, the number of bytes that a
+-- the output is one line. It has the numbers of callers and events of the load's script, the number of bytes that a
 -- lawful transcript for this script shows, and `check yes`
 pub record LoadOf (start callers events : ℕ) (output : List ℕ) : Type 0 where
   pub lines : List (List SeenLine)

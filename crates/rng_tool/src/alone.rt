@@ -1,4 +1,4 @@
-//! The run of a script's only caller, which writes each line as it is made.
+//! Runs a script's only caller, and writes each line as soon as the line is made.
 ghost use Rattle.std.specs.Prelude.{◌≡◌, [], ℕ, List, OnOk, OnErr};
 ghost use Rattle.io_edges.specs.Faults.{Rose};
 ghost use Rattle.io_edges.specs.Pieces.{AppendsPrefix};
@@ -18,8 +18,8 @@ use transcript_text::LineWriter;
 ///
 /// # Errors
 ///
-/// `Failed` if the sink failed. The sink has counted this as a fault, and what it got in this call is a prefix of the
-/// transcript's text.
+/// `Failed` if the sink failed. The sink has counted this as a fault, and the bytes that it got in this call are a
+/// prefix of the transcript's text.
 pub(crate) fn write_alone<R: Wait, K: Sink, G: Gate>(
     rt: &R,
     mut run: LoneRun,

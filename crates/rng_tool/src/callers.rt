@@ -12,8 +12,8 @@ use std::sync::Wait;
 use std::thread::Threads;
 use transcript_text::Transcript;
 
-// The place where a script's callers run (tested; each answer is right). A single caller forks no other, so it needs no
-// thread.
+// Whether a script's callers run in this thread or in several threads (tested; either choice is right). A single caller
+// forks no other, so it needs no thread.
 fn children_of(script: &Script) -> Children {
     if script.callers() == 1 {
         Children::Here

@@ -17,7 +17,7 @@ use crate::judge::{Judge, judge_of};
 use crate::load::{LoadRequest, load_of};
 use crate::vfork::{Vfork, vfork_of};
 
-/// The forms of the command line, as they are printed for any other words.
+/// The usage: the forms of the command line. It is printed if the words match none of them.
 pub(crate) const USAGE: &str =
     "usage: rng run | rng live | rng check | rng load START CALLERS EVENTS | rng vfork POINT ATTEMPT N | rng draw C K | rng feed START FEEDERS SAMPLES | rng replay";
 

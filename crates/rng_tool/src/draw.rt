@@ -26,7 +26,7 @@ pub(crate) struct DrawRequest {
     pub(crate) count: u32,
 }
 
-/// The draws that three words name.
+/// The draws that these three words name, if they name draws.
 fn draw_by(command: &str, bound: &str, count: &str) -> Option<DrawRequest>
     ensures found { IfSome result (λ draw.
         AskDraw (command.now ∷ bound.now ∷ count.now ∷ []) draw.bound draw.count) }

@@ -1,5 +1,5 @@
-//! The message on standard error for a transcript that is not lawful: the first line at which its clause fails, and
-//! what was expected there. No function here has a contract, so all of it is only tested.
+//! The message on standard error for a transcript that is not lawful: the first line at which the failed clause does
+//! not hold, and what was expected there. No function here has a contract, so all of it is only tested.
 
 use crate::messages::{MOST_SHOWN, shown_line};
 use event_script::{Script, read_front};
@@ -169,7 +169,7 @@ fn line_of<'a>(t: &'a Transcript, place: &FailedLine) -> Option<LineView<'a>> {
     Some(lines.line(place.line))
 }
 
-// The faulty line of a text that is no transcript's.
+// The faulty line of a text that is not the text of a transcript.
 fn of_text(alloc: Global, line: u32) -> Result<Failing, AllocError> {
     let expected = match line {
         1 => format!(in alloc; "rngtranscript 1")?,
@@ -204,7 +204,7 @@ fn of_transcript(
     }))
 }
 
-// The line with this number as it is shown: its first bytes, if they are printable.
+// The text to show for the line with this number: the line's first bytes, if they are printable.
 fn shown_of(text: &[u8], number: usize) -> Option<&str> {
     let before = number.checked_sub(1)?;
     let line = text.split(|byte| *byte == b'\n').nth(before)?;

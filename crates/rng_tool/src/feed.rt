@@ -20,7 +20,7 @@ const MOST_FEEDERS: u32 = 16;
 /// The most samples of each feeder.
 const MOST_SAMPLES: u32 = 10_000;
 
-/// Each of this many feeders has this many samples, numbered from `start` on.
+/// The numbers of a run: each of `feeders` feeders has `samples` samples, numbered from `start` on.
 #[derive(Clone, Copy, Debug, PartialEq, Eq)]
 pub(crate) struct Feed {
     pub(crate) start: u32,

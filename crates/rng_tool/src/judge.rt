@@ -47,7 +47,7 @@ fn judge_by(word: &str) -> Option<Judge>
     None
 }
 
-/// The command that the words name, if it is one of the two.
+/// The command that the words name, if it is `check` or `replay`.
 pub(crate) fn judge_of(words: &[String]) -> Option<Judge>
     ensures found { IfSome result (λ judge. IsJudge words.now judge) }
     ensures only { (judge : Judge) → IsJudge words.now judge → result ≡ Some judge }
@@ -66,7 +66,7 @@ fn yes_line() -> ShortLine
     line
 }
 
-// Answers whether the transcript is lawful.
+// Writes whether the transcript is lawful.
 fn say_checked<K: Sink>(alloc: Global, script: &Script, t: &Transcript, sink: &mut K) -> Status
     requires { WellFormed script.now }
     ensures ends { WritesEnds (SaidOf Judge.Check script.now t.now) result (K.held sink.old) (K.held sink.new) }
@@ -80,7 +80,7 @@ fn say_checked<K: Sink>(alloc: Global, script: &Script, t: &Transcript, sink: &m
     }
 }
 
-// Answers with the transcript, after its answers and data were made again.
+// Writes the transcript, after its answers and data were made again.
 fn say_replayed<K: Sink>(alloc: Global, script: &Script, t: &Transcript, sink: &mut K) -> Status
     requires { WellFormed script.now }
     ensures ends { WritesEnds (SaidOf Judge.Replay script.now t.now) result (K.held sink.old) (K.held sink.new) }
@@ -97,7 +97,7 @@ fn say_replayed<K: Sink>(alloc: Global, script: &Script, t: &Transcript, sink: &
     }
 }
 
-// Answers about a transcript.
+// Writes the answer about a transcript.
 fn say<K: Sink>(
     alloc: Global,
     judge: Judge,
@@ -116,7 +116,8 @@ fn say<K: Sink>(
     }
 }
 
-// Answers about a script and the text after it. If a run was made, the text was compared with the run's output.
+// Writes the answer about a script and the text after it. If a run was made, the text was compared with the run's
+// output.
 fn say_of_text<K: Sink>(
     alloc: Global,
     judge: Judge,

@@ -1,4 +1,4 @@
-//! The command `live`: a session. Each event of a script's only caller is made as soon as the script's line was read,
+//! The command `live`: a session. Each event of a script's only caller is made as soon as the event's line was read,
 //! and the transcript's line is written at once.
 ghost use Rattle.std.specs.Prelude.{◌≡◌, ◌⊎◌, ◌+◌, ◌<◌, ◌++◌, ◌∷◌, [], ℕ, List, None, Option, false, true, length, IfSome};
 ghost use Rattle.std.specs.Io.KnownBytes.{Appends};
@@ -55,7 +55,7 @@ impl Session {
         }
     }
 
-    // Feeds a line to the reader, and goes on with the script's progress.
+    // Feeds a line to the reader, and hands the script's progress to the session writer.
     fn read_line<R: Wait, K: Sink, G: Gate>(
         &mut self,
         rt: &R,
@@ -77,7 +77,7 @@ impl Session {
         self.session_writer.go_on(rt, alloc, progress, sink, gate)
     }
 
-    // Feeds a piece of the script, line by line. After the line `end` the rest is fed at once.
+    // Feeds a piece of the script, line by line. After the line `end` the rest of the piece is fed at once.
     fn read<R: Wait, K: Sink, G: Gate>(
         &mut self,
         rt: &R,
@@ -101,8 +101,8 @@ impl Session {
         Ok(())
     }
 
-    // Reads the script to the end of the input, or to one byte more than a script has. The sink is flushed before the
-    // source is asked for more.
+    // Reads the script to the end of the input, or to one byte more than a script may have. The sink is flushed before
+    // the source is asked for more.
     fn read_all<R: Wait, S: Source, K: Sink, G: Gate>(
         &mut self,
         rt: &R,
@@ -153,7 +153,7 @@ fn finish(reader: ScriptReader) -> Result<(), Stop>
     }
 }
 
-// Reads the script that the source gives, and closes the run at its end.
+// Reads the script that the source gives, and then closes the run.
 fn run_session<R: Wait, S: Source, K: Sink, G: Gate>(
     rt: &R,
     alloc: Global,
@@ -174,7 +174,7 @@ fn run_session<R: Wait, S: Source, K: Sink, G: Gate>(
     }
 }
 
-/// Makes each event of a script's only caller as soon as the script's line comes, and writes the transcript's line at
+/// Makes each event of a script's only caller as soon as the event's line comes, and writes the transcript's line at
 /// once.
 pub(crate) fn run_live<R: Wait, S: Source, K: Sink, G: Gate>(
     rt: &R,

@@ -26,7 +26,7 @@
 //!
 //! - [`run`]: the main theorem. For every input, every interleaving of callers and every command, it states the meaning
 //!   of status and output. docs/TRUST.md has a row for each clause.
-//! - [`run_gathered`]: its statements about status and source, over the program's buffered output.
+//! - [`run_gathered`]: the statements of `run` about status and source, for the program's buffered output.
 //!
 //! # Tested only
 //!
@@ -72,7 +72,7 @@ use std::thread::Threads;
 use tool_ends::tee::{TeeSink, TeeSource};
 use tool_ends::{Status, words};
 
-/// How many bytes of output are gathered to one write.
+/// How many bytes of output are gathered into one write.
 const GATHERED: usize = 64 * 1024;
 
 /// The most bytes of a script: 16 MiB. A run or a session keeps the whole script, to show the line of a fault.

@@ -25,7 +25,7 @@ pub(crate) enum Why {
     Fault(ScriptFault),
     NotAlone(u32),
     Clause(u8),
-    /// The answer has no such reason.
+    /// The answer contains no reason.
     Unsaid,
 }
 
@@ -54,7 +54,7 @@ pub(crate) fn reason_of(answer: &[u8]) -> Why {
     }
 }
 
-// The kind in words.
+// The kind of a fault, in words.
 fn name_of(kind: FaultKind) -> &'static str {
     match kind {
         FaultKind::TooLong => "more than 16 MiB, or with a transcript 96 MiB",

@@ -14,9 +14,9 @@ use std::thread::Threads;
 use tool_ends::maker::Maker;
 use transcript_text::Transcript;
 
-/// Makes a run of the script if the command is `check` and the script has a single caller, since all runs of such a
-/// script have the same text. A run's output is the text of a lawful transcript, so a text that equals this output need
-/// not be read. If there is no memory for the run, none is made.
+/// If the command is `check` and the script has a single caller, makes a run of the script. All runs of such a script
+/// have the same text. A run's output is the text of a lawful transcript, so a text that equals this output need not be
+/// read. If there is no memory for the run, none is made.
 #[derive(Drop)]
 pub(crate) struct Rerun<'a, R: Threads + Wait + Sync> {
     pub(crate) rt: &'a R,

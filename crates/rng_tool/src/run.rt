@@ -1,4 +1,4 @@
-//! The top call: it takes the words of a command line, and gives the answer.
+//! The top call: it takes the words of a command line, and runs the command.
 ghost use Rattle.std.specs.Prelude.{◌≡◌, ◌≤◌, ◌↔◌, ◌⊎◌, [], ℕ, IfSome, length};
 ghost use Rattle.caller_run.specs.Alone.{IsEmittedByOne};
 ghost use Rattle.io_edges.specs.Faults.{Rose};
@@ -40,46 +40,47 @@ use tool_ends::{Status, end_output};
 ///   the script however the callers' calls interleave; or the line `refused LINE KIND`, with the first fault of an
 ///   input that is no script.
 /// - `live`: the input is a script of one caller, who forks nobody and acts inside no vgetrandom call. Each event is
-///   made as soon as its line was read, and its line is written. The output for a whole script is one of `run`. At a
-///   fault the output ends with the line `refused LINE KIND`, after the lines of the events before it; a fork or an act
-///   is of kind 13, which no fault of a script has. After a fault no more is read, and after the line `end` the input
-///   is read to its end.
+///   made as soon as its line was read, and the transcript's line is written. For a whole script the output is one that
+///   `run` may write. At a fault the output ends with the line `refused LINE KIND`, after the lines of the events
+///   before the fault. A fork or an act has kind 13, which no fault of a script has. After a fault no more is read, and
+///   after the line `end` the input is read to its end.
 /// - `check`: the input is a script, which ends at its first line `end`, and then a transcript. The output is `yes` if
 ///   the transcript is lawful for the script, and `no K` if clause K is the first that fails. A fault of the script is
 ///   answered as in a run. No thread is started.
-/// - `replay`: the input is as for `check`. The output is the one lawful transcript with these lines, words and steps,
-///   whatever answers and data were read; or `no K`, if the text is no transcript's (clause 1), or lines, marks, forms
-///   or looks fail.
+/// - `replay`: the input is as for `check`. The output is the one lawful transcript with the input's lines, words and
+///   steps, whatever answers and data the input has; or `no K`, if the text is not that of a transcript (clause 1), or
+///   if the clause on lines, marks, forms or looks fails.
 /// - `load START CALLERS EVENTS`: 1 to 64 callers run the script of a load, with 1 to 1,000 calls each, and their
 ///   transcript is checked. One line sums it up: `callers CALLERS events V bytes B check yes`, with V events in the
 ///   script and B bytes of data in the transcript.
-/// - `draw C K`: 1 to 1,000 numbers below C are drawn, and each gets a line. C is below 2^32, and 0 means 2^32. The
-///   line `spent` is the last if 128 words were all rejected.
-/// - `vfork POINT ATTEMPT N`: a vgetrandom call for N bytes, up to 2^20, is forked at one of four points of one of two
-///   attempts. The output is `parent HEX` and `child HEX`, the bytes that each gives out.
-/// - `feed START FEEDERS SAMPLES`: a CPU gets the interrupt samples of 1 to 16 threads, 1 to 10,000 of each, at moment
-///   0. Sample i of thread f has the words START + i and f. The output is the line
-///   `feeders FEEDERS samples N dumps D bits B`, the same however the threads interleave: the samples mixed, the dumps
-///   made, and the pool's bits after them.
+/// - `draw C K`: 1 to 1,000 numbers below C are drawn, and each gets a line. C is below 2^32, and 0 means 2^32. If 128
+///   words were all rejected, the last line is `spent`.
+/// - `vfork POINT ATTEMPT N`: a vgetrandom call for N bytes, up to 2^20, is forked at point POINT (1 to 4) of attempt
+///   ATTEMPT (1 or 2). The output is `parent HEX` and `child HEX`, the bytes that each gives out.
+/// - `feed START FEEDERS SAMPLES`: 1 to 16 threads give a CPU 1 to 10,000 interrupt samples each, all at moment 0.
+///   Sample i of thread f has the words START + i and f. The output is the line
+///   `feeders FEEDERS samples N dumps D bits B`: the samples mixed, the dumps made, and the pool's bits after them. The
+///   line is the same however the threads interleave.
 ///
-/// The last three begin with a new table of one CPU; before draws and forks a sample of 32 bytes makes it ready.
+/// `draw`, `vfork` and `feed` begin with a new table of one CPU. Before draws and forks, a sample of 32 bytes makes the
+/// core ready.
 ///
-/// The gate is called before each event of each caller, and not before a script is accepted; for `feed`, before each
-/// sample of each feeder; for `check`, not at all.
+/// The gate is called before each event of each caller, and never before a script is accepted. For `feed` it is called
+/// before each sample of each feeder; for `check` it is not called.
 ///
 /// - `Usage`: the words are no command. The command reads and writes nothing.
 /// - `ReadFault`: the source failed. Nothing is written, except by a session. At most one byte more than an input may
 ///   have was taken.
-/// - `Refused`: the input has a fault, and the line with the first one was written; or a session has an event that is
-///   not for one caller alone.
-/// - `WriteFault`: the sink failed at a put, or at the flush after the last put. What it got in this call is a prefix
-///   of the output.
+/// - `Refused`: the input has a fault, and the line with the first one was written; or the script of a session has a
+///   fork, or an act inside a call.
+/// - `WriteFault`: the sink failed at a put, or at the flush after the last put. The bytes that it got in this call are
+///   a prefix of the output.
 /// - `NoMemory`: memory ran out. Nothing is written, except by a session. At most one byte more than an input may have
 ///   was taken.
 /// - `No`: a clause fails, and the line with its number was written.
 /// - `Done`: the input was read to its end, if the command takes one, and the whole output was written.
 ///
-/// If the output was written whole, the sink keeps nothing of it back.
+/// If the whole output was written, the sink holds none of it back.
 pub fn run<R: Threads + Wait + Sync, S: Source, K: Sink, G: Gate>(
     rt: &R,
     alloc: Global,

@@ -17,7 +17,7 @@ use std::thread::Threads;
 use tool_ends::{Status, put_refusal, read_script};
 use transcript_text::write_all;
 
-// The run of an accepted script that may have many callers: all lines exist before the first is written.
+// The run of an accepted script that may have many callers. All lines are made before the first line is written.
 fn run_together<R: Threads + Wait + Sync, K: Sink, G: Gate>(
     rt: &R,
     alloc: Global,
@@ -79,8 +79,8 @@ pub(crate) fn run_input<R: Threads + Wait + Sync, S: Source, K: Sink, G: Gate>(
     match read_script(alloc, source) {
         Ok(script) => {
             let status = run_script(rt, alloc, &script, sink, gate);
-            // The program ends after this, and the system takes its memory at once. Freeing the events one by one takes
-            // 3 % of a run of small events.
+            // The program ends after this, and the system takes the script's memory at once. Freeing the events one by
+            // one takes 3 % of a run of small events.
             mem::forget(script);
             status
         }

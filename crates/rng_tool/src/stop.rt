@@ -1,4 +1,4 @@
-//! Why a session stopped before its transcript was whole, and the answer to the stop.
+//! Why a session stopped before its transcript was whole, and the answer that the session then writes.
 ghost use Rattle.std.specs.Prelude.{◌≡◌, ◌↔◌, ℕ, List, Option, Err};
 ghost use Rattle.rng_tool.specs.LiveOutcome.{LiveEnds, not_alone_line};
 ghost use Rattle.rng_tool.specs.LiveSteps.{CountsStop, SessionEnds};
@@ -54,7 +54,7 @@ pub(crate) fn not_alone_line(number: u32) -> ShortLine
 }
 
 impl Stop {
-    /// Writes the line of a refusal, if the session stopped by a refusal. If memory ran out, hands on the output so
+    /// If the session stopped by a refusal, writes the line of the refusal. If memory ran out, flushes the output so
     /// far.
     pub(crate) fn answer<K: Sink>(self, sink: &mut K) -> Status
         ensures ends { (left left_after held : Option (List ℕ)) → SessionEnds (Err self) left left_after held (K.held sink.old)

@@ -1,5 +1,5 @@
 //! Whole runs over sources and sinks in memory that fail at each of their calls, and the calls of the gate.
-//! `.ci/program_checks` and `.ci/check_checks` check the answers themselves, of the built program.
+//! `.ci/program_checks` and `.ci/check_checks` check the answers of the built program.
 
 use crate::run::run;
 use io_edges::{Gate, MemSink, MemSource, OpenGate};
@@ -49,7 +49,7 @@ const PAIR: &[u8] = b"rngscript 1\n\
     0.2 end ok b:1@4 -\n\
     end\n";
 
-// The same pair with another answer and without the bytes of the read.
+// `PAIR` with another answer and without the bytes of the read.
 const BLANKED_PAIR: &[u8] = b"rngscript 1\n\
     cpus 1\n\
     caller 0\n\
@@ -82,8 +82,8 @@ const READS_SCRIPT: &[u8] = b"rngscript 1\n\
 // More bytes than any output here has.
 const ROOM: usize = 1000;
 
-// The most bytes that the source gives and the sink takes in one call, the number of the failing call of each (0 for
-// none), and whether the flush fails.
+// The most bytes that the source gives and the sink takes in one call. For each of the two, the number of the call that
+// fails (0 for none). Whether the flush fails.
 #[derive(Clone, Copy)]
 struct Edges {
     step: usize,
@@ -102,7 +102,7 @@ const WHOLE: Edges = Edges {
 // One byte in each call.
 const SMALL: Edges = Edges { step: 1, ..WHOLE };
 
-// The status of a run with these words over edges in memory, and the content of its sink.
+// The status of a run with these words over a source and a sink in memory, and the content of the sink.
 fn run_over<R: Abort + Threads + Wait + Sync, G: Gate>(
     rt: &R,
     alloc: Global,
@@ -246,9 +246,9 @@ fn first_lines(text: &[u8], lines: usize) -> &[u8] {
     b""
 }
 
-// The source gives one byte in each call. Each run fails at another call: at every eighth one. From line 3 of the
-// script on, the output has the first line and a line for each event that was read. After the last line the output is
-// whole.
+// The source gives one byte in each call. The first run fails at call 1. In each later run the failing call is eight
+// calls later. From line 3 of the script on, the output has the first line and a line for each event that was read.
+// After the last line the output is whole.
 #[test]
 fn a_session_whose_source_fails(rt: HostRuntime) -> Result<(), Fail> {
     for eighth in 0..=READY_SCRIPT.len() / 8 {
@@ -276,8 +276,8 @@ fn a_session_whose_source_fails(rt: HostRuntime) -> Result<(), Fail> {
     Ok(())
 }
 
-// The sink takes one byte in each call. Each run fails at another call: at every twentieth one. In the last run only
-// flushes fail.
+// The sink takes one byte in each call. The first run fails at call 1. In each later run the failing call is twenty
+// calls later. In a last run only the flush fails.
 #[test]
 fn a_session_whose_sink_fails(rt: HostRuntime) -> Result<(), Fail> {
     for twentieth in 0..=READY_TRANSCRIPT.len() / 20 {
@@ -382,7 +382,7 @@ impl Gate for Counter {
     }
 }
 
-// A command that wrote its line without its calls or samples would come to the gate less often.
+// If a command wrote its line but skipped calls or samples, it would call the gate less often.
 #[test]
 fn the_gate_is_called_before_each_event(rt: HostRuntime) -> Result<(), Fail> {
     let rows: [(&[&str], &[u8], u64, Status, u64); 9] = [
@@ -417,7 +417,7 @@ fn the_gate_is_called_before_each_event(rt: HostRuntime) -> Result<(), Fail> {
     Ok(())
 }
 
-// Holds each of two callers before its read until the other comes too.
+// Holds each of two callers before its read until the other caller also reaches its read.
 #[derive(Drop)]
 struct CallerMeeting {
     parent: AtomicU64,

@@ -22,7 +22,7 @@ const PARENT: &[u8] = b"parent ";
 
 const CHILD: &[u8] = b"child ";
 
-/// A call for this many bytes, forked at a point of an attempt.
+/// A call for `len` bytes, forked at a point of an attempt.
 #[derive(Clone, Copy, Debug, PartialEq, Eq)]
 pub(crate) struct Vfork {
     pub(crate) point: Point,

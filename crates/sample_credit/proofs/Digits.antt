@@ -6,7 +6,7 @@ use Rattle.std.proofs.lemmas.Nat.{leading_length, pow_pos}
 use Rattle.std.specs.Int.Count.{count_leading_zeros}
 use Rattle.key_names.specs.Kernel.InputTimer.{binary_digits}
 
--- a number n has m binary digits if n is below 2^m and 2 n + 1 is not
+-- if n is below 2^m, and 2 n + 1 is at least 2^m, then n has m binary digits
 pub binary_digits-between : (m n : ℕ) → n < 2 ^ m → 2 ^ m ≤ 2 * n + 1 → binary_digits n ≡ m
 binary_digits-between zero zero below above = refl
 binary_digits-between zero (suc n) below above = absurd (omega arith)
@@ -16,7 +16,7 @@ binary_digits-between (suc m) n below above =
     let half = binary_digits-between m (n / 2) (omega (arith, power)) (omega (arith, power)) in
     omega (arith, length-digits_of_step 2 n (omega arith) some, half)
 
--- a number below 2^k has k binary digits, less the leading zeros when it is written with k digits
+-- if n is below 2^k, then n has k binary digits minus the leading zeros that n has when it is written with k digits
 pub binary_digits-leading : (k n : ℕ) → n < 2 ^ k → k - count_leading_zeros k n ≡ binary_digits n
 binary_digits-leading k n fits =
     let found = leading_length k n fits in

@@ -124,8 +124,8 @@ impl FastPool {
     }
 
     /// Mixes the two words of an interrupt (`fast_mix`), and counts the interrupt, modulo 2^32. Returns whether the
-    /// interrupt makes a dump due: it is the 1,024th, or more than a second after the last dump
-    /// (`add_interrupt_randomness`). While a dump is due, no other becomes due. `now` is in milliseconds.
+    /// interrupt makes a dump due: it is the 1,024th that is counted, or comes more than a second after the last dump
+    /// (`add_interrupt_randomness`). While a dump is due, no other dump becomes due. `now` is in milliseconds.
     #[inline]
     pub fn mix(&mut self, v1: u64, v2: u64, now: u64) -> bool
         ensures due { result ≡ makes_due self.old now }
@@ -141,9 +141,9 @@ impl FastPool {
         due
     }
 
-    /// Returns the first two words, low byte first, for the input pool. The words' credit is a bit for each 64
-    /// interrupts, but at least 1 and at most 128 (`mix_interrupt_randomness`). The count goes back to 0, and `now`
-    /// becomes the moment of the last dump. The words stay.
+    /// Returns the first two words, low byte first, for the input pool. Their credit is one bit for each 64 interrupts,
+    /// but at least 1 bit and at most 128 bits (`mix_interrupt_randomness`). The count goes back to 0, and `now`
+    /// becomes the moment of the last dump. The words do not change.
     pub fn dump(&mut self, now: u64) -> Dump
         ensures bytes { result.bytes ≡ dump_bytes self.old }
         ensures bits { result.bits ≡ dump_bits self.old }
@@ -159,8 +159,8 @@ impl FastPool {
         }
     }
 
-    /// The CPU comes online: the count goes back to 0 (`random_online_cpu`). The words and the
-    /// moment of the last dump stay.
+    /// The CPU comes online: the count goes back to 0 (`random_online_cpu`). The words and the moment of the last dump
+    /// do not change.
     pub fn online(&mut self)
         ensures { self.new ≡ fast_step self.old Online }
     {

@@ -1,4 +1,4 @@
-//! How many bits an input event credits, given its moment and those of earlier events.
+//! How many bits an input event credits, given the moments of this event and of earlier events.
 
 ghost use Rattle.std.specs.Prelude.{◌≡◌, ◌≢◌, ◌↔◌, ◌/◌, ◌%◌, ◌^◌, ◌<◌, ◌++◌, IsTrue, min, nat_abs};
 ghost use Rattle.std.specs.Int.{w32, w64, to_le_bytes};
@@ -48,8 +48,8 @@ impl InputTimer {
         }
     }
 
-    /// Returns whether the value differs from that of the last event, and keeps the value. An event with the same value
-    /// is no sample (`add_input_randomness`).
+    /// Returns whether the value differs from the value of the last event, and stores the value. An event with the same
+    /// value is no sample (`add_input_randomness`).
     pub fn fresh(&mut self, value: u8) -> bool
         ensures fresh { IsTrue result ↔ (value ≢ self.old.value) }
         ensures kept { self.new ≡ record self.old { value = value } }
@@ -59,7 +59,7 @@ impl InputTimer {
         fresh
     }
 
-    /// Returns the bits, 0 to 11, that an event at the moment `now` credits, and keeps the moment and the differences
+    /// Returns the bits, 0 to 11, that an event at the moment `now` credits, and stores the moment and the differences
     /// (`add_timer_randomness`). The timer takes half the least of the first, second and third difference of moments,
     /// and cuts it to 32 bits. The bits are the number of binary digits of the result (the kernel's `fls`), at most 11.
     /// `now` is in milliseconds and below 2^40. It may be earlier than the last moment.
@@ -104,8 +104,8 @@ pub fn input_number(kind: u16, code: u16, value: u8) -> u32
     (u32::from(kind) << 4) ^ code ^ (code >> 4) ^ u32::from(value)
 }
 
-/// The 12 bytes that an input event mixes in: a word, in the kernel the cycle counter, and the event's
-/// number, each low byte first.
+/// The 12 bytes that an input event mixes in: a word, which is the cycle counter in the kernel, and the event's number,
+/// each low byte first.
 pub fn input_sample(word: u64, kind: u16, code: u16, value: u8) -> [u8; 12]
     ensures { result ≡ to_le_bytes w64 word ++ to_le_bytes w32 (input_number kind code value) }
 {

@@ -2,10 +2,10 @@
 //! `add_interrupt_randomness`, `mix_interrupt_randomness`, `add_input_randomness` and `add_timer_randomness` of
 //! drivers/char/random.c.
 //!
-//! Interrupts are many, and each contributes little. A CPU mixes its own into a [`FastPool`] of four words, and dumps
-//! that into the input pool after 1,024 of them, or more than a second after the last dump. An input event is mixed
-//! into the input pool at once. An [`InputTimer`] credits it by how irregular its moment is, and with nothing if the
-//! moments keep a pace. The crate uses `key_names`, and `byteorder` for words.
+//! Interrupts are frequent, and each contributes little. A CPU mixes its own interrupts into a [`FastPool`] of four
+//! words. It dumps the fast pool into the input pool after 1,024 interrupts, or more than a second after the last dump.
+//! An input event is mixed into the input pool at once. An [`InputTimer`] credits the event by how irregular its moment
+//! is, and credits nothing if the moments keep a constant pace. The crate uses `key_names`, and `byteorder` for words.
 //!
 //! # Example
 //!
@@ -24,7 +24,7 @@
 //! # Proved
 //!
 //! - [`FastPool::mix`]: the fast pool is the one that `key_names` defines after the interrupt, and the result is
-//!   whether a dump is due.
+//!   whether this interrupt makes a dump due.
 //! - [`FastPool::dump`]: the bytes and the bits of the dump are the defined ones.
 //! - [`InputTimer::bits`]: the bits are those of the defined timer at this moment. [`InputTimer::fresh`] returns
 //!   whether the value differs from the last one.

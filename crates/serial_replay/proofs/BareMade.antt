@@ -1,4 +1,5 @@
--- A bare line is a line without its answer and data. What is made from bare lines is also right for the full lines.
+-- A bare line is a line without its answer and data. The lists, answers and data that are made from bare lines are also
+-- right for the full lines.
 use Rattle.std.proofs.Common.{◌≡◌, ℕ, suc, List, [], ◌∷◌, map, sym, subst, ap, ◌∙◌}
 use Rattle.std.specs.Prelude.{Result, Ok, Err, IfOk}
 use Rattle.key_names.specs.Texts.TranscriptGrammar.{StepFits, LineFits}

@@ -1,4 +1,4 @@
--- A fact that holds for each caller's number gives `EachCaller`. `EachCaller` gives the fact for each number.
+-- If a fact holds for each caller's number, `EachCaller` holds of this fact, and conversely.
 use Rattle.std.proofs.Common.{ℕ, zero, suc, ◌+◌, ◌<◌, List, [], ◌∷◌, length, refl, subst, arith}
 use Rattle.std.specs.List.{AllByRecursion}
 use Rattle.key_names.specs.declared.events.Event.{Event}

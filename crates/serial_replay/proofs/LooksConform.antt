@@ -1,4 +1,4 @@
--- Looks are lawful by the lanes' kept data exactly if these looks are lawful in the lists.
+-- Looks are lawful by the data kept about the lanes exactly if these looks are lawful in the lists of the lanes.
 use Rattle.std.proofs.Common.{◌≡◌, ℕ, zero, suc, ◌<◌, ◌-◌, Option, Some, None, List, [], ◌∷◌, length, map, max, take, refl, sym, subst, ap, ◌∙◌, arith}
 use Rattle.std.specs.Prelude.{◌↔◌, slice_get, unwrap_or, option_map}
 use Rattle.std.specs.List.{fold, AllByRecursion}
@@ -56,7 +56,8 @@ at_place : {K E : Type 0} (S : ℕ → K → E → Type 0) (kept : List K) (list
     AtPlace S kept i (slice_get list i)
 at_place S kept list i all = kept_there S kept list i all.count (all.each i)
 
--- `S` holds of the kept list and the entry list of lane `c`; if there is no such lane, both lists are empty
+-- if `S` holds of each lane's kept list and entry list, and of two empty lists, `S` holds of the two lists at any
+-- number `c`
 lane_there : {K E : Type 0} (kept : List (List K)) (lists : List (List E)) (c : ℕ) (o : Option (List E)) →
     slice_get lists c ≡ o → length kept ≡ length lists → (S : ℕ → List K → List E → Type 0) →
     AtPlace S kept c o → S c [] [] → S c (list_at kept c) (list_at lists c)

@@ -1,4 +1,4 @@
--- The number of all marks is the number of the pool's marks, plus that of the base's, plus that of all CPUs' marks.
+-- The number of all marks is the sum of the numbers of the pool's marks, the base's marks and all CPUs' marks.
 use Rattle.std.proofs.Common.{◌≡◌, ℕ, zero, suc, ◌+◌, ◌<◌, ◌≤◌, Bool, true, false, List, [], ◌∷◌, length, refl, sym, subst, ap, ◌∙◌, arith}
 use Rattle.std.specs.Prelude.{nat_lt, ◌==◌, if◌then◌else◌}
 use Rattle.std.specs.List.{AllByRecursion, sum_by}
@@ -16,7 +16,7 @@ abbrev on_cpus : ℕ → ℕ → List MarkBy → ℕ
 on_cpus c zero marks = 0
 on_cpus c (suc n) marks = length (lane_marks (CpuLane c) marks) + on_cpus (suc c) n marks
 
--- how often a mark of CPU `e` counts: once if `e` is one of the `n` CPUs from `c` on, and otherwise not
+-- how often a mark of CPU `e` counts: once if `e` is one of the `n` CPUs from `c` on; otherwise zero times
 abbrev one_of : ℕ → ℕ → ℕ → ℕ
 one_of c zero e = 0
 one_of c (suc n) e = one_if (e == c) + one_of (suc c) n e

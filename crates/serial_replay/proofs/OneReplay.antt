@@ -1,4 +1,5 @@
--- A replay has one result: at most one clause can stop it. If a lawful transcript has these steps, no clause stops it.
+-- A replay has one result: at most one clause can stop it. If some lawful transcript has the steps of `t`, no clause
+-- stops the replay of `t`.
 use Rattle.std.proofs.Common.{◌≡◌, ◌⊎◌, List, inl, inr, refl, sym, subst, ap, ◌∙◌}
 use Rattle.key_names.specs.Texts.ScriptGrammar.{Script}
 use Rattle.key_names.specs.Transcripts.SeenLine.{SeenLine}

@@ -83,7 +83,7 @@ module _ (script : Script) (t : List (List SeenLine)) (basis : Basis) (conform :
   abbrev calls : List (List Call)
   calls = script_calls script t
 
-  -- if the steps make a book, the kept data are those of the book's lists
+  -- if the steps make a book, the kept data are right for the book's lists
   pub keeps_made : (m : MadeBook script t) → Keeps basis.lists (lists_of m.book)
   keeps_made m = conform.keeps (lists_of m.book)
       (made_fills script t basis.parts conform.parts conform.inferred conform.gathered m)
@@ -97,7 +97,7 @@ module _ (script : Script) (t : List (List SeenLine)) (basis : Basis) (conform :
     found = conform.settings;
   }
 
-  -- if the steps of some line are no form, the clause on forms fails first
+  -- if the steps of some line match no form, the clause on forms fails first
   pub none_said :
       ((lists : Lists) → Keeps basis.lists lists → LawfulLanes lists →
       AllMeanSome lists (seen_calls basis.parts.calls.items) → ⊥) →

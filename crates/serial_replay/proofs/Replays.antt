@@ -116,7 +116,7 @@ lawful_book script t is = record {
 }
 
 module _ (script : Script) (t : List (List SeenLine)) (m : Made MadeLine) (of : AllMade itself script (map (map bare) t) m) where
-  -- the results are also right for each transcript `v` with the same steps
+  -- if the results are right for a transcript, they are also right for each transcript `v` with the same steps
   made_for : (v : List (List SeenLine)) → SameSteps t v → AllMade itself script v m
   made_for v same = all_made script v itself m (subst (λ (u : List (List SeenLine)). AllMade itself script u m) same of)
 

@@ -36,7 +36,7 @@ use Rattle.serial_replay.specs.Remade.{said_of_caller, AllMade, made_by}
 use Rattle.serial_replay.specs.Written.{IsFor, MayShow}
 use Rattle.serial_replay.proofs.Agreement.{all_both, Any, all_any}
 
--- the word of each line is that of its event
+-- each line has the word of its event
 
 abbrev ActWord : BoundAct → Type 0
 ActWord bound = bound.line.word ≡ InsideWord
@@ -133,7 +133,7 @@ acts_kind set reached (bound ∷ acts) (m ∷ ms) words means =
     go true done = act_kind set bound.act bound.line m words.0 done
     go false none = kind_of bound.line InsideWord no_data m.shown words.0 (ap (λ (x : LineMeaning). x.shown) none) tt
 
--- if the acts have no meanings, there are no acts, so each act's data are of the right kind
+-- if there are no meanings of acts, there are no acts, so each act's data are of the right kind
 none_kind : (at : ℕ → MadeLine → Type 0) (acts : List BoundAct) (ms : List LineMeaning) → ms ≡ [] → EachAct (SaysIt at) acts ms →
     EachAct Kind acts ms
 none_kind at [] [] none says = tt

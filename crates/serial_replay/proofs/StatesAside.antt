@@ -1,4 +1,5 @@
--- The effects of steps do not depend on the lists of vgetrandom states. So other lists may replace these lists.
+-- The effects of steps do not depend on the lists of vgetrandom states. So the effects stay the same if these lists are
+-- replaced by others.
 use Rattle.std.proofs.Common.{◌≡◌, ℕ, true, false, Option, Some, None, List, map, take, refl, sym, subst, ap, ◌∙◌}
 use Rattle.std.specs.Prelude.{if◌then◌else◌, slice_get}
 use Rattle.std.specs.List.{fold}

@@ -41,7 +41,7 @@ callers_end said t inferred n high so_far =
     ∙ sym (ap (λ (u : List (List SeenLine)). inferred ++ said_into (said_lists (drop n said)) u) (at_drop_all (λ x. x) t n high))
     ∙ so_far
 
--- if a caller has lines, lines are written for it
+-- if a caller has lines, lines are written for this caller
 many_lines : (said : List MadeLine) (lines : List SeenLine) → 0 < length lines → 0 < length (lines_said said lines)
 many_lines said [] some = some
 many_lines said (line ∷ lines) some = omega arith

@@ -1,4 +1,4 @@
--- When lines agree with the answers and data that were made from their steps.
+-- Whether lines agree with the answers and data that were made from their steps.
 use Rattle.std.specs.Prelude.{ℕ, ◌≡◌, ◌<◌, Some, List, length, slice_get}
 use Rattle.std.specs.List.{AllByRecursion}
 use Rattle.key_names.specs.Lanes.Book.{list_at}
@@ -6,7 +6,7 @@ use Rattle.key_names.specs.Transcripts.SeenLine.{SeenLine}
 use Rattle.judge_log.specs.declared.said.MadeLine.{MadeLine}
 use Rattle.judge_log.specs.Said.{shown_by}
 
--- the line agrees with the note that has the number of the line's event
+-- the line agrees with the note at the number of the line's event
 pub record Agrees {Noted : Type 0} (Same : SeenLine → Noted → Type 0) (notes : List Noted)
     (line : SeenLine) : Type 0 where
   pub one : Noted

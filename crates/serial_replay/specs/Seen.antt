@@ -1,4 +1,4 @@
--- The generation that a caller has seen, computed from the data kept of the lanes.
+-- The generation that a caller has seen, computed from the data kept about the lanes.
 use Rattle.std.specs.Prelude.{ℕ, ◌≤◌, ⊤, ◌-◌, max, Option, Some, None, List, [], length, slice_get, unwrap_or, option_map}
 use Rattle.std.specs.Global.{Vec}
 use Rattle.key_names.specs.declared.names.LaneId.{LaneId}
@@ -9,7 +9,7 @@ use Rattle.judge_log.specs.declared.kept.KeptBase.{KeptBase}
 use Rattle.judge_log.specs.declared.kept.KeptCpu.{KeptCpu}
 use Rattle.judge_log.specs.declared.kept.Lists.{Lists as KeptLists}
 
--- the data kept of a CPU's visits
+-- the data kept about a CPU's visits
 abbrev pub lane_of : Option (Vec KeptCpu) → List KeptCpu
 lane_of None = []
 lane_of (Some lane) = lane.items

@@ -1,5 +1,5 @@
-//! Answers and bytes, made again from a transcript's words and steps. No call reads an answer or data of the given
-//! transcript.
+//! Makes answers and bytes again, from a transcript's words and steps. The answers and data of the given transcript are
+//! not read.
 //!
 //! From a transcript's steps, [`remake::remake`] makes the lists of the lanes, every answer, and recipes for all data.
 //! The argument `how` determines what is noted of each answer and its data. The result also has the lists.
@@ -24,12 +24,12 @@
 //!
 //! # Proved
 //!
-//! - [`replay::replay`]: a transcript that it returns is lawful, and the only lawful one with the given steps. It
-//!   returns one exactly if the clauses on lines, marks, forms and looks all hold.
-//! - [`remake::remake`]: if the clauses on lines, marks and forms do not all hold, it returns the first that fails.
-//!   The result depends only on words and steps.
-//! - [`lists::find_lists`]: it returns the lists, or the first clause that fails. Even if it returns lists, the steps
-//!   of some line may be no form.
+//! - [`replay::replay`]: a transcript that it returns is lawful, and no other lawful transcript has the given steps. It
+//!   returns a transcript exactly if the clauses on lines, marks, forms and looks all hold.
+//! - [`remake::remake`]: if one of the clauses on lines, marks and forms fails, it returns the first that fails. The
+//!   result depends only on words and steps.
+//! - [`lists::find_lists`]: it returns the lists, or the first clause that fails. Even if it returns lists, some line
+//!   may have steps that match no form.
 //!
 //! # Tested only
 //!

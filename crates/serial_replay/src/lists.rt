@@ -23,7 +23,7 @@ pub struct Basis<'a> {
     pub lists: Lists,
 }
 
-/// The lists of a transcript's lanes, or why there are none.
+/// The lists of a transcript's lanes, or the first clause that fails.
 #[derive(Drop)]
 pub enum FoundLists<'a> {
     Conforms(Basis<'a>),
@@ -32,7 +32,7 @@ pub enum FoundLists<'a> {
 }
 
 /// Judges the lines and marks of a transcript. Infers entries from the steps, and makes the lists of the lanes from
-/// these entries. Even if lists are returned, the steps of some line may be no form.
+/// these entries. Even if lists are returned, some line may have steps that match no form.
 ///
 /// # Errors
 ///

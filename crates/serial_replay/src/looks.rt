@@ -7,8 +7,8 @@ use judge_lines::along::Carry;
 use judge_log::{KeptBase, KeptCpu, Lists};
 use key_names::{LaneId, Mark, Step};
 
-/// Carries along a caller's order the generation that the caller has seen. This is the greatest generation that any of
-/// its looks found, or that any of its visits of the base or of a CPU left.
+/// Carries the generation that a caller has seen along the caller's steps, in their order. The generation seen is the
+/// greatest that a look found, or that a visit of the base or of a CPU left.
 #[derive(Drop)]
 pub(crate) struct Looks<'a> {
     lists: &'a Lists,

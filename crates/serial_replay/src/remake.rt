@@ -39,7 +39,7 @@ pub struct Made<'a, T: Drop> {
 }
 
 /// The result for a transcript's steps: notes of each caller's lines, or the first of the clauses on lines, marks and
-/// forms that fails. A wrong look does not prevent the notes.
+/// forms that fails. Notes are made even if a look is not lawful.
 #[derive(Drop)]
 pub enum Remade<'a, T: Drop> {
     Made(Made<'a, T>),
@@ -47,7 +47,7 @@ pub enum Remade<'a, T: Drop> {
     No(Clause),
 }
 
-// The notes of each caller's lines. `None` if the steps of some line are no form.
+// The notes of each caller's lines. `None` if the steps of some line match no form.
 fn all_said<N: Note>(
     alloc: Global,
     calls: &[Vec<CalledLines<'_>>],
@@ -127,7 +127,7 @@ pub fn remake<'a, N: Note>(
     ensures of_steps { IfOk result (λ remade. IsRemade (N.IsNoted how.now) script.now (map (map bare) t.now) remade) }
     ensures basis { IfOk result (λ remade. ConformsOn script.now (map (map bare) t.now) remade) }
 {
-    // These two calls are made for their contracts, which state facts of every script and of every transcript.
+    // These two calls are made for their contracts, which state facts about every script and every transcript.
     let _version = script.version();
     let _callers = t.callers();
     let lines = bare_callers(alloc, t)?;

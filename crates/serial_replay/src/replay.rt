@@ -25,7 +25,7 @@ use transcript_text::{CallerLines, LineView, Shown, Transcript};
 #[derive(Drop)]
 pub enum Replayed {
     Made(Transcript),
-    /// The first clause on lines, marks, forms or looks that fails. None of these reads answers or data.
+    /// The first clause on lines, marks, forms or looks that fails. These clauses do not depend on answers or data.
     No(Clause),
 }
 
@@ -67,7 +67,7 @@ fn shown_as<'a>(said: &MadeLine, bytes: &'a [u8]) -> Shown<'a>
     }
 }
 
-// The line, with the answer and data of `said` instead of the line's own.
+// The line `line`, with the answer and data of `said` instead of its own.
 fn inferred_line<'a>(line: LineView<'a>, said: &MadeLine, bytes: &'a [u8]) -> LineView<'a>
     requires fits { LineFits (seen line) }
     requires kind { MayShow (seen line) said.now }
@@ -170,7 +170,7 @@ fn replay_steps(alloc: Global, script: &Script, steps: &Transcript) -> Result<Re
 }
 
 /// The transcript with the words and steps of `steps`, and with its answers and data made again. If a clause on lines,
-/// marks, forms or looks fails, the first such clause. The answers and data of `steps` are not read.
+/// marks, forms or looks fails, returns the first that fails. The answers and data of `steps` are not read.
 ///
 /// # Errors
 ///

@@ -8,8 +8,9 @@ use std::test::Fail;
 
 const POINTS: [Point; 4] = [Point::Start, Point::Written, Point::Serve, Point::End];
 
-// For each point, eight bytes of the parent and of the child, as numbers with the highest byte first. They are those of
-// `forked` in tools/forked_vreads.py. If the child ended before the parent, Start and Written would give other bytes.
+// For each point, eight bytes of the parent and of the child, as numbers with the highest byte first. The function
+// `forked` of tools/forked_vreads.py gave these bytes. If the child ended before the parent, `Start` and `Written`
+// would give other bytes.
 const FIRST: [(u64, u64); 4] = [
     (0x3acc_f3fd_d01c_f3df, 0x3bdb_3a45_8300_8095),
     (0x3acc_f3fd_d01c_f3df, 0xb4e1_672c_f1f9_470d),

@@ -16,7 +16,7 @@ use std::test::Fail;
 use std::thread;
 use std::thread::Threads;
 
-// A loop of so many turns takes long enough to see what any running thread does.
+// A loop of this many turns takes long enough to notice the action of any running thread.
 const TURNS: u32 = 100_000_000;
 
 // A gate that counts its calls.
@@ -58,7 +58,7 @@ impl SeenSamples {
         }
     }
 
-    // Reports that this feeder came, and waits for the other one, for at most this many turns.
+    // Reports that this feeder came to the gate, and waits for the other feeder for at most `TURNS` turns.
     fn meet(&self, other: &SeenSamples) {
         self.came.store(1, Ordering::SeqCst);
         for _ in 0..TURNS {
@@ -115,7 +115,7 @@ fn mixed_of<R: Threads + Wait + Sync, G: Gate>(
     mixed
 }
 
-// Checks that all samples of a feeder are there, each once and in order.
+// Checks that all samples of a feeder were mixed, each once and in order.
 fn assert_whole<R: Abort>(rt: &R, mixed: &Mixed, feeder: u32, each: u32) {
     let mut next: u32 = 0;
     for i in 0..mixed.len() {

@@ -51,7 +51,7 @@ fn find(lanes: &Lanes, pass: &mut Pass, lane: LaneId) -> Result<FoundVisit, Take
     }
 }
 
-// The results for caller 1 at CPU 0 and at CPU 1, while caller 0 holds CPU 0.
+// What `find` returns to caller 1 at CPU 0 and at CPU 1, while caller 0 holds CPU 0.
 fn beside<R: Wait>(
     rt: &R,
     lanes: &Lanes,
@@ -75,8 +75,8 @@ fn beside<R: Wait>(
     (same, another)
 }
 
-// The results for caller 1 on a new table: at CPU 0 while caller 0 holds it for the first time, at CPU 1, and then at
-// CPU 0 while caller 0 holds it again.
+// What `find` returns to caller 1 on a new table: at CPU 0 while caller 0 holds it for the first time, at CPU 1, and
+// then at CPU 0 while caller 0 holds it again.
 fn found_from<R: Wait>(
     rt: &R,
     alloc: Global,

@@ -30,8 +30,9 @@
 //!
 //! # Tested only
 //!
-//! The parts, vgetrandom states and forked vgetrandom calls give the expected values. Facts without a clause: threads
-//! run side by side, a held CPU stops no caller of another CPU, and a CPU is free while a long read goes on.
+//! The parts, vgetrandom states and forked vgetrandom calls give the expected values. The tests also check facts that
+//! no contract states: threads run side by side, a held CPU stops no caller of another CPU, and a CPU is free while a
+//! long read goes on.
 #![tactic(auto)]
 
 #[cfg(test)]

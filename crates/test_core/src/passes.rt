@@ -25,7 +25,7 @@ pub(crate) fn started(alloc: Global, cpus: u32, first: u64) -> Result<(Lanes, Pa
     Ok(started)
 }
 
-/// Splits another caller's pass off caller 0's.
+/// Splits a pass for another caller off the pass of caller 0.
 pub(crate) fn split_off(lanes: &Lanes, pass: &mut Pass, caller: u32) -> Pass
     requires { HoldsLanes lanes.now 0 [] pass.old }
     ensures has { HoldsLanes lanes.now 0 [] pass.new }
@@ -39,7 +39,7 @@ pub(crate) fn split_off(lanes: &Lanes, pass: &mut Pass, caller: u32) -> Pass
     lanes.split(pass, caller)
 }
 
-/// Whether the flag is set before a limited number of turns is over.
+/// Whether the flag is set within `TURNS` turns.
 pub(crate) fn is_set_in_time(flag: &AtomicBool) -> bool {
     for _ in 0..TURNS {
         if flag.load(Ordering::SeqCst) {

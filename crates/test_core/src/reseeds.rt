@@ -53,7 +53,7 @@ pub(crate) fn install(state: &mut LaneState, root: [u8; 32]) -> u64
     }
 }
 
-// Puts the pool with an extraction that names the place of the held base.
+// Puts the pool back. The entry is an extraction that names the place of the held base.
 fn put_pool(lanes: &Lanes, pass: &mut Pass, base: &Held, pool: Held) -> Mark
     requires has { HoldsLanes lanes.now 0 (hand pool.turn None 0 ∷ hand base.now.turn None 0 ∷ []) pass.old }
     requires at { (pool.turn.lane ≡ 0) × (base.now.turn.lane ≡ 1) }
@@ -112,7 +112,7 @@ pub(crate) fn raise(lanes: &Lanes, pass: &mut Pass, base: &Held, root: u64, gene
     lanes.raise(pass, base, generation);
 }
 
-/// Puts the reseeded base.
+/// Puts the reseeded base back. The entry is the reseed.
 pub(crate) fn put_base(lanes: &Lanes, pass: &mut Pass, base: Held, root: u64) -> Mark
     requires has { HoldsLanes lanes.now 0 (hand base.turn (Some root) 1 ∷ []) pass.old }
     requires at { base.turn.lane ≡ 1 }

@@ -1,5 +1,5 @@
-//! Runs with forks, in threads and without threads. The bytes of these runs come from another implementation. So do the
-//! bytes of a first read after a credit of 256 bits without any input.
+//! Runs with forks, in threads and without threads. Another implementation gave the bytes of these runs. It also gave
+//! the bytes of a first read after a credit of 256 bits without any input.
 ghost use Rattle.key_names.specs.Texts.ScriptGrammar.{WellFormed};
 
 use caller_run::{Children, run_new, run_on_new_table};
@@ -86,7 +86,7 @@ e075b16b0c4452a518eca3ab47632384e594d8d16878e30fbdc2dd5f21bd4ce02c16be73d82f3107
 const CHILDS_BYTES: &[u8] =
     b"223f1a93c3ab801c80b3bd773ec991fe8e669d8a1a244d0e108dd1221c8b9c27088f786b2ea8fd14";
 
-// After the fork, each caller waits before its read until the other caller is before its read too.
+// After the fork, each caller waits before its read until the other caller has reached its own read.
 #[derive(Drop)]
 struct ReadMeeting {
     parent: AtomicU64,

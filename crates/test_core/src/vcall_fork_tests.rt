@@ -77,9 +77,9 @@ enum Given {
     Call(u8),
 }
 
-// The host gives the parent keys of bytes 1, 2 and so on, and the child keys of bytes 101, 102 and so on. With a new
-// key, a copy of `n` bytes takes `n / 64` blocks of the key's stream and two more. With wiped memory, the copy first
-// takes 96 bytes of zeros.
+// The parent gets keys whose bytes are all 1, all 2 and so on. The child gets keys whose bytes are all 101, all 102 and
+// so on. With a new key, a copy of `n` bytes takes `n / 64` blocks of the key's stream and two more. With wiped memory,
+// the copy first takes 96 bytes of zeros.
 fn parent_gives(attempt: Turn, n: u64) -> Given
     requires { n ≤ 2 ^ 20 }
 {
@@ -122,7 +122,7 @@ fn bytes_of(alloc: Global, given: Given, n: usize) -> Result<Vec<u8>, AllocError
     Ok(bytes)
 }
 
-// The length of the longest run of equal bytes at equal places.
+// The length of the longest run of positions where both texts have the same byte.
 fn longest_run(a: &[u8], b: &[u8]) -> u64 {
     let mut longest = 0;
     let mut run = 0u64;
@@ -209,7 +209,8 @@ fn parent_and_child_give_bytes_of_their_own(rt: HostRuntime) -> Result<(), Fail>
     Ok(())
 }
 
-// A call that does not reach the point runs on: a state with a current key needs no new key.
+// If a call does not reach the given point, it runs to its end without a fork. The first call below needs no new key,
+// since its state has a current one.
 #[test]
 fn a_point_that_does_not_come_is_run_past(rt: HostRuntime) {
     let mut host = ForkListHost::publishing([2; 5], 1, 0);

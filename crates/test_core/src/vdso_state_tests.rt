@@ -35,7 +35,7 @@ struct ListHost {
 }
 
 impl ListHost {
-    /// A host that always publishes 2, and answers each system call with bytes 1.
+    /// A host that always publishes 2, and answers each system call with bytes that are all 1.
     fn steady(wipes: [Option<AttemptPoint>; 2]) -> ListHost
         ensures looks { result.looks ≡ 0 }
         ensures calls { result.calls ≡ 0 }

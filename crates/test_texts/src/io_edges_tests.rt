@@ -35,7 +35,7 @@ fn sink_of(
     MemSink::of(alloc, step, [failing].to_vec(alloc)?, TEXT.len())
 }
 
-// The position in the text after this many whole calls.
+// The position in the text after this many calls of `step` bytes each.
 fn place(calls: u64, step: usize) -> usize
     ensures { result ≤ length TEXT.now }
 {

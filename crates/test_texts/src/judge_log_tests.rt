@@ -11,9 +11,10 @@ use judge_log::{
 use key_names::{BaseEntry, CpuEntry, PoolNote, Taken};
 use std::alloc::{AllocError, Global};
 
-// The first root of a pool that "abc" was mixed into, by Python's hashlib. Then bytes 32 to 64 of the root's keystream,
-// which are the CPU's key, and bytes 0 to 32 of the keystream of the CPU's key. These two are by a ChaCha20 in Python
-// that was compared with the first block of a zero key.
+// The first constant is the first root of a pool that "abc" was mixed into, computed by Python's hashlib. The second is
+// the CPU's key, bytes 32 to 64 of the root's keystream, and the third is bytes 0 to 32 of the keystream of the CPU's
+// key. The second and the third were computed by a ChaCha20 in Python that was compared with the first block of a zero
+// key.
 const ROOT: [u8; 32] = *b"\x9d\x59\x8e\x47\xdd\x3e\x9a\x6d\x9a\xfd\x89\x9d\x2d\xd9\x0d\x9e\
           \x4d\xe1\xae\x08\xe9\x40\x57\xb0\x37\x48\x00\x45\xc0\x1c\x69\x37";
 
@@ -53,7 +54,8 @@ fn lane(alloc: Global, look: u64) -> Result<Vec<Vec<InferredCpu>>, AllocError>
     Ok(cpus)
 }
 
-// A pool that becomes full and gives a root, a reseed with this root, and a CPU that is refilled and read three times.
+// A pool that reaches 256 bits and gives a root, a reseed with this root, and a CPU that is refilled and read three
+// times.
 fn reseeded<'a>(
     alloc: Global,
     extraction: u64,

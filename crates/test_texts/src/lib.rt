@@ -27,11 +27,11 @@
 //!
 //! # Tested only
 //!
-//! Facts without a clause:
+//! Facts that no contract states:
 //!
 //! - each put of a line has at most 4,096 bytes;
 //! - an event is shown once its line is whole;
-//! - long texts need no memory for more than themselves;
+//! - reading a long text needs no memory for more than the text;
 //! - sources and sinks work over real readers and writers.
 #![tactic(auto)]
 

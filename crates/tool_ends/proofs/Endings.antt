@@ -21,7 +21,7 @@ appends_kept (Some x) (Some y) (Some z) xs h k = k ∙ h
 prefix_kept : (a b c : Option (List ℕ)) (xs : List ℕ) → AppendsPrefix a b xs → Keeps b c → AppendsPrefix a c xs
 prefix_kept a b c xs p k = (p.0, p.1, appends_kept a b c _ p.2 k)
 
--- if a whole answer was appended, and then the sink was kept as it was, a prefix of the answer was appended
+-- if a whole answer was appended, and then the sink's content did not change, a prefix of the answer was appended
 whole_cut : (a b c : Option (List ℕ)) (xs : List ℕ) → Appends a b xs → Keeps b c → AppendsPrefix a c xs
 whole_cut a b c xs h k = prefix_kept a b c xs (AppendsPrefix-of_whole a b xs h) k
 
@@ -68,7 +68,7 @@ module _ (Of : List ℕ → Type 0) (a b c : Option (List ℕ)) (k : Keeps b c) 
   cut ReadFault is e = absurd is
   cut Refused is e = absurd e
 
-  -- if a command that reads no input ends as its contract states, it still ends so after the end of its output
+  -- if a command that reads no input meets its contract, the contract still holds after the end of the output
   pub ends_after : (status result : Status) (m n : ℕ) → AtOutputEnd status result m n → EndsWith Of status a b
       → EndsWith Of result a c
   ends_after status result m n ended e = elim ended [
@@ -160,7 +160,7 @@ module _ (most : ℕ) (Of : List ℕ → Status → List ℕ → Type 0) (left l
     read_cut WriteFault is e = absurd is
     read_cut NoMemory is e = absurd is
 
-    -- if a command that reads its input ends as its contract states, it still ends so after the end of its output
+    -- if a command that reads its input meets its contract, the contract still holds after the end of the output
     pub reads_end_after : (status result : Status) (m n : ℕ) → AtOutputEnd status result m n
         → ReadsEnds most Of status left left_after a b → ReadsEnds most Of result left left_after a c
     reads_end_after status result m n ended e = elim ended [

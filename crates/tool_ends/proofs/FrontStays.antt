@@ -1,4 +1,5 @@
--- Text that comes after a line `end` does not change the front.
+-- The front of a text ends with the text's first line `end`, if there is one. Text after this line does not change the
+-- front.
 use Rattle.std.proofs.Common.{◌≡◌, ℕ, ◌+◌, ◌==◌, Bool, true, false, cond, List, [], ◌∷◌, ◌++◌, take, drop, refl, sym}
 use Rattle.std.proofs.Common.{ap, ◌∙◌, append_assoc, arith, length-append}
 use Rattle.std.specs.List.{join_with_byte, onto_first}
@@ -12,7 +13,7 @@ use Rattle.tool_ends.specs.Intakes.{HasEndLine}
 
 -- ---- the parts of a text on both sides of a line feed
 
--- a byte before some lines changes only the first of them, whatever lines follow
+-- a byte put before `lines` changes at most their first line, whatever lines `more` follow
 onto_joined : (t : Bool) (b : ℕ) (lines more : List (List ℕ)) → HasFirst lines
     → cond t ([] ∷ lines ++ more) (onto_first b (lines ++ more)) ≡ cond t ([] ∷ lines) (onto_first b lines) ++ more
 onto_joined t b [] more some = absurd (let e = some.is in cc)
@@ -33,7 +34,7 @@ first_joined : (lines more : List (List ℕ)) → HasFirst more → HasFirst (li
 first_joined [] more some = some
 first_joined (line ∷ lines) more some = record { first = line; others = lines ++ more; is = refl }
 
--- the front ends after the first line if this line is `end`, and otherwise goes on
+-- the front ends after the first line if this line is `end`, and otherwise continues with the front of the other lines
 front_by : (line : List ℕ) (lines : List (List ℕ)) → HasFirst lines
     → front_lines (line ∷ lines) ≡ cond (bytes_eq line (codes "end")) (line ∷ [] ∷ []) (line ∷ front_lines lines)
 front_by line [] some = absurd (let e = some.is in cc)

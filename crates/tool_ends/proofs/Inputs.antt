@@ -29,7 +29,7 @@ pub record IsLimited (limit : ℕ) (Of : List ℕ → Status → List ℕ → Ty
       Of input Refused output → Of all Refused output
 
 module _ (limit : ℕ) (Of : List ℕ → Status → List ℕ → Type 0) (limited : IsLimited limit Of) where
-  -- the part that was read is the whole input, or the part and the whole input are above the limit
+  -- the part that was read is the whole input, or both the part and the whole input are longer than the limit
   read_or_too_long : (all input : List ℕ) → input ≡ take (limit + 1) all →
       (input ≡ all) ⊎ ((limit < length input) × (limit < length all))
   read_or_too_long all input is = elim (cases_lt limit (length all)) [
@@ -65,7 +65,7 @@ module _ (limit : ℕ) (Of : List ℕ → Status → List ℕ → Type 0) (limit
   some_of_all (Some all) input output front is =
       (is.0, is.1, of_all is.0 is.1 (Some all) input output front is.2)
 
-  -- if the input was read up to one byte above the limit, at most that many bytes were taken
+  -- if `input` is the first `limit` + 1 bytes of the source, or all of it, at most `limit` + 1 bytes were taken
   taken_at_most : (left left_after : Option (List ℕ)) (input : List ℕ) → Consumes left left_after input →
       IfSome left (λ all. input ≡ take (limit + 1) all) → ConsumesUpTo (limit + 1) left left_after
   taken_at_most None left_after input read front = ([], omega arith, tt)

@@ -38,7 +38,7 @@ pub few_lines : (script : Script) (t : List (List SeenLine)) → WellFormed scri
     → sum_by length t ≤ 65600
 few_lines script t ok fit = omega (arith, ok.events, ok.callers.1, lines_of_all 0 script.callers t fit)
 
--- if a transcript has more lines than the transcript of any script, it lacks the lines of this script
+-- if a transcript has more lines than the transcript of any script, its lines are not those that the script requires
 pub too_many : (script : Script) (text : List ℕ) → WellFormed script → HasMoreLines 65600 text → LacksLines script text
 too_many script text ok more = record {
   lines = more.callers;

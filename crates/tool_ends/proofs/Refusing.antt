@@ -16,7 +16,7 @@ module _ (most : ℕ) (Of : List ℕ → Status → List ℕ → Type 0) (limite
       WritesEnds (Of input) status held held_after → ReadsEnds most Of status left left_after held held_after
   said_of input read status e = reads_end most Of limited left left_after held held_after input read status e
 
-  -- if memory ran out, no output was written
+  -- if memory ran out, a command that wrote no output ends as its contract states
   unread : (status : Status) → ConsumesUpTo (most + 1) left left_after →
       WritesEnds (RefusalOf Unread) status held held_after → ReadsEnds most Of status left left_after held held_after
   unread Done taken e = absurd e.1

@@ -1,4 +1,5 @@
--- If an input is taken piece by piece, what is kept fits the input taken so far, and at the end the whole input.
+-- An input is taken piece by piece. After each piece the kept data match the input taken so far, and at the end they
+-- match the whole input.
 use Rattle.std.proofs.Common.{◌≡◌, ℕ, ◌+◌, ◌≤◌, List, [], ◌++◌, Option, None, Some, length, sym, ap, subst, ◌∙◌, append-nil, arith}
 use Rattle.std.specs.Prelude.{Result, Ok, Err, IfErr, IfOk, IfSome, IsErrAnd, OnOk, drop, take}
 use Rattle.std.proofs.lemmas.List.{drop-append-le, length-append, take_all, take_at}
@@ -26,7 +27,7 @@ pub ok_both : {T E : Type 0} (A B : Type 0) (answer : Result T E) → OnOk answe
 ok_both A B (Ok x) a b = (a, b)
 ok_both A B (Err e) a b = tt
 
--- after the script was found, one more piece joins the text that follows the script
+-- if the script was found, one more piece extends the text that follows the script
 pub found_on : (input piece : List ℕ) (script : Script) (text next : After) → HasEndLine input
     → IsFound input script text → HoldsText (following input ++ piece) next → IsFound (input ++ piece) script next
 found_on input piece script text next end f holds =
@@ -87,7 +88,7 @@ module _ (most : ℕ) where
   front_read (Some all) (Some rest) input read len =
       sym (ap (take (most + 1)) read ∙ take_at input rest (most + 1) len)
 
-  -- if one byte more than is allowed was taken, the bytes taken are the input that was read
+  -- if `most` + 1 bytes were taken, these bytes are the input that was read
   pub long_read : (left now : Option (List ℕ)) (input : List ℕ) → Consumes left now input → length input ≡ most + 1
       → WasRead most left now input
   long_read left now input read len = record {
@@ -111,13 +112,13 @@ module _ (most : ℕ) where
     gives_none left after input (Ok x) read few not is = tt
     gives_none left after input (Err why) read few not is = no_input left after input why read few is not
 
-    -- if an answer has the reason why the reading ended, the contract of the answer holds
+    -- if the answer is the reason why the reading ended, the answer meets its contract
     pub broken_off : {T : Type 0} (left after : Option (List ℕ)) (why : NotRead) (answer : Result T NotRead)
         → IsErrAnd answer (λ e. e ≡ why) → GivesNone most Is left after why → IfErr answer (GivesNone most Is left after)
     broken_off left after why (Ok x) is gives = absurd is
     broken_off left after why (Err e) is gives = subst (GivesNone most Is left after) (sym is) gives
 
-    -- if no text was read, GivesNone holds without a fact about a text
+    -- if no text was read, `GivesNone` holds for any `Is`
     pub no_text : (left after : Option (List ℕ)) (why : NotRead) → GivesNoText most left after why
         → GivesNone most Is left after why
     no_text left after ReadFault gives = gives
@@ -144,7 +145,7 @@ pub gives_script : {E : Type 0} (left after : Option (List ℕ)) (input : List �
 gives_script left after input (Ok script) read is = (input, read, is)
 gives_script left after input (Err e) read is = tt
 
--- if the text after a script is not read, the answer has this reason for the input
+-- if the text after a script is not read for the reason `why`, the answer `why` is right for the whole input
 pub no_pair_for : {T : Type 0} (input : List ℕ) (script : Script) (why : NotRead) (answer : Result T NotRead)
     → length input ≤ most_input → IsScript script (front input) → IsNoText (following input) why
     → IsErrAnd answer (λ e. e ≡ why) → IfErr answer (λ e. IsNoPair input e)

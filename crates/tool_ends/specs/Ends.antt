@@ -36,7 +36,7 @@ pub record CountsReadFault (result : Status) (faults faults_after : ℕ) : Type 
   pub read_fault : result ≡ ReadFault → Rose faults faults_after
   pub no_read_fault : (result ≡ ReadFault → ⊥) → faults_after ≡ faults
 
--- a command with this status put its whole answer
+-- a command with this status wrote its whole answer
 abbrev pub IsAnswered : Status → Type 0
 IsAnswered Done = ⊤
 IsAnswered No = ⊤
@@ -46,8 +46,8 @@ IsAnswered ReadFault = ⊥
 IsAnswered WriteFault = ⊥
 IsAnswered NoMemory = ⊥
 
--- the status and the sink's count of faults stay; or the sink failed to hand on the rest of an answer, and counted this
--- fault
+-- the status and the sink's count of faults do not change; or the sink failed to hand on the rest of an answer, and
+-- counted this fault
 abbrev pub AtOutputEnd : Status → Status → ℕ → ℕ → Type 0
 AtOutputEnd status result faults faults_after =
     ((result ≡ status) × (faults_after ≡ faults))

@@ -45,18 +45,18 @@ abbrev pub pair_fault : List ℕ → Option ScriptFault
 pair_fault input =
     if nat_lt most_input (length input) then Some (record { line = 0; kind = TooLong }) else first_fault (front input)
 
--- the text is that of no transcript
+-- the text is not that of a transcript
 abbrev pub IsNoTranscript : List ℕ → Type 0
 IsNoTranscript text = (lines : List (List SeenLine)) → IsTranscriptText text lines → ⊥
 
--- the text is that of a transcript, but the transcript lacks the lines of the script
+-- the text is that of a transcript, but the transcript's lines are not those that the script requires
 pub record LacksLines (script : Script) (text : List ℕ) : Type 0 where
   pub lines : List (List SeenLine)
   pub is_text : IsTranscriptText text lines
   pub fails : HasLines script lines → ⊥
 
--- the text after the script fails clause 1, since it is that of no transcript; or it fails clause 2, since its
--- transcript lacks the script's lines
+-- the text after the script fails clause 1, since it is not that of a transcript; or it fails clause 2, since its lines
+-- are not those that the script requires
 pub record FailsAsText (input : List ℕ) (number : ℕ) : Type 0 where
   pub short : length input ≤ most_input
   pub script : Script
@@ -99,7 +99,7 @@ abbrev pub GivesPair : Option (List ℕ) → Option (List ℕ) → Script → Li
 GivesPair left left_after script t = (input : List ℕ) × WasRead most_input left left_after input × IsPair input script t
 
 -- an input was read, and `Is` holds of the input and of the reason for its refusal. Or the source failed or memory ran
--- out, after at most one byte more than is allowed was taken
+-- out, and at most `most` + 1 bytes were taken
 abbrev pub GivesNone : ℕ → (List ℕ → NotRead → Type 0) → Option (List ℕ) → Option (List ℕ) → NotRead → Type 0
 GivesNone most Is left left_after ReadFault = ConsumesUpTo (most + 1) left left_after
 GivesNone most Is left left_after (Refused fault) =
@@ -118,12 +118,12 @@ GivesNoPair = GivesNone most_input IsNoPair
 
 -- ---- the answers
 
--- the line of a fault, with the number of its line and of its kind
+-- the output line for a fault, with the number of the faulty line and the number of the fault's kind
 abbrev pub refusal_line : ScriptFault → List ℕ
 refusal_line fault =
     lined (spaced (codes "refused" ∷ decimal fault.line ∷ decimal (kind_number fault.kind) ∷ []) ∷ [])
 
--- the line of a failed clause, with its number
+-- the output line for a failed clause, with the clause's number
 abbrev pub no_line : ℕ → List ℕ
 no_line number = lined (spaced (codes "no" ∷ decimal number ∷ []) ∷ [])
 

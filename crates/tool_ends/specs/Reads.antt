@@ -35,10 +35,9 @@ WritesEnds Of NoMemory held held_after = Keeps held held_after
 WritesEnds Of Usage held held_after = ⊥
 WritesEnds Of ReadFault held held_after = ⊥
 
--- ---- for the input, of which at most `most` bytes and one more are read; `Of` gives the right outputs for an input
+-- ---- for the whole input, of which at most `most` + 1 bytes are read; `Of` gives the right outputs for an input
 
--- the input was read: it is all that was left in the source, or only the front of that, with one byte more than is
--- allowed
+-- the input was read: all that was left in the source, or the first `most` + 1 bytes if more was left
 pub record WasRead (most : ℕ) (left left_after : Option (List ℕ)) (input : List ℕ) : Type 0 where
   pub read : Consumes left left_after input
   pub whole : length input ≤ most → IsAtEnd left_after
@@ -54,7 +53,7 @@ pub record WasAnswered (most : ℕ) (Is : List ℕ → List ℕ → Type 0) (lef
   pub is : Is input output
   pub written : Appends held held_after output
 
--- the input that was read was refused, and the refusal was written. The refusal is also that of all that was left in
+-- the input that was read was refused, and the refusal was written. The same refusal is right for all that was left in
 -- the source
 pub record WasRefused (most : ℕ) (Is : List ℕ → List ℕ → Type 0) (left left_after held held_after : Option (List ℕ))
     : Type 0 where
@@ -76,7 +75,7 @@ pub record WasCutShort (most : ℕ) (Is : List ℕ → List ℕ → Type 0) (lef
   pub of_all : IfSome left (λ all. Is all output)
   pub written : AppendsPrefix held held_after output
 
--- no output was written, and the bytes that were taken are at most one more than is allowed
+-- no output was written, and at most `most` + 1 bytes were taken
 pub record WasGivenUp (most : ℕ) (left left_after held held_after : Option (List ℕ)) : Type 0 where
   pub taken : ConsumesUpTo (most + 1) left left_after
   pub kept : Keeps held held_after

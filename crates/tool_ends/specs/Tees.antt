@@ -1,5 +1,5 @@
--- What a source or a sink keeps of the text that passes through it: a source the front, and a sink the last piece.
-use Rattle.std.specs.Prelude.{ℕ, ◌≡◌, ◌≤◌, ◌++◌, IsTrue, List, length, take}
+-- A tee source keeps the front of the text that passes through it, and a tee sink keeps the last piece.
+use Rattle.std.specs.Prelude.{ℕ, Bool, ◌≡◌, ◌≤◌, ◌++◌, IsTrue, List, length, take}
 use Rattle.tool_ends.specs.declared.tee.TeeSource.{TeeSource}
 use Rattle.tool_ends.specs.declared.tee.TeeSink.{TeeSink}
 
@@ -8,6 +8,10 @@ tee_source tee = tee.source
 
 abbrev pub tee_sink : {K : Type 0} → TeeSink K → K
 tee_sink tee = tee.sink
+
+-- whether all that was taken is kept
+abbrev pub keeps_all : {S : Type 0} → TeeSource S → Bool
+keeps_all tee = tee.is_whole
 
 -- this text was taken, and at most `most` of its first bytes were kept
 pub record HasGiven {S : Type 0} (text : List ℕ) (tee : TeeSource S) : Type 0 where

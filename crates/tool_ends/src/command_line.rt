@@ -9,7 +9,7 @@ use std::io;
 ///
 /// # Errors
 ///
-/// The status to end with if the words cannot be had: `NoMemory`, or `Usage` if a word is no text.
+/// The status to end with if the words are not available: `NoMemory`, or `Usage` if a word is no text.
 pub fn words<R: Env + AllocGlobal>(rt: &R) -> Result<Vec<String>, Status>
     ensures { IfErr result (λ status. (status ≡ Status.NoMemory) ⊎ (status ≡ Status.Usage)) }
 {

@@ -10,7 +10,7 @@ use event_script::ScriptReader;
 use io_edges::Source;
 use std::alloc::{AllocError, Global};
 
-/// The bytes of one piece.
+/// The size of one piece, in bytes.
 const PIECE: usize = 64 * 1024;
 
 /// A reader that is fed a text, and may compare the text with a maker's transcript.

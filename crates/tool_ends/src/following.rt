@@ -82,8 +82,8 @@ impl After {
     ///
     /// # Errors
     ///
-    /// `NoTranscript` if it is no transcript's text. `TooManyLines` if the transcript has more lines than any script's.
-    /// `NoMemory` if there is no memory for the transcript.
+    /// `NoTranscript` if the text is not that of a transcript. `TooManyLines` if the transcript has more lines than any
+    /// script's transcript. `NoMemory` if there is no memory for the transcript.
     pub fn transcript(self, alloc: Global) -> Result<Transcript, NotRead>
         requires short { (text : List ℕ) × HoldsText text self × (length text ≤ 2 ^ 31) }
         ensures read { (text : List ℕ) → HoldsText text self → IfOk result (λ t. IsTranscriptText text t) }

@@ -2,12 +2,12 @@
 //! answer to an input. The crate uses `io_edges` for sources and sinks, and `event_script` and `transcript_text` for
 //! the grammar of an input.
 //!
-//! [`read_script`] reads a script, and [`pair::read_pair`] one with a transcript after it. If the text is faulty, they
-//! return the reason, and [`put_refusal`] answers with it. [`pair::read_apart`] compares the text after the script with
-//! that of a transcript that a [`maker::Maker`] makes, and reads it as soon as it differs. [`put_answer`], [`put_line`]
-//! and [`end_output`] write an answer and hand it on. A [`tee::TeeSource`] keeps the front of the text that was taken,
-//! and a [`tee::TeeSink`] the last piece that was put, for a program that shows the faulty line; [`refusal::fault_in`]
-//! finds the fault in the answer.
+//! [`read_script`] reads a script, and [`pair::read_pair`] reads a script with a transcript after it. If the text is
+//! faulty, they return the reason, and [`put_refusal`] writes the answer for this reason. [`pair::read_apart`] compares
+//! the text after the script with the text of a transcript that a [`maker::Maker`] makes. Once the two differ, it reads
+//! the text after the script. [`put_answer`], [`put_line`] and [`end_output`] write an answer and hand it on. For a
+//! program that shows the faulty line, a [`tee::TeeSource`] keeps the front of the text that was taken, and a
+//! [`tee::TeeSink`] keeps the last piece that was put. [`refusal::fault_in`] finds the fault in the answer.
 //!
 //! # Example
 //!
@@ -25,14 +25,14 @@
 //! - [`read_script`] and [`pair::read_pair`]: what each result means for the source (`specs/Reads`). A read fault is
 //!   reported exactly if it was counted.
 //! - [`put_answer`] and [`put_line`]: the sink has got the whole answer, or the status is `WriteFault`. [`put_refusal`]
-//!   does the same with the line for a reason, and writes nothing after a read fault or without memory.
+//!   does the same with the line for a reason, and writes nothing after a read fault or if memory ran out.
 //! - [`end_output`]: after an answer the sink keeps nothing back.
-//! - [`refusal::fault_in`]: a fault that is found is that of the line.
+//! - [`refusal::fault_in`]: if a fault is found, the text is the refusal line of this fault.
 //!
 //! # Tested only
 //!
-//! That [`refusal::fault_in`] finds the fault in each such line, that [`tee::TeeSource::line`] returns the line of this
-//! number, and the texts on standard error: `.ci/program_checks`.
+//! That [`refusal::fault_in`] finds the fault in each refusal line, that [`tee::TeeSource::line`] returns the line with
+//! the given number, and the texts on standard error: `.ci/program_checks`.
 #![tactic(auto)]
 
 mod answers;

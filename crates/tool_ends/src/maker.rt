@@ -6,8 +6,8 @@ use event_script::Script;
 use std::alloc::Global;
 use transcript_text::Transcript;
 
-/// A maker of a transcript for a script. As the text after the script comes, it is compared with that transcript's
-/// text.
+/// A maker of a transcript for a script. As the text after the script comes, it is compared with the text of the
+/// maker's transcript.
 pub trait Maker {
     ghost use Rattle.std.specs.Prelude.{List};
     ghost use Rattle.key_names.specs.Transcripts.SeenLine.{SeenLine};
@@ -26,7 +26,7 @@ pub trait Maker {
         ensures { IfSome result (λ t. made self.now script.now t) };
 }
 
-/// A maker of no transcript: each text is read.
+/// A maker that makes no transcript: each text is read without a comparison.
 pub struct NoMaker;
 
 impl Maker for NoMaker {

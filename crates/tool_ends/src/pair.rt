@@ -25,9 +25,9 @@ pub enum NotRead {
     ReadFault,
     /// The input is too long, or its script has a fault. This is the first fault.
     Refused(ScriptFault),
-    /// The text after the script is no transcript's: clause 1 fails.
+    /// The text after the script is not that of a transcript: clause 1 fails.
     NoTranscript,
-    /// The text after the script is that of a transcript with more lines than any script's: clause 2 fails.
+    /// The text after the script is a transcript with more lines than any script's transcript: clause 2 fails.
     TooManyLines,
     /// Memory ran out.
     NoMemory,
@@ -56,8 +56,8 @@ impl From<AllocError> for NotRead {
 ///
 /// # Errors
 ///
-/// [`NotRead`] is the reason why the input was not read. It does not depend on the text after the script. If the source
-/// failed or memory ran out, the bytes that were taken are lost.
+/// [`NotRead`] is the reason why the input was not read. This reason does not depend on the text after the script. If
+/// the source failed or memory ran out, the bytes that were taken are lost.
 pub fn read_apart<S: Source, M: Maker>(
     alloc: Global,
     source: &mut S,

@@ -7,7 +7,7 @@ ghost use Rattle.tool_ends.specs.Ends.{code_of};
 pub enum Status {
     /// The whole output was written.
     Done,
-    /// A clause fails in a transcript, and the line with its number was written.
+    /// A clause fails in a transcript, and the line with the clause's number was written.
     No,
     /// The words are no form of the command line. The program read and wrote nothing.
     Usage,
@@ -15,7 +15,7 @@ pub enum Status {
     ReadFault,
     /// The sink failed. It holds a prefix of the output.
     WriteFault,
-    /// The script was refused, and the line with its fault was written.
+    /// The script was refused, and the line with the script's fault was written.
     Refused,
     /// Memory ran out. Nothing was written.
     NoMemory,

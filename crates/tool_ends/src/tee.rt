@@ -1,10 +1,10 @@
 //! A source that keeps the front of what was taken from it, and a sink that keeps the last piece that was put to it,
 //! for the message of a refusal.
-ghost use Rattle.std.specs.Prelude.{◌≡◌, ◌<◌, ◌≤◌, ◌++◌, [], ℕ, List, length, take, IfOk, IfSome, OnOk, OnErr};
+ghost use Rattle.std.specs.Prelude.{◌≡◌, ◌<◌, ◌≤◌, ◌++◌, [], ℕ, List, length, take, IfOk, IfSome, IsSome, IsTrue, OnOk, OnErr};
 ghost use Rattle.std.specs.Io.{ReadsAtMost, WritesAtMost};
 ghost use Rattle.std.specs.Io.KnownBytes.{Keeps, Appends, Consumes, IsAtEnd};
 ghost use Rattle.io_edges.specs.Faults.{Rose};
-ghost use Rattle.tool_ends.specs.Tees.{HasGiven, HasGot, tee_sink, tee_source};
+ghost use Rattle.tool_ends.specs.Tees.{HasGiven, HasGot, keeps_all, tee_sink, tee_source};
 
 use arrayvec::ArrayVec;
 use io_edges::{Failed, Sink, Source};
@@ -25,10 +25,11 @@ pub struct TeeSource<S: Source + Drop> {
 }
 
 impl<S: Source + Drop> TeeSource<S> {
-    /// A source that takes from this one. It has kept no byte yet, and will keep at most `most` bytes.
+    /// A source that takes its bytes from `source`. It has kept no byte yet, and will keep at most `most` bytes.
     pub fn of(alloc: Global, source: S, most: usize) -> TeeSource<S>
         ensures source { tee_source result ≡ source }
         ensures given { HasGiven [] result }
+        ensures all { IsTrue (keeps_all result) }
     {
         TeeSource {
             source,
@@ -57,7 +58,8 @@ impl<S: Source + Drop> TeeSource<S> {
 
     /// All that was taken, if all of it was kept.
     pub fn whole(&self) -> Option<&[u8]>
-        ensures { (text : List ℕ) → HasGiven text self.now → IfSome result (λ kept. kept.now ≡ text) }
+        ensures kept { (text : List ℕ) → HasGiven text self.now → IfSome result (λ kept. kept.now ≡ text) }
+        ensures some { IsTrue (keeps_all self.now) → IsSome result }
     {
         if self.is_whole {
             Some(&self.front)
@@ -113,7 +115,7 @@ pub struct TeeSink<K: Sink + Drop> {
 }
 
 impl<K: Sink + Drop> TeeSink<K> {
-    /// A sink that puts to this one. It has kept no byte yet.
+    /// A sink that puts its pieces to `sink`. It has kept no byte yet.
     pub fn of(sink: K) -> TeeSink<K>
         ensures sink { tee_sink result ≡ sink }
         ensures got { HasGot [] result }

@@ -63,7 +63,7 @@ callers_placed t c (es ∷ ess) (lines ∷ rest) fit among = (
   callers_placed t (suc c) ess rest fit.1 (λ d. among (suc d) ∙ ap (list_at t) (omega arith)),
 )
 
--- ---- the clause on answers holds exactly if each line's answer agrees by its note; so too for data
+-- ---- the clause on answers holds exactly if each note records that the answer agrees; likewise for data
 
 abbrev pub AnswerSame : SeenLine → Same → Type 0
 AnswerSame line same = IsTrue same.answer

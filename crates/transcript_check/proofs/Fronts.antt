@@ -1,4 +1,5 @@
--- If all calls are in range, so are the first `n` calls of a list, and the calls of each caller.
+-- If all calls of all callers are in range, the calls of each caller are in range. If the calls of a list are in range,
+-- the first `n` of them are in range.
 use Rattle.std.proofs.Common.{◌≡◌, ℕ, zero, suc, ◌<◌, List, [], ◌∷◌, length, get_or, map, take, sym, subst, arith}
 use Rattle.std.specs.List.{AllByRecursion}
 use Rattle.std.specs.Global.{Vec}

@@ -1,4 +1,4 @@
--- The loops over a caller's lines and over callers keep their invariants in each round.
+-- The loops over a caller's lines and over callers preserve their invariants in each round.
 use Rattle.std.proofs.Common.{◌≡◌, ℕ, ◌+◌, Some, List, ◌∷◌, drop, sym, subst}
 use Rattle.std.specs.Prelude.{◌↔◌, slice_get}
 use Rattle.std.specs.List.{AllByRecursion}
@@ -6,8 +6,8 @@ use Rattle.key_names.specs.Transcripts.SeenLine.{SeenLine}
 use Rattle.key_names.proofs.Lists.ListFacts.{found_dropped}
 use Rattle.transcript_check.specs.declared.compare.Same.{Same}
 
--- suppose all of `xs` have `P` exactly if the elements from `n` on do, and element `n` has `P`; then all of `xs` have
--- `P` exactly if the elements after `n` do
+-- suppose that `P` holds of all of `xs` exactly if `P` holds of the elements from `n` on. If `P` holds of element `n`,
+-- `P` holds of all of `xs` exactly if `P` holds of the elements after `n`
 pub one_more : {X : Type 0} (P : X → Type 0) (xs : List X) (n : ℕ) (x : X) → slice_get xs n ≡ Some x → P x →
     (AllByRecursion P xs ↔ AllByRecursion P (drop n xs)) → AllByRecursion P xs ↔ AllByRecursion P (drop (n + 1) xs)
 one_more {X = X} P xs n x is here rest =

@@ -20,7 +20,8 @@ each_found P [] n x all is = cc
 each_found P (y ∷ xs) zero x all is = subst P (same_Some y x is) all.0
 each_found P (y ∷ xs) (suc n) x all is = each_found P xs n x all.1 is
 
--- if the line of `t` differs from its result, and all lines of `u` agree with their results, `u` lacks this line
+-- if a line of `t` differs from the result of its steps, and all lines of `u` agree with the results, `u` does not have
+-- this line
 none_of : (IsSaid : SeenLine → MadeLine → Type 0) (script : Script) (t u : List (List SeenLine)) (c n : ℕ)
     (has : HasOther IsSaid script t c n) → AllAgree IsSaid (made_by has.made) u →
     slice_get (list_at t c) n ≡ slice_get (list_at u c) n → ⊥

@@ -1,4 +1,4 @@
--- If the inferred rows of the CPUs are in range, so are the first rows of each CPU.
+-- If all inferred rows of the CPUs are in range, the first rows of each CPU are in range.
 use Rattle.std.proofs.Common.{◌≡◌, ◌<◌, ◌^◌, List, [], length, map, sym, subst, ◌∙◌, arith}
 use Rattle.std.specs.Prelude.{All}
 use Rattle.std.specs.Global.{Vec}

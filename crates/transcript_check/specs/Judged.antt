@@ -1,4 +1,4 @@
--- What the verdict of a check means. `Yes` means that the transcript is lawful, and more: see `IsSound`.
+-- The meaning of a check's verdict. `Yes` means that the transcript is lawful, and more: see `IsSound`.
 use Rattle.std.specs.Prelude.{⊤, List}
 use Rattle.std.specs.List.{AllByRecursion}
 use Rattle.key_names.specs.Lanes.Book.{Book, lists_of}

@@ -1,4 +1,4 @@
--- When a line of a transcript differs from the result of its steps.
+-- Whether a line of a transcript differs from the result of its steps.
 use Rattle.std.specs.Prelude.{ℕ, ◌≡◌, ◌≢◌, Some, List, slice_get, map}
 use Rattle.key_names.specs.Lanes.Book.{list_at}
 use Rattle.key_names.specs.Transcripts.IsTranscript.{IsTranscript}

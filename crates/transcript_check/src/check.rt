@@ -65,8 +65,8 @@ fn judge<'a>(alloc: Global, script: &'a Script, t: &'a Transcript) -> Result<Jud
     }
 }
 
-/// Whether a transcript is lawful for a script. If the transcript is lawful, returns the lists of its lanes. They are
-/// made from the transcript's words and steps alone. The transcript's answers and data agree with these lists.
+/// Whether a transcript is lawful for a script. If the transcript is lawful, returns the lists of its lanes. The lists
+/// are made from the transcript's words and steps alone. The transcript's answers and data agree with the lists.
 ///
 /// # Errors
 ///
@@ -84,7 +84,7 @@ pub fn check_lists<'a>(
     judge(alloc, script, t)
 }
 
-/// Whether a transcript is lawful for a script. If the transcript is not lawful, the first clause that fails.
+/// Whether a transcript is lawful for a script. If the transcript is not lawful, returns the first clause that fails.
 ///
 /// # Errors
 ///

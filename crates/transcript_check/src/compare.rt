@@ -1,5 +1,5 @@
-//! As soon as the answer and data of a line's steps are made, compares the line with them. Notes whether the answer
-//! agrees, and whether the data agree.
+//! Compares each line with the answer and data of its steps, as soon as these are made. Notes whether the line's answer
+//! agrees, and whether its data agree.
 ghost use Rattle.std.specs.Prelude.{◌≡◌, ◌↔◌, IsTrue, Some, length, slice_get, MatchOption};
 ghost use Rattle.std.specs.List.{AllByRecursion};
 ghost use Rattle.key_names.specs.Lanes.Book.{list_at};
@@ -16,14 +16,15 @@ use judge_log::said::{MadeLine, Note, ShownRecipe};
 use judge_vread::served::Served;
 use transcript_text::{CallerLines, LineView, Shown, Transcript};
 
-/// Whether a line's answer agrees with that of its steps, and whether the line's data agree with those of its steps.
+/// Whether a line's answer agrees with the answer of its steps, and whether the line's data agree with the data of its
+/// steps.
 #[derive(Clone, Copy, Drop)]
 pub(crate) struct Same {
     pub answer: bool,
     pub shown: bool,
 }
 
-/// Notes for each line of the transcript `t` whether its answer and its data agree with its steps.
+/// For each line of the transcript `t`, notes whether the line's answer and data agree with the line's steps.
 #[derive(Drop)]
 pub(crate) struct Compare<'a> {
     pub t: &'a Transcript,
@@ -31,7 +32,7 @@ pub(crate) struct Compare<'a> {
 
 /// A part of a line: its answer, or its data.
 pub(crate) trait Part {
-    /// This note records that this part of the line agrees.
+    /// The note records that this part of the line agrees.
     ghost IsSame: { Self → IsLineSame → Type 0 };
 
     fn is_same(&self, same: Same) -> bool
@@ -164,7 +165,7 @@ fn lines_agree<P: Part>(part: &P, lines: &CallerLines, noted: &[Same]) -> bool
     true
 }
 
-/// Whether in each line this part agrees with the line's steps.
+/// Whether this part of every line agrees with the line's steps.
 pub(crate) fn all_agree<P: Part>(part: &P, t: &Transcript, noted: &[Vec<Same>]) -> bool
     requires { length noted.now ≡ length t.now }
     ensures { IsTrue result ↔ AllAgree (λ _. P.IsSame part.now) (said_lists noted.now) t.now }

@@ -55,17 +55,17 @@ fn first_other_look(
 /// that fails.
 ///
 /// - Lines: the first line that is missing, or that is not the line of its event.
-/// - Marks: the visits of each lane are counted in the order of their stamps. The first line with a visit whose place
-///   is not its count, or whose stamp another visit of the lane has. If there is none, the first line with a stamp that
-///   does not rise along its caller's steps.
+/// - Marks: the visits of each lane are counted in the order of their stamps. The result is the first line with a visit
+///   whose place is not the visit's count, or whose stamp another visit of the lane also has. If there is none, the
+///   first line with a stamp that does not rise along its caller's steps.
 /// - Forms: the first line that visits an absent CPU. If there is none, the line of the first visit (in the order of
 ///   stamps) at which the lane allows no entry that fits the line's steps. If there is none, the first line with steps
-///   that are no form.
+///   that match no form.
 /// - Answers and data: the first line with an answer, or with data, that its steps do not give.
 /// - Looks: the first line with a look that is below the generation that its caller had seen, or above the number of
 ///   reseeds.
 ///
-/// The contract is only about answers and data. Tests cover the other clauses. Tests also cover that no earlier line
+/// The contract covers only the clauses on answers and data. Tests cover the other clauses, and that no earlier line
 /// fails.
 ///
 /// # Errors

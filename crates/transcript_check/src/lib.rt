@@ -21,11 +21,13 @@
 //! # Proved
 //!
 //! - [`check::check`]: the result is `Yes` exactly if each clause holds. Otherwise it is the first clause that fails.
-//!   For a lawful transcript no byte of a key is used twice, and no caller's looks go back.
-//! - [`check::check_lists`]: the verdict is that of `check`. For a lawful transcript the result has the lists.
+//!   For a lawful transcript no byte of a key is used twice, and no caller's looks fall.
+//! - [`check::check_lists`]: the verdict is the same as that of `check`. For a lawful transcript the result has the
+//!   lists.
 //! - [`failing::first_failing_line`]: if the clause is that on answers or that on data, the line has another answer, or
 //!   other data, than its steps give.
-//! - [`laws`]: no lawful transcript with the same steps has such a line.
+//! - [`laws`]: no lawful transcript with the same steps has a line with another answer, or other data, than its steps
+//!   give.
 //!
 //! # Tested only
 //!

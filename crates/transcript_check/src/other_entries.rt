@@ -1,5 +1,5 @@
-//! Takes the visits in the order of their stamps, and finds the first that cannot follow the earlier visits in any
-//! lists.
+//! Goes through the visits in the order of their stamps, and finds the first visit that cannot follow the earlier
+//! visits in any lists.
 ghost use Rattle.std.specs.Prelude.{◌≡◌, ℕ, IfOk, length, take};
 ghost use Rattle.judge_log.specs.Tables.{InRange, tables_of};
 ghost use Rattle.transcript_check.specs.Rows.{AreWide};
@@ -12,7 +12,7 @@ use judge_log::{InferredCpu, InferredEntries, InferredPool, replay_lists};
 use key_names::{BaseEntry, LaneId, PoolNote};
 use std::alloc::{AllocError, Global};
 
-/// How many inferred rows of each lane are kept, from its first row on.
+/// For each lane, how many of its first inferred rows are kept.
 #[derive(Drop)]
 struct Ends {
     pool: usize,
@@ -110,8 +110,8 @@ fn begins(
     Ok(lists.is_some())
 }
 
-// The result, found by bisection, is a number of first visits. Some lists begin with the rows of these visits, but no
-// lists begin with those rows and the row of the next visit.
+// Finds by bisection a number of visits, counted from the first. Some lists begin with the rows of these visits, but no
+// lists begin with the rows of one visit more.
 fn most_visits(
     alloc: Global,
     inferred: &InferredEntries<'_>,
@@ -132,8 +132,8 @@ fn most_visits(
     Ok(least)
 }
 
-/// Takes the visits in the order of their stamps. Returns the line of the first visit such that no lists begin with the
-/// inferred rows up to this visit. This is tested, not proved. The whole tables must match no lists.
+/// Goes through the visits in the order of their stamps. Returns the line of the first visit such that no lists begin
+/// with the inferred rows up to this visit. This is tested, not proved. The whole tables must match no lists.
 pub(crate) fn first_other_entry(
     alloc: Global,
     inferred: &InferredEntries<'_>,

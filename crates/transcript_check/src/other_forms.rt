@@ -49,7 +49,7 @@ fn first_absent(cpus: u32, callers: &[Vec<BareLine<'_>>]) -> Option<FailedLine> 
     None
 }
 
-// Whether the steps of these calls are forms. The answers and data made from the steps are dropped, so the caller's
+// Whether the steps of these calls match forms. The answers and data made from the steps are dropped, so the caller's
 // number does not matter.
 fn are_forms(
     alloc: Global,
@@ -63,8 +63,8 @@ fn are_forms(
     Ok(said.is_some())
 }
 
-// The result, found by bisection, is a number of first calls of a caller. The steps of these calls are forms, but the
-// steps of the next call are not.
+// Finds by bisection a number of calls, counted from the caller's first. The steps of these calls match forms, but the
+// steps of the next call match no form.
 fn most_forms(
     alloc: Global,
     calls: &[CalledLines<'_>],
@@ -96,7 +96,7 @@ fn line_of<'a>(call: &CalledLines<'a>) -> BareLine<'a> {
     }
 }
 
-// The first line of a caller with steps that are no form.
+// The first line of a caller with steps that match no form.
 fn first_of_caller(
     alloc: Global,
     calls: &[CalledLines<'_>],
@@ -141,8 +141,8 @@ fn first_of_all(
 }
 
 /// The first line that visits an absent CPU. If there is none, the line of the first visit at which the lane allows no
-/// entry that fits the line's steps. If there is none, the first line with steps that are no form. This is tested, not
-/// proved. The clauses on lines and marks must hold.
+/// entry that fits the line's steps. If there is none, the first line with steps that match no form. This is tested,
+/// not proved. The clauses on lines and marks must hold.
 ///
 /// # Errors
 ///

@@ -69,7 +69,7 @@ fn is_other<P: SaidPart>(part: &P, line: LineView<'_>, said: &[MadeLine]) -> boo
     }
 }
 
-// The number of a caller's first line that differs from the result made for its event.
+// The number of a caller's first line that differs from the result made for the line's event.
 fn first_of_caller<P: SaidPart>(part: &P, lines: &CallerLines, said: &[MadeLine]) -> Option<usize>
     ensures { IfSome result (IsOtherAt (P.IsSaid part.now) said.now lines.now.lines) }
 {

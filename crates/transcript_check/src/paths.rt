@@ -9,7 +9,7 @@ use judge_log::Lists;
 use key_names::{Event, LaneId, Mark, Point, Step};
 use std::alloc::{AllocError, Global};
 
-/// Which value is carried along a caller's steps. Each step is compared with the carried value.
+/// The kind of value that is carried along a caller's steps. Each step is compared with the carried value.
 #[derive(Clone, Copy)]
 pub(crate) enum Carried<'a> {
     /// The stamp of the caller's last visit.
@@ -128,8 +128,8 @@ fn is_visit(step: Step) -> bool {
     matches!(step, Step::Visit(_))
 }
 
-// `steps` are a `vread`'s steps from the third on. The result is how many of them come before the points `Serve` and
-// `End`.
+// `steps` are the steps of a `vread` from the third on. Returns how many of these steps come before the points `Serve`
+// and `End`.
 fn rekey_end(steps: &[Step]) -> usize
     ensures { result ≤ length steps.now }
 {
@@ -215,8 +215,8 @@ fn go_along(
     Ok(())
 }
 
-/// The first line with a step that the value carried to it does not allow. The callers are searched in order, and
-/// `callers` must have the lines of each. This is tested, not proved.
+/// The first line with a step that the value carried to this step does not allow. The callers are searched in order,
+/// and `callers` must have the lines of each caller. This is tested, not proved.
 pub(crate) fn first_off_path(
     alloc: Global,
     script: &Script,

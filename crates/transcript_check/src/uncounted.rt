@@ -49,8 +49,8 @@ pub(crate) fn all_visits(
     Ok(visits)
 }
 
-// What was expected instead of `mark`, a visit's mark. The visit before it in its lane is `last`, if any. `None` if
-// the visit's stamp is above that of `last`, and its place is `place`.
+// What was expected instead of `mark`, the mark of a visit. `last` is the mark of the lane's previous visit, if there
+// is one. `None` if the stamp of `mark` is above the stamp of `last`, and the place of `mark` is `place`.
 fn expected_after(last: Option<Mark>, place: u64, mark: Mark) -> Option<Expected> {
     if let Some(last) = last {
         if mark.stamp <= last.stamp {
@@ -72,7 +72,7 @@ fn is_before(visit: VisitOf, found: &Option<FailedLine>) -> bool {
 }
 
 /// The visits of each lane are counted in the order of their stamps. Returns the first line with a visit whose place is
-/// not its count, or whose stamp another visit of the lane has. This is tested, not proved.
+/// not the visit's count, or whose stamp another visit of the lane also has. This is tested, not proved.
 pub(crate) fn first_uncounted(
     alloc: Global,
     callers: &[Vec<BareLine<'_>>],

@@ -1,4 +1,4 @@
--- A text that is compared with the pieces of a transcript's text, one after the other, is compared with the whole text.
+-- If a text is compared with the pieces of a transcript's text in turn, it is compared with the whole text.
 use Rattle.std.proofs.Common.{◌≡◌, ◌≢◌, ℕ, ◌+◌, ◌-◌, ◌<◌, ◌≤◌, List, [], ◌++◌, length, drop, take, refl, ap, sym, subst, ◌∙◌, append_assoc, append-nil, arith, min}
 use Rattle.std.proofs.Math.Seq.{take-add}
 use Rattle.std.proofs.lemmas.List.{drop_all, drop_at, drop-append-le, drop-drop, length-append, length-drop, length-take, take-append-drop, take-append-le, take_at}
@@ -10,7 +10,7 @@ use Rattle.transcript_text.specs.Places.{IsIn, text_left}
 use Rattle.transcript_text.specs.declared.printing.place.TextPosition.{TextPosition}
 use Rattle.transcript_text.specs.declared.parsing.reader.TranscriptReader.{TranscriptReader}
 
--- once all of the piece was compared, the rest of the transcript's text is the text after `place`
+-- if the whole piece was compared, the bytes of the transcript's text that are not compared yet are those after `place`
 after_piece : (made : List (List SeenLine)) (same from : ℕ) (piece : List ℕ) (place : TextPosition)
     → IsBefore made same piece from place → from ≡ length piece → drop same (transcript_text made) ≡ text_left place made
 after_piece made same from piece place b over =
@@ -26,7 +26,7 @@ next_piece made same from piece next place following b over is within = record {
   next = after_piece made same from piece place b over ∙ is;
 }
 
--- if nothing comes after the compared part, that part is the whole text
+-- if no byte follows the first `same` bytes of `text`, these bytes are the whole text
 all_same : (same : ℕ) (text : List ℕ) → drop same text ≡ [] → take same text ≡ text
 all_same same text none =
     sym (append-nil (take same text)) ∙ ap (λ following. take same text ++ following) (sym none) ∙ take-append-drop same text
@@ -82,7 +82,7 @@ text_on made same from piece bytes next front place b is front_is alike =
     take-add same (length next) text ∙ ap (λ more. take same text ++ more)
     (sym (is_next made same from piece bytes next place b is) ∙ sym alike ∙ front_is)
 
--- if `bytes` differ from the next bytes of the piece, no text that goes on with `bytes` is the transcript's
+-- if `bytes` differ from the next bytes of the piece, the transcript's text does not continue with `bytes`
 pub other : (made : List (List SeenLine)) (same from : ℕ) (piece bytes next front : List ℕ) (place : TextPosition)
     → IsBefore made same piece from place → next ≡ take (length bytes) (drop from piece)
     → front ≡ take (length next) bytes → front ≢ next
@@ -120,7 +120,7 @@ none_left made same from piece place b whole =
 
 -- ---- reading the text again
 
--- the reader was fed the compared text without its last `left` bytes; if any are left, `place` is where they begin
+-- the reader was fed all compared bytes except the last `left`; if `left` is not 0, these bytes begin at `place`
 pub record FedSoFar (made : List (List SeenLine)) (same left : ℕ) (place : TextPosition) (reader : TranscriptReader) : Type 0 where
   pub within : IsIn place made
   pub few : left ≤ same

@@ -8,7 +8,7 @@ use Rattle.transcript_text.specs.ReadTexts.{HasMoreLines, IsPassed}
 use Rattle.transcript_text.proofs.GroupedLines.{groups_next, groups_push}
 use Rattle.transcript_text.proofs.ReadingOn.{goes_on, gives_so_far, found}
 
--- `next` and `last` have the same lines by caller, with `caller` as the current caller; each added caller has no lines
+-- `next` and `last` group the same lines as `done` and `current`, but `caller` is now the current caller
 record Grown (done : List (List SeenLine)) (current : List SeenLine) (caller : ℕ) : Type 0 where
   next : List (List SeenLine)
   last : List SeenLine
@@ -49,7 +49,8 @@ passes text rest line following least number caller s cut a =
       many = g.many;
     }
 
--- if the text ends after these lines, and their number exceeds the limit, the text is a transcript with too many lines
+-- if only the last line of `text` is unread, and more than `most` lines were counted, `text` is a transcript with too
+-- many lines
 pub more_lines : (text : List ℕ) (least count most : ℕ) → CountedSoFar text least (line_end ++ 10 ∷ []) (count + 1)
     → most < count → HasMoreLines most text
 more_lines text least count most s more =

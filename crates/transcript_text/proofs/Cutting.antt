@@ -1,4 +1,4 @@
--- A text is cut at the first byte of some value in exactly one way.
+-- A text that contains a byte is cut at the first such byte, and in only one way.
 use Rattle.std.proofs.Common.{◌≡◌, ℕ, suc, ◌+◌, ◌%◌, ◌^◌, ◌<◌, ◌==◌, true, false, not, List, [], ◌∷◌, ◌++◌, length, get_or, take, drop, Some, None, refl, sym, subst, add-one, drop-cons, eq-eqb, arith}
 use Rattle.std.specs.Prelude.{decimal}
 use Rattle.std.proofs.lemmas.Bool.{and_parts, eqb-true, false_from_ne_true}

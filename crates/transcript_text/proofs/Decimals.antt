@@ -21,7 +21,8 @@ digits_counted (suc k) n low high fits =
     let front = digits_counted k (n / 10) (omega arith) (omega arith) (omega arith) in
     ap length (decimal_step n (omega arith) fits) ∙ length-append (decimal (n / 10)) ((48 + n % 10) ∷ []) ∙ omega (arith, front)
 
--- if the digits are written over a text from byte `len` on, they follow the first `len` bytes
+-- if `digits` are written over a text from byte `len` on, the new text begins with the old first `len` bytes, then
+-- `digits`
 pub written_on : (len : ℕ) (digits old new rest : List ℕ) → take len new ≡ take len old → drop len new ≡ digits ++ rest
     → take (len + length digits) new ≡ take len old ++ digits
 written_on len digits old new rest before following =

@@ -107,7 +107,7 @@ module _ (s next : SoFar) (line : List ℕ) (most : next.most ≡ s.most) (lines
         kept = λ _. read;
       }
 
-  -- a line after the limit is counted, and not kept
+  -- once the limit is reached, a caller's line is counted, and not kept
   passed_line : s.most ≤ s.lines → IsPassed line (vec_len s.done) (vec_len next.done)
       → (text following : List ℕ) → HasEmitted s text (line ++ 10 ∷ following) → HasEmitted (with_line next) text following
   passed_line many passed text following t = record {
@@ -173,7 +173,7 @@ stays_past s next text line following at is = λ more.
 
 -- ---- a reader, and the rest of a piece
 
--- after a piece is added to the text that a reader was fed, exactly this piece is unread
+-- if `piece` is added to the text that a reader was fed, exactly `piece` is unread
 pub piece_begins : (text piece : List ℕ) (r : TranscriptReader) → HasFed text r → IsAfter (text ++ piece) r piece
 piece_begins text piece r fed = record {
   conforms = subst (ConformsAt r.so_far (text ++ piece)) (ap (λ x. x ++ piece) (append-nil r.rest.items))
@@ -191,7 +191,7 @@ rest_kept text unread r next at clean same rest = record {
   bound = omega (arith, at.bound, ap (λ s. s.lines) same, ap length rest, length-append r.rest.items unread);
 }
 
--- if the unread bytes have the end of the line whose start the reader kept, the reader takes that line
+-- if the unread bytes begin with the end of a line whose start the reader kept, the reader takes this line
 pub line_ends : (text following end line : List ℕ) (r next : TranscriptReader) → IsAfter text r (end ++ 10 ∷ following)
     → lacks 10 end ≡ true → line ≡ r.rest.items ++ end → next.rest.items ≡ []
     → next.so_far.lines ≤ r.so_far.lines + 1

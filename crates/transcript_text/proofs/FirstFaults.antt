@@ -20,8 +20,8 @@ use Rattle.transcript_text.proofs.RisingLines.{all_lines_rise, same_callers}
 tail_of : (x : List ℕ) (a b : List (List ℕ)) → x ∷ a ≡ x ∷ b → a ≡ b
 tail_of x a b e = cc
 
--- after some lines of a transcript, the next line is the transcript's last line, or one of the same caller or a later
--- one
+-- after some lines of a transcript, the next line is the transcript's last line, or a line of the same caller or of a
+-- later caller
 pub next_is : (least : ℕ) (lines others : List SeenLine) (line : List ℕ) (more : List (List ℕ)) → Rising least lines
     → Rising least others
     → (map line_text lines ++ line ∷ []) ++ more ≡ map line_text others ++ line_end ∷ []
@@ -103,7 +103,7 @@ pub rises : (callers : List (List SeenLine)) → TranscriptFits callers → Unde
     → Rising 0 (all_lines callers)
 rises callers fits own = all_lines_rise 0 0 callers (omega arith) (omega (arith, fits.few_callers)) own fits.lines
 
--- the rest does not begin with a whole line that can follow these lines
+-- `rest` does not begin with a whole line that can follow `lines`
 unfoldable pub NoNext : List SeenLine → List ℕ → Type 0
 NoNext lines rest = (line more : List ℕ) → rest ≡ line ++ 10 ∷ more → lacks 10 line ≡ true
     → (line ≡ line_end → ⊥) × ((l : SeenLine) → LineFits l → last_caller 0 lines ≤ l.caller → l.caller < 64
@@ -125,7 +125,8 @@ stops_here lines rest rising not line more cut begins =
           next.1.2 next.1.3
     ]
 
--- if no transcript has the lines of `front` and then the next line of `rest`, the text is no transcript's
+-- suppose that no transcript begins with `front` and the next line of `rest`. If `rest` is empty, suppose also that
+-- `front` is not a whole transcript. Then `text` is not the text of a transcript
 none_after : (text : List ℕ) (front : List (List ℕ)) (rest : List ℕ) → AllLack front → text ≡ lined front ++ rest
     → Stops front rest
     → ((callers : List (List SeenLine)) → rest ≡ [] → front ≡ transcript_lines callers → ⊥)
@@ -148,7 +149,7 @@ none_after text front rest lack parts stops unended callers t =
               append_assoc front (x ∷ []) following ∙ sym whole;
         })
 
--- if no transcript goes on from these lines with the next line, the next line is the first fault
+-- if the next line of `rest` cannot follow `lines` in any transcript, that line is the first fault
 pub fault_here : (text rest : List ℕ) (lines : List SeenLine) (number : ℕ) (callers : List (List SeenLine))
     → Gives callers lines → Rising 0 lines
     → text ≡ lined (front_of lines) ++ rest → number ≡ length lines + 2 → NoNext lines rest → IsFirstFault text number
@@ -268,7 +269,7 @@ one_transcript text a b s t =
 
 -- ---- one first fault
 
--- of two prefixes of a text, the longer one contains the line after the shorter one
+-- if `a` and `b` are first lines of one text, and `b` has more lines, `b` continues `a` with the text's next line
 next_front : (a b : List (List ℕ)) (r s : List ℕ) → AllLack a → AllLack b → lined a ++ r ≡ lined b ++ s
     → length a < length b
     → (line : List ℕ) × ((more : List (List ℕ)) × ((b ≡ a ++ line ∷ more)

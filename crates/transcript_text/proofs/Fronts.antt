@@ -151,7 +151,7 @@ no_empty_front text none =
 
 -- ---- steps in a row
 
--- the rest begins with a step, and after that step the rest ends or has a comma
+-- `rest` begins with a step, which is followed by a comma or by the end of `rest`
 record BeginsSo (rest : List ℕ) : Type 0 where
   step : Step
   other : List ℕ

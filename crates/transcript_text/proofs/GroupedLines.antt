@@ -1,4 +1,4 @@
--- Lines in sequence stay grouped by caller (`Groups`) after one line more, and when a caller is finished.
+-- Lines in sequence stay grouped by caller (`Groups`) if one more line is added, and if a caller is finished.
 use Rattle.std.proofs.Common.{◌≡◌, ℕ, suc, ◌+◌, ◌<◌, List, [], ◌∷◌, ◌++◌, length, refl, sym, ap, subst, ◌∙◌, append_assoc, append-nil, arith}
 use Rattle.std.proofs.lemmas.List.{flat_map_more, map_push}
 use Rattle.key_names.specs.Transcripts.SeenLine.{SeenLine}

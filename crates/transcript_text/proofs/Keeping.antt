@@ -107,7 +107,7 @@ kept_one bs steps lines line now is within fits old = record {
       (each_more LineFits (seen_lines bs steps lines) now old.fits fits);
 }
 
--- if a line's bytes and steps were appended last, the kept line has the content of the line
+-- if the bytes and steps of `line` were appended last, the kept line `named` has the content of `line`
 module _ (bs after_bs : List ℕ) (steps after_steps : List Step) (line : LineView) (named : Line)
     (bytes_are : after_bs ≡ bs ++ bytes_of line.shown) (steps_are : after_steps ≡ steps ++ line.steps.now)
     (named_is : named ≡ kept_line (length steps) (length bs) line) where
@@ -146,7 +146,7 @@ module _ (bs after_bs : List ℕ) (steps after_steps : List Step) (line : LineVi
 grown : (bs after : List ℕ) → take (length bs) after ≡ bs → bs ++ drop (length bs) after ≡ after
 grown bs after e = ap (λ x. x ++ drop (length bs) after) (sym e) ∙ take-append-drop (length bs) after
 
--- a line was read: its steps were appended, and the bytes after reading begin with the old bytes
+-- reading a line appended its steps, and the bytes `after` reading begin with the old bytes `bs`
 module _ (bs after : List ℕ) (steps : List Step) (begins : take (length bs) after ≡ bs) where
   pub seen_grown : (others : List Step) (lines : List Line) → IsKept bs steps lines
       → seen_lines after (steps ++ others) lines ≡ seen_lines bs steps lines

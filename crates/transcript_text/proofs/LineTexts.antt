@@ -259,7 +259,7 @@ last_short text a b c d e s =
       length-append d (32 ∷ e),
     )
 
--- five fields that are spelt right make a line
+-- if each of the five fields spells its part of `read`, the text spells the line `read`
 pub is_read : (text a b c d : List ℕ) (read : ReadLine) → IsSplit text a b c d read.shown.now
     → a ≡ numbers_text (record { caller = read.caller; event = read.event })
     → NumbersFit (record { caller = read.caller; event = read.event })
@@ -295,7 +295,7 @@ pub same_caller : (text : List ℕ) (read : ReadLine) → IsRead text read → (
     → text ≡ line_text line → line.caller ≡ read.caller
 same_caller text read is line fits e = ap (λ (l : SeenLine). l.caller) (is.only line fits e).0
 
--- the last field that was read spells the data of the line that the text spells
+-- if the text spells `line`, the last field that was read spells the data of `line`
 pub shows_data : (text : List ℕ) (read : ReadLine) → IsRead text read → (line : SeenLine) → LineFits line
     → text ≡ line_text line → ShownFits read.word line.shown × (read.shown.now ≡ shown_text line.shown)
 shows_data text read is line fits e =

@@ -19,11 +19,11 @@ use Rattle.transcript_text.proofs.WholeTexts.{line_is, transcript_text-parts}
 
 -- ---- a line
 
--- before any byte is put, all data are left
+-- before any byte of the data is put, all data remain to be put
 pub none_shown : (n : ℕ) (shown : Shown) → n ≡ 0 → data_left n shown ≡ shown_text shown
 none_shown n shown e = rw e refl
 
--- after the head of a line is put, the line's data and line feed are left
+-- after the head of a line is put, the line's data and line feed remain to be put
 pub head_put : (line : LineView) (n : ℕ) (head : List ℕ) → n ≡ 0
     → head ≡ head_text line.caller line.event line.word line.answer line.steps.now
     → (head ++ data_left n (seen_shown line.shown)) ++ codes "\n" ≡ line_left n (seen line)
@@ -33,7 +33,7 @@ pub begun : (n : ℕ) (line : SeenLine) → 0 < n → data_left n line.shown ++ 
 begun zero line some = absurd (omega (arith, some))
 begun (suc n) line some = refl
 
--- if the data are bytes, the hex of the bytes not yet put is left
+-- if the data are bytes, the part still to be put is the hex of the bytes after the first `n`
 pub bytes_left : (n : ℕ) (shown : List ℕ) → data_left n (bytes shown) ≡ encode_lower (drop n shown)
 unfolding shown_text
 bytes_left zero shown = refl
@@ -47,7 +47,7 @@ pub left_of_bytes : (n : ℕ) (shown : List ℕ) → 0 < length shown
     → data_left n (bytes_or_none shown) ≡ encode_lower (drop n shown)
 left_of_bytes n shown some = ap (data_left n) (some_bytes shown some) ∙ bytes_left n shown
 
--- after the next bytes are put, the other bytes are left
+-- if the next `count` bytes are put, only the bytes after them are still to be put
 pub bytes_on : (n count : ℕ) (shown rest front piece new : List ℕ) → rest ≡ drop n shown → front ≡ take count rest
     → new ≡ piece ++ encode_lower front
     → new ++ encode_lower (drop (n + count) shown) ≡ piece ++ encode_lower (drop n shown)
@@ -74,11 +74,11 @@ pub has_shown : (n i : ℕ) (lines : List SeenLine) (line : SeenLine) → slice_
     → n ≤ length (bytes_in line.shown) → HasShown n (drop i lines)
 has_shown n i lines line at few = subst (HasShown n) (sym (found_dropped lines i line at)) few
 
--- the piece, the data that are left and a line feed spell what is left of the line
+-- `piece`, then the remaining data and a line feed, are the part of the line that is still to be put
 abbrev pub Begins : ℕ → List ℕ → Option SeenLine → Type 0
 Begins n piece found = IfSome found (λ line. (piece ++ data_left n line.shown) ++ codes "\n" ≡ line_left n line)
 
--- after the whole rest of a line is put, the lines after that line are left
+-- after the whole rest of a line is put, the lines after this line remain to be put
 pub line_ended : (n i : ℕ) (lines : List SeenLine) (line : SeenLine) (head piece new : List ℕ)
     → slice_get lines i ≡ Some line → Begins n head (slice_get lines i) → piece ≡ head ++ data_left n line.shown
     → new ≡ piece ++ codes "\n"
@@ -88,7 +88,7 @@ line_ended n i lines line head piece new at begins is end =
     from_line n i lines line at ∙ ap (λ text. text ++ text_of (drop (i + 1) lines)) (sym whole)
     ∙ ap (λ text. new ++ text) (sym (lines_whole (drop (i + 1) lines)))
 
--- after a part of a line's rest is put, the other part and the lines after this line are left
+-- after a part of a line's rest is put, the other part and the lines after this line remain to be put
 pub line_goes_on : (n more i : ℕ) (lines : List SeenLine) (line : SeenLine) (head piece : List ℕ)
     → slice_get lines i ≡ Some line → Begins n head (slice_get lines i) → 0 < more
     → piece ++ data_left more line.shown ≡ head ++ data_left n line.shown
@@ -110,7 +110,7 @@ callers_whole (lines ∷ callers) =
     ap (λ text. text ++ callers_text callers) (lines_whole lines)
     ∙ sym (append_assoc (text_of lines) (flat_map text_of callers) (codes "end\n"))
 
--- after the first line is put, the callers' lines are left
+-- after the first line of the text is put, the callers' lines remain to be put
 pub head_done : (place : TextPosition) (callers : List (List SeenLine)) (piece : List ℕ) → place.coming ≡ Head
     → IsIn place callers → piece ≡ codes "rngtranscript 1\n"
     → text_left place callers ≡ piece ++ callers_left place.line place.shown (drop place.caller callers)
@@ -132,7 +132,7 @@ fewer_pieces old new callers piece is some same =
     ap (λ caller. length (drop caller callers)) same in
     omega (arith, text, rest, some)
 
--- before the end of the text, at least the last line is left
+-- before the end of the text, at least the last line remains to be put
 pub some_left : (line shown : ℕ) (callers : List (List SeenLine)) → 0 < length (callers_left line shown callers)
 some_left line shown [] = omega arith
 some_left line shown (lines ∷ callers) =

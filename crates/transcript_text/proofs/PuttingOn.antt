@@ -9,7 +9,7 @@ use Rattle.transcript_text.specs.Putting.{PutSoFar}
 abbrev Known : Type 0
 Known = Option (List ℕ)
 
--- if `x` and then `y` are left of `whole`, and a part of `x` is put, then the rest of `x` and then `y` are left
+-- if `x` and then `y` remain to be put, and a part of `x` is put, then the rest of `x` and then `y` remain to be put
 goes_on : (a b c : Known) (whole x y rest : List ℕ) → PutSoFar a b whole (x ++ y) → PutSoFar b c x rest
     → PutSoFar a c whole (rest ++ y)
 goes_on a b c whole x y rest p q = record {
@@ -20,7 +20,7 @@ goes_on a b c whole x y rest p q = record {
   appends = Appends-trans a b c p.front q.front p.appends q.appends;
 }
 
--- if what is left begins with a piece, and the piece is put, then the text after the piece is left
+-- if the text that remains to be put begins with a piece, and this piece is put, the text after the piece remains
 pub piece_put : (a b c : Known) (whole left piece rest : List ℕ) → PutSoFar a b whole left → left ≡ piece ++ rest
     → Appends b c piece → PutSoFar a c whole rest
 piece_put a b c whole left piece rest p is put = goes_on a b c whole piece rest [] (subst (PutSoFar a b whole) is p)

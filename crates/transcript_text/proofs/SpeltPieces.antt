@@ -137,7 +137,7 @@ pub spelt_whole : (text bytes rest : List ℕ) → SpeltSoFar text bytes rest �
 spelt_whole text bytes rest s done some =
     sym (again text bytes some (s.whole ∙ ap (λ r. encode_lower bytes ++ r) done ∙ append-nil (encode_lower bytes)) s.small)
 
--- like SpeltSoFar; and `new` is `old` with the bytes appended
+-- `SpeltSoFar` holds for some `bytes`, and `new` is `old` with these bytes appended
 pub record AppendedSoFar (text old new rest : List ℕ) : Type 0 where
   pub bytes : List ℕ
   pub whole : new ≡ old ++ bytes

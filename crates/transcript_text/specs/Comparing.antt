@@ -10,7 +10,7 @@ pub record Compared : Type 0 where
   pub made : List (List SeenLine)
   pub text : List ℕ
 
--- no text that begins with `text` and goes on with these bytes is the transcript's
+-- no text that begins with `text` and then `bytes` is the text of the transcript
 abbrev pub IsOther : List (List SeenLine) → List ℕ → List ℕ → Type 0
 IsOther made text bytes = (following : List ℕ) → text ++ bytes ++ following ≢ transcript_text made
 

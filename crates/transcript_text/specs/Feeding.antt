@@ -67,7 +67,8 @@ pub record HasEmitted (s : SoFar) (text rest : List ℕ) : Type 0 where
 abbrev pub with_line : SoFar → SoFar
 with_line s = record s { lines = s.lines + 1 }
 
--- at this stage, the text is the lines that were read and then this rest
+-- at this stage, `text` is the lines that were read and then `rest`; a faulty text keeps its first fault, whatever
+-- follows
 abbrev pub ConformsAs : TranscriptStage → SoFar → List ℕ → List ℕ → Type 0
 ConformsAs Head s text rest = IsUnread s × (text ≡ rest)
 ConformsAs Lines s text rest = HasEmitted s text rest

@@ -33,7 +33,7 @@ seen_read read shown = record {
   shown = shown;
 }
 
--- whatever data the line's last field spells, the line with these data fits a transcript
+-- if the line's last field spells some data, the line with these data fits a transcript
 abbrev pub FitsShowing : ReadLine → Type 0
 FitsShowing read = (shown : Shown) → ShownFits read.word shown → read.shown.now ≡ shown_text shown
     → LineFits (seen_read read shown)

@@ -1,4 +1,4 @@
--- What reading a text may return.
+-- The possible results of reading a text.
 use Rattle.std.specs.Prelude.{ℕ, ◌≡◌, ◌<◌, ◌≤◌, ⊤, List, [], ◌∷◌, ◌++◌, length, Result, Ok, Err}
 use Rattle.key_names.specs.Transcripts.SeenLine.{SeenLine}
 use Rattle.key_names.specs.Texts.TranscriptGrammar.{all_lines, line_text, LineFits, IsTranscriptText, IsFirstFault}
@@ -29,7 +29,7 @@ IsReadAs callers (Err (Fault line)) = ⊥
 IsReadAs callers (Err TooManyLines) = ⊥
 IsReadAs callers (Err NoMemory) = ⊤
 
--- the text spells one more line, of the current caller or of a later one; `new` and `next` have this line too
+-- the text spells a line of the current caller or of a later one; `new` and `next` are the lines with this line added
 pub record AddsLine (text : List ℕ) (old new : List (List SeenLine)) (current next : List SeenLine) : Type 0 where
   pub line : SeenLine
   pub fits : LineFits line

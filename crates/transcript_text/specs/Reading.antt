@@ -1,4 +1,4 @@
--- What reading a piece of text may return.
+-- The possible results of reading a piece of text.
 use Rattle.std.specs.Prelude.{ℕ, ◌≡◌, ◌≢◌, ◌≤◌, ◌==◌, ◌&&◌, Bool, true, not, List, [], ◌∷◌, Option, MatchOption, length}
 use Rattle.std.specs.List.{AllByRecursion}
 use Rattle.key_names.specs.declared.names.Step.{Step}

@@ -21,17 +21,18 @@
 //! # Proved
 //!
 //! - [`read`] and [`TranscriptReader::finish`]: if memory does not run out, the result is the transcript with this
-//!   text, or the first faulty line if there is no such transcript. A [`TranscriptReader`] also returns an error for
-//!   more lines than its limit.
+//!   text, or the first faulty line if there is no such transcript. A [`TranscriptReader`] also returns an error if
+//!   the text has more lines than its limit.
 //! - [`write_all`] and [`LineWriter::write`]: the sink has got the text of the lines, or a prefix of this text if the
 //!   sink counted a fault.
 //! - [`CallerLines::push`] allocates nothing: it requires room for the line.
-//! - [`laws::written_text`]: if lines are under their own callers' numbers, they are read again as they were written.
+//! - [`laws::written_text`]: if each line is listed under its own caller's number, reading the written text gives the
+//!   same lines.
 //! - [`laws::one_transcript`]: a text is the text of at most one transcript.
 //!
 //! # Tested only
 //!
-//! Each put has at most 4,096 bytes, of one line: `transcript_text_tests` of `test_texts`.
+//! Each put writes at most 4,096 bytes, all of one line: `transcript_text_tests` of `test_texts`.
 #![tactic(auto)]
 
 mod caller_lines;

@@ -1,4 +1,4 @@
-//! Writing a transcript, and comparing a text with the one that would be written.
+//! Writing a transcript, and comparing a text with the text that would be written.
 
 pub(crate) mod comparison;
 pub(crate) mod line_buffer;

@@ -33,7 +33,7 @@ impl Transcript {
         ensures lines { result ≡ map (λ c. c.lines) callers.items }
         ensures fits { TranscriptFits result }
     {
-        // By the contract of `lines` the lines of a caller fit, as the invariant of this type requires.
+        // The contract of `lines` ensures that the lines of a caller fit, which the invariant of this type requires.
         for caller in &callers {
             let _lines = caller.lines();
         }

@@ -1,4 +1,4 @@
-//! Lines by reference, with their steps and data, wherever these are kept.
+//! Lines that borrow their steps and data, wherever these are kept.
 ghost use Rattle.std.specs.Prelude.{◌≡◌};
 ghost use Rattle.transcript_text.specs.Views.{bytes_of};
 

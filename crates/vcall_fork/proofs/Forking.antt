@@ -1,4 +1,4 @@
--- A fork leaves the parent's call as it was. If a child gives out bytes of its state, the child read a key after the
+-- A fork does not change the parent's call. If a child gives out bytes of its state, the child read a key after the
 -- fork.
 use Rattle.std.proofs.Common.{◌≡◌, ◌≢◌, ◌⊎◌, ℕ, ◌<◌, ◌≤◌, Bool, true, false, List, [], ◌∷◌, ◌++◌, refl, sym, ap, subst, ◌∙◌, inl, inr, arith}
 use Rattle.std.specs.Prelude.{◌==◌, ◌&&◌, ◌||◌, MatchBool, if◌then◌else◌}
@@ -64,8 +64,8 @@ fresh_left : (taken wiped : Bool) (low : ℕ) (s : VgetrandomState) → 1 ≤ lo
 fresh_left taken true low s some fresh = inl (omega arith)
 fresh_left taken false low s some fresh = fresh
 
--- if the attempt with the steps `tried` held, a key was read; if it ended as outdated, all generations published in
--- `rest` are above the state's generation
+-- if the attempt with the steps `tried` ended with `holds`, a key was read. If it ended with `outdated`, all
+-- generations that `rest` publishes are above the generation of the state
 record Recorded (taken : Bool) (high : ℕ) (tried rest : List HostStep) (attempt : Attempt) : Type 0 where
   held : attempt.end ≡ holds → takes_key taken tried ≡ true
   again : attempt.end ≡ outdated → (low : ℕ) × (attempt.state.generation < low) × Climbs low high rest
@@ -119,8 +119,8 @@ recorded_after taken high tried rest attempt after entries is recorded = record 
       (k.0, omega arith, k.2);
 }
 
--- `Recorded` holds from a point on, if it holds for the steps after the point; `Holds` is what these steps need of the
--- state
+-- if `Recorded` holds for the steps after a point, it also holds for the steps from the point on. `Holds` is the
+-- condition on the state that the steps after the point need
 at_recorded : (point : Point) (GoesOn : VgetrandomState → List HostStep → Attempt → Type 0) (Holds : VgetrandomState → Type 0)
     (s : VgetrandomState) (taken now : Bool) (low high : ℕ) (tried rest : List HostStep) (attempt : Attempt) →
     (if is_same_point point Start then false else taken) ≡ now → AtPoint point GoesOn s tried attempt →

@@ -128,7 +128,7 @@ module _ (lists : Lists) (caller k : ℕ) where
       from h)
       (λ u c v rest later g on b. outdated_named place.turn n flags c some u v rest later g on b) good r
 
--- After a wipe a list continues as a new one does
+-- After a wipe, the list of a state continues like the list of a new state
 module _ (caller state other : ℕ) where
   record SameTurn (s t : NamedState) : Type 0 where
     expected : s.expected ≡ t.expected
@@ -157,7 +157,8 @@ module _ (caller state other : ℕ) where
       let rest = same_list (state_step caller state s e) (state_step other state t e) es (same_step s t e k) may.1 in
       ((same_follow s t e k may.0, rest.0), rest.1)
 
-  -- if the whole list is in order, the entries after the wipe are in order
+  -- if each entry of the whole list may follow those before it, the entries after the wipe may also be the list of a
+  -- new state of the caller `other`
   after_wipe : (s : NamedState) (before after : List VEntry) →
       LawfulFrom MayFollow (state_step caller state) s (before ++ Wipe ∷ after) →
       LawfulFrom MayFollow (state_step other state) state_start after

@@ -11,7 +11,7 @@ hit_below : (b : Bool) → hit b ≤ 1
 hit_below true = omega arith
 hit_below false = omega arith
 
--- at most one of the two conjunctions is true, since a and b are not both true
+-- if a and b are not both true, at most one of the two conjunctions is true
 one_of_two : (a b x y : Bool) → (a ≡ true → b ≡ true → ⊥) → hit (a && x) + (hit (b && y) + 0) ≤ 1
 one_of_two true true x y apart = absurd (apart refl refl)
 one_of_two true false x y apart = let k = hit_below x in omega arith

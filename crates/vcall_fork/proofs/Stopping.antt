@@ -34,7 +34,7 @@ turn_is Second Written = refl
 turn_is Second Serve = refl
 turn_is Second End = refl
 
--- two attempts with one number are the same
+-- two attempts with the same number are equal
 same_turn : (a b : Turn) → (turn_number a == turn_number b) ≡ true → a ≡ b
 same_turn First First h = refl
 same_turn First Second h = absurd (cc h)
@@ -61,7 +61,7 @@ module _ (turn : Turn) (point : Point) where
       ap (λ (b : Bool). if b then None else passes_by turn point now (xs ++ ys)) k.0
       ∙ passes_on now mid xs ys k.1
 
-  -- steps without a point do not stop a call
+  -- if the steps `xs` do not reach the wanted point, and `ys` has no point, then `xs ++ ys` does not reach it
   quiet_on : (begun mid : ℕ) (xs ys : List HostStep) → passes_by turn point begun (points_of xs) ≡ Some mid →
       points_of ys ≡ [] → passes_by turn point begun (points_of (xs ++ ys)) ≡ Some mid
   quiet_on begun mid xs ys h quiet =
@@ -72,7 +72,8 @@ module _ (turn : Turn) (point : Point) where
       Some begun
   quiet begun xs none = ap (passes_by turn point begun) none
 
-  -- a point that is not wanted does not stop a call
+  -- let the steps `xs` not reach the wanted point, let `p` after them be another point, and let `ys` have no point.
+  -- Then all these steps together do not reach the wanted point
   point_on : (begun : ℕ) (t : Turn) (p : Point) (wiped : Bool) (xs ys : List HostStep) →
       passes_by turn point begun (points_of xs) ≡ Some (turns_before t p) →
       is_wanted turn point (turn_number t) p ≡ false → points_of ys ≡ [] →

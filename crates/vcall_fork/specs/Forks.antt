@@ -15,8 +15,8 @@ use Rattle.vdso_state.specs.Places.{AfterPlace, AtPlace, Climbs}
 use Rattle.vcall_fork.specs.declared.stage.Stage.{Stage}
 use Rattle.vcall_fork.specs.Stops.{RestOfCall}
 
--- a call at this stage, with this state and this buffer, came to a place by the steps `before`, which left these
--- entries: if some steps and entries follow from the place on, the whole has `before` and then those steps, and
+-- a call at this stage, with this state and this buffer, reached `place` by the steps `before`, which left `entries`.
+-- Whatever steps and entries follow from `place` on, the rest of the call has `before` and then those steps, and
 -- `entries` and then those entries
 abbrev pub LeadsTo : Stage → List ℕ → VgetrandomState → ℕ → ℕ → Place → List ℕ → VgetrandomState → List HostStep →
     List VEntry → Type 0
@@ -24,8 +24,9 @@ LeadsTo stage held s n flags place out t before entries = (rest : List HostStep)
     AtPlace n flags place out t rest outcome →
     RestOfCall stage n flags held s (before ++ rest) (prefix_outcome entries outcome)
 
--- the rest of the parent's call ends that call as if it had not been stopped. The rest of the child's call, on a wiped
--- state and a copy of the buffer, ends a call with the parent's steps before the point and a wipe at the point
+-- a fork at `place`. The rest of the parent's call completes that call as if it had not been stopped. The rest of the
+-- child's call has a wiped state and a copy of the buffer. It completes a call that has the parent's steps before the
+-- point, and a wipe at the point
 pub record ForkIsRecorded (stage : Stage) (held : List ℕ) (s : VgetrandomState) (n flags : ℕ) (place : Place)
     (out : List ℕ) (t : VgetrandomState) (before : List HostStep) (entries : List VEntry) : Type 0 where
   pub parent : (rest : List HostStep) (outcome : Outcome) → AfterPlace n flags place out t rest outcome →

@@ -20,7 +20,7 @@ published_or other New = other
 published_or other (At place) = place.published
 published_or other Over = other
 
--- how many looks at the generation the rest of the call may need, and how many system calls
+-- how many looks at the generation the rest of the call may need; `calls_needed` is how many system calls it may need
 abbrev pub looks_needed : Stage → ℕ
 looks_needed New = 5
 looks_needed (At place) = looks_for place.turn
@@ -31,7 +31,7 @@ calls_needed New = 3
 calls_needed (At place) = calls_for place.turn place.point
 calls_needed Over = 0
 
--- the next block, and a bound on it
+-- the number of the next block; `block_limit` is an upper bound on this number
 abbrev pub block_of : Stage → ℕ
 block_of New = 0
 block_of (At place) = place.next_block

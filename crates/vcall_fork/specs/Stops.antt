@@ -27,7 +27,8 @@ RestOfCall New n flags out s steps outcome = IsCall n flags s steps outcome
 RestOfCall (ConformsAt place) n flags out s steps outcome = AfterPlace n flags place out s steps outcome
 RestOfCall Over n flags out s steps outcome = ⊥
 
--- the number of the attempt to which a point belongs, after `begun` attempts: each point Start begins an attempt
+-- the number of the attempt to which a point belongs, if `begun` attempts began before the point; a point Start begins
+-- an attempt
 abbrev pub turn_at : ℕ → Point → ℕ
 turn_at begun point = if is_same_point point Start then suc begun else begun
 
@@ -48,8 +49,8 @@ pub record Misses (turn : Turn) (point : Point) (begun : ℕ) (steps : List Host
 
 module _ {H : Type 0} (host : Doings H) (floor : H → ℕ) where
   -- the call, which last found `look` published, is stopped at this point of this attempt, before the host's step
-  -- there. The call keeps the generation that it found last. The host has these looks and system calls left for the
-  -- call
+  -- there. `place` records the generation that the call found last: the last look of the steps, or else `look`. A host
+  -- with these looks and system calls left can serve the rest of the call
   pub record Stopped (From : List HostStep → Outcome → Type 0) (n flags : ℕ) (turn : Turn) (point : Point)
       (begun look : ℕ) (stage : Stage) (looks calls : ℕ) (h next : H) (s : VgetrandomState)
       (buf : List ℕ) : Type 0 where

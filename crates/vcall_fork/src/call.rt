@@ -78,7 +78,7 @@ impl VCall {
         }
     }
 
-    // Runs to the next point, or to the end if no point comes.
+    // Runs to the next point, or to the end if the call reaches no other point.
     fn go_on<H: VHost>(&self, host: &mut H, st: &mut VState, buf: &mut [u8]) -> Came
         requires open { is_open self.now.stage ≡ true }
         requires length { length buf.old ≡ self.now.len }

@@ -1,9 +1,10 @@
 //! Calls of vgetrandom (lib/vdso/getrandom.c) that stop at a point, and a fork during the stop.
 //!
-//! A process can fork during one of its calls, in a signal handler. Then the call ends twice. The child has its own
-//! copy of the buffer, and its state is empty, since the kernel maps states so that a fork wipes them
-//! (`VM_WIPEONFORK`). [`VCall`] is such a call: it runs to a point, is forked there, and ends in the parent and in the
-//! child, over any host of `vdso_state`. The parts of a call, each from one point to the next, come from that crate.
+//! A process can fork during one of its calls, in a signal handler. Then the call ends twice, once in the parent and
+//! once in the child. The child has its own copy of the buffer, and its state is empty, since the kernel maps states so
+//! that a fork wipes them (`VM_WIPEONFORK`). [`VCall`] is such a call: it runs to a point, is forked there, and ends in
+//! the parent and in the child, over any host of `vdso_state`. The parts of a call, each from one point to the next,
+//! are those of `vdso_state`.
 //!
 //! # Example
 //!
@@ -27,21 +28,24 @@
 //!
 //! # Proved
 //!
-//! - [`VCall::run_to`] and [`VCall::finish`]: the call stops at the point, or runs to its end. Both are parts of one
-//!   call of the relation of `key_names`.
-//! - [`VCall::fork_call`] leaves the parent's call, and gives the child a wiped state and a copy of the buffer.
-//! - [`laws::forks_are_recorded`]: the child's call is one that was wiped at the point of the fork.
+//! - [`VCall::run_to`] and [`VCall::finish`]: the call stops at the point, or runs to its end. The steps of both are
+//!   those of one call, as `key_names` defines a call.
+//! - [`VCall::fork_call`] leaves the parent's call unchanged, and gives the child a wiped state and a copy of the
+//!   buffer.
+//! - [`laws::forks_are_recorded`]: the child's call is a call whose state was wiped at the point of the fork.
 //! - [`laws::child_takes_key`]: if the child's bytes come out of its state, the attempt that gave them read a new key
 //!   after the fork.
 //! - [`laws::forks_share_nothing`]: in a lawful book the states of two callers never use the same byte of a key.
 //!
 //! # Tested only
 //!
-//! Nothing beyond what is proved. `vcall_fork_tests` of `test_core` forks at all eight points and attempts.
+//! Nothing beyond what is proved. `vcall_fork_tests` of `test_core` forks at each of the four points, in each of the
+//! two attempts.
 //!
 //! # Differs from the kernel
 //!
-//! The wipe is a part of [`VCall::fork_call`]. In the kernel the mapping of the state's memory makes the wipe.
+//! The wipe is a part of [`VCall::fork_call`]. In the kernel the mapping of the state's memory (`VM_WIPEONFORK`) causes
+//! the wipe.
 #![tactic(auto)]
 
 pub mod call;

@@ -17,7 +17,8 @@ use Rattle.vdso_state.proofs.Leading.{in_call, says, then_came}
 use Rattle.vdso_state.proofs.Stepping.{ne-eqb, asks_at_once}
 
 module _ {H : Type 0} (host : Doings H) (floor : H → ℕ) (n flags look : ℕ) where
-  -- if `From` allows an ending by the system call, a call that ends in this way comes to its end under `From`
+  -- if `From` allows each ending by the system call, and the call ends in this way under `BySystem`, then the call ends
+  -- in this way under `From`
   said_asked : (From : List HostStep → Outcome → Type 0) (s : VgetrandomState) (h last : H) (finish : Finish) →
       ((steps : List HostStep) (outcome : Outcome) → BySystem n flags s steps outcome → From steps outcome) →
       Ends host floor (BySystem n flags s) h last finish →
@@ -65,7 +66,7 @@ module _ {H : Type 0} (host : Doings H) (floor : H → ℕ) (n flags look : ℕ)
         (λ steps outcome r. match_false _ _ _ (ne-eqb published 0 ready) (match_false _ _ _ (ne-eqb n 0 some)
         (match_true _ _ _ busy r))) ends
 
-    -- the call comes to the first point of its first attempt
+    -- the call reaches the first point of its first attempt
     pub tries : (t : VgetrandomState) (g : ℕ) (buf : List ℕ) → published ≢ 0 → n ≢ 0 → s.in_use ≡ false →
         t ≡ record s { in_use = true } → host.publishes_as h g last → floor h ≤ g → g ≤ floor last →
         CameTo host floor (FromPublished n flags s published) n flags look

@@ -1,4 +1,4 @@
--- Parts of a call, one after another, are one part of the call (`Leads`, `Ends`, `CameTo`).
+-- If parts of a call follow one another, together they are one part of the call (`Leads`, `Ends`, `CameTo`).
 use Rattle.std.proofs.Common.{◌≡◌, ℕ, ◌≤◌, Bool, List, [], ◌∷◌, ◌++◌, refl, sym, ap, subst, ◌∙◌, append_assoc, arith}
 use Rattle.key_names.specs.declared.entries.VEntry.{VEntry}
 use Rattle.key_names.specs.Kernel.Vgetrandom.{HostStep, publishes, system_call, at_point, Attempt, AttemptEnd, holds, outdated, not_keyed, Outcome, prefix_outcome, prefix_attempt, wipe_entry, AtPoint, AfterAttempt}

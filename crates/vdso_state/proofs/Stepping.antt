@@ -44,7 +44,7 @@ key_not_read (failed why) errno buf s answers = (answers, (buf, refl))
 no_error : (errno : Errno) → (let done : Result (Unit {0}) Errno = Ok tt in done ≡ Err errno) → ⊥
 no_error errno same = cc
 
--- an attempt at whose end the published generation was not the state's
+-- an attempt that ended while the published generation was not the state's
 abbrev outdated_attempt : List ℕ → ℕ → VgetrandomState → Attempt
 outdated_attempt out c s = record { out = out; state = s; next_block = c; entries = []; end = outdated }
 
@@ -100,7 +100,7 @@ module _ {H : Type 0} (host : Doings H) (floor : H → ℕ) where
   module _ (turn : Turn) (n flags look : ℕ) (Tail : List HostStep → Attempt → Type 0) (h mid last : H)
       (tried : List HostStep) (attempt : Attempt) (does : DoesAll host h tried mid)
       (climbs : Climbs (floor h) (floor mid) tried) (tries : Tail tried attempt) (quiet : points_of tried ≡ []) where
-    -- if an attempt ends, and the steps after the attempt end the call and reach no point, the call comes to its end
+    -- if an attempt ends, and the steps after the attempt end the call without reaching a point, the call ends
     ends_after : (s : VgetrandomState) (result : Result VEnd Errno) (buf : List ℕ) →
         (ends : Ends host floor (AfterAttempt n flags (IfOutdated turn n flags) attempt.end attempt) mid last
         (record { state = s; result = result; buf = buf })) → points_of ends.runs.steps ≡ [] →

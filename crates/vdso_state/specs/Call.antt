@@ -1,4 +1,4 @@
--- What a vgetrandom call did on a host.
+-- The result of a vgetrandom call on a host.
 use Rattle.std.specs.Prelude.{ℕ, ◌≡◌, Ok, Err, Result, List}
 use Rattle.key_names.specs.declared.errno.Errno.{Errno}
 use Rattle.vdso_state.specs.declared.outcome.VEnd.{VEnd}

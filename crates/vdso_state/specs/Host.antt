@@ -7,8 +7,8 @@ use Rattle.key_names.specs.Kernel.Vgetrandom.{SystemAnswer, read, failed, HostSt
 use Rattle.key_names.specs.Kernel.VgetrandomState.{VgetrandomState}
 
 -- the steps that a host makes: the generation that it publishes; its answer to a system call of some bytes with some
--- flags; and whether it wipes the state at a point. Each relates the host before the step, the input and the result,
--- and the host after the step
+-- flags; and whether it wipes the state at a point. Each of these relations is over the host before the step, the input
+-- and the result, and the host after the step
 pub record Doings (H : Type 0) : Type 1 where
   pub publishes_as : H → ℕ → H → Type 0
   pub answers_as : H → ℕ → ℕ → SystemAnswer → H → Type 0

@@ -57,8 +57,8 @@ last_look look (system_call n flags answer ∷ steps) = last_look look steps
 last_look look (at_point point wiped ∷ steps) = last_look look steps
 
 module _ {H : Type 0} (host : Doings H) (floor : H → ℕ) where
-  -- the host's steps from `h` to `next` lead from `From` to `To`: if `To` holds for the steps that follow, `From` holds
-  -- for these steps and then the following steps
+  -- the host's steps from `h` to `next` lead from `From` to `To`: if `To` holds for later steps, `From` holds for these
+  -- steps followed by the later ones
   pub record Leads (From To : List HostStep → Outcome → Type 0) (h next : H) : Type 0 where
     pub steps : List HostStep
     pub entries : List VEntry
@@ -72,9 +72,9 @@ module _ {H : Type 0} (host : Doings H) (floor : H → ℕ) where
     pub runs : Runs host From h last finish
     pub climbs : Climbs (floor h) (floor last) runs.steps
 
-  -- a call of n bytes for which `From` holds comes to its next point, or to its end without a point. The call then has
-  -- this state and this buffer. The place's `published` is the last generation published up to the point; `look` is the
-  -- last one published before these steps
+  -- a call of `n` bytes for which `From` holds reaches its next point, or ends without another point. The call then has
+  -- the state `s` and the buffer `buf`. The place's `published` is the last generation published up to the point.
+  -- `look` is the last generation published before these steps
   abbrev pub CameTo : (List HostStep → Outcome → Type 0) → ℕ → ℕ → ℕ → Came → H → H → VgetrandomState → List ℕ → Type 0
   CameTo From n flags look (At place) h next s buf =
       (leads : Leads From (AtPlace n flags place buf s) h next) × (points_of leads.steps ≡ [])

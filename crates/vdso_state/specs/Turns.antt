@@ -1,4 +1,4 @@
--- What a vgetrandom call may still need at a point of an attempt.
+-- The looks, system calls and points that a vgetrandom call may still need at a point of an attempt.
 use Rattle.std.specs.Prelude.{ℕ}
 use Rattle.key_names.specs.declared.point.Point.{Point}
 use Rattle.key_names.specs.declared.point.Point.TheVariants.{Start, Written, Serve, End}

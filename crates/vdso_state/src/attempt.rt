@@ -57,8 +57,8 @@ fn give_up<H: VHost>(
     ask_system(host, st, buf, flags)
 }
 
-/// After `Start`: if the state's generation is not the published one, the state takes the
-/// published one, and needs a key.
+/// After `Start`: if the state's generation is not the published one, the state takes the published one, and needs a
+/// key.
 fn after_start(st: &mut VState, place: Place) -> Place
     ensures current { st.old.generation ≡ place.published →
         (st.new ≡ st.old) × (result ≡ record place { point = Serve }) }
@@ -94,7 +94,7 @@ fn read_key<H: VHost>(host: &mut H, st: &mut VState) -> Result<(), Errno>
     }
 }
 
-/// After `Written`: reads a new key for the generation that the state has.
+/// After `Written`: reads a new key, for the generation that the state already has.
 fn after_written<H: VHost>(
     host: &mut H,
     st: &mut VState,
@@ -139,7 +139,7 @@ fn after_serve(st: &mut VState, place: Place, buf: &mut [u8]) -> Place
 }
 
 /// After `End`: the bytes may be given out if the state still has the generation that is published now. If the state
-/// was wiped or the core reseeded, the second attempt begins, or the system call has to serve.
+/// was wiped or the core was reseeded, the second attempt begins, or the system call has to serve.
 fn after_end<H: VHost>(
     host: &mut H,
     st: &mut VState,
@@ -175,9 +175,9 @@ fn after_end<H: VHost>(
 
 /// Continues a call after its point: to the next point, or to the end of the call.
 ///
-/// `place` must come from `begin` or from this function, and the buffer has at most 2^20 bytes. The host publishes
-/// nothing below `place.published`, and still has 3 looks in the first attempt or 1 in the second, and the system calls
-/// that may follow, at most 3.
+/// `place` must come from `begin` or from this function, and the buffer has at most 2^20 bytes. The host publishes no
+/// generation below `place.published`. The host still has 3 looks in the first attempt, or 1 in the second. It also has
+/// the system calls that may follow, at most 3.
 ///
 /// # Errors
 ///

@@ -12,7 +12,7 @@ use crate::place::{Came, Place, Turn};
 use crate::state::VState;
 use key_names::{Errno, Point, flags};
 
-/// Begins a call: the call comes to its first point, or ends if it makes no attempt.
+/// Begins a call: the call reaches its first point, or ends if it makes no attempt.
 ///
 /// The host must have 5 looks and 3 system calls, and the buffer must have at most 2^20 bytes.
 pub fn begin<H: VHost>(host: &mut H, st: &mut VState, buf: &mut [u8], flags: u32) -> Came
@@ -80,9 +80,10 @@ pub fn finish<H: VHost>(
 /// not of the published generation, the state takes a new key first. The state may be wiped at the host's points: no
 /// byte of a wiped state is given out.
 ///
-/// The system call serves if the flags are bad, nothing is published yet, the state is in use (for example by a call
-/// around this one; a wipe clears that mark), no key can be read, or both attempts were outdated. If the flags are good
-/// and something is published, a call for no bytes is `Zero`.
+/// The system call serves the bytes if the flags are bad, nothing is published yet, the state is in use, no key can be
+/// read, or both attempts were outdated. The state is in use, for example, if this call is made inside another call on
+/// the state, unless a wipe cleared the mark. If the flags are good and something is published, a call for no bytes
+/// returns `Zero`.
 ///
 /// The host must have 5 looks and 3 system calls, and the buffer must have at most 2^20 bytes.
 ///

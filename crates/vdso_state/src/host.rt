@@ -28,7 +28,7 @@ pub trait VHost {
 
     ghost calls_left: { Self → ℕ };
 
-    /// From now on the host publishes no lower generation.
+    /// A bound: from now on the host publishes no generation below it.
     ghost floor: { Self → ℕ };
 
     /// The generation that the core publishes now: no lower than any before it, or 0 before the core is ready.

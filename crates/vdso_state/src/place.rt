@@ -12,7 +12,7 @@ pub enum Turn {
     Second,
 }
 
-/// A point that a call has reached, before the events at that point. To go on, the call needs this place, its state,
+/// A point that a call has reached, before the events at that point. To continue, the call needs this place, its state,
 /// its buffer and its flags.
 #[derive(Clone, Copy, Debug, PartialEq, Eq)]
 pub struct Place {
@@ -33,7 +33,7 @@ impl Place {
     }
 }
 
-/// How far a call has come.
+/// The progress of a call.
 #[derive(Clone, Copy, Debug, PartialEq, Eq)]
 pub enum Came {
     /// The call is at a point.

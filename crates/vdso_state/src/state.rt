@@ -50,7 +50,7 @@ impl Model for VState {
 }
 
 impl VState {
-    /// A state whose memory is all zeros, as when it is new or after a fork or a wipe.
+    /// A state whose memory is all zeros: a new state, or a state after a fork or a wipe.
     pub fn wiped() -> VState
         ensures { result ≡ wiped_state }
     {
@@ -106,14 +106,14 @@ impl VState {
         BATCH_BYTES - usize::from(self.pos)
     }
 
-    /// A call begins.
+    /// Marks the state as in use, since a call begins.
     pub fn enter(&mut self)
         ensures { self.new ≡ record self.old { in_use = true } }
     {
         self.in_use = true;
     }
 
-    /// A call ends.
+    /// Clears the in-use mark, since a call ends.
     pub fn leave(&mut self)
         ensures { self.new ≡ record self.old { in_use = false } }
     {
@@ -200,8 +200,8 @@ impl VState {
         following + 2
     }
 
-    /// Copies bytes over all of `out`, those left in the batch first. The key's next block is `next_block`; the result
-    /// is the next block after the copy. `next_block` and the length of `out` are at most 2^20.
+    /// Copies bytes over all of `out`, and takes those left in the batch first. The key's next block is `next_block`;
+    /// the result is the next block after the copy. `next_block` and the length of `out` are at most 2^20.
     pub fn copy(&mut self, next_block: u64, out: &mut [u8]) -> u64
         requires near { next_block ≤ 2 ^ 20 }
         requires short { length out.old ≤ 2 ^ 20 }

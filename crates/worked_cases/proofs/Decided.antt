@@ -1,4 +1,4 @@
--- Facts are decided by computing. Each answer comes with its proof.
+-- Whether a statement holds is decided by computing. Each answer, yes or no, comes with its proof.
 use Rattle.std.proofs.Common.{◌≡◌, ◌<◌, ◌≤◌, ◌⊎◌, ℕ, suc, Bool, true, false, Option, Some, None, List, [], ◌∷◌, refl}
 use Rattle.std.proofs.Common.{sym, ap, inl, inr, eqb, leb, arith}
 use Rattle.std.specs.Prelude.{MatchBool}
@@ -56,7 +56,7 @@ abbrev pub negated : {P : Type 0} → Decided P → Decided (P → ⊥)
 negated (yes p) = no (λ f. f p)
 negated (no p) = yes p
 
--- a fact that is equivalent to a decided one is decided
+-- if `P` is decided, an equivalent statement `Q` is decided too
 abbrev pub likewise : {P Q : Type 0} → (P → Q) → (Q → P) → Decided P → Decided Q
 likewise f g (yes p) = yes (f p)
 likewise f g (no p) = no (λ q. p (g q))
@@ -114,7 +114,7 @@ same_bytes = same_list same_number
 
 -- ---- facts that may be found
 
--- the proof of a fact, if it holds
+-- a proof of `P`, if `P` holds
 abbrev pub found : {P : Type 0} → Decided P → Option P
 found (yes p) = Some p
 found (no p) = None

@@ -87,7 +87,8 @@ by_lane marks n all pool base cpus (CpuLane c) = by (leb n c) refl
         (record { once = tt; rise = tt })
     by false e = cpus c (let lt : c < n = grind (arith, nat_tests) in lt)
 
--- the answer for all lanes, if `n` is above the number of each CPU that has a mark; otherwise there is no answer
+-- if `n` is above the number of each CPU that has a mark, decides whether the places of all lanes conform; otherwise
+-- the result is none
 abbrev lanes_from : (marks : List MarkBy) (n : ℕ) → Decided (AllByRecursion (λ by. CpuBelow n by.mark.lane) marks) →
     Option (Decided ((lane : LaneId) → PlacesConform (lane_marks lane marks)))
 lanes_from marks n (no p) = None

@@ -136,7 +136,8 @@ pub at_number : {E : Type 0} (P : ℕ → List E → Type 0) (es : List E) (list
 at_number P es lists here later zero = here
 at_number P es lists here later (suc c) = later c
 
--- `P` holds of each list with the list's number, and of the empty list with each later number
+-- a proof that `P` holds of each list and its number, and of the empty list and each later number; none if one of the
+-- proofs is not found
 abbrev pub each_list : {E : Type 0} (P : ℕ → List E → Type 0) → ((c : ℕ) → P c []) →
     ((c : ℕ) (es : List E) → Option (P c es)) →
     (lists : List (List E)) → Option ((c : ℕ) → P c (list_at lists c))
@@ -163,7 +164,8 @@ abbrev named : {N : Type 0} (Q : N → Type 0) → ((n : N) → Option (Q n)) �
 named Q d None = Some (λ n e. absurd (none_is_not_some n e))
 named Q d (Some m) = found_by (λ q n e. at_name Q m n q e) (d m)
 
--- `Q` holds of each entry's place and the name that the entry contains, if it contains one
+-- a proof that `Q` holds of the place and the name of each entry that contains a name; none if one of the proofs is not
+-- found
 abbrev pub each_name : {E N : Type 0} (name : E → Option N) (Q : ℕ → N → Type 0) → ((p : ℕ) (n : N) → Option (Q p n)) →
     (es : List E) → Option ((p : ℕ) (n : N) → option_and_then name (slice_get es p) ≡ Some n → Q p n)
 each_name name Q d [] = Some (λ p n e. absurd (no_entry name p n e))

@@ -148,7 +148,7 @@ never_fall [] = Some tt
 never_fall (a ∷ []) = Some tt
 never_fall (a ∷ b ∷ rest) = found_both (λ p q. (p, q)) (found (at_most a b)) (never_fall (b ∷ rest))
 
--- `m` is a meaning of the vread. `DoneBy` is the vread's kind: a copy, or a vgetrandom call.
+-- `m` is a meaning of a vread of the kind `DoneBy`: a copy, or a vgetrandom call
 pub record WayFound (lists : Lists) (before : CallerState) (acts : List BoundAct) (line : SeenLine)
     (DoneBy : CallMeaning → Type 0) : Type 0 where
   pub m : CallMeaning

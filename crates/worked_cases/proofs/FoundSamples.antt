@@ -44,7 +44,7 @@ abbrev each_at : {E : Type 0} (R : ℕ → E → Type 0) → ((k : ℕ) (e : E) 
     Option (EachAt R es)
 each_at R d es = each_name Some R d es
 
--- a place of the list, and the entry there; `R` holds of the two
+-- a place of the list, the entry at that place, and a proof that `R` holds of both
 pub record Place {E : Type 0} (R : ℕ → E → Type 0) (es : List E) : Type 0 where
   pub at : ℕ
   pub entry : E
@@ -72,7 +72,8 @@ found_if (no p) o = Some (λ h. absurd (p h))
 abbrev Visits : Type 0
 Visits = List (Visit CpuEntry)
 
--- at a place before `k`, the same event made a dump due; for `DumpAfter`, at a later place the same event dumped
+-- at a place before `k`, the event of `who` made a dump due; `DumpAfter` requires that this event dumped at a place
+-- after `k`
 abbrev DueBefore : Visits → ℕ → Who → Type 0
 DueBefore visits k who =
     Place (λ i v. (i < k) × (SameEvent v.who who × MakesDue (fast_before visits i) v.entry)) visits

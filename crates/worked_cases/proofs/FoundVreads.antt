@@ -116,7 +116,8 @@ keyed_with set n c g h wiped s other call rest = found_both (λ form r. record {
   );
 }) (system_call_found set 32 0 call) (read_found (answer_after 0 call))
 
--- an attempt that reads a key: its system call has two looks, at most one visit of the base, and one visit of a CPU
+-- finds an attempt that reads a key. The attempt's system call has two looks, at most one visit of the base, and one
+-- visit of a CPU
 abbrev keyed_found : (set : Setting) (n c g : ℕ) (wiped : Point → Bool) (s : VgetrandomState) →
     ((state_left (wiped Start) s).generation == published_by g) ≡ false → (effects : List Effect) →
     Option (AttemptFound set n c s (looked g ∷ effects))
@@ -136,7 +137,8 @@ attempt_found set n c wiped s (looked g ∷ effects) = by ((state_left (wiped St
     by false e = keyed_found set n c g wiped s e effects
 attempt_found set n c wiped s _ = None
 
--- the steps after an attempt: no steps if the attempt holds, and those of `again` if the attempt is outdated
+-- finds the steps after an attempt: no steps if the attempt ended with `holds`, and those of `again` if it ended with
+-- `outdated`
 abbrev after_found : (set : Setting) (n flags : ℕ) (Outdated : ℕ → VgetrandomState → List HostStep → Outcome → Type 0)
     (end : AttemptEnd) (attempt : Attempt) (effects : List Effect) →
     Option (HostFound set (Outdated attempt.next_block attempt.state) effects) →
@@ -174,7 +176,7 @@ abbrev tried : {P : Type 0} {Q : Type 0} → Option P → (P → Option Q) → O
 tried (Some p) f = f p
 tried None f = None
 
--- the acts happen only in the first attempt, so no point of the second attempt has a wipe
+-- finds the second attempt. Acts happen only in the first attempt, so no point of the second attempt has a wipe
 abbrev second_found : (set : Setting) (n flags c : ℕ) (s : VgetrandomState) (effects : List Effect) →
     Option (HostFound set (SecondAttempt n flags c s) effects)
 second_found set n flags c s effects = tried (attempt_found set n c (λ p. false) s effects)

@@ -82,7 +82,7 @@ inner (first ∷ lines) = but_two lines
     but_two (a ∷ b ∷ []) = []
     but_two (a ∷ b ∷ c ∷ rest) = a ∷ but_two (b ∷ c ∷ rest)
 
--- the lines of the text, by caller, for this many callers
+-- the lines of the text, grouped by caller, for this many callers
 abbrev pub lines_of : ℕ → List ℕ → List (List SeenLine)
 lines_of callers text =
     let lines = map line_of (inner (parts 10 text)) in

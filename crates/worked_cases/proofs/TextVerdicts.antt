@@ -87,7 +87,7 @@ abbrev script_or_none : Result Script ScriptFault → Script
 script_or_none (Ok script) = script
 script_or_none (Err fault) = record { version = 0; cpus = 0; callers = [] }
 
--- the script that `input` spells, if it spells one; `lines_in` has the lines of `output`
+-- the script that `input` spells, if it spells one; `lines_in` gives the lines of `output`
 abbrev pub script_in : List ℕ → Script
 script_in input = script_or_none (script_of input)
 
@@ -108,7 +108,7 @@ texts_found input output = found_both (λ s l. record
     { script_is = script_takes input (script_in input) s; lines_are = l })
     (gives_script (script_of input)) (text_found output (lines_in input output))
 
--- the number of the verdict, or 1 if the texts are not a script's and a transcript's
+-- the number of the verdict, or 1 if the texts are not those of a script and of a transcript
 abbrev number_of : {input output : List ℕ} → Option (TextsFound input output) → Verdict (script_in input)
     (lines_in input output) → ℕ
 number_of (Some f) v = verdict_number v

@@ -58,7 +58,7 @@ case_calls case = script_calls (script_in case.script) (lines_in case.script (tr
 abbrev CallsHave : Case → Lists → Type 0
 CallsHave case lists = AllByRecursion (AllByRecursion (CallHas lists)) (case_calls case)
 
--- the texts are a script's and a transcript's, and the clauses on lines and marks hold for them
+-- the case's texts are those of a script and a transcript, and the clauses on lines and marks hold for them
 abbrev HasFront : Case → Type 0
 HasFront case = is_some (front_found case.script (transcript_with case.lines)) ≡ true
 
@@ -131,7 +131,7 @@ no_attempt set rest n flags s outcome attempt shows =
     let looks = subst (λ (h : List HostStep). Shows set h []) begins shows in
     no_first _ _ looks.2
 
--- one look is not enough to serve from a wiped state
+-- a vread of 40 bytes has no meaning if its state is wiped and its only effect is a look that finds 1
 wiped_needs_a_key : (m : CallMeaning) → current_state m.before ≡ wiped_state → looked 1 ∷ [] ≡ m.own.effects →
     VreadMeans 40 0 [] m → ⊥
 wiped_needs_a_key m wiped effects means =

@@ -42,7 +42,7 @@ no_hardware = replicate 32 0
 abbrev nobody : Who
 nobody = record { caller = 0; event = 0; step = 0 }
 
--- the visit at a place, made of its entry and its mark
+-- the visit at a place, made of the entry and the mark of that place
 abbrev visit_at : {E : Type 0} → LaneId → ℕ → E → List MarkBy → Visit E
 visit_at lane place e [] = record { stamp = 0; who = nobody; entry = e }
 visit_at lane place e (by ∷ marks) =
@@ -106,7 +106,7 @@ means_again lists states settings first (calls ∷ callers) (m ∷ ms) h = (
   means_again lists states settings (suc first) callers ms h.1,
 )
 
--- a transcript has a book, and its calls have meanings
+-- a book of a transcript, and meanings of the transcript's calls
 pub record FormsFound (script : Script) (t : List (List SeenLine)) : Type 0 where
   pub book : Book
   pub ms : List (List CallMeaning)

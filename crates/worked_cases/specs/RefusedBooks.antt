@@ -45,8 +45,8 @@ lone_dump = record {
   callers = [];
 }
 
--- the list of a state that takes a key and makes no batch; `only_blocks` is that of a state that then serves blocks and
--- makes no batch
+-- the list of a state that takes a key and makes no batch. `only_blocks` is the list of a state that takes a key,
+-- serves whole blocks, and makes no batch
 abbrev pub only_rekeyed : List VEntry
 only_rekeyed = Rekey 0 0 ∷ []
 

@@ -1,5 +1,5 @@
-//! Worked cases of scripts and transcripts, each as the contract of a function without code. The prover computes the
-//! definitions, and the crate uses lemmas of `transcript_text`. The crate runs no code of the program.
+//! Worked cases of scripts and transcripts, each as the contract of a function without code. The prover evaluates the
+//! definitions on each case, and uses lemmas of `transcript_text`. No code of the program runs.
 //!
 //! Every transcript was made by an implementation that shares nothing with this repository. The bytes of all but three
 //! are those of the kernel's own C code (drivers/char/random.c, lib/vdso/getrandom.c).
@@ -22,7 +22,7 @@
 //! - [`readiness`], [`generators`], [`sample_events`], [`many_callers`], [`vreads`] and [`vread_acts`]: each contract
 //!   states that a transcript is lawful for its script, down to every byte. It also states, for each near miss, which
 //!   clause is the first that fails.
-//! - [`unfit_steps`]: the clause on forms is the first that fails.
+//! - [`unfit_steps`]: for each transcript, the clause on forms is the first that fails.
 //! - [`refusal::near_misses_are_refused`]: if a clause is the first that fails for a text, the text is not that of a
 //!   lawful transcript for the same script.
 //! - [`refused_books`]: books and lists that the definitions refuse.

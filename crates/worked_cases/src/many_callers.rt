@@ -1,4 +1,4 @@
-//! Runs of two callers. Each is one of many orders that are lawful for its script.
+//! Runs of two callers. Each run shows one of many orders that are lawful for its script.
 ghost use Rattle.worked_cases.specs.Runs.{Holds};
 ghost use Rattle.worked_cases.specs.ManyCallers.{both_wait_one_lawful_example, waiter_resumes_one_lawful_example};
 ghost use Rattle.worked_cases.specs.ManyCallers.{fork_wipes_the_childs_state, handed_back_child};

@@ -33,7 +33,7 @@ pub fn dump_without_an_interrupt()
     ensures { ¬ LawfulSamples lone_dump }
 {}
 
-/// The list of a vgetrandom state ends neither with a new key nor with whole blocks, since a new batch follows either.
+/// The list of a vgetrandom state cannot end with a new key or with whole blocks, since a new batch must follow either.
 #[tactic(auto, using(crate::proofs::BooksRefused::only_rekeyed_is_refused, crate::proofs::BooksRefused::only_blocks_is_refused))]
 pub fn state_lists_cut_short()
     ensures rekeyed { ¬ LawfulStateList (cpu_list two_integers) 0 0 only_rekeyed }

@@ -8,8 +8,8 @@ ghost use Rattle.key_names.specs.Lanes.PoolList.{credit, crossing, ready, early,
 ghost use Rattle.key_names.specs.Lanes.BaseList.{base_after, interval};
 ghost use Rattle.worked_cases.specs.Rules.{bits_after, timer_at, finished, rounds, siphash_start};
 
-/// From 127 bits, one more bit crosses 128; from 255, one more crosses 256. A credit that passes both crosses only 256
-/// (`_credit_init_bits`).
+/// At 127 bits, a credit of one bit crosses 128; at 255 bits, it crosses 256. A credit that passes both crosses only
+/// 256 (`_credit_init_bits`).
 #[tactic(auto, using(crate::proofs::WorkedRules::crossings, crate::proofs::WorkedRules::early_is_skipped))]
 pub fn credits()
     ensures crossings { map (λ (n : ℕ). crossing n (credit n 1)) (126 ∷ 127 ∷ 254 ∷ 255 ∷ 256 ∷ [])
@@ -48,7 +48,7 @@ pub fn reseed_intervals()
         ≡ Some 1000 ∷ Some 1000 ∷ Some 2000 ∷ Some 2000 ∷ Some 2000 ∷ Some 3000 ∷ [] }
 {}
 
-/// The round that mixes samples computes SipHash-2-4 of no bytes under the published key 00 01 .. 0f.
+/// SipHash-2-4 of no bytes under the published key 00 01 .. 0f, computed with the round that mixes samples.
 #[tactic(auto, using(crate::proofs::WorkedRules::siphash_of_nothing))]
 pub fn siphash_of_nothing()
     ensures { finished (rounds 2 siphash_start) ≡ 0x726fdb47dd0e0e31 }

@@ -9,13 +9,13 @@ pub fn irq_at_1000_no_dump()
     ensures { Holds irq_at_1000_no_dump }
 {}
 
-/// An interrupt at 1,001 milliseconds dumps, with one bit.
+/// An interrupt at 1,001 milliseconds makes a dump due, and the dump credits one bit.
 #[tactic(auto, using(crate::proofs::SampleLanes::irq_at_1001_dumps_holds))]
 pub fn irq_at_1001_dumps()
     ensures { Holds irq_at_1001_dumps }
 {}
 
-/// Input events are credited by their times. One that repeats a value is credited with no bits.
+/// Input events are credited by their times. An event that repeats a value is credited with no bits.
 #[tactic(auto, using(crate::proofs::SampleLanes::input_timer_holds))]
 pub fn input_timer()
     ensures { Holds input_timer }

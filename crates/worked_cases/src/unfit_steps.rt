@@ -28,8 +28,8 @@ pub fn visit_of_no_cpu()
     ensures { FailsFirst forms_clause visit_of_no_cpu.script (transcript_with visit_of_no_cpu.lines) }
 {}
 
-/// A child may not go on with its parent's batch. The child's state was wiped, so a copy, which has a single look,
-/// cannot serve the child.
+/// A child may not go on with its parent's batch. The child's state was wiped. So a copy from the batch, which has only
+/// one look, cannot serve the child.
 #[tactic(auto, using(crate::proofs::UnfitForms::batch_of_the_parent_fails))]
 pub fn batch_of_the_parent()
     ensures { FailsFirst forms_clause batch_of_the_parent.script (transcript_with batch_of_the_parent.lines) }

@@ -48,7 +48,7 @@ module _ (set : Setting) where
   abbrev pub act_items : List Ask → List ActOutcome → Point → List Item
   act_items asks xs p = items_at_point (bound_acts set asks xs) p
 
-  -- an act that was not done has no steps
+  -- if no act at a point was done, the acts at this point have no steps
   pub untouched_items : (p : Point) (asks : List Ask) (xs : List ActOutcome) → Untouched p asks xs →
       act_items asks xs p ≡ []
   untouched_items p [] xs k = refl
@@ -60,7 +60,7 @@ module _ (set : Setting) where
       go true h rest = ap (λ (l : List Step). items_from a.event 0 l ++ act_items asks xs p) h.empty ∙ rest
       go false h rest = rest
 
-  -- one act made the steps that its line shows
+  -- if one act ran from v to w (`ActRan`), the pass made exactly the steps in the act's line
   act_part : (a : Ask) (v w : View) (y : ActOutcome) → ActRan set a v w y →
       Part set.caller v w (line_items (act_line set a y))
   act_part a v w y k =
@@ -68,7 +68,8 @@ module _ (set : Setting) where
       (part_went set.caller a.event 0 v w k.did.made_steps k.did.recorded.went)
 
   module _ (point : Point) where
-    -- the acts at the point made their steps, if none of them was done before
+    -- if the acts at the point ran from v to w, and no act at the point was done before, the pass made exactly their
+    -- steps
     pub acts_part : (asks : List Ask) (v w : View) (xs ys : List ActOutcome) → ActsAt set point asks v w xs ys →
         Untouched point asks xs → Part set.caller v w (act_items asks ys point)
     acts_part [] v w [] [] k untouched = part_nothing set.caller v w k
@@ -94,7 +95,8 @@ module _ (set : Setting) where
         go false false same h u rest = subst (λ (z : View). Part set.caller z w (act_items asks ys point))
             h.1 rest
 
-    -- the acts of other points stay as they are
+    -- if the acts at `point` ran, the acts at another point q keep their steps; if none of those was done, none is done
+    -- now
     pub acts_elsewhere : (q : Point) → Apart point q →
         (asks : List Ask) (v w : View) (xs ys : List ActOutcome) →
         ActsAt set point asks v w xs ys →

@@ -1,4 +1,4 @@
--- Each act inside a call has its meaning, and the samples of its line are right.
+-- Each act inside a call has its meaning, and the samples of its line match their definition.
 use Rattle.std.proofs.Common.{◌≡◌, ℕ, inl, Bool, true, false, List, [], ◌∷◌, map, refl, sym, ap, subst}
 use Rattle.std.specs.Prelude.{if◌then◌else◌}
 use Rattle.std.specs.List.{AllByRecursion}
@@ -66,7 +66,7 @@ module _ (set : Setting) (w : View) where
         go true = refl
         go false = refl
 
-  -- no act makes a dump due, so the samples of its line are right
+  -- no act makes a dump due, so the samples of its line match their definition
   module _ (lanes : ℕ) (visits : ℕ → List Visit) (callers : StateLists) (c : Continues lanes w visits) where
     abbrev fast : ℕ → ℕ → FastPool
     fast = fast_in visits

@@ -22,7 +22,7 @@ use Rattle.rng_core.specs.SampleEffects.{fast_in}
 use Rattle.caller_run.specs.Done.{CallDone}
 use Rattle.caller_run.proofs.Orders.Chains.{items_from_doings, ran_nothing, ran_went}
 
--- the call of a line made exactly the line's steps, from v to w
+-- the hypotheses: from v to w, the call of `line` made exactly the steps of `line`
 module _ (caller : ℕ) (v w : View) (s : CallerState) (line : SeenLine) (made_steps : List MadeStep)
     (went : Advances caller line.event 0 v w made_steps) (steps : line.steps ≡ map step_of made_steps) where
   order : items_of (numbered_steps_from line.event 0 made_steps) ≡ items_from line.event 0 line.steps
@@ -101,7 +101,8 @@ module _ (caller : ℕ) (v w : View) (s : CallerState) (line : SeenLine) (made_s
     samples = λ lanes visits callers c. (sampled lanes visits callers c, tt);
   }
 
--- an act without a vread after it is not done
+-- if the line of an act without a later vread has no steps, no data and the answer `Unused`, `CallDone` holds for the
+-- act
 pub unbound_done : (caller : ℕ) (v : View) (s : CallerState) (bound : BoundAct) → bound.line.steps ≡ [] →
     bound.line.answer ≡ Unused → bound.line.shown ≡ no_data → CallDone caller v v s s (unbound bound)
 unbound_done caller v s bound none answer shown = record {

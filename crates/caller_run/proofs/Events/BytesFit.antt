@@ -1,4 +1,4 @@
--- The numbers that a line shows as bytes are bytes, and there are as many of them as the line's word allows.
+-- If a line shows numbers as bytes, they are bytes, and their count is one that the line's word allows.
 use Rattle.std.proofs.Common.{◌≡◌, ℕ, List, [], ◌∷◌, Fits, w8, arith}
 use Rattle.std.specs.Prelude.{slice_index, ◌<◌, ◌^◌, ⊤}
 use Rattle.key_names.specs.declared.events.Word.{Word}
@@ -19,7 +19,8 @@ abbrev pub IsSmall : LineData → Type 0
 IsSmall (Count n) = n < 2 ^ 32
 IsSmall _ = ⊤
 
--- the data of a call fit the line of its word
+-- if the served numbers are bytes, a shown count is below 2^32, and `ShowsFit` holds, the data fit a line with this
+-- word
 pub shown_fits : (word : Word) (served : List ℕ) (shows : LineData) → ShowsFit word shows →
     ((i : ℕ) → Fits w8 (slice_index served i)) → IsSmall shows → ShownFits word (shown_by served shows)
 shown_fits word served Nothing fit bytes small = tt

@@ -40,7 +40,7 @@ pub record Rekeys (steps : List HostStep) : Type 0 where
   pub steps_are : steps ≡ system_call 32 0 (read key visit) ∷ rest
   pub copies : Copies rest
 
--- after Written, the read of a new key failed, and a last system call follows
+-- after Written, the read of a new key failed, and one last system call follows
 pub record Fails (steps : List HostStep) : Type 0 where
   pub errno : Errno
   pub n : ℕ
@@ -92,7 +92,7 @@ module _ (n : ℕ) where
             ∙ ap end_of last.attempt_is;
       }
 
-  -- after the point Start, the first step of the caller itself is a look
+  -- if an attempt goes on from the point Start, the caller's own first step is a look
   start_looks : (c published : ℕ) (s : VgetrandomState) (steps more : List HostStep) (attempt : Attempt) →
       FromStart n c published s steps attempt → LooksFirst (steps ++ more)
   start_looks c published s steps more attempt k = go (s.generation == published) k

@@ -1,4 +1,4 @@
--- If the core's call for an event meets its contract, the caller made the call of the event (`Asked`, `Called`).
+-- If the core's call for an event fulfils its contract, the caller made the call of the event (`Asked`, `Called`).
 use Rattle.std.proofs.Common.{◌≡◌, ℕ, List, [], map, refl, sym, ap, subst, arith, rules}
 use Rattle.key_names.specs.declared.events.Answer.{Answer}
 use Rattle.key_names.specs.declared.events.Answer.TheVariants.{Ok as Done}
@@ -32,7 +32,7 @@ use Rattle.caller_run.specs.declared.output.reply.LineData.TheVariants.{Nothing,
 use Rattle.caller_run.specs.declared.output.reply.Reply.{Reply}
 use Rattle.key_names.proofs.Transcripts.QuietForms.{IsNoInterrupt, form_samples}
 
--- the samples of an event that is no interrupt are right
+-- if an event is no interrupt, the samples of its visits match their definition, so `Makes` implies `Does`
 pub quietly : (set : Setting) (event : Event) (answer : Answer) (shown : Shown) (m n : Moment) → IsNoInterrupt event →
     Makes (IsOutcomeOf (setting_of set) event answer shown) set m n → Does set event answer shown m n
 quietly set event answer shown m n other did = record {
@@ -45,7 +45,7 @@ quietly set event answer shown m n other did = record {
   };
 }
 
--- from m to n the call of an event was made
+-- if the core did the event with the answer and the data of the reply, `Asked` holds from m to n
 module _ {event e : Event} {m n : Site} {said : Reply} {served : List ℕ} {steps : ℕ} (is : event ≡ e) where
   pub by_does : {answer : Answer} (shown : Shown) → said.answer ≡ answer → shown_by served said.shows ≡ shown →
       ShowsFit (event_word e) said.shows →
@@ -59,7 +59,7 @@ module _ {event e : Event} {m n : Site} {said : Reply} {served : List ℕ} {step
         shows = fit;
       })
 
-  -- from m to n the call of an event was made, if the event is no interrupt
+  -- if the core completed an event other than an interrupt, with the answer and the data of the reply, `Asked` holds
   pub by_shown : {answer : Answer} (shown : Shown) → said.answer ≡ answer → shown_by served said.shows ≡ shown →
       ShowsFit (event_word e) said.shows → IsNoInterrupt e → Completes steps e answer shown m n →
       Asked event said served m n
@@ -70,14 +70,14 @@ module _ {event e : Event} {m n : Site} {said : Reply} {served : List ℕ} {step
     did = quietly m.set e answer shown (at m) (at n) other done.did;
   })
 
-  -- from m to n the call of an event was made, if the call only gives an answer
+  -- if the core completed an event other than an interrupt, and the reply is only an answer, `Asked` holds
   pub by_answer : {answer : Answer} → said ≡ record { answer = answer; shows = Nothing } → IsNoInterrupt e →
       Completes steps e answer no_data m n → Asked event said served m n
   by_answer says other done =
       by_shown no_data (ap (λ (s : Reply). s.answer) says) (ap (λ (s : Reply). shown_by served s.shows) says)
       (subst (λ (s : Reply). ShowsFit (event_word e) s.shows) (sym says) tt) other done
 
--- an Add event without bytes does what a Credit event must do
+-- if an Add event without bytes is completed, a Credit event with these bits is completed
 pub as_credit : {steps bits : ℕ} {m n : Site} → Completes steps (Add [] bits) Done no_data m n →
     Completes steps (Credit bits) Done no_data m n
 as_credit done = record {
@@ -92,7 +92,7 @@ as_credit done = record {
   };
 }
 
--- an event that makes no call of the core
+-- events that make no call of the core
 
 quiet_fulfil : (set : calls.Setting) (event : Event) → IsQuiet event → IsOutcomeOf set event Done no_data []
 quiet_fulfil set (At moment) is = record { form = refl; answers = refl; shows = refl }
@@ -112,7 +112,8 @@ asks_nothing {event = event} {m = m} can is says = by_answer {steps = 0} refl sa
       (quiet_fulfil (setting_of m.set) event is);
 })
 
--- a call at a site that the caller made from its pass and setting is the caller's own call
+-- if a caller makes a site from its pass and setting, and the call of an event is made at this site, the caller made
+-- the call (`Called`)
 pub called : {event : Event} {m n : Site} {said : Reply} {served : List ℕ} {states : Box States} {p : Pass}
     {steps : List Step} → p ≡ n.pass.now → steps ≡ n.trace.now → m.trace.now ≡ [] → Asked event said served m n →
     Called m.lanes.now event (record { pass = m.pass.now; set = m.set; states = states })

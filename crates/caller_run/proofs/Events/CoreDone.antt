@@ -26,7 +26,7 @@ use Rattle.caller_run.specs.Done.{CallDone}
 use Rattle.caller_run.proofs.Events.AloneDone.{alone_done, ending_done}
 use Rattle.key_names.proofs.Transcripts.QuietForms.{end_samples}
 
--- the event's call took the pass's view from v to w by these steps
+-- if the event's call took the pass's view from v to w by these steps, `CallDone` holds for the event's call
 module _ (set : Setting) (v w : View) (s : CallerState) where
   pub core_done : (event : Event) (word : Word) (answer : Answer) (shown : Shown) (steps : List Step) →
       s.setting ≡ setting_of set → Does set event answer shown (knowing v []) (knowing w steps) →
@@ -63,7 +63,7 @@ module _ (set : Setting) (v w : View) (s : CallerState) where
           (effects_of (book_lists lanes visits callers) l))
           (sym d.recorded.trace) (d.conforms lanes visits callers c)
 
-  -- the end is one of the caller's calls
+  -- if the caller's last visit took the view from v to w by these steps, `CallDone` holds for the caller's end
   pub end_done : (word : Word) (steps : List Step) → Makes (BaseOnly End) set (knowing v []) (knowing w steps) →
       CallDone set.caller v w s s (ending (record {
         caller = set.caller;

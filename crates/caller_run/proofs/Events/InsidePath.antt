@@ -1,5 +1,5 @@
--- A caller is the host of its own vgetrandom call. Its steps as host give the call's path, with the acts at their
--- points.
+-- A caller is the host of its own vgetrandom call. The steps that it makes as the host give the call's path, with the
+-- acts at their points.
 use Rattle.std.proofs.Common.{◌≡◌, ℕ, zero, suc, ◌<◌, ◌≤◌, ◌⊎◌, inl, inr, Bool, List, [], ◌∷◌, ◌++◌, length, drop, map, refl, sym, ap, subst, arith}
 use Rattle.key_names.specs.declared.names.Step.TheVariants.{Look}
 use Rattle.key_names.specs.declared.point.Point.{Point}
@@ -30,7 +30,7 @@ use Rattle.caller_run.proofs.Events.KeyCuts.{key_cut, plain_cut, key_call}
 use Rattle.caller_run.proofs.Orders.OwnSteps.{Spot, view_at, spot, Quiet, BeginsUnmarked, at, line_of, items_at, goes_published, goes_answered, goes_passed, OwnSteps, own_nothing, own_then, own_emitted, own_look, next_items, quietly, Reached, reached_not, reached_first}
 use Rattle.caller_run.proofs.Orders.PartItems.{Part}
 
--- the lists that a pass has seen continue those that it had seen before
+-- the lists that a pass has seen at w extend those that it had seen at v
 known_continues : (v w : View) → Onward v w → 1 < length v.lanes → Consistent w →
     Continues (length w.lanes) v (known_of w)
 known_continues v w onward two consistent =
@@ -252,7 +252,7 @@ module _ (set : Setting) (asks : List Ask) where
     by_either steps (inl c) does = by_copy steps c does
     by_either steps (inr c) does = by_writing steps c does
 
-  -- if a look published a generation, it found one
+  -- if the published generation `g` is at least 1, the core's generation `found` is at least 1
   found_some : (g found : ℕ) → 1 ≤ g → g ≡ published_by found → 1 ≤ found
   found_some g zero ready is = absurd (omega arith)
   found_some g (suc found) ready is = omega arith
@@ -284,7 +284,7 @@ module _ (set : Setting) (asks : List Ask) where
         two = (let f = a.sized in let g = b.sized in let h = e.sized in omega arith);
       }) c.rest c.goes_on start.2
 
-  -- in any vgetrandom call the caller's steps and those of the acts are in the order of `vread_items`
+  -- in any vgetrandom call, the steps of the caller and of the acts are in the order of `vread_items`
   pub inside_part : (n flags : ℕ) (state : VgetrandomState) (steps : List HostStep) (outcome : Outcome) (s t : Spot)
       (last : Attempt) →
       1 < length (view_at s).lanes → ((p : Point) → Untouched p asks s.outcomes) → s.moment.steps ≡ [] →

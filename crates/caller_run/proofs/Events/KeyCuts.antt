@@ -64,7 +64,7 @@ marks_cut event n (step ∷ steps) rest all begins =
     go item true marks e parts = ap (λ (cut : List Item × List Item). (item ∷ cut.0, cut.1)) parts
     go item false marks e parts = absurd (cc e)
 
--- the cut is after the steps for a new key
+-- if `steps` are the steps for a new key, and `rest` does not begin with a visit, `cut_rekey` cuts between them
 pub key_cut : (event n : ℕ) (steps : List Step) (rest : List Item) → IsKeySteps steps → BeginsUnmarked rest →
     AreParts (cut_rekey (items_from event n steps ++ rest)) (items_from event n steps) rest
 key_cut event n [] rest k begins = absurd k
@@ -81,7 +81,7 @@ key_cut event n (a ∷ b ∷ c ∷ more) rest k begins =
     go front marks true e parts = ap (λ (cut : List Item × List Item). (front ++ cut.0, cut.1)) parts
     go front marks false e parts = absurd (cc e)
 
--- the cut is at the front, if there are no steps for a new key
+-- if the third item is not a visit, there are no steps for a new key, and the cut is at the front
 pub plain_cut : (items : List Item) → BeginsUnmarked (drop 2 items) → AreParts (cut_rekey items) [] items
 plain_cut [] begins = refl
 plain_cut (a ∷ []) begins = refl
@@ -146,7 +146,8 @@ module _ (lists : Lists) where
       ∙ ap (λ (l : List Effect). false ∷ map is_visit l) f.effects_are)
       (refl, tt)
 
-  -- a call's first look is at least the largest generation that was seen before it
+  -- if some steps begin with a look, this look finds at least the generation `low`, the largest one seen before the
+  -- steps
   look_seen : (w : View) (low high g : ℕ) (rest : List Effect) (made_steps : List MadeStep) → Sees w low made_steps high →
       effects_of lists (map step_of made_steps) ≡ look_effect g ∷ rest → low ≤ g
   look_seen w low high g rest [] sees e = absurd (cc e)
@@ -156,7 +157,8 @@ module _ (lists : Lists) where
       let no : true ≡ false = sym (visit_at mark.lane mark.place)
       ∙ ap (λ (l : List Effect). elim l as (λ _. Bool) [ [] ↦ true | d ∷ ds ↦ is_visit d ]) e in absurd (cc no)
 
--- once a generation was found, a system call for a new key reads from the CPU, so it has the steps for a new key
+-- if a generation was found before a system call for a new key, the call reads from the CPU, so it has the steps for a
+-- new key
 pub key_call : (set : Setting) (answer : SystemAnswer) (l m : Moment)
     (k : Makes (SystemCall (setting_of set) 32 0 answer) set l m)
     (lanes : ℕ) (visits : ℕ → List Visit) → Continues lanes m.view visits → 1 ≤ floor l.view →

@@ -57,7 +57,7 @@ pub current_is : (states : List VgetrandomState) (i : ℕ) (other : VgetrandomSt
 current_is states i other low = sym (ap (λ (o : Option VgetrandomState). unwrap_or o wiped_state)
     (slice_get-get_or states i other low))
 
--- after a read out of the state `st`, which became `left`, the caller c is d
+-- the caller c read out of the state `st`, which is `left` after the read; the caller is then d
 pub record IsAfter (t : Lanes) (c d : Caller) (said : Reply) (served : List ℕ) (before : List Step)
     (st left : VgetrandomState)
     (ended : Result (Unit {0}) Errno) : Type 0 where
@@ -73,7 +73,7 @@ pub record IsAfter (t : Lanes) (c d : Caller) (said : Reply) (served : List ℕ)
 
 module _ {t : Lanes} {c d : Caller} {said : Reply} {served : List ℕ} {before : List Step} {st left : VgetrandomState}
     {ended : Result (Unit {0}) Errno} (b : IsAfter t c d said served before st left ended) where
-  -- a fact that holds for the read's state and result also holds for the caller's state and the reply
+  -- if a fact holds for `st` and the read's result, it holds for the caller's current state and the reply
   emitted_by : (P : VgetrandomState → Answer → Shown → List Step → Type 0) →
       P st (result_answer ended) (bytes_or_none (given ended served)) before →
       P (current_state (conform c)) said.answer (shown_by served said.shows) []
@@ -111,7 +111,7 @@ module _ {t : Lanes} {c d : Caller} {said : Reply} {served : List ℕ} {before :
       shows = b.bytes;
     }
 
-    -- `StateRead` holds after a read without acts inside
+    -- if `VreadMakes` holds for a read without acts, `StateRead` holds
     pub read_alone : (acts : List Bound) → acts ≡ [] →
         VreadMakes n flags st left (result_answer ended) (bytes_or_none (given ended served)) c.set
         (moment c.pass before) (moment d.pass steps) →
@@ -124,7 +124,8 @@ module _ {t : Lanes} {c d : Caller} {said : Reply} {served : List ℕ} {before :
         (emitted_by (λ s a x l. VreadMakes n flags s left a x c.set (moment c.pass l) (moment d.pass steps)) did))
         refl (steps_fit did.did.made_steps did.did.recorded.trace did.did.recorded.fits) tt)
 
-    -- `StateRead` holds after a read with the acts `acts` inside; `after` are these acts at the end of the read
+    -- if `InsideMakes` and `InsideRan` hold for a read with the acts `acts` inside, `StateRead` holds; `after` are
+    -- these acts at the end of the read
     pub read_inside : (acts after : List Bound) (out out_after : List ℕ) → AllByRecursion IsWaitingAct acts →
         1 < length (view c.pass).lanes →
         asks_of after ≡ asks_of acts →

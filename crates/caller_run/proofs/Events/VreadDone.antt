@@ -36,7 +36,7 @@ use Rattle.caller_run.proofs.Orders.Chains.{items_from_doings, unsplit, ran_went
 use Rattle.caller_run.proofs.Orders.CallSteps.{own_items}
 use Rattle.key_names.proofs.Transcripts.QuietForms.{sys}
 
--- after a look that is no step of the line, the pass has made no new step
+-- if the view changed only by a look that the line does not record (`Stayed`), the pass made no step from v to w
 pub ran_glanced : (caller : ℕ) (v w : View) → Stayed v w → Ran caller v w []
 ran_glanced caller v w k =
     let same : (lane : ℕ) → at lane w ≡ at lane v = λ lane. ap (λ (l : List LaneView). get_or l lane blank) k.lanes in

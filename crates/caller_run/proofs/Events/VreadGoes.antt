@@ -1,4 +1,4 @@
--- After a vread, with the acts that waited for it, the caller can go on and has made one call more.
+-- After a vread and the acts that waited for it, the caller can go on, and has made one more call.
 use Rattle.std.proofs.Common.{◌≡◌, ℕ, ◌+◌, ◌*◌, ◌≤◌, List, [], ◌∷◌, ◌++◌, length, refl, sym, ap, ◌∙◌, subst, arith, length-append}
 use Rattle.key_names.specs.declared.events.Event.{Event}
 use Rattle.key_names.specs.declared.events.Event.TheVariants.{Vread}

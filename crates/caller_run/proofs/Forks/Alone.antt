@@ -52,7 +52,7 @@ use Rattle.caller_run.proofs.Planning.Slots.{put_all}
 
 module _ {t : Lanes} {m : ℕ} {begun : Start} {events rest : List Event} {c d e : Caller} {lines : List SeenLine}
     {said : Reply} {served : List ℕ} {steps : List Step} where
-  -- the only caller goes on after a call of the core
+  -- if the only caller goes on (`GoesAlone`) and makes a call of the core, it goes on after this call
   call_goes : {event : Event} → IsCall event → Called t event c d said served steps → GoesOn event d e →
       GoesAlone t m begun events (event ∷ rest) c lines →
       GoesAlone t m begun events rest e (lines ++ line_of d.set (event_word event) served said steps ∷ [])
@@ -66,7 +66,7 @@ module _ {t : Lanes} {m : ℕ} {begun : Start} {events rest : List Event} {c d e
         gone = gone_call is k on g.gone;
       }
 
-  -- the only caller goes on after a read out of the current state
+  -- if the only caller goes on and reads out of its current state, it goes on after this read
   read_goes : {len flags : ℕ} → StateRead t len flags c d said served steps [] [] → GoesOn (Vread len flags) d e →
       GoesAlone t m begun events (Vread len flags ∷ rest) c lines →
       GoesAlone t m begun events rest e (lines ++ line_of d.set VreadWord served said steps ∷ [])
@@ -123,7 +123,7 @@ pub once_called : (t : Lanes) {c d : Caller} (served : List ℕ) {said : Reply} 
 once_called t served (Vread len flags) k = record { set = k.set; steps_fit = k.steps_fit; shows = (read_kept k).shows }
 once_called t served event k = call_called k
 
--- the line of a call of the core is final when it is made
+-- the line of a call of the core is not replaced later
 pub emitted_once : (event : Event) → IsCall event → IsEmittedOnce event
 emitted_once (Inside point act) is = is
 emitted_once (Fork child) is = is
@@ -136,7 +136,7 @@ called_once event is k = k
 
 -- ---- the start
 
--- no caller is forked
+-- if the events contain no act and no fork, they fork no caller
 pub forks_nobody : (events : List Event) → AllByRecursion IsEmittedOnce events → forks events ≡ []
 forks_nobody [] all = refl
 forks_nobody (event ∷ events) all = first event all.0 (forks_nobody events all.1)
@@ -281,7 +281,8 @@ goes_on {lines = lines} x y event rest d said served steps g k m same long = rec
       (event_goes event d said served steps k m.on g.goes)));
 }
 
--- after one event more, the run goes on for each script of one caller that begins with the events so far
+-- suppose that for each script, if x can go on with `event`, y can go on after it. If x has made the events `done`, y
+-- has made `done` and then `event`
 pub made_one : {cpus : ℕ} {x y : LoneRun} {lines after : List SeenLine} (done : List Event) (event : Event) →
     ((script : Script) (rest : List Event) → IsGoing script (event ∷ rest) x lines → IsGoing script rest y after) →
     HasMade cpus done x lines → HasMade cpus (done ++ event ∷ []) y after

@@ -67,7 +67,7 @@ tells_emitted set m n made_steps t = record {
   order = items_from_doings set.event (length m.steps) made_steps;
 }
 
--- a split is no step
+-- a split of the pass makes no step
 pub ran_halved : (caller : ℕ) (v : View) → RanBy caller 1 v (halved v) []
 ran_halved caller v = record {
   same = record { first = refl; share = refl; halvings = refl; sized = refl };

@@ -1,4 +1,4 @@
--- When one pass has taken in all others, the runs of a whole script meet the premises of the law of all callers.
+-- If one pass has joined all others, the runs of a whole script fulfil the premises of the law of all callers.
 use Rattle.std.proofs.Common.{◌≡◌, inl, inr, ℕ, suc, ◌+◌, ◌<◌, Bool, true, false, Some, List, [], ◌∷◌, ◌++◌, length, refl, sym, ap, ◌∙◌, subst, arith}
 use Rattle.std.specs.Prelude.{slice_get, if◌then◌else◌}
 use Rattle.std.specs.List.{AllByRecursion, sum_by, flat_map}

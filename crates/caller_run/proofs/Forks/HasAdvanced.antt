@@ -1,4 +1,4 @@
--- `HasAdvanced` holds again after one event more, with the event's line and its call or waiting act.
+-- If `HasAdvanced` holds, it holds again after one more event, with the event's line and its call or waiting act.
 use Rattle.std.proofs.Common.{◌≡◌, ℕ, suc, true, List, [], ◌∷◌, ◌++◌, refl, sym, ap, ◌∙◌, subst, arith, append_assoc, length}
 use Rattle.std.specs.List.{AllByRecursion}
 use Rattle.key_names.specs.declared.events.Answer.TheVariants.{Ok as Done}
@@ -45,7 +45,7 @@ call_alone (Vread len flags) is = absurd is
 call_alone (Inside point act) is = absurd is
 call_alone event is = tt
 
--- the lines still fit after one line more
+-- if the lines so far fit, and one more line is that of the next event, all these lines fit
 pub fit_more : (caller n : ℕ) (events : List Event) (event : Event) (rest : List Event) (lines : List SeenLine)
     (line : SeenLine) →
     LineIs caller n (event_word event) line →
@@ -68,7 +68,7 @@ module _ {begun : Start} {events rest : List Event} {event : Event} {c : Caller}
         word_is = refl;
       }
 
--- the caller made an event: it was c before the event and d after the event's call, and is e when it goes on
+-- the caller made an event. The caller is c before the event, d after the event's call, and e when it goes on
 module _ {begun : Start} {events rest : List Event} {event : Event} {c e : Caller} {lines : List SeenLine}
     {asks : List Ask} {kids : List Start}
     (d : Caller) (g : HasAdvanced begun events (event ∷ rest) c lines asks kids) (set : d.set ≡ c.set)
@@ -104,7 +104,7 @@ module _ {begun : Start} {events rest : List Event} {event : Event} {c e : Calle
     idle = idle;
   }
 
-  -- if the call of an event forks no caller, the caller has made one call more
+  -- if the event's call forks no caller, `HasAdvanced` holds with this call added
   pub gone_by : (call : Call) (after : List SeenLine) (left waiting : List Ask) →
       CallDone c.set.caller (view c.pass) (view d.pass) (conform c) (caller_after (conform d) event) call →
       (caller_after (conform d) event).setting ≡ setting_after_call (conform c).setting call →
@@ -148,7 +148,7 @@ module _ {begun : Start} {events rest : List Event} {event : Event} {t : Lanes} 
       (fit_more begun.caller c.set.event events event rest lines line (own_line d g k.set said served steps) g.fit)
       (idle_more begun.caller lines line asks g.idle)
 
--- after its end a caller has made all its calls
+-- if a caller whose events are all made makes its last visit, its run has ended (`RunEnded`)
 pub gone_all : {begun : Start} {events : List Event} {c : Caller} {lines : List SeenLine} {asks : List Ask}
     {kids : List Start}
     (d : Caller) (served : List ℕ) (said : Reply) (steps : List Step) → d.set ≡ c.set → said.answer ≡ Done →
@@ -197,7 +197,7 @@ gone_all {begun = begun} {events = events} {c = c} {lines = lines} {kids = kids}
           ends.ran.grows g.forked);
     }
 
--- at its start a caller has made no call
+-- at its start, a caller has made no event and no call
 pub gone_nothing : (begun : Start) (events : List Event) (c : Caller) → c.set.caller ≡ begun.caller →
     c.set.event ≡ 0 → conform c ≡ caller_start begun.set → view c.pass ≡ begun.view →
     HasAdvanced begun events events c [] [] []

@@ -1,4 +1,4 @@
--- The children that a caller forked remain forked after each further event.
+-- If a caller forked children, these remain its children after each further event.
 use Rattle.std.proofs.Common.{◌≡◌, List, ◌∷◌, ◌++◌, length, ap, ◌∙◌, append_assoc, arith}
 use Rattle.std.specs.List.{AllByRecursion}
 use Rattle.key_names.specs.declared.events.Event.TheVariants.{Fork}

@@ -61,7 +61,7 @@ module _ (v d : View) (long : length v.lanes ≡ length d.lanes) where
   pub both_made : (lane : ℕ) → (at lane (both_of v d)).made ≡ (at lane v).made + (at lane d).made
   both_made lane = ap (λ (a : LaneView). a.made) (both_at lane)
 
--- `Joined` holds without runs, if the pass took in no other
+-- if a pass joined no other, `Joined` holds with no runs
 pub joined_nothing : (v : View) → Joined v v []
 joined_nothing v = record {
   sized = refl;
@@ -71,14 +71,14 @@ joined_nothing v = record {
   made = λ lane low. omega arith;
 }
 
--- the visits in the pass of a caller at its end are exactly those of its lines
+-- at its end, the visits in a caller's pass are exactly the visits in its lines
 pub record OwnPlaces (r : Run) : Type 0 where
   pub placed : (f : ℕ → ℕ) (lane : LaneId) → index_of lane < length r.end.lanes →
       sum_by f (at (index_of lane) r.end).places ≡ marked_by f lane r
   pub made : (lane : LaneId) → index_of lane < length r.end.lanes →
       (at (index_of lane) r.end).made ≡ marked_by (λ p. 1) lane r
 
--- one pass more is taken in: that of caller r, which had taken in the passes of the callers ys
+-- one more pass is joined: that of caller r, which had joined the passes of the callers ys
 module _ (v w d : View) (r : Run) (xs ys : List Run) (mine : Joined v w xs) (theirs : Joined r.end d ys)
     (own : OwnPlaces r) (alike : length r.end.lanes ≡ length v.lanes) where
   long : length w.lanes ≡ length d.lanes
@@ -110,7 +110,7 @@ module _ (v w d : View) (r : Run) (xs ys : List Run) (mine : Joined v w xs) (the
         let h = sum_by-cons (marked_by (λ p. 1) lane) r ys in omega arith);
   }
 
--- an element of a list is also in a longer one
+-- an element of a list is also in the list with `ys` appended
 one_more : {X : Type 0} (x : X) (xs ys : List X) → IsOneOf x xs → IsOneOf x (xs ++ ys)
 one_more x [] ys here = absurd here
 one_more x (y ∷ xs) ys (inl same) = inl same

@@ -1,5 +1,5 @@
--- The run of a caller with all that it forks: its parts make up `RanSo`, and caller 0's run meets the premises of the
--- law of all callers.
+-- The run of a caller with all its descendants: the parts of the run make up `RanSo`, and caller 0's run fulfils the
+-- premises of the law of all callers.
 use Rattle.std.proofs.Common.{◌≡◌, ℕ, ◌+◌, ◌*◌, ◌^◌, ◌<◌, List, [], ◌∷◌, ◌++◌, length, refl, sym, ap, ◌∙◌, subst, arith}
 use Rattle.std.specs.List.{AllByRecursion}
 use Rattle.std.proofs.lemmas.List.Sums.{sum_by-cons}
@@ -21,12 +21,12 @@ use Rattle.caller_run.proofs.Forks.Joins.{OwnPlaces, joined_nothing, joined_then
 use Rattle.caller_run.proofs.Planning.OnceEach.{times_in, below, once_each}
 use Rattle.caller_run.proofs.Orders.OwnPlaces.{MadeNothing, made_nothing, own_places}
 
--- a part of a run without a split does not change the share
+-- a part of a run without a split leaves the share unchanged
 share_from : (x u w : View) → SameHalves x u → SameShare u w → SameShare x w
 share_from x u w same s =
     ap (λ (h : ℕ). w.share * 2 ^ h) (sym same.halvings) ∙ s ∙ ap (λ (n : ℕ). n * 2 ^ w.halvings) same.share
 
--- a caller that forks no more callers went on to its end
+-- a caller that forks no more callers ran on to its end (`RanOn`)
 pub ran_end : (script : Script) (x e : View) → SameHalves x e → RanOn script x e e [] []
 ran_end script x e same = record {
   family = record { each = tt; began = tt };
@@ -34,8 +34,8 @@ ran_end script x e same = record {
   share = share_from x e e same refl;
 }
 
--- a fork: u is the view of the parent's pass after the fork's visit, and z when the parent goes on. Then come the rest
--- of the parent's run, and the run of the child with all that it forked
+-- a fork: u is the view of the parent's pass after the fork's visit, and z is its view when the parent goes on. If
+-- `RanOn` holds from z on, and `RanSo` holds for the child, then `RanOn` holds for the whole
 pub ran_fork : (script : Script) (x u z e w d : View) (kid : Start) (starts : List Start) (xs : List Run) (own : Run)
     (ys : List Run) → SameHalves x u → SameHalves (halved u) z → RanOn script z e w starts xs →
     kid.view ≡ split_off u → RanSo script kid d own ys → length own.end.lanes ≡ length e.lanes →
@@ -51,7 +51,7 @@ ran_fork script x u z e w d kid starts xs own ys before after rest view_is child
           (subst (λ (v : View). SameShare v d) view_is child.share));
     }
 
--- `RanOn` from a caller's start gives `RanSo`
+-- if `RanOn` holds from a caller's start to its end, `RanSo` holds
 pub ran_so : (script : Script) (begun : Start) (w : View) (own : Run) (runs : List Run) → own.begun ≡ begun →
     RunsIn script own → RanOn script begun.view own.end w own.kids runs → RanSo script begun w own runs
 ran_so script begun w own runs is has on = record {
@@ -62,7 +62,7 @@ ran_so script begun w own runs is has on = record {
   share = on.share;
 }
 
--- caller 0 with all that it forked, on a table; the pass has seen all of the final lists
+-- caller 0 ran on a table with all its descendants; its pass has seen all of the final lists
 module _ (script : Script) (ok : WellFormed script) (root : Start) (w : View) (own : Run) (runs : List Run)
     (ran : RanSo script root w own runs) (new : MadeNothing root.view)
     (first : (root.caller ≡ 0) × (root.set ≡ first_setting)) (f : Forest)
@@ -80,7 +80,7 @@ module _ (script : Script) (ok : WellFormed script) (root : Start) (w : View) (o
   low = numbers_low (own ∷ runs)
       (subst (AllByRecursion (λ x. x < length script.callers)) (sym same) (below script ok f are))
 
-  -- the pass has taken in all others
+  -- the pass has joined all others
   hears : Hears (known_of w) w
   hears = record {
     known = λ lane near. begins_refl (known_of w lane);

@@ -1,4 +1,4 @@
--- A running caller makes its events, forks and joins, and comes to its end (`WentOn`, `Returned`).
+-- A running caller makes its events, forks and joins, and ends (`WentOn`, `Returned`).
 use Rattle.std.proofs.Common.{◌≡◌, ℕ, zero, suc, Some, ◌+◌, ◌<◌, ◌≤◌, ◌^◌, List, [], ◌∷◌, ◌++◌, length, map, refl, sym, ap, ◌∙◌, subst, arith, append_assoc, append-nil, length-append, replicate}
 use Rattle.std.specs.Prelude.{slice_get, vec_len, vec_capacity, sum_by}
 use Rattle.std.specs.List.{AllByRecursion}
@@ -95,7 +95,7 @@ same_kids x y is = record {
   space = ap vec_capacity is;
 }
 
--- a caller that forks no more callers made its last events and ended
+-- a caller that forks no more callers made its last events, and its run ended
 module _ (t : Lanes) (script : Script) {events : List Event} {x m : RunningCaller} (y : RunningCaller) where
   pub went_end : CanAdvanceOn t script events x → RanPlain t events x [] m → y.kids ≡ m.kids →
       y.caller.set ≡ m.caller.set → HoldsLanes t y.caller.set.caller [] y.caller.pass →
@@ -153,7 +153,7 @@ module _ (m w : Caller) (steps : List Step) (child : ℕ) (theirs : Pass) (at : 
 
 -- ---- the preconditions of a caller's next events
 
--- a caller can still go on after its pass has seen more
+-- if a caller can go on, it can still go on after its pass has seen more
 pub can_still : (t : Lanes) (c d : Caller) (log : Log) {served inside : ℕ} {rest : List Event} → d.set ≡ c.set →
     d.states ≡ c.states → HoldsLanes t d.set.caller [] d.pass → floor (view c.pass) ≤ floor (view d.pass) →
     CanAdvance t c log served inside rest → CanAdvance t d log served inside rest

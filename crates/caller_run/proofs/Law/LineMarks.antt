@@ -1,5 +1,5 @@
--- The marks of a caller's lines are those of its visits: a sum over the marks equals the sum over the visits, in each
--- lane and in all lanes together.
+-- The marks of a caller's lines are the marks of its visits: a sum over the marks equals the sum over the visits, in
+-- each lane and in all lanes together.
 use Rattle.std.proofs.Common.{◌≡◌, ℕ, suc, ◌+◌, Bool, true, false, cond, List, [], ◌∷◌, ◌++◌, map, refl, sym, ap, ◌∙◌, arith, append-nil}
 use Rattle.std.specs.Prelude.{◌==◌, if◌then◌else◌}
 use Rattle.std.specs.List.{AllByRecursion, flat_map, sum_by}

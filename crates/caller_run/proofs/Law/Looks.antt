@@ -1,4 +1,4 @@
--- Each look of a caller is right: it finds at least the generation seen before it, and at most the number of reseeds.
+-- Each look of a caller conforms: it finds at least the generation seen before it, and at most the number of reseeds.
 use Rattle.std.proofs.Common.{◌≡◌, ℕ, suc, ◌+◌, ◌<◌, ◌≤◌, max, List, [], ◌∷◌, length, map, take, ◌++◌, refl, sym, subst, ap, arith, Some, None, Option}
 use Rattle.std.specs.Prelude.{slice_get}
 use Rattle.std.proofs.lemmas.List.Sums.{fold-append}
@@ -60,7 +60,7 @@ module _ (lanes : ℕ) (visits : ℕ → List Visit) (callers : StateLists) (ok 
       ap (λ (s : CpuState). s.generation)
       (fold_next (cpu_step lists.base c) cpu_start (cpu_list lists c) place e is) in omega arith
 
-  -- the effect conforms to `LookConforms`, and the generation seen after it is at most `mid`
+  -- the effect fulfils `LookConforms`, and the generation seen after the effect is at most `mid`
   abbrev Passes : ℕ → ℕ → ℕ → Effect → Type 0
   Passes reseeds seen mid effect = LookConforms reseeds seen effect × (seen_after seen effect ≤ mid)
 
@@ -85,11 +85,11 @@ module _ (lanes : ℕ) (visits : ℕ → List Visit) (callers : StateLists) (ok 
       go None is = (tt, low)
       go (Some e) is = (tt, (let r = cpu_reached c place e below within is in omega arith))
 
--- the generation seen after one effect more follows from the generation seen before that effect
+-- the generation seen after one more effect follows from the effect and the generation seen before
 seen_more : (before : List Effect) (effect : Effect) → seen (before ++ effect ∷ []) ≡ seen_after (seen before) effect
 seen_more before effect = fold-append seen_after 0 before (effect ∷ [])
 
--- the looks in a list of steps are right, if each visit among the steps is in the final lists
+-- if each visit among some steps is in the final lists, the looks among the steps conform
 pub looks_conform : (w : View) (callers : StateLists) → ClosedLanes (length w.lanes) (known_of w) →
     (made_steps : List MadeStep) (low high reseeds : ℕ) (before : List Effect) → AllKnown w made_steps →
     Sees w low made_steps high → seen before ≤ low → high ≤ reseeds →

@@ -1,4 +1,4 @@
--- The marks of all callers are the book's visits, each place once.
+-- The marks of all callers' lines are the book's visits: each visit has exactly one mark.
 use Rattle.std.proofs.Common.{◌≡◌, ℕ, zero, suc, ◌+◌, ◌<◌, ◌≤◌, cond, List, [], ◌∷◌, length, refl, sym, ap, ◌∙◌, subst, arith, inl, inr, Bool, true, false, Some}
 use Rattle.std.specs.Prelude.{◌==◌, if◌then◌else◌, slice_get}
 use Rattle.std.specs.List.{AllByRecursion, flat_map, sum_by, range_with_len}
@@ -69,10 +69,10 @@ none_beyond lanes visits lane (by ∷ marks) beyond all =
         let low = here.1 in absurd (omega arith)
     go false is here rest = rest
 
--- a caller that made these steps, with a view of all final lists
+-- a caller made these steps; w is a view of all final lists
 module _ (caller : ℕ) (w : View) (numbered_steps : List NumberedStep)
     (stood : AllByRecursion (Stood w caller) numbered_steps) where
-  -- each mark of the item is that of a visit
+  -- each mark of the item is the mark of a visit
   abbrev Visits : Item → Type 0
   Visits item = AllByRecursion (MarksVisit (length w.lanes) (known_of w)) (mark_of caller item)
 
@@ -98,7 +98,7 @@ module _ (caller : ℕ) (w : View) (numbered_steps : List NumberedStep)
       all [] stood = tt
       all (d ∷ numbered_steps) stood = (one d d.made_step stood.0, all numbered_steps stood.1)
 
--- Each mark is that of a visit
+-- Each mark is the mark of a visit
 
 run_visits : (w : View) (caller : ℕ) (events : List Event) (r : Run) → HasRun caller events r →
     length w.lanes ≡ length r.end.lanes → Grows r.end w →

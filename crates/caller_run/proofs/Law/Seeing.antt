@@ -1,4 +1,4 @@
--- Each event keeps `Seen`, the bound on the generations of a caller's vgetrandom states.
+-- Each event preserves `Seen`, the bound on the generations of a caller's vgetrandom states.
 use Rattle.std.proofs.Common.{◌≡◌, ℕ, ◌≤◌, List, [], replicate, refl, sym, ◌∙◌, subst, arith}
 use Rattle.std.proofs.lemmas.List.{length-set}
 use Rattle.key_names.specs.declared.events.Event.{Event}
@@ -37,7 +37,7 @@ seen_start found set = let P : VgetrandomState → Type 0 =
       published = recursion_from_All P (replicate 16 wiped_state) (All-replicate P 16 wiped_state (omega arith));
     }
 
--- `Seen` holds for a larger generation too
+-- if `Seen` holds for the generation a, it holds for each larger generation b
 pub seen_up : (a b : ℕ) (s : CallerState) → a ≤ b → Seen a s → Seen b s
 seen_up a b s le k = record {
   many = k.many;
@@ -47,7 +47,7 @@ seen_up a b s le k = record {
       (λ st low. let up = published_more a b le in omega arith) k.published;
 }
 
--- `Seen` still holds after the current state was replaced
+-- if the current state is replaced by one with a generation that may be published, `Seen` still holds
 pub seen_with : (found : ℕ) (s : CallerState) (st : VgetrandomState) → st.generation ≤ published_by found →
     Seen found s →
     Seen found (with_state s st)
@@ -58,7 +58,7 @@ seen_with found s st low k = record {
       low;
 }
 
--- `Seen` still holds after `caller_after`, by which an event itself changes the caller
+-- if an event changes a caller by itself (`caller_after`), `Seen` still holds
 pub seen_after : (version cpus found : ℕ) (s : CallerState) (event : Event) → InRange version cpus event →
     Seen found s →
     Seen found (caller_after s event)

@@ -50,7 +50,7 @@ use Rattle.lane_table.proofs.Book.BookSamples.{OfLane, cpu_visited, fast_met}
 use Rattle.key_names.specs.declared.names.LaneId.TheVariants.{Pool as PoolLane, Base as BaseLane, Cpu as CpuLane}
 use Rattle.key_names.specs.declared.names.Step.TheVariants.{Look, Visit as Marked}
 
--- stamps that meet `Climbs` meet `Rises`
+-- if stamps fulfil `Climbs`, they fulfil `Rises`
 pub climbs_rise : (low high : ℕ) (stamps : List ℕ) → Climbs low stamps high → Rises stamps
 climbs_rise low high [] c = tt
 climbs_rise low high (a ∷ []) c = tt

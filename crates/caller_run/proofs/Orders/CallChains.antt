@@ -66,7 +66,8 @@ calls_done_nothing caller v s = record {
   samples = λ lanes visits callers c. tt;
 }
 
--- the invariant holds after one call more
+-- if the invariant holds for `calls`, and `CallDoneBy` holds for one more call, the invariant holds with that call
+-- added
 pub calls_done_then : (caller m n : ℕ) (u v w : View) (s t r : CallerState) (calls : List Call) (call : Call) →
     CallsDone caller m u v s t calls → CallDoneBy caller n v w t r call →
     CallsDone caller (m + n) u w s r (calls ++ call ∷ [])
@@ -86,7 +87,7 @@ calls_done_then caller m n u v w s t r calls call a b = record {
       (b.samples lanes visits callers c);
 }
 
--- the invariant holds after one call more that forks no caller
+-- the same for one more call that forks no caller: if `CallDone` holds for it, the invariant holds with that call added
 pub calls_done_plainly : (caller m : ℕ) (u v w : View) (s t r : CallerState) (calls : List Call) (call : Call) →
     CallsDone caller m u v s t calls → CallDone caller v w t r call → CallsDone caller m u w s r (calls ++ call ∷ [])
 calls_done_plainly caller m u v w s t r calls call a b =

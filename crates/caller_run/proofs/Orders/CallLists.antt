@@ -1,4 +1,4 @@
--- If each kind of call keeps a fact, the fact holds for all calls of some events with their lines.
+-- If each kind of call preserves a fact, the fact holds for all events, lines and calls of a caller.
 use Rattle.std.proofs.Common.{◌≡◌, ℕ, suc, Bool, true, false, List, [], ◌∷◌, ◌++◌, refl, sym, subst}
 use Rattle.std.specs.Prelude.{if◌then◌else◌}
 use Rattle.key_names.specs.declared.events.Event.{Event}
@@ -12,8 +12,8 @@ use Rattle.key_names.specs.Transcripts.IsTranscript.{LineIs, LinesFit}
 abbrev pub Kept : Type 1
 Kept = List BoundAct → List Event → List SeenLine → List Call → Type 0
 
--- the premises for each kind of call of caller c. P is a fact about the waiting acts, the events with their lines, and
--- the events' calls
+-- each kind of call of caller c preserves P. P is a fact about the waiting acts, the events with their lines, and the
+-- events' calls
 pub record Keeps (c : ℕ) (P : Kept) : Type 0 where
   pub ends : (n : ℕ) (line : SeenLine) → LineIs c n EndWord line → P [] [] (line ∷ []) (ending line ∷ [])
   pub does : (waiting : List BoundAct) (n : ℕ) (event : Event) (es : List Event) (line : SeenLine)
@@ -32,7 +32,7 @@ pub record Keeps (c : ℕ) (P : Kept) : Type 0 where
       P waiting (Inside bound.point bound.act ∷ es) (bound.line ∷ lines) (unbound bound ∷ calls)
 
 module _ (c : ℕ) (P : Kept) (k : Keeps c P) where
-  -- P holds from event n on, if acts wait only when a vread follows
+  -- if the lines fit the events from event n on, and acts wait only if a vread follows, P holds for these events
   kept_from : (n : ℕ) (waiting : List BoundAct) (events : List Event) (lines : List SeenLine) →
       (has_vread events ≡ false → waiting ≡ []) → LinesFit c n events lines →
       P waiting events lines (calls_from waiting events lines)

@@ -1,4 +1,4 @@
--- The steps of a call, in the order in which they happen, are those of its lines.
+-- The steps of a call, in the order in which they happen, are the steps of its lines.
 use Rattle.std.proofs.Common.{append_assoc, ◌≡◌, ℕ, ◌+◌, Bool, true, false, cond, List, [], ◌∷◌, ◌++◌, take, drop, map, refl, sym, ap, ◌∙◌, subst, arith, append-nil}
 use Rattle.std.specs.Prelude.{if◌then◌else◌}
 use Rattle.std.specs.List.{AllByRecursion, flat_map, sum_by}
@@ -19,7 +19,7 @@ use Rattle.caller_run.specs.Done.{lines_in_order}
 abbrev pub lines_items : List SeenLine → List Item
 lines_items lines = flat_map line_items lines
 
--- the two parts of a cut make the whole
+-- the two parts of a cut, one after the other, are the whole list
 cut_whole : (items : List Item) → items ≡ (cut_items items).0 ++ (cut_items items).1
 cut_whole [] = refl
 cut_whole (item ∷ items) = go (is_mark item.step) (cut_whole items)
@@ -58,7 +58,7 @@ no_late items acts e f =
     no_steps cut.0 cut.1 (items_at_point acts Serve) (items_at_point acts End) front e f
     ∙ ap (λ (l : List Item). front ++ l) (sym (rekey_whole (drop 2 items)))
 
--- if no act has steps, the line's steps stay as they are
+-- if no act has steps, the steps of the vread are exactly those of its own line
 pub own_items : (items : List Item) (acts : List BoundAct) → ((p : Point) → items_at_point acts p ≡ []) →
     vread_items items acts ≡ items
 own_items items acts none =
@@ -74,7 +74,7 @@ module _ (f : Item → ℕ) where
   abbrev weight : List Item → ℕ
   weight items = sum_by f items
 
-  -- the steps of an act have weight only at the act's own point
+  -- an act at point p has the weight w; its weight at `point` is w if the two points are the same, and otherwise 0
   abbrev weight_at : Point → ℕ → Point → ℕ
   weight_at p w point = cond (is_same_point p point) w 0
 
@@ -150,7 +150,7 @@ module _ (P : Item → Type 0) where
   OfAll acts lines = Each (items_at_point acts Start) → Each (items_at_point acts Written) →
       Each (items_at_point acts Serve) → Each (items_at_point acts End) → Each (lines_items lines)
 
-  -- the steps of each act are among those at its point
+  -- `OfAll` holds for acts and their lines: the steps of each act are among those at its point
   of_acts : (acts : List BoundAct) → OfAll acts (map act_line acts)
   of_acts [] a b c d = tt
   of_acts (bound ∷ acts) a b c d = go bound.point a b c d (of_acts acts)
@@ -171,7 +171,7 @@ module _ (P : Item → Type 0) where
       go Serve a b c d rest = both Serve c (λ x. rest a b x d)
       go End a b c d rest = both End d (λ x. rest a b c x)
 
-  -- a fact about each step of a call holds for each step of its lines
+  -- if a fact holds for each step of a call, it holds for each step of the call's lines
   pub call_each : (call : Call) → Each (call_items call) → Each (lines_items (lines_in_order call))
   call_each (alone event line) all = subst Each (sym (append-nil (line_items line))) all
   call_each (vread_call len flags line acts) all =

@@ -1,4 +1,4 @@
--- The steps of a caller's calls, in the order in which they happen, are those of its lines.
+-- The steps of a caller's calls, in the order in which they happen, are the steps of its lines.
 use Rattle.std.proofs.Common.{◌≡◌, ℕ, ◌+◌, List, [], ◌∷◌, ◌++◌, map, ap, ◌∙◌, subst, arith, append-nil}
 use Rattle.std.specs.List.{AllByRecursion, sum_by}
 use Rattle.std.proofs.lemmas.List.{map-append}
@@ -14,7 +14,7 @@ use Rattle.caller_run.specs.Done.{lines_in_order}
 use Rattle.caller_run.proofs.Orders.CallLists.{Kept, Keeps, kept}
 use Rattle.caller_run.proofs.Orders.CallSteps.{lines_items, act_line, vread_weight, call_each}
 
--- one more waiting act adds the steps of its line
+-- one more waiting act adds the steps of its own line
 waiting_more : (waiting : List BoundAct) (bound : BoundAct) → lines_items (map act_line (waiting ++ bound ∷ []))
     ≡ lines_items (map act_line waiting) ++ line_items bound.line
 waiting_more waiting bound =
@@ -65,7 +65,7 @@ module _ (f : Item → ℕ) where
         (omega arith) rest in omega arith;
   }
 
-  -- the steps of a caller's calls have the same weight as those of its lines
+  -- the steps of a caller's calls have in all the same weight as the steps of its lines
   pub calls_weight : (c : ℕ) (events : List Event) (lines : List SeenLine) → LinesFit c 0 events lines →
       weight (calls_items (calls_of events lines)) ≡ weight (lines_items lines)
   calls_weight c events lines fit = let e = kept c Weighs (keeps_weight c) events lines fit in omega arith
@@ -115,7 +115,7 @@ module _ (P : Item → Type 0) where
         );
   }
 
-  -- a fact about each step of the calls holds for each step of the lines
+  -- if a fact holds for each step of the calls, it holds for each step of the lines
   pub calls_each : (c : ℕ) (events : List Event) (lines : List SeenLine) → LinesFit c 0 events lines →
       Each (calls_items (calls_of events lines)) → Each (lines_items lines)
   calls_each c events lines fit all = (kept c HoldsOfEach (keeps_each c) events lines fit all).1
@@ -147,7 +147,7 @@ module _ (Q : SeenLine → Type 0) where
     idles = λ waiting n bound es lines calls is rest all. let r = rest all.1 in (r.0, (all.0.0, r.1));
   }
 
-  -- a fact about each line of the calls holds for each line
+  -- if a fact holds for each line of the calls, it holds for each of the caller's lines
   pub calls_lines : (c : ℕ) (events : List Event) (lines : List SeenLine) → LinesFit c 0 events lines →
       AllByRecursion (λ call. EachSeen (lines_in_order call)) (calls_of events lines) → EachSeen lines
   calls_lines c events lines fit all = (kept c HoldsOfLines (keeps_lines c) events lines fit all).1

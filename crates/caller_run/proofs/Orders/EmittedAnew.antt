@@ -29,7 +29,7 @@ anew_long lines [] acts = refl
 anew_long lines (a ∷ asks) [] = refl
 anew_long lines (a ∷ asks) (l ∷ acts) = anew_long (slice_set lines a.event l) asks acts ∙ length-set lines a.event l
 
--- lines after the replaced ones stay as they are
+-- the replacement leaves the lines `more`, which come after `lines`, unchanged
 pub anew_front : (lines more : List SeenLine) (asks : List Ask) (acts : List SeenLine) → AreEmitted (length lines) asks →
     emitted_anew (lines ++ more) asks acts ≡ emitted_anew lines asks acts ++ more
 anew_front lines more [] acts recorded = refl
@@ -39,7 +39,7 @@ anew_front lines more (a ∷ asks) (l ∷ acts) recorded =
     ∙ anew_front (slice_set lines a.event l) more asks acts
     (subst (λ (n : ℕ). AreEmitted n asks) (sym (length-set lines a.event l)) recorded.1)
 
--- after the replacement, the last line is that of the last act
+-- if the last line is that of the last waiting act, the replacement puts the act's new line there
 pub anew_last : (lines : List SeenLine) (idle line : SeenLine) (asks : List Ask) (x : Ask) (acts : List SeenLine) →
     x.event ≡ length lines →
     AreEmitted (length lines) asks → length acts ≡ length asks →
@@ -54,7 +54,7 @@ anew_last lines idle line (a ∷ asks) x (l ∷ acts) at recorded many =
     ∙ anew_last (slice_set lines a.event l) idle line asks x acts (at ∙ sym (length-set lines a.event l))
     (subst (λ (n : ℕ). AreEmitted n asks) (sym (length-set lines a.event l)) recorded.1) (omega arith)
 
--- the lines of the acts are still there after one line more
+-- if each waiting act has a line among `lines`, it has one after one more line
 pub emitted_more : (lines : List SeenLine) (line : SeenLine) (asks : List Ask) → AreEmitted (length lines) asks →
     AreEmitted (length (lines ++ line ∷ [])) asks
 emitted_more lines line asks recorded =
@@ -80,7 +80,8 @@ module _ (old new : SeenLine) (caller : new.caller ≡ old.caller) (event : new.
       (is_too c n (event_word e) line same fit.0, fit.1)
   fit_set c n (e ∷ events) (line ∷ lines) (suc i) there fit = (fit.0, fit_set c (suc n) events lines i there fit.1)
 
--- the line at a place, after a line was set there or elsewhere
+-- if the line at place j is `old` before place i is set to `new`, it is still `old` afterwards, or i is j and it is
+-- `new`
 get_set : (lines : List SeenLine) (i j : ℕ) (old new : SeenLine) → slice_get lines j ≡ Some old →
     ((i ≡ j) × (slice_get (slice_set lines i new) j ≡ Some new)) ⊎ (slice_get (slice_set lines i new) j ≡ Some old)
 get_set [] i j old new there = absurd (cc there)

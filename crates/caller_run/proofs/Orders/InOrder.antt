@@ -1,4 +1,4 @@
--- Runs that have exactly one run of each caller can be listed in the order of the callers.
+-- If a list has exactly one run of each caller, its runs can be listed in the order of the callers.
 use Rattle.std.proofs.Common.{◌≡◌, inl, inr, ℕ, zero, suc, ◌+◌, ◌<◌, ◌≤◌, Bool, true, false, cond, List, [], ◌∷◌, map, refl, sym, ap, ◌∙◌, arith}
 use mathlib.Core.Logic.{dite}
 use native.Mathlib.Decide.{ℕ_discrete}
@@ -17,7 +17,7 @@ number r = r.begun.caller
 abbrev pub numbers_of : List Run → List ℕ
 numbers_of runs = map number runs
 
--- the weight of a run if it is caller k's, and otherwise 0
+-- the weight of a run of caller k; runs of other callers have weight 0
 abbrev of_caller : (Run → ℕ) → ℕ → Run → ℕ
 of_caller f k r = cond (number r == k) (f r) 0
 
@@ -103,7 +103,7 @@ in_order (suc count) k runs once =
     (one_of k runs (first_once count k runs once)).run
     ∷ in_order count (suc k) runs (rest_once count k runs once)
 
--- the list in order has all of these runs
+-- the list in order contains each of `runs` whose caller is among the `count` callers from k on
 pub in_order_all : (count k : ℕ) (runs : List Run) (once : AllOnce k count runs) (r : Run) → IsOneOf r runs →
     k ≤ number r → number r < k + count → IsOneOf r (in_order count k runs once)
 in_order_all zero k runs once r here from to = absurd (omega arith)
@@ -114,7 +114,7 @@ in_order_all (suc count) k runs once r here from to =
     (λ ne. inr (in_order_all count (suc k) runs (rest_once count k runs once) r here (omega arith)
     (omega arith)))
 
--- the list in order has no other runs
+-- the list in order contains no other runs: if a fact holds for each of `runs`, it holds for each run in order
 pub in_order_of : (P : Run → Type 0) (count k : ℕ) (runs : List Run) (once : AllOnce k count runs) →
     ((r : Run) → IsOneOf r runs → P r) → AllByRecursion P (in_order count k runs once)
 in_order_of P zero k runs once all = tt
@@ -124,9 +124,9 @@ in_order_of P (suc count) k runs once all =
       in_order_of P count (suc k) runs (rest_once count k runs once) all,
     )
 
--- the list in order has the same weight as the runs
+-- the runs in order have the same weight as `runs`
 
--- in a sum over callers, a run counts for its own caller only
+-- a run of a caller below k adds nothing to a sum over the callers from k on
 none_in : (f : Run → ℕ) (r : Run) (k count : ℕ) → number r < k →
     sum_by (λ c. of_caller f c r) (range_with_len k count) ≡ 0
 none_in f r k zero low = refl

@@ -15,7 +15,7 @@ use Rattle.caller_run.proofs.Orders.OwnSteps.{Spot, view_at, line_of, items_at, 
 use Rattle.caller_run.proofs.Orders.PartItems.{Part, part_then}
 
 module _ (set : Setting) (asks : List Ask) where
-  -- from s to t the acts at the point q keep their steps, and if none of these acts was done, none is done
+  -- from s to t the acts at the point q keep their steps; if none of them was done at s, none is done at t
   pub record Kept (q : Point) (s t : Spot) : Type 0 where
     pub items : items_at set asks t q ≡ items_at set asks s q
     pub untouched : Untouched q asks s.outcomes → Untouched q asks t.outcomes
@@ -32,7 +32,8 @@ module _ (set : Setting) (asks : List Ask) where
   pub kept_at : (q p : Point) (s t : Spot) → Apart p q → Reached set asks p s t → Kept q s t
   kept_at q p s t other k = record { items = (k.elsewhere q other).0; untouched = (k.elsewhere q other).1 }
 
-  -- a call that came to points: two looks, Start and Written, the steps for a new key, Serve and End, and the rest
+  -- a call that reached points: two looks, Start and Written, the steps for a new key, Serve and End, and the last
+  -- steps
   pub record Path (s t : Spot) : Type 0 where
     pub looked : Spot
     pub started : Spot
@@ -68,7 +69,8 @@ module _ (set : Setting) (asks : List Ask) where
           ∙ ap (λ (l : List Item). l ++ c.rekey) (c.write.line ∙ c.start.line ∙ c.looks.line
           ∙ ap (λ (l : List Step). items_from set.event 0 l ++ c.first ∷ c.second ∷ []) empty))
 
-      -- the acts at a point made the steps that they have at the end
+      -- if the acts at a point ran from u to v, and nothing before or after changed them, they made the steps that they
+      -- have at the end
       at_last : (p : Point) (u v : Spot) → Reached set asks p u v → Kept p s u → Kept p v t →
           Part set.caller (view_at u) (view_at v) (here p)
       at_last p u v k before after =
@@ -135,7 +137,7 @@ module _ (set : Setting) (asks : List Ask) where
       pub path_part : Part set.caller (view_at s) (view_at t) (vread_items (line_of set asks t) acts)
       path_part = subst (Part set.caller (view_at s) (view_at t)) in_order all
 
-  -- a call that came to no point made exactly its own steps
+  -- a call that reached no point made exactly the steps of its own line
   pub quiet_part : (s t : Spot) (items : List Item) → ((p : Point) → Untouched p asks s.outcomes) → s.moment.steps ≡ [] →
       OwnSteps set asks s t items →
       Part set.caller (view_at s) (view_at t) (vread_items (line_of set asks t) (bound_acts set asks t.outcomes))

@@ -1,4 +1,5 @@
--- `CallsSoFar`, the invariant of a loop over a caller's events, holds again after one event more of each kind.
+-- If `CallsSoFar`, the invariant of a loop over a caller's events, holds, it holds again after one more event of each
+-- kind.
 use Rattle.std.proofs.Common.{◌≡◌, ℕ, zero, suc, ◌<◌, true, false, List, [], ◌∷◌, ◌++◌, length, refl, sym, ap, ◌∙◌, arith, append_assoc, length-append}
 use Rattle.std.specs.Prelude.{if◌then◌else◌}
 use Rattle.key_names.specs.declared.events.Event.{Event}
@@ -18,7 +19,7 @@ bound_more (a ∷ asks) [] x line same = absurd (omega arith)
 bound_more (a ∷ asks) (l ∷ acts) x line same =
     ap (λ (bs : List BoundAct). bound_by a l ∷ bs) (bound_more asks acts x line (omega arith))
 
--- the last of some lines
+-- `acts` are `n` lines and then a last line
 record Last (n : ℕ) (acts : List SeenLine) : Type 0 where
   front : List SeenLine
   line : SeenLine
@@ -38,7 +39,7 @@ last_of (suc n) (l ∷ acts) many =
       many = (let m = rest.many in omega arith);
     }
 
--- the first call of events that begin with an event of each kind
+-- the first call of a list of events, by the kind of the first event
 
 alone_first : (event : Event) → IsAlone event → (acts : List BoundAct) (es : List Event) (line : SeenLine)
     (lines : List SeenLine) → calls_from acts (event ∷ es) (line ∷ lines) ≡ alone event line ∷ calls_from acts es lines
@@ -54,7 +55,7 @@ alone_follows event is es = refl
 one_call : (calls : List Call) (call : Call) (rest : List Call) → calls ++ call ∷ rest ≡ (calls ++ call ∷ []) ++ rest
 one_call calls call rest = sym (append_assoc calls (call ∷ []) rest)
 
--- at the start no call was made
+-- before the first event, `CallsSoFar` holds with no call
 pub so_far_nothing : (events : List Event) → CallsSoFar events events [] [] []
 so_far_nothing events = record {
   recorded = tt;
@@ -63,7 +64,7 @@ so_far_nothing events = record {
 }
 
 module _ (events es : List Event) (lines : List SeenLine) (waiting : List Ask) (calls : List Call) where
-  -- after one line more, of an event that makes one call, there is one call more, and the same acts wait
+  -- if the next event makes one call by itself, there is one more line and one more call, and the same acts wait
   one_more : (event : Event) (line : SeenLine) (call : Call) → CallsSoFar events (event ∷ es) lines waiting calls →
       (has_vread es ≡ false → waiting ≡ []) →
       ((acts : List BoundAct) (more : List SeenLine) →
@@ -140,7 +141,7 @@ module _ (events es : List Event) (lines : List SeenLine) (waiting : List Ask) (
         ∙ one_call calls (vread_call len flags line (all_bound waiting acts)) (calls_from [] es more);
   }
 
--- with the caller's end, these are all its calls
+-- if `CallsSoFar` holds after all events, the caller's calls are `calls` and then its end
 pub so_far_end : (events : List Event) (lines : List SeenLine) (waiting : List Ask) (calls : List Call)
     (line : SeenLine) → CallsSoFar events [] lines waiting calls →
     calls_of events (lines ++ line ∷ []) ≡ calls ++ ending line ∷ []

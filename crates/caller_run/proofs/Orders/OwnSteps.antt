@@ -33,7 +33,7 @@ view_at s = s.moment.view
 abbrev pub spot : ActConform → Spot
 spot t = record { moment = t.core.moment; outcomes = t.outcomes }
 
--- no act can run: no attempt has begun, or only a later attempt will come to points
+-- no act can run: no attempt has begun, or only a later attempt will reach points
 abbrev pub Quiet : Attempt → List HostStep → Type 0
 Quiet attempt [] = ⊤
 Quiet attempt (publishes g ∷ steps) = Quiet attempt steps

@@ -100,7 +100,7 @@ module _ {event : Event} {c e : Caller} {before after : Gathered} {acts left : L
         LinesFit begun.caller 0 events ((before.lines ++ line ∷ []) ++ more)
     fit = fit_more begun.caller c.set.event events (Inside k.point k.act) rest before.lines line line_is g.fit
 
-    -- no vread follows, so the act is a call by itself
+    -- if no vread follows, the act is a call by itself, and `HasAdvanced` holds again
     gone_idle : has_vread rest ≡ false →
         HasAdvanced begun events rest e (before.lines ++ line ∷ []) (asks ++ x ∷ []) kids
     gone_idle none =

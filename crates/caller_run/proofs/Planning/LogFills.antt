@@ -22,7 +22,7 @@ use Rattle.transcript_text.specs.Gathered.{Gathered}
 use Rattle.caller_run.specs.Standing.{read_inside}
 use Rattle.caller_run.proofs.Orders.EmittedAnew.{AreEmitted, emitted_more}
 
--- a list whose items were lent out has the items that came back
+-- if n items of a list were lent out and n items came back, the list has the items that came back
 pub put_back : {A : Type 0} (back items : List A) (n : ℕ) → length back ≡ n
     → take n (back ++ drop (length back) items) ≡ back
 put_back back items n long =
@@ -83,7 +83,7 @@ module _ (before after : Gathered) (line : SeenLine) (lines : after.lines ≡ be
   one_line : length after.lines ≡ length before.lines + 1
   one_line = ap length lines ∙ length-append before.lines (line ∷ [])
 
-  -- a call of the core adds its line
+  -- `Fills` holds for a call of the core: the call adds its line, and the same acts wait
   pub fills_call : {event : Event} {acts : List Bound} → IsCall event → before.step_room ≤ after.step_room + 20 →
       before.byte_room ≤ after.byte_room + most_shown event →
       AllByRecursion IsWaitingAct acts → AreEmitted (length before.lines) (asks_of acts) → Fills event before after acts acts
@@ -99,7 +99,7 @@ module _ (before after : Gathered) (line : SeenLine) (lines : after.lines ≡ be
         (emitted_more before.lines line (asks_of acts) recorded);
   }
 
-  -- an act that waits adds its line
+  -- `Fills` holds for an act that waits: the act adds its line, and is the last of the waiting acts
   pub fills_act : (point : Point) (act : InsideAct) (event : ℕ) (acts : List Bound) →
       before.step_room ≤ after.step_room → before.byte_room ≤ after.byte_room → ActInRange act →
       event ≡ length before.lines → AllByRecursion IsWaitingAct acts → AreEmitted (length before.lines) (asks_of acts) →
@@ -124,7 +124,7 @@ module _ (before after : Gathered) (line : SeenLine) (lines : after.lines ≡ be
             (emitted_more before.lines line (asks_of acts) recorded) (omega (arith, length-append before.lines (line ∷ [])))));
       }
 
--- a vread adds its line; after it no act waits
+-- `Fills` holds for a vread: the vread adds its line, and no act waits any more
 pub fills_read : {before after : Gathered} {n flags : ℕ} {acts left : List Bound} →
     length after.lines ≡ length before.lines + 1 →
     after.line_room + 1 ≡ before.line_room → before.step_room ≤ after.step_room + 20 * (length acts + 1) →

@@ -33,7 +33,7 @@ module _ (callers : List (List Event)) where
   abbrev pub edges : ℕ → ℕ → ℕ
   edges k x = count_by (is_fork_of k) (list_at callers x)
 
-  -- a number is in a tree as often as it is a root or is forked by a caller of the tree
+  -- a number occurs in a tree as often as it is a root or is forked by a caller in the tree
   pub incoming : (k : ℕ) (f : Forest) (xs : List ℕ) → AreForked callers f xs →
       times_in k (numbers f) ≡ times_in k xs + sum_by (edges k) (numbers f)
   incoming k no_more [] are = refl
@@ -93,7 +93,7 @@ sum_weighed g n (x ∷ xs) low =
     sum_same _ _ (range_with_len 0 n) (λ j.
     ap (λ (m : ℕ). m * g j) (sum_by-cons (λ y. hit (y == j)) x xs) ∙ omega arith) in omega arith
 
--- if no number from n on is in a list, all are below n
+-- if no number from n on is in a list, all numbers in the list are below n
 all_below : (n : ℕ) (xs : List ℕ) → ((k : ℕ) → n ≤ k → times_in k xs ≡ 0) → AllByRecursion (λ x. x < n) xs
 all_below n [] none = tt
 all_below n (x ∷ xs) none =
@@ -214,6 +214,6 @@ module _ (script : Script) (ok : WellFormed script) (f : Forest) (are : AreForke
   once (suc m) k less low = dite (ℕ_discrete k m)
       (λ same. next k (λ j small. once m j (omega arith)) low) (λ ne. once m k (omega arith) low)
 
-  -- each caller of the script is once in its tree, and no other number is
+  -- each caller of the script occurs exactly once in the script's tree
   pub once_each : (k : ℕ) → k < n → times_in k all ≡ 1
   once_each k low = once n k low low

@@ -1,4 +1,4 @@
--- The definition of a caller's parent finds the caller that forked it, and the call that did so.
+-- The definition of a caller's parent finds the caller that forked it, and the call of this fork.
 use Rattle.std.proofs.Common.{◌≡◌, inl, inr, ℕ, suc, ◌+◌, ◌≤◌, Bool, true, false, Some, None, List, [], ◌∷◌, ◌++◌, refl, sym, ap, ◌∙◌, subst, arith}
 use Rattle.std.specs.Prelude.{count_by, ◌==◌, if◌then◌else◌}
 use Rattle.std.specs.List.{AllByRecursion, sum_by}
@@ -15,7 +15,7 @@ use Rattle.caller_run.specs.Standing.{Start, Forked}
 use Rattle.caller_run.proofs.Orders.CallLists.{Kept, Keeps, kept}
 use Rattle.caller_run.proofs.Planning.Sums.{hit, hit_same}
 
--- how many of some calls fork this number
+-- how many of some calls fork caller c
 abbrev pub forks_in : ℕ → List Call → ℕ
 forks_in c [] = 0
 forks_in c (alone (Fork child) line ∷ calls) = hit (child == c) + forks_in c calls
@@ -50,7 +50,7 @@ pub counted : (caller c : ℕ) (events : List Event) (lines : List SeenLine) →
     forks_in c (calls_of events lines) ≡ count_by (is_fork_of c) events
 counted caller c events lines fit = kept caller (Counted c) (keeps_counted caller c) events lines fit
 
--- if no call forks the number, no fork is found
+-- if no call forks caller c, `fork_point` finds no fork
 pub none_found : (c : ℕ) (calls : List Call) → forks_in c calls ≡ 0 → fork_point c calls ≡ None
 none_found c [] none = refl
 none_found c (alone (Fork child) line ∷ calls) none = go (child == c) none (λ rest. none_found c calls rest)
@@ -62,7 +62,7 @@ none_found c (alone (Fork child) line ∷ calls) none = go (child == c) none (λ
     go false none rest = ap (with_call_before (alone (Fork child) line)) (rest (omega arith))
 none_found c (call ∷ calls) none = ap (with_call_before call) (none_found c calls none)
 
--- the first call that forks the number is found
+-- if one call forks caller c, and no call before it does, `fork_point` finds that call
 pub found : (c : ℕ) (before : List Call) (line : SeenLine) (after : List Call) → forks_in c before ≡ 0 →
     fork_point c (before ++ alone (Fork c) line ∷ after) ≡ Some (record { before = before; line = line })
 found c [] line after none =
@@ -88,7 +88,7 @@ forks_append c [] ys = omega arith
 forks_append c (alone (Fork child) line ∷ xs) ys = let rest = forks_append c xs ys in omega arith
 forks_append c (call ∷ xs) ys = forks_append c xs ys
 
--- these calls fork the number c at this fork
+-- these calls fork caller c, at this fork
 pub record ForksAt (c : ℕ) (calls : List Call) (fork : ForkPoint) : Type 0 where
   pub after : List Call
   pub is : calls ≡ fork.before ++ alone (Fork c) fork.line ∷ after
@@ -102,7 +102,7 @@ forked_once c calls fork f =
       (λ most. ap (fork_point c) f.is ∙ found c fork.before fork.line f.after (omega (arith, one))),
     )
 
--- a fact about each element of a list holds for any one of them
+-- if a fact holds for each element of a list, it holds for any one of them
 pub each_of : {X : Type 0} (P : X → Type 0) (x : X) (xs : List X) → AllByRecursion P xs → IsOneOf x xs → P x
 each_of P x [] all here = absurd here
 each_of P x (y ∷ ys) all (inl same) = subst P same all.0
@@ -126,8 +126,7 @@ some_forked c k (es ∷ callers) (r ∷ rs) p kid each (inr rest) there =
     let more = some_forked c (suc k) callers rs p kid each.1 rest there in
     let all = sum_by-cons (count_by (is_fork_of kid.caller)) es callers in omega arith
 
--- the definition finds p, which forked the child `kid`, as this child's parent; k is the number of the first of
--- `callers`
+-- the definition finds p as the parent of the child `kid`, which p forked; k is the number of the first of `callers`
 pub record ParentIs (k : ℕ) (callers : List (List Event)) (runs : List Run) (p : Run) (kid : Start) : Type 0 where
   pub calls : List Call
   pub forked : Forked p.begun p.end calls kid
@@ -173,7 +172,7 @@ parent_is k (es ∷ callers) (r ∷ rs) p kid each (inr rest) there most =
           ∙ more.is;
     }
 
--- if no call forks a caller, it has no parent
+-- if no event forks caller c, the definition finds no parent for c
 pub no_parent : (c k : ℕ) (callers : List (List Event)) (runs : List Run) → EachCaller HasRun k callers runs →
     sum_by (count_by (is_fork_of c)) callers ≡ 0 →
     parent_from c k (all_calls callers (lines_of_all runs)) ≡ None

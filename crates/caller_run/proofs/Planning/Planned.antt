@@ -27,7 +27,8 @@ use Rattle.caller_run.proofs.Planning.Sums.{hit, hit_same}
 use Rattle.caller_run.proofs.Planning.Slots.{put_long, put_append}
 use Rattle.caller_run.proofs.Forks.WentOn.{above_number, few_events}
 
--- these events of a caller are left, and the rooms of the callers that its other events fork are made
+-- the rooms in g are those of the callers that the events `done` of caller c fork; the events `rest` before these are
+-- still to be prepared
 pub record PreparedSoFar (callers : List (List Event)) (c : ℕ) (rest : List Event) (g : ForkTree) : Type 0 where
   pub done : List Event
   pub all : list_at callers c ≡ rest ++ done
@@ -166,7 +167,7 @@ as_many before after recorded is =
     sym (length-map after (λ (x : Gathered). x.lines)) ∙ ap length is ∙ put_long (lines_in before) recorded
     ∙ length-map before (λ (x : Gathered). x.lines)
 
--- slots that were written as a slice are in their vector again
+-- if the slots of a vector were filled through a slice, the vector has the filled slots
 pub slots_back : (n : ℕ) (items before after : List Gathered) (recorded : List (ℕ × List SeenLine)) → before ≡ items →
     n ≡ length items → lines_in after ≡ put_in (lines_in before) recorded →
     lines_in (take n (after ++ drop (length after) items)) ≡ put_in (lines_in items) recorded

@@ -31,7 +31,7 @@ there_times k (q ∷ rs) r (inl same) own =
 there_times k (q ∷ rs) r (inr more) own =
     let c = cons_times k q rs in let rest = there_times k rs r more own in omega arith
 
--- the slot of a caller without a run stays as it is
+-- if a caller has no run, its slot keeps its lines
 left_so : (k : ℕ) (t : List (List SeenLine)) (runs : List Run) → times_in k (numbers_of runs) ≡ 0 →
     slice_get (put_in t (map numbered runs)) k ≡ slice_get t k
 left_so k t [] none = refl
@@ -40,7 +40,7 @@ left_so k t (r ∷ rs) none =
     left_so k (slice_set t (number r) r.lines) rs (omega arith)
     ∙ set_other t (number r) k r.lines (λ e. let h = hit_same (number r) k e in absurd (omega arith))
 
--- the slot of a caller with one run gets that run's lines
+-- if a caller has exactly one run, its slot gets the lines of this run
 put_so : (k : ℕ) (t : List (List SeenLine)) (runs : List Run) → k < length t → times_in k (numbers_of runs) ≡ 1 →
     (r : Run) → IsOneOf r runs → number r ≡ k → slice_get (put_in t (map numbered runs)) k ≡ Some r.lines
 put_so k t [] low one r here own = absurd here
@@ -68,7 +68,7 @@ in_slots (suc n) k runs once (x ∷ t) long got =
     (λ i low r there own. got (suc i) (omega arith) r there (omega arith)) in
     λ i. same i ∷ rest i
 
--- if each caller has one run, its slot has that run's lines
+-- if each caller has exactly one run, each slot gets the lines of its caller's run
 pub put_all : (n : ℕ) (runs : List Run) (once : AllOnce 0 n runs) (t : List (List SeenLine)) → length t ≡ n →
     put_in t (map numbered runs) ≡ lines_of_all (in_order n 0 runs once)
 put_all n runs once t long =

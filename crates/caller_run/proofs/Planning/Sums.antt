@@ -35,7 +35,7 @@ sum_same f g (x ∷ xs) same =
     let here = same x in
     let a = sum_by-cons f x xs in let b = sum_by-cons g x xs in omega arith
 
--- two functions that agree on a range have the same sum over it
+-- if two functions agree on a range, they have the same sum over it
 pub sum_range : (f g : ℕ → ℕ) (first count : ℕ) → ((i : ℕ) → i < first + count → f i ≡ g i) →
     sum_by f (range_with_len first count) ≡ sum_by g (range_with_len first count)
 sum_range f g first zero same = refl

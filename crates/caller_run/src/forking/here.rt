@@ -10,10 +10,10 @@ use lane_table::{Lanes, Pass};
 use rng_core::{Setting, Site, stall, unstall};
 use std::sync::Wait;
 
-/// Runs a child in its parent's thread, after its closure came back from the failed start of a thread, and returns the
-/// child's result. Two visits of the base record this: with the first the parent stops running, and with the second it
-/// goes on. The contract fixes the order of the two visits. That the child runs between them is tested and not
-/// promised.
+/// Runs a child in its parent's thread, and returns the child's result. This is for a child whose thread could not be
+/// started: `child` is its closure, which the failed start gave back. Two visits of the base record this: with the
+/// first the parent stops running, and with the second it goes on. The contract fixes the order of the two visits. That
+/// the child runs between them is tested and not promised.
 pub fn run_here<R: Wait, F: FnOnce() -> (Pass, Room)>(
     rt: &R,
     lanes: &Lanes,

@@ -14,7 +14,7 @@ use key_names::Event;
 use std::alloc::{AllocError, Global};
 use transcript_text::CallerLines;
 
-/// All memory of a run: a room for each caller, in the tree of the forks, and a slot for the lines of each.
+/// All memory of a run: a room for each caller, in the tree of the forks, and a slot for each caller's lines.
 #[derive(Drop)]
 pub struct Plan {
     pub(crate) root: Room,
@@ -35,7 +35,7 @@ impl Buffers {
         })
     }
 
-    // The lines of the buffers, without its other memory.
+    // Takes the lines out of the buffers, and frees the other memory.
     fn into_lines(self) -> CallerLines
         ensures { result ≡ self.log.lines }
     {
@@ -54,7 +54,7 @@ impl Buffers {
 }
 
 impl Room {
-    // The room of a caller, with the rooms of all that it forks.
+    // The room of a caller, with the rooms of all callers that it forks.
     fn prepare(alloc: Global, script: &Script, caller: u32) -> Result<Room, AllocError>
         requires well { WellFormed script.now }
         requires there { caller < length script.now.callers }
@@ -103,7 +103,7 @@ impl Plan {
     }
 }
 
-/// Puts the lines of a caller, and of all that it forked, into their slots. This takes no memory.
+/// Puts the lines of a caller, and of all callers that it forked, into their slots. This takes no memory.
 pub(crate) fn gather(slots: &mut [CallerLines], room: Room)
     requires { HaveSlots (length slots.old) (emitted_by (layout room)) }
     ensures { lines_in slots.new ≡ put_in (lines_in slots.old) (emitted_by (layout room)) }

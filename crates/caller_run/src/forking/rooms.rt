@@ -1,4 +1,4 @@
-//! Rooms: the memory that a caller fills, with the rooms of those that it forks.
+//! Rooms: the memory that a caller fills, with the rooms of the callers that it forks.
 ghost use Rattle.std.specs.Prelude.{◌≡◌, map};
 ghost use Rattle.caller_run.specs.Layouts.{layout, layout_by};
 
@@ -13,8 +13,8 @@ pub(crate) struct Buffers {
     pub(crate) inside: Vec<u8>,
 }
 
-/// Memory for a caller of a script and for all that it forks: room for its lines and for the bytes that they show, and
-/// the rooms of its children. A run fills it.
+/// Memory for a caller of a script and for all callers that it forks. It has room for the lines of the caller and for
+/// the bytes that they show, and the rooms of its children. A run fills this memory.
 #[derive(Drop)]
 pub struct Room {
     pub(crate) caller: u32,

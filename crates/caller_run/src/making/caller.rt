@@ -49,8 +49,8 @@ impl Caller {
         self.go_on(event);
     }
 
-    /// Makes one event that forks no caller. The event's call puts its bytes at the front of `served`; the acts inside
-    /// a `vread` put theirs at the front of `inside`.
+    /// Makes one event that forks no caller. The event's call puts its bytes at the front of `served`. The acts inside
+    /// a `vread` put their bytes at the front of `inside`.
     pub(crate) fn step<R: Wait, G>(
         &mut self,
         shared: &Shared<'_, R, G>,

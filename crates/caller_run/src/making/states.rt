@@ -56,8 +56,8 @@ impl States {
         self.all[self.current as usize].wipe();
     }
 
-    /// Changes the states as the event by itself does: `drop` wipes the current state, and `state` makes another state
-    /// current.
+    /// Changes the states as the event itself requires, apart from its call: `drop` wipes the current state, and
+    /// `state` makes another state current.
     pub(crate) fn go_on(&mut self, event: &Event)
         requires { self.old.current < 16 }
         ensures { (set : Setting)

@@ -15,8 +15,8 @@ use lane_table::Lanes;
 use rng_core::{Bound, LaneHost, Site, vread, vread_inside};
 use std::sync::Wait;
 
-/// The arguments of a read out of a state: its flags, the buffer for its bytes, and the one for the bytes of acts
-/// inside.
+/// The arguments of a read out of a state: its flags, the buffer for its bytes, and the buffer for the bytes of the
+/// acts inside.
 #[derive(Drop)]
 pub(crate) struct ReadInto<'a> {
     pub(crate) flags: u32,

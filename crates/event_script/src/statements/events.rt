@@ -208,7 +208,7 @@ fn state(version: u32, rest: Option<&[u8]>) -> Result<Event, FaultKind>
     Ok(Event::State { number })
 }
 
-/// The event of a word and the fields after it. The word is that of an event without a field of bytes.
+/// The event that a word and the fields after it spell. No event with this word has a field of bytes.
 fn event_without_bytes(head: Head, word: Word, rest: Option<&[u8]>) -> Result<Event, FaultKind>
     requires { has_bytes word ≡ false }
     ensures { Tells (λ event. event) result (event_of head.version head.cpus word (fields_of rest.entry)) }

@@ -1,7 +1,8 @@
-//! Events of a word and at most two numbers, read in place.
+//! Events that a word and at most two numbers spell, read in place.
 //!
-//! Most lines of a long script have such events. They are read in one pass, byte by byte, without a search for the line
-//! end or the fields. After a `None` the first line is read field by field. Each line with a fault is read so too.
+//! Most lines of a long script spell such events. These lines are read in one pass, byte by byte, without a search for
+//! the line end or the fields. If the functions here return `None`, the line is read field by field. Every line with a
+//! fault is read in this way.
 
 ghost use Rattle.std.specs.Prelude.{◌≡◌, ℕ, ◌∷◌, ◌++◌, IfSome};
 ghost use Rattle.std.specs.Bool.{OnTrue};
@@ -94,8 +95,8 @@ fn numbers_in_front(text: &[u8]) -> Option<(NumberFields, &[u8])>
 }
 
 /// The numbers of the interrupt on the first line, and the text after the line.
-// The reader looks for an interrupt before other words and makes its event at once, since a running machine has many
-// interrupts.
+// The reader looks for an interrupt before other words and makes the event of the interrupt at once, since a running
+// machine has many interrupts.
 pub(crate) fn irq_in_front(text: &[u8]) -> Option<(u64, u64, &[u8])>
     ensures spelt { IfSome result (λ all. text.now ≡ word_text Irq ++ (after_word (Two all.0 all.1) ++ 10 ∷ all.2.now)) }
     ensures short { IfSome result (λ all. IsShort Irq (Two all.0 all.1)) }
@@ -109,7 +110,7 @@ pub(crate) fn irq_in_front(text: &[u8]) -> Option<(u64, u64, &[u8])>
     }
 }
 
-/// If true, an event has this word and these numbers.
+/// If the result is true, some event has this word and these numbers.
 fn is_short(word: Word, numbers: NumberFields) -> bool
     ensures { OnTrue result (IsShort word numbers) }
 {

@@ -70,7 +70,7 @@ fn fork_of(event: &Event) -> Option<u32>
     }
 }
 
-/// If true, the event reads nothing, forks no caller and leaves the number of waiting acts as it is.
+/// If the result is true, the event reads nothing, forks no caller and leaves the number of waiting acts as it is.
 fn is_light(event: &Event) -> bool
     ensures { OnTrue result (IsLight event.now) }
 {
@@ -109,7 +109,7 @@ impl Draft {
         })
     }
 
-    /// Whether an event forks a caller whose number was forked before, or is not above the forking caller's own.
+    /// Whether an event forks a number that was forked before, or a number that is not above the forking caller's.
     fn is_bad_fork(&self, event: &Event) -> bool
         requires { InRange self.now.head.version self.now.head.cpus event.now }
         ensures { result ≡ is_bad_fork (draft_as self.now) event.now }
@@ -177,7 +177,7 @@ impl Draft {
         Ok(())
     }
 
-    /// Begins the next block, if this is its number.
+    /// Begins the next block, if `number` is the number of this block.
     pub(crate) fn add_block(&mut self, alloc: Global, number: u32) -> Result<(), LineError>
         requires { number < 64 }
         ensures next { Gives (λ _. GoesOn (draft_as self.new)) result (after (draft_as self.old) (SaysCaller number)) }

@@ -85,7 +85,7 @@ fn after_start(alloc: Global, head: Head, text: &[u8]) -> Result<(ScriptStage, &
     }
 }
 
-/// Reads lines up to the line `end`, or all of them.
+/// Reads lines up to the line `end`, or all lines if none is `end`.
 // If this function were inlined, the loop would keep its place in the text on the stack.
 #[inline(never)]
 fn after_lines<'a>(

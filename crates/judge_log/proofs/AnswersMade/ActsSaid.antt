@@ -1,4 +1,4 @@
--- The answers and data of the acts inside a vread are noted one by one, and then those of the vread.
+-- The answers and data of the acts inside a vread are noted one by one, and then the vread's own answer and data.
 use Rattle.std.proofs.Common.{◌≡◌, ℕ, ◌+◌, ◌<◌, Bool, true, false, List, [], ◌∷◌, ◌++◌, length, get_or, take, map, refl, sym, subst, ap, ◌∙◌, Some, None}
 use Rattle.std.specs.Prelude.{Option, MatchBool}
 use Rattle.std.specs.List.{AllByRecursion}
@@ -45,7 +45,7 @@ module _ (kept : KeptLists) (set : Setting) (reached : Reached) where
     is_done one is =
         subst (λ x. IsActSaid kept set (includes reached bound.point) bound.act bound.line.steps x) is said_here
 
-  -- if the first i acts are noted, and then the next act's answer and data, then the first i + 1 acts are noted
+  -- if the first `i` acts are noted and then the next act is noted, the first `i + 1` acts are noted
   pub acts_written : {Noted : Type 0} (IsNoted : ℕ → MadeLine → Noted → Type 0) (acts : List ActLine) (i : ℕ) (a : ActLine) →
       i < length acts → a ≡ get_or acts i a → (old mid new : List Noted) (one : MadeLine) →
       Written IsNoted (map (act_write kept set reached) (map seen_act (take i acts))) old mid →

@@ -17,7 +17,7 @@ module _ {Noted : Type 0} (IsNoted : ℕ → MadeLine → Noted → Type 0) wher
       (put.0, put.1, written_more writes more put.0 mid new put.2 later)
 
 module _ (kept : KeptLists) where
-  -- the states before a call, and the call, determine the states after it
+  -- a call and the vgetrandom states before it determine the states after it
   pub determined : (set : Setting) (call : Call) (s t u : VStates) (writes more : List Write) →
       CallSaid kept set call s t writes → CallSaid kept set call s u more → t ≡ u
   determined set (alone event line) s t u writes more one other = one.new_is ∙ sym other.new_is
@@ -75,7 +75,8 @@ module _ (kept : KeptLists) where
           (snoc (take n sets) (take n calls) set call first_states here next before.0 one.0 (a ∙ sym b) before.1 one.1)) in
           (before.0 ++ one.0, calls_said, written_more IsNoted before.0 one.0 [] notes more before.2 one.2)
 
-      -- the next call has answers and data, and so have the calls after it
+      -- if the calls after the first `n` have answers and data, the next call has them, and so have the calls after the
+      -- first `n + 1`
       next_left : Left n here → (at : VStates) × (one : List Write) × CallSaid kept set call here at one × Left (n + 1) at
       next_left left =
           let P : List Setting → List Call → Type 0 = λ xs ys. CallsSaid kept xs ys here left.0 left.1 in

@@ -57,11 +57,11 @@ CallLooks (vread_call n flags line acts) = AllByRecursion StepFits line.steps
 CallLooks (unbound bound) = ⊤
 CallLooks (ending line) = ⊤
 
--- the answer and data of `w` are those at the number of its event
+-- `At` holds of the event number in `w`, with the answer and data in `w`
 abbrev pub IsSaidIn : (ℕ → MadeLine → Type 0) → Write → Type 0
 IsSaidIn At w = At w.event w.said
 
--- the effects of a line are those of its meaning
+-- the steps of the line have the effects in the meaning `m`
 abbrev pub HasEffects : Lists → SeenLine → LineMeaning → Type 0
 HasEffects book line m = effects_of book line.steps ≡ m.effects
 

@@ -28,7 +28,7 @@ use Rattle.judge_log.proofs.AnswersMade.CallMeant.{standing, CallLooks, IsSaidIn
 use Rattle.judge_log.proofs.AnswersMade.MeantSaid.{meant_said}
 use Rattle.judge_log.proofs.AnswersMade.Numbers.{act_number, call_numbers, numbers, Distinct, all_there, distinct_from}
 
--- ---- the numbers that are written
+-- ---- the event numbers of writes
 
 abbrev event_of : Write → ℕ
 event_of w = w.event

@@ -1,4 +1,4 @@
--- A loop goes along a list: if P holds of the first i elements and of the next one, P holds of the first i + 1.
+-- A loop over a list: if P holds of the first i elements and of the next one, P holds of the first i + 1.
 use Rattle.std.proofs.Common.{◌≡◌, ℕ, zero, suc, ◌+◌, ◌<◌, List, [], ◌∷◌, ◌++◌, length, get_or, take, map, refl, sym, subst, ap, ◌∙◌, arith}
 use Rattle.std.specs.List.{AllByRecursion}
 use Rattle.std.proofs.lemmas.List.{take_more, map-append, length-map, get_or-map}
@@ -14,7 +14,8 @@ module _ {A : Type 0} (xs : List A) (i : ℕ) (x : A) (low : i < length xs) (is 
   pub taken_more : take (i + 1) xs ≡ take i xs ++ x ∷ []
   taken_more = take_more xs i x low ∙ ap (λ y. take i xs ++ y ∷ []) (sym is)
 
-  -- if `done` is the first i elements mapped, `done` and the next mapped element are the first i + 1 elements mapped
+  -- if `done` is `f` mapped over the first `i` elements, `done` with `f x` appended is `f` mapped over the first
+  -- `i + 1`
   pub mapped_more : {B : Type 0} (f : A → B) (done : List B) → done ≡ map f (take i xs) →
       done ++ f x ∷ [] ≡ map f (take (i + 1) xs)
   mapped_more f done so_far =

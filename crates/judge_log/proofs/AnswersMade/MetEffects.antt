@@ -1,4 +1,4 @@
--- What the code keeps of a line's steps agrees with the effects of these steps.
+-- The data that the code keeps about a line's steps agree with the effects of these steps.
 use Rattle.std.proofs.Common.{◌≡◌, ℕ, zero, suc, ◌+◌, ◌*◌, ◌/◌, ◌<◌, ◌≤◌, Bool, true, false, List, [], ◌∷◌, length, take, refl, sym, subst, ap, ◌∙◌, arith, Some, None, inl, inr, ◌⊎◌}
 use Rattle.std.specs.Prelude.{◌==◌, ◌||◌, not, ⊤, Option, slice_get, unwrap_or, nat_le, nat_lt, if◌then◌else◌}
 use Rattle.std.proofs.Math.Nat.{zero-mul, mul-zero, mul-suc, mul-div-le, mul-le-mul_left}
@@ -49,7 +49,7 @@ taken_made : (key : List ℕ) (taken : Taken) → taken_bytes key taken ≡ byte
 taken_made key (User n) = sym (user_bytes key n)
 taken_made key (Kernel n) = refl
 
--- the kept data are those of this visit of the base
+-- `k` has the right data about the visit `v` of the base
 pub record MetBase (k : KeptBase) (v : BaseVisit) : Type 0 where
   pub entry : k.entry ≡ v.entry
   pub serves : v.serves ≡ base_serves (unwrap_or k.key zero_key) v.entry
@@ -65,7 +65,7 @@ base_made (Draw root taken) key used h =
     subst (λ k. BaseServes (Draw root taken) k used) (sym h) (refl, sym (taken_made used taken))
 base_made _ key used h = (refl, refl)
 
--- the kept data are those of this visit of a CPU
+-- `k` has the right data about the visit `v` of a CPU
 pub record MetCpu (k : KeptCpu) (v : CpuVisit) : Type 0 where
   pub entry : k.entry ≡ v.entry
   pub serves : ServesBy (unwrap_or k.source.key zero_key) v.entry v.serves
@@ -81,7 +81,7 @@ short_batch (suc w) count low =
     let more : suc w * suc count ≤ suc w * (96 / suc w) = mul-le-mul_left (suc w) low in
     let is : suc w * suc count ≡ suc w * count + suc w = mul-suc (suc w) count in omega arith
 
--- a batch that need not be filled has not served all of its 96 bytes
+-- if an integer need not fill its batch, the batch has served fewer than 96 bytes
 has_bytes : (look width : ℕ) (fill : Fill) → false ≡ must_fill look width (Some fill) → nat_lt (width * fill.count) 96 ≡ true
 has_bytes look width fill h =
     let low : width * fill.count < 96 =
@@ -116,7 +116,7 @@ module _ (book : Lists) (c : ℕ) (fills : ℕ → Option Fill) (place : ℕ) wh
 
 -- ---- a step
 
--- the kept data are those of this step's look or visit
+-- the kept data of a step match the step's look or visit
 abbrev pub IsMet : KeptStep → Effect → Type 0
 IsMet (Looked g) (looked found) = g ≡ found
 IsMet (InPool k) (at_pool v) = KeepsPool k v
@@ -130,7 +130,7 @@ AreMet [] [] = ⊤
 AreMet (m ∷ met) (d ∷ effects) = IsMet m d × AreMet met effects
 AreMet _ _ = ⊥
 
--- if two lists have the same length, both have an element at a place, or neither has
+-- if two lists have the same length, both have an element at place `i`, or both have none there
 both_found : {K E : Type 0} (ks : List K) (es : List E) (i : ℕ) → length ks ≡ length es →
     (slice_get ks i ≡ None) × (slice_get es i ≡ None)
     ⊎ (k : K) × (e : E) × (slice_get ks i ≡ Some k) × (slice_get es i ≡ Some e)

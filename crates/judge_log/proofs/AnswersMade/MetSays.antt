@@ -41,7 +41,7 @@ use Rattle.judge_log.specs.EventSays.{event_shows}
 use Rattle.judge_log.specs.Said.{shown_by}
 use Rattle.judge_log.proofs.AnswersMade.MetEffects.{MetBase, MetCpu, IsMet, AreMet}
 
--- ---- the looks and visits of steps with these kept data
+-- ---- visits about which the data `k` are kept
 
 pub record OfPool (k : KeptPool) : Type 0 where
   pub v : PoolVisit

@@ -21,7 +21,7 @@ abbrev pub Distinct : List ℕ → Type 0
 Distinct [] = ⊤
 Distinct (n ∷ ns) = AllByRecursion (Differs n) ns × Distinct ns
 
--- ---- notes at different numbers are all there in the end
+-- ---- if notes are put at different numbers, all of them remain
 
 each_mapped : {A : Type 0} (f : A → ℕ) (P : ℕ → Type 0) (xs : List A) → AllByRecursion P (map f xs) →
     AllByRecursion (λ x. P (f x)) xs
@@ -115,7 +115,8 @@ each_number P c n waiting (event ∷ events) (line ∷ lines) fit wait above = (
   each_number P c (suc n) waiting events lines fit.1 wait (λ k high. above k (omega arith)),
 )
 
--- the number of a single event's line differs from the numbers of the other calls
+-- if the numbers of the later calls are distinct, they are also distinct from the number `n` of a single event's line
+-- before them
 one_first : (c n : ℕ) (waiting : List BoundAct) (events : List Event) (lines : List SeenLine) (line : SeenLine) →
     line.event ≡ n → LinesFit c (suc n) events lines → Waits n waiting →
     Distinct (numbers (calls_from waiting events lines)) → Distinct (line.event ∷ numbers (calls_from waiting events lines))

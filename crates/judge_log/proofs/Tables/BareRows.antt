@@ -51,7 +51,7 @@ module _ {T : Type 0} where
   lane_kept (x ∷ vecs) (suc c) zero v other = refl
   lane_kept (x ∷ vecs) (suc c) (suc d) v other = lane_kept vecs c d v (λ e. other (ap suc e))
 
--- once a mark of the lane is passed, the lane has one mark fewer left
+-- after the mark at index `i` is passed, its lane has one mark fewer left, and each other lane has as many as before
 pub marks_left : (lane : LaneId) (marks : List MarkOf) (i : ℕ) (of : MarkOf) → slice_get marks i ≡ Some of →
     length (lane_marks lane (map seen_mark (drop i marks)))
     ≡ (if is_same_lane of.mark.lane lane then suc (length (lane_marks lane (map seen_mark (drop (suc i) marks))))
@@ -75,11 +75,11 @@ set_long [] c v = refl
 set_long (x ∷ vecs) zero v = refl
 set_long (x ∷ vecs) (suc c) v = ap suc (set_long vecs c v)
 
--- the tables with the CPUs' rows from these vectors
+-- the tables whose CPU rows are in the vectors `vecs`
 abbrev pub with_lanes : List InferredPool → List BaseInferred → List (Vec InferredCpu Global) → Tables
 with_lanes pool base vecs = record { pool = pool; base = base; cpus = items_of vecs }
 
--- one more row in a CPU's vector makes the CPU's lane one row longer
+-- if a CPU's vector gets one more row, the CPU's lane is one row longer
 pub cpu_longer : (pool : List InferredPool) (base : List BaseInferred) (vecs : List (Vec InferredCpu Global)) (c : ℕ)
     (v : Vec InferredCpu Global) (row : InferredCpu) → c < length vecs → v.items ≡ list_at (items_of vecs) c ++ row ∷ [] →
     IsLonger (CpuLane c) (with_lanes pool base vecs) (with_lanes pool base (slice_set vecs c v))
@@ -102,7 +102,7 @@ cpu_longer pool base vecs c v row low more = record { cpus = set_long vecs c v; 
     rows BaseLane = refl
     rows (CpuLane d) = at_cpu d (c == d) refl
 
--- a row that is put into the vector of a CPU is put into the CPU's lane
+-- if the row of `spot` is put into the vector of a CPU, the tables change by the row of `spot`
 pub cpu_row_put : (pool : List InferredPool) (base : List BaseInferred) (vecs : List (Vec InferredCpu Global)) (c : ℕ)
     (v : Vec InferredCpu Global) (spot : Spot) (mark : Mark) → c < length vecs → spot.step ≡ Marked mark →
     mark.lane ≡ CpuLane c →
@@ -114,7 +114,8 @@ cpu_row_put pool base vecs c v spot mark low is lane_is put =
     (sym (lane_set vecs c v low)) put)
     (λ d other. lane_kept vecs c d v other) (set_long vecs c v) refl refl
 
--- if a mark is passed and its lane gets a row, the rows and the marks left of each lane are together as many as before
+-- if the mark at index `i` is passed and its lane gets a row, the number of a lane's rows plus its marks that are left
+-- does not change
 pub rows_and_left : (lane : LaneId) (marks : List MarkOf) (i : ℕ) (d : MarkOf) (old new : Tables) (n : ℕ) →
     i < length marks → IsLonger (get_or marks i d).mark.lane old new →
     rows_in old lane + length (lane_marks lane (map seen_mark (drop i marks))) ≡ n →

@@ -1,4 +1,4 @@
--- If calls have lawful meanings, the steps of each call are a form of the call, and the visits of a vread have the
+-- If calls have lawful meanings, the steps of each call match a form of the call, and the visits of a vread have the
 -- inferred entries.
 use Rattle.std.proofs.Common.{◌≡◌, ℕ, zero, suc, ◌+◌, ◌<◌, ◌⊎◌, inl, inr, Bool, true, false, List, [], ◌∷◌, length, refl, sym, subst, ap, ◌∙◌, arith}
 use Rattle.std.specs.Prelude.{MatchBool, ⊤}
@@ -109,7 +109,7 @@ module _ (lists : Lists) (lawful : LawfulLanes lists) where
       go true (g, rest, is, k) = after_look rest (serves_locally (published_by g) (current_state m.before) n) k
       go false k = called n flags acts m following k
 
-  -- a call has its form, and changes the setting as the definition does
+  -- a call has its form, and leaves the setting that the definition gives
   record CallDone (set : Setting) (call : Call) (m : CallMeaning) : Type 0 where
     form : CallForm lists set call
     leaves : m.after.setting ≡ setting_after_call set call

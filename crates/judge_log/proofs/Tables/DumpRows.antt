@@ -49,7 +49,7 @@ dump_due : (f : FastPool) (b : Bool) (e : CpuEntry) → IsDump e → DueConforms
 dump_due f b (Dump now) dump = tt
 dump_due f b _ dump = absurd dump
 
--- ---- kinds of lines other than an interrupt's
+-- ---- kinds of lines other than the line of an interrupt
 
 abbrev pub IsNoSample : Telling → Type 0
 IsNoSample (samples v1 v2) = ⊥
@@ -206,7 +206,7 @@ module _ (inferred : Tables) (lists : Lists) where
     -- from tables to samples
 
     module _ (fills : Fills inferred lists) (lawful : Lawful inferred lists) where
-      -- the row of a sample records whether it makes a dump due
+      -- the row of a sample records whether the sample makes a dump due
       due_is : (row : InferredCpu) (v : CpuVisit) → CpuRow inferred lists row v → v.entry ≡ IrqSample v1 v2 set.now →
           makes_due (fast v.cpu v.place) set.now ≡ row.dumps
       due_is row v r is = subst (DueConforms (fast v.cpu v.place) row.dumps) is

@@ -134,7 +134,7 @@ module _ (script : Script) (t : List (List SeenLine)) (inferred : Tables) (book 
       cpu = λ c k u e at conforms. at_place (CpuLane c) k (slice_get_within (list_at inferred.cpus c) k u at) u e at conforms;
     }
 
-  -- ---- and back
+  -- ---- from places to lines
 
   module _ (fill : Fills inferred lists) where
     place : (lane : LaneId) (i : ℕ) → PlaceMatches inferred lists lane i

@@ -1,4 +1,5 @@
--- The result of gather: tables with a row for each mark, or none if a line visits a CPU that does not exist.
+-- The result of gather: tables with a row for each mark. If a line visits a CPU that does not exist, there is no
+-- result.
 use Rattle.std.proofs.Common.{◌≡◌, ℕ, zero, suc, ◌<◌, ◌≤◌, List, [], ◌∷◌, length, map, Some, None, sym, subst, ap, ◌∙◌, arith}
 use Rattle.std.specs.Prelude.{Any, slice_index_or}
 use Rattle.std.specs.List.{AllByRecursion}

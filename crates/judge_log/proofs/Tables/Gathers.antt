@@ -1,4 +1,5 @@
--- Bare tables are filled spot by spot. In the end each mark has the row that is inferred from its line.
+-- The tables begin with unfilled rows, and the row of each spot is put into them in turn. In the end each mark has the
+-- row that is inferred from the mark's line.
 use Rattle.std.proofs.Common.{◌≡◌, ℕ, zero, suc, ◌<◌, ◌≤◌, List, [], ◌∷◌, length, Some, None, refl, sym, subst, ap, ◌∙◌, arith, map}
 use Rattle.std.specs.Prelude.{slice_get}
 use Rattle.std.specs.List.{AllByRecursion}

@@ -95,7 +95,7 @@ cross_crossed set early ds (inr f) = inr (inl (record { base = f.base; are = f.e
 
 -- ---- interrupts
 
--- the steps of an interrupt that dumps
+-- the steps of an interrupt with a dump
 pub record IrqDumps (set : Setting) (v1 v2 : ℕ) (ds : List Effect) : Type 0 where
   pub sample : CpuVisit
   pub dump : CpuVisit
@@ -110,7 +110,7 @@ pub record IrqDumps (set : Setting) (v1 v2 : ℕ) (ds : List Effect) : Type 0 wh
   pub mixes : mix.entry ≡ Mix text bits
   pub crossed : Crossed rest
 
--- the steps of an interrupt that does not dump
+-- the steps of an interrupt without a dump
 pub record IrqOnly (set : Setting) (v1 v2 : ℕ) (ds : List Effect) : Type 0 where
   pub sample : CpuVisit
   pub effects_are : ds ≡ at_cpu sample ∷ []
@@ -151,7 +151,7 @@ pub sample_due : (f : FastPool) (e : CpuEntry) (v1 v2 now : ℕ) → e ≡ IrqSa
     MakesDue f e
 sample_due f e v1 v2 now is due = subst (MakesDue f) (sym is) due
 
--- ---- calls whose samples are lawful if those of interrupts are
+-- ---- if the samples of interrupts are lawful, the samples of all calls are lawful
 
 module _ (lists : Lists) where
   abbrev c : LaneFacts

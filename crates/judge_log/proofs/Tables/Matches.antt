@@ -38,7 +38,7 @@ use Rattle.judge_log.specs.Rows.{lane_sign, step_sign, first_shown, IsPoolRow, R
 use Rattle.judge_log.proofs.Tables.MarkedSteps.{StepHas}
 use Rattle.judge_log.specs.Rows.{RowConforms, LineRows, ActRows, CallRows, CallsRows, part_telling}
 
--- an entry is the inferred one exactly if it is the entry of the row
+-- a visit has the inferred entry exactly if it has the entry of its row
 to_row : (c : LaneFacts) (set : Setting) (t : Telling) (p : PoolInferred) (row : InferredPool) (v : PoolVisit) →
     IsPoolRow set t p row → FillsPool c set t p v → v.entry ≡ pool_entry c row
 to_row c set t own (pool_is note) v is fills = fills ∙ sym is
@@ -60,7 +60,7 @@ from_row c set t (dumped_inferred d k) (dumped cpu place) v is fills =
     fills ∙ (λ i. Mix (dump_bytes (c.fast (is.0 i) (is.1 i))) (dump_bits (c.fast (is.0 i) (is.1 i))))
 
 module _ (inferred : Tables) (lists : Lists) where
-  -- if a place has both a row and an entry, the entry is the one of the row
+  -- if a place has both a row and an entry, the entry is the one that the row gives
   abbrev pub PlaceMatches : LaneId → ℕ → Type 0
   PlaceMatches PoolLane p = (t : InferredPool) (e : PoolEntry) → slice_get inferred.pool p ≡ Some t →
       slice_get lists.pool p ≡ Some e → e ≡ pool_entry (facts_of lists) t

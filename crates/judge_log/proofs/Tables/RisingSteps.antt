@@ -119,7 +119,7 @@ module _ (t : List (List SeenLine)) (book : Book) (visits : VisitsAre book (all_
   abbrev lists : Lists
   lists = lists_of book
 
-  -- a mark on this CPU has this place and this stamp
+  -- some mark of CPU `c` has this place and this stamp
   record MarkAt (c place stamp : ℕ) : Type 0 where
     mark : Mark
     who : Who

@@ -1,4 +1,5 @@
--- At the place of each visit of the pool or of a CPU, the table has the visit's row, and the list has its entry.
+-- At the place of each visit of the pool or of a CPU, the table has the visit's row, and the list has the visit's
+-- entry.
 use Rattle.std.proofs.Common.{◌≡◌, ℕ, List, [], ◌∷◌, refl, subst, Some, None, Option}
 use Rattle.std.specs.Prelude.{⊤, slice_get}
 use Rattle.key_names.specs.declared.names.LaneId.{LaneId}

@@ -1,5 +1,5 @@
--- Of the spots of all lines, at most one visits each place. If each spot has its row, each mark has the row inferred
--- from the mark's line.
+-- Each place is visited by at most one spot of all lines. If each spot has its row, each mark has the row inferred from
+-- the mark's line.
 use Rattle.std.proofs.Common.{◌≡◌, ℕ, zero, suc, ◌<◌, ◌≤◌, Bool, true, false, List, [], ◌∷◌, length, refl, subst, arith, Some}
 use Rattle.std.specs.Prelude.{slice_get, ◌==◌, ◌&&◌, if◌then◌else◌}
 use Rattle.std.specs.List.{AllByRecursion}
@@ -25,7 +25,7 @@ use Rattle.judge_log.specs.Spots.{Spot, spots_from, line_spots, acts_spots, call
 use Rattle.judge_log.proofs.Tables.MarkedSteps.{StepHas, LineHas}
 use Rattle.judge_log.proofs.Tables.TableChanges.{hit, spots_takes, takes_append, SpotConforms}
 
--- ---- a place has as many spots as lines have marks there
+-- ---- as many spots visit a place as lines have marks at this place
 
 module _ (lane : LaneId) (place : ℕ) where
   one_takes : (other : LaneId) (p : ℕ) → hit (is_same_lane other lane && p == place) ≡ lane_takes lane place other p
@@ -90,7 +90,7 @@ module _ (lane : LaneId) (place : ℕ) where
     callers_takes callers settings,
   )
 
--- ---- what holds of each visit of the calls' lines holds of each spot
+-- ---- if a fact holds of each visit of the calls' lines, it holds of each spot
 
 module _ (Q : LaneId → ℕ → Type 0) where
   abbrev pub SpotHas : Spot → Type 0

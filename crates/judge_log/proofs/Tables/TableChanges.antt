@@ -50,7 +50,8 @@ unchanged a (CpuLane c) place = refl
 pub changes_none : (a : Tables) → Changes [] a a
 changes_none a = record { cpus = refl; sizes = λ lane. refl; rows = λ lane place. unchanged a lane place }
 
--- the row at a place is that of the place's last spot, or is unchanged if no spot visits the place
+-- if `o` is a spot and the place exists, `b` has the spot's row there; if `o` is none, `a` and `b` have the same row
+-- there
 abbrev pub RowBy : Option Spot → Tables → Tables → LaneId → ℕ → Type 0
 RowBy o a b lane place = MatchOption o (SameRow a b lane place) (λ spot. place < rows_in a lane → SpotRow b spot lane place)
 
@@ -77,7 +78,8 @@ row_if : (b : Bool) (spot : Spot) (old new : Tables) (lane : LaneId) (place : �
 row_if true spot old new lane place put same = put refl
 row_if false spot old new lane place put same = same refl
 
--- the row of the spot is at the place that the spot visits, and no other row changes
+-- if `new` has the spot's row at the place that the spot visits, and all other rows of `old`, the tables change by this
+-- row
 pub one_row : (spot : Spot) (old new : Tables) → length new.cpus ≡ length old.cpus →
     ((lane : LaneId) → rows_in new lane ≡ rows_in old lane) →
     ((lane : LaneId) (place : ℕ) → is_visit lane place spot.step ≡ true → place < rows_in old lane →
@@ -96,7 +98,7 @@ abbrev pub hit : Bool → ℕ
 hit b = cond b 1 0
 
 module _ (lane : LaneId) (place : ℕ) where
-  -- how many of these spots visit the place
+  -- how many of the given spots visit the place
   abbrev pub spots_takes : List Spot → ℕ
   spots_takes [] = 0
   spots_takes (spot ∷ spots) = hit (is_visit lane place spot.step) + spots_takes spots
@@ -128,7 +130,7 @@ module _ (lane : LaneId) (place : ℕ) where
       last_at lane place (spot ∷ spots) ≡ Some s
   last_after s spot spots is = ap (λ o. or_else o (if is_visit lane place spot.step then Some spot else None)) is
 
--- the row of a spot's visit is the one inferred there
+-- if the spot is a visit, the table has at the visit's place the row inferred for the spot
 abbrev pub SpotConforms : Tables → Spot → Type 0
 SpotConforms inferred spot = StepHas (λ lane place. SpotRow inferred spot lane place) spot.step
 

@@ -1,4 +1,4 @@
--- The loops that put rows go on: the rows of one element are put, and then the rows of the elements after it.
+-- One round of each loop that puts rows: the rows of one element are put, and then the rows of the elements after it.
 use Rattle.std.proofs.Common.{◌≡◌, ℕ, ◌+◌, ◌<◌, ◌≤◌, List, [], ◌∷◌, ◌++◌, length, drop, get_or, map, min, refl, sym, subst, ◌∙◌, arith, ◌⊎◌, inl, inr}
 use Rattle.std.proofs.Math.Nat.{min-eq_left, min-eq_right}
 use Rattle.std.specs.Global.{Vec}
@@ -25,7 +25,7 @@ abbrev pub spot_at : CallSetting → (Neighbours → Telling) → Sign → Neigh
 spot_at set tell first neighbours step =
     record { set = set; tells = tell neighbours; first = first; neighbours = neighbours; step = step }
 
--- the row of one step is put, and then the rows of the steps after it
+-- if the row of step `n` is put, and then the rows of the later steps, the rows of all steps from `n` on are put
 pub line_more : (set : CallSetting) (tell : Neighbours → Telling) (first a b following s : Sign) (steps : List Step) (n : ℕ)
     (d : Step) (x y z : Tables) → n < length steps → following ≡ first_shown (drop (n + 1) steps) →
     s ≡ step_sign (get_or steps n d) →
@@ -125,7 +125,7 @@ callers_end callers settings n x (inr high) =
     (sym (at_drop_all (λ (ss : List (Vec CallSetting)). callers_spots (seen_calls (drop n callers)) (sets_of ss)) settings n high
     ∙ no_callers (seen_calls (drop n callers)))) (changes_none x)
 
--- the index `i` has reached the end of one of the two lists
+-- if index `i` is the smaller of two lengths, it is at the end of one of the two lists
 pub short_of : (i m n : ℕ) → i ≡ min m n → (m ≤ i) ⊎ (n ≤ i)
 short_of i m n is = go (lt_or_le m n)
   where
@@ -152,7 +152,7 @@ calls_at calls calls' sets sets' x y same same' changes =
     subst (λ (cs : List CalledLines). Changes (calls_spots (map seen_call cs) sets) x y) same
     (subst (λ (ss : List CallSetting). Changes (calls_spots (map seen_call calls') ss) x y) same' changes)
 
--- if m equals n, the rest that begins at m is the rest that begins at n
+-- if `m` equals `n`, the calls from `m` on make the same changes as the calls from `n` on
 pub calls_from_next : (calls : List CalledLines) (sets : List CallSetting) (m n : ℕ) (x y : Tables) → m ≡ n →
     Changes (calls_spots (map seen_call (drop m calls)) (drop m sets)) x y →
     Changes (calls_spots (map seen_call (drop n calls)) (drop n sets)) x y

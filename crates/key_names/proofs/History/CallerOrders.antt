@@ -1,4 +1,4 @@
--- A caller's order is its start and then its own steps. A look depends on the earlier steps only by the greatest
+-- A caller's order is its start and then its own steps. A look depends on the earlier steps only through the greatest
 -- generation seen in them.
 use Rattle.std.proofs.Common.{◌≡◌, ◌⊎◌, inl, inr, ℕ, zero, suc, ◌<◌, List, [], ◌∷◌, ◌++◌, length, refl, sym, subst, ap, ◌∙◌, arith, length-append}
 use Rattle.std.specs.List.{fold}

@@ -211,7 +211,7 @@ module _ {E : Type 0} (lane : LaneId) where
 
 module _ (book : Book) (marks : List MarkBy) (places : (lane : LaneId) → PlacesConform (lane_marks lane marks))
     (visits : VisitsAre book marks) where
-  -- the stamp of a mark is that of its visit
+  -- the visit at a mark's place has the mark's stamp
   abbrev Stamped : LaneId → Mark → Type 0
   Stamped lane m = (who : Who) × (stamped_at book lane m.place ≡ Some (m.stamp, who))
 

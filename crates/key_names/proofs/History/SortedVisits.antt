@@ -27,7 +27,7 @@ module _ {X : Type 0} (number : X → ℕ) where
   abbrev pub count : ℕ → List X → ℕ
   count k xs = count_by (λ x. number x == k) xs
 
-  -- the first element is counted exactly if it has the number k
+  -- if `x` has the number k, then `count k` of `x ∷ xs` is one more than that of `xs`; otherwise both are equal
   counted : (k : ℕ) (x : X) (xs : List X) → ((number x ≡ k) × (count k (x ∷ xs) ≡ suc (count k xs)))
       ⊎ ((number x ≢ k) × (count k (x ∷ xs) ≡ count k xs))
   counted k x xs =
@@ -43,7 +43,7 @@ module _ {X : Type 0} (number : X → ℕ) where
     | inr other ↦ other.1 ∙ none_above k xs above.1
   ]
 
-  -- if some element has the number k, a lower bound of all numbers is at most k
+  -- if all numbers are at least `low`, and some element has the number k, then `low` is at most k
   bound_le : (low k : ℕ) (xs : List X) → AllByRecursion (λ y. low ≤ number y) xs → 1 ≤ count k xs → low ≤ k
   bound_le low k [] bound some = absurd (omega arith)
   bound_le low k (x ∷ xs) bound some = elim (counted k x xs) [

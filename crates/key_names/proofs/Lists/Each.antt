@@ -1,14 +1,15 @@
--- If a fact holds for each element of a list, it still does after the list grows or an element changes.
+-- Facts that hold for each element of a list. They still hold after the list grows or an element changes, if they hold
+-- for the new element.
 use Rattle.std.proofs.Common.{ℕ, zero, suc, set, List, [], ◌∷◌, ◌++◌}
 use Rattle.std.specs.List.{AllByRecursion}
 
--- the fact also holds after one more element at the end
+-- if `P` holds for each element of `xs` and for `x`, it holds for each element of `xs` with `x` appended
 pub each_more : {X : Type 0} (P : X → Type 0) (xs : List X) (x : X) → AllByRecursion P xs → P x →
     AllByRecursion P (xs ++ x ∷ [])
 each_more P [] x all here = (here, tt)
 each_more P (y ∷ ys) x all here = (all.0, each_more P ys x all.1 here)
 
--- the fact also holds after one element is replaced
+-- if `P` holds for each element of `xs` and for `x`, it still holds for each element after `x` replaces element `i`
 pub each_set : {X : Type 0} (P : X → Type 0) (xs : List X) (i : ℕ) (x : X) → AllByRecursion P xs → P x →
     AllByRecursion P (set xs i x)
 each_set P [] i x all here = tt
@@ -20,7 +21,7 @@ pub each_append : {X : Type 0} (P : X → Type 0) (xs ys : List X) → AllByRecu
 each_append P [] ys all more = more
 each_append P (x ∷ xs) ys all more = (all.0, each_append P xs ys all.1 more)
 
--- if a fact holds for each element, a weaker fact does too
+-- if `P` holds for each element, and `P` implies `Q`, then `Q` holds for each element
 pub each_weaker : {X : Type 0} (P Q : X → Type 0) (xs : List X) → ((x : X) → P x → Q x) → AllByRecursion P xs →
     AllByRecursion Q xs
 each_weaker P Q [] weaker all = tt
@@ -39,7 +40,7 @@ each_left P xs ys all = (each_parts P xs ys all).0
 pub each_right : {X : Type 0} (P : X → Type 0) (xs ys : List X) → AllByRecursion P (xs ++ ys) → AllByRecursion P ys
 each_right P xs ys all = (each_parts P xs ys all).1
 
--- if each of two facts holds for all elements, both facts hold together for each element
+-- if `P` and `Q` each hold for all elements, then both together hold for each element
 pub each_both : {X : Type 0} (P Q : X → Type 0) (xs : List X) → AllByRecursion P xs → AllByRecursion Q xs →
     AllByRecursion (λ x. P x × Q x) xs
 each_both P Q [] all all' = tt

@@ -1,4 +1,5 @@
--- A lawful list that grows at its end stays lawful, and its earlier entries and their states do not change.
+-- A lawful list stays lawful if entries that may come are added at its end. Its earlier entries and their states do not
+-- change.
 use Rattle.std.proofs.Common.{◌≡◌, ℕ, zero, suc, List, [], ◌∷◌, ◌++◌, refl, subst, ap, ◌∙◌, Some, Option, take}
 use Rattle.std.specs.Prelude.{slice_get, option_and_then}
 use Rattle.std.specs.List.{fold}
@@ -11,7 +12,7 @@ module _ {S E : Type 0} (May : S → E → Type 0) (step : S → E → S) where
   lawful_more s [] e lawful may = (may, tt)
   lawful_more s (x ∷ xs) e lawful may = (lawful.0, lawful_more (step s x) xs e lawful.1 may)
 
-  -- a lawful list stays lawful if more entries follow that are lawful from its end on
+  -- if `xs` is lawful, and `ys` is lawful from the state after `xs` on, then `xs` followed by `ys` is lawful
   pub lawful_append : (s : S) (xs ys : List E) → LawfulFrom May step s xs → LawfulFrom May step (fold step s xs) ys →
       LawfulFrom May step s (xs ++ ys)
   lawful_append s [] ys lawful more = more
@@ -31,7 +32,7 @@ module _ {S E : Type 0} (May : S → E → Type 0) (step : S → E → S) where
   lawful_take s (x ∷ xs) zero lawful = tt
   lawful_take s (x ∷ xs) (suc i) lawful = (lawful.0, lawful_take (step s x) xs i lawful.1)
 
-  -- two functions give the same fold if they agree on each entry that may come
+  -- if `f` and `g` agree on each entry that may come, then both give the same fold of a lawful list
   pub fold_same : {V : Type 0} (f g : V → E → V) → ((s : S) (e : E) (v : V) → May s e → f v e ≡ g v e) →
       (s : S) (v : V) (xs : List E) →
       LawfulFrom May step s xs → fold f v xs ≡ fold g v xs
@@ -39,7 +40,7 @@ module _ {S E : Type 0} (May : S → E → Type 0) (step : S → E → S) where
   fold_same f g same s v (x ∷ xs) lawful =
       ap (λ w. fold f w xs) (same s x v lawful.0) ∙ fold_same f g same (step s x) (g v x) xs lawful.1
 
--- an entry of a list and the entries before it stay the same as the list grows
+-- entry `i` of `xs`, and the entries before it, stay the same if `more` is appended
 pub record FrontStays {A : Type 0} (xs more : List A) (i : ℕ) (e : A) : Type 0 where
   pub entry : slice_get (xs ++ more) i ≡ Some e
   pub front : take i (xs ++ more) ≡ take i xs
@@ -56,7 +57,7 @@ front_stays (x ∷ xs) more (suc i) e is =
       whole = ap (λ ys. x ∷ ys) m.whole;
     }
 
--- what the entry at a place names stays the same as the list grows
+-- if the entry at place `i` names `b`, it still does after the list grows
 pub named_stays : {A B : Type 0} (of : A → Option B) (xs more : List A) (i : ℕ) (b : B) →
     option_and_then of (slice_get xs i) ≡ Some b →
     option_and_then of (slice_get (xs ++ more) i) ≡ Some b
@@ -64,7 +65,7 @@ named_stays of [] more i b is = cc
 named_stays of (x ∷ xs) more zero b is = is
 named_stays of (x ∷ xs) more (suc i) b is = named_stays of xs more i b is
 
--- if looking up a place gives a name, then the place has an entry, and the entry names it
+-- if a lookup of place `i` gives the name `b`, then the list has an entry at place `i`, and this entry names `b`
 pub named_entry : {A B : Type 0} (of : A → Option B) (xs : List A) (i : ℕ) (b : B) →
     option_and_then of (slice_get xs i) ≡ Some b →
     (e : A) × (slice_get xs i ≡ Some e) × (of e ≡ Some b)

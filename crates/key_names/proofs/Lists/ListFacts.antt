@@ -29,7 +29,7 @@ list_beyond [] c le = refl
 list_beyond (xs ∷ xss) zero le = absurd (omega arith)
 list_beyond (xs ∷ xss) (suc c) le = list_beyond xss c (omega arith)
 
--- the rest of a list from a place on is the element there, and the elements after it
+-- if element `i` of `xs` is `x`, then `xs` from element `i` on is `x` and the elements after it
 pub found_dropped : {X : Type 0} (xs : List X) (i : ℕ) (x : X) → slice_get xs i ≡ Some x → drop i xs ≡ x ∷ drop (i + 1) xs
 found_dropped [] i x is = cc
 found_dropped (y ∷ xs) zero x is = ap (λ z. z ∷ xs) (same_Some y x is)

@@ -1,4 +1,4 @@
--- PlacesConform holds for the marks of a lane if they are in order: places count up, and stamps rise.
+-- If the marks of a lane are in order (places count up, and stamps rise), then PlacesConform holds for them.
 use Rattle.std.proofs.Common.{ℕ, zero, suc, ◌+◌, ◌≡◌, ◌<◌, ◌≤◌, Bool, true, false, cond, List, [], ◌∷◌, ◌++◌, length, refl, ◌∙◌, arith}
 use Rattle.std.specs.Prelude.{count_by, ◌==◌}
 use Rattle.std.specs.List.{AllByRecursion, range_with_len}
@@ -16,7 +16,7 @@ pub count_more : (p : ℕ) (m : Mark) (ms : List Mark) →
     count_by (at_place p) (m ∷ ms) ≡ cond (m.place == p) 1 0 + count_by (at_place p) ms
 count_more p m ms = sum_by-cons (λ n. cond (at_place p n) 1 0) m ms
 
--- no mark has a place below that of the first mark
+-- if marks are in order from place `i` on, no mark has a place below `i`
 none_below : (i p : ℕ) (ms : List Mark) → InOrder i ms → p < i → count_by (at_place p) ms ≡ 0
 none_below i p [] order below = refl
 none_below i p (m ∷ ms) order below =
@@ -24,7 +24,7 @@ none_below i p (m ∷ ms) order below =
     let other : (m.place == p) ≡ false = (let here : m.place ≡ i = order.0 in grind (arith, nat_tests)) in
     count_more p m ms ∙ rw (other, rest) refl
 
--- each place from the first to the last occurs once
+-- if marks are in order from place `i` on, each place from `i` to the last occurs once
 once_at : (i p : ℕ) (ms : List Mark) → InOrder i ms → i ≤ p → p < i + length ms → count_by (at_place p) ms ≡ 1
 once_at i p [] order from below = absurd (omega arith)
 once_at i p (m ∷ ms) order from below =
@@ -49,7 +49,7 @@ each_once i (suc n) ms once =
 abbrev pub Above : Mark → Mark → Type 0
 Above a b = a.place < b.place → a.stamp < b.stamp
 
--- marks in order from place i on have no place below i
+-- if marks are in order from place `i` on, each place is at least `i`
 each_from : (i : ℕ) (ms : List Mark) → InOrder i ms → AllByRecursion (λ m. i ≤ m.place) ms
 each_from i [] order = tt
 each_from i (m ∷ ms) order =
@@ -79,7 +79,7 @@ rise_from i (m ∷ ms) order =
     in
     ((self, following), with_first m ms ms from (rise_from (suc i) ms order.2))
 
--- PlacesConform holds for marks in order
+-- if marks are in order from place 0 on, PlacesConform holds for them
 pub in_order_conform : (ms : List Mark) → InOrder 0 ms → PlacesConform ms
 in_order_conform ms order = record {
   once = each_once 0 (length ms) ms (λ p from below. once_at 0 p ms order from below);

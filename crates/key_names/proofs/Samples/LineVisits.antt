@@ -1,5 +1,5 @@
--- If the visits of a book are the marks of lines, then each visit is an effect of the line of its event. Conversely,
--- each visit among the effects of a line was made by the line's event.
+-- If the visits of a book are the marks of lines, then each visit is an effect of the line of its event. Conversely, if
+-- a visit is among the effects of a line, the line's event made the visit.
 use Rattle.std.proofs.Common.{◌≡◌, ℕ, ◌<◌, List, sym, ap, ◌∙◌, subst, arith, Some}
 use Rattle.std.specs.Prelude.{slice_get, option_map}
 use Rattle.std.proofs.lemmas.Option.{slice_get_within, slice_get-map}
@@ -34,7 +34,7 @@ module _ (t : List (List SeenLine)) (book : Book) (visits : VisitsAre book (all_
   abbrev lists : Lists
   lists = lists_of book
 
-  -- the entry of the book's visit at a place is the entry that the book's lists have there
+  -- if the book has the visit `v` at a place, the book's lists have the entry of `v` at that place
   pub cpu_entry_at : (c place : ℕ) (v : Visit CpuEntry) → slice_get (visits_of book c) place ≡ Some v →
       slice_get (cpu_list lists c) place ≡ Some v.entry
   cpu_entry_at c place v at =
@@ -127,7 +127,7 @@ module _ (t : List (List SeenLine)) (book : Book) (visits : VisitsAre book (all_
     pub by : visit.who.caller ≡ line.caller
     pub event : visit.who.event ≡ line.event
 
-  -- the book has the visit of a mark, if the visit at the mark's place has the mark's stamp and maker
+  -- if the visit at `place` has the mark's stamp and maker, and its entry is `entry`, then `After` holds
   visit_after : {E : Type 0} (list : List (Visit E)) (place : ℕ) (entry : E) (line : SeenLine) (mark : Mark) →
       (m : MarkOf t line mark) → stamped list place ≡ Some (m.by.mark.stamp, m.by.who) →
       ((v : Visit E) → slice_get list place ≡ Some v → v.entry ≡ entry) → After list place entry line

@@ -121,7 +121,7 @@ line_of t by here =
       step = f.step;
     }
 
--- the mark of a step of a line
+-- a mark among the steps of a line, with the mark's maker
 pub record MarkOf (t : List (List SeenLine)) (line : SeenLine) (mark : Mark) : Type 0 where
   pub by : MarkBy
   pub there : IsIn by (all_marks t)
@@ -144,7 +144,7 @@ mark_of t line mark (lines, lines_in, line_in) here =
       event_is = f.event_is;
     }
 
--- no two lines of a caller have the same event
+-- each line of a caller has the caller's number, and no two of its lines have the same event
 
 number_from : (c n : ℕ) (events : List Event) (lines : List SeenLine) (line : SeenLine) → LinesFit c n events lines →
     IsIn line lines → (line.caller ≡ c) × (n ≤ line.event)

@@ -36,7 +36,7 @@ due_dump f _ due dump = dump
 abbrev Crosses : List Effect → Type 0
 Crosses rest = AllByRecursion IsCrossing rest
 
--- Dumps holds for the effects of a line with correct samples, if the line has a dump or makes one due
+-- if a line with correct samples has a dump or makes one due, then Dumps holds for the line's effects
 module _ (fast : ℕ → ℕ → FastPool) (effects : List Effect) where
   must_dump : SamplesConform fast effects → (s : CpuVisit) → IsIn (at_cpu s) effects → IsDump s.entry →
       Dumps fast Crosses effects
@@ -174,7 +174,7 @@ module _ (t : List (List SeenLine)) (book : Book) (fast : ℕ → ℕ → FastPo
       let b = of_pool line s among here in
       record { visit = b.visit; is = b.at; event = (b.by ∙ sym by, b.event ∙ event); mixes = b.is ∙ mixes }
 
-  -- each visit by the line's event is the effect of one of the line's steps
+  -- if the line's event made a visit, the visit is among the effects of the line
   own_line : (line : SeenLine) (a who : Who) (effect : Effect) → Among line t → line.event ≡ who.event →
       who.caller ≡ line.caller → SameEvent a who → InSome a effect → IsIn effect (effects line)
   own_line line a who effect among event by same g =

@@ -1,5 +1,5 @@
--- A draft is the script before a line. If an event or a block without a fault is added to a draft without a fault
--- (`Fine`), the draft stays so. At the end the script of such a draft is well formed.
+-- A draft is the script before a line. A draft without a fault (`Fine`) stays so if an event or a block without a fault
+-- is added. The script of such a draft is well formed at the end.
 use Rattle.std.proofs.Common.{◌≡◌, ℕ, zero, suc, ◌+◌, ◌<◌, ◌≤◌, ◌==◌, leb, ltb, false, cond, ◌&&◌, ◌||◌, ◌⊎◌, inl, inr, List, [], ◌∷◌, ◌++◌, length, refl, sym, subst, ◌∙◌, arith}
 use Rattle.std.specs.List.{AllByRecursion, list_any}
 use Rattle.std.specs.Prelude.{count_by, fold, nat_lt, sum_by, if◌then◌else◌}
@@ -28,8 +28,8 @@ reads = record { none = refl; more = λ xs ys. sum_by-append bytes_read xs ys }
 pub forks_of : (c : ℕ) → Adds (count_by (is_fork_of c))
 forks_of c = record { none = refl; more = λ xs ys. sum_by-append (λ e. cond (is_fork_of c e) 1 0) xs ys }
 
--- the total over all blocks is the total of `done` and of `events`, plus that of `es`, the later events of the same
--- block, plus that of the blocks `later`
+-- let the blocks be `done`, then one block of the events `events` and `es`, and then `later`. The total over all blocks
+-- is the sum of the totals of `done`, `events`, `es` and `later`
 pub total_split : (f : List Event → ℕ) → Adds f → (done later : List (List Event)) (events es : List Event)
     → sum_by f (done ++ (events ++ es) ∷ later) ≡ sum_by f (done ++ events ∷ []) + (f es + sum_by f later)
 total_split f adds done later events es =
@@ -118,7 +118,7 @@ fork_above d (Fork child) good =
     omega arith
 fork_above d e good = tt
 
--- one more event adds its own forks of `c` to the number of times that `c` is forked
+-- if event `e` is added, the number of times that `c` is forked grows by the forks of `c` in `e`
 pub times_with : (d : Draft) (e : Event) (c : ℕ)
     → times_forked (blocks_of (with_event d e)) c ≡ times_forked (blocks_of d) c + count_by (is_fork_of c) (e ∷ [])
 times_with d e c = total_split (count_by (is_fork_of c)) (forks_of c) d.done [] d.events (e ∷ []) ∙ omega arith
@@ -334,7 +334,7 @@ none_low k c (Fork child ∷ events) low above =
     omega (arith, (forks_of c).more (Fork child ∷ []) events, none_low k c events low above.1)
 none_low k c (e ∷ events) low above = omega (arith, (forks_of c).more (e ∷ []) events, none_low k c events low above.1)
 
--- if each block forks only numbers above its own, blocks from number k on fork no number up to k
+-- if each block from number `k` on forks only numbers above its own, these blocks fork no number up to `k`
 none_forked_low : (k c : ℕ) (callers : List (List Event)) → c ≤ k → ForksAbove k callers → times_forked callers c ≡ 0
 none_forked_low k c [] low above = refl
 none_forked_low k c (events ∷ callers) low above =

@@ -18,7 +18,7 @@ use Rattle.key_names.specs.Texts.ScriptGrammar.{ActInRange, InRange, act_fields,
 use Rattle.key_names.specs.Texts.ScriptFaults.{◌>>=◌, event_of, four_fields, input_of, inside_of, number, point_of, one_field, since, two_fields, vread_at}
 use Rattle.key_names.proofs.Script.FieldReaders.{points, Takes, binary_again, binary_takes, byte_fields, hardware_fields, numbers, numbers_in, one_is, plain_takes, same_ok, step_ok, two_are, unary_again, unary_takes}
 
--- this event has this word and these fields, and it is in its range
+-- the event has the word `by` and these fields, and the fields are in range
 pub record IsEvent (version cpus : ℕ) (by : Word) (fields : List (List ℕ)) (event : Event) : Type 0 where
   pub word : event_word event ≡ by
   pub spelt : fields ≡ arguments event
@@ -142,7 +142,8 @@ since_takes first version r e is =
       | inr not ↦ let none = rw not at is in absurd cc
     ]
 
--- if a later version added an event, the event's reader takes the event only from that version on
+-- if IsEvent holds for all that `read` takes in the versions from `first` on, then it holds for all that `read` limited
+-- to these versions (`since`) takes in any version
 later_takes : (first version cpus : ℕ) (word : Word) (read : List (List ℕ) → Result Event FaultKind)
     → (first ≤ version → Takes read (IsEvent version cpus word)) →
     Takes (λ fields. since first version (read fields)) (IsEvent version cpus word)

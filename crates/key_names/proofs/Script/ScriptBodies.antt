@@ -51,8 +51,8 @@ nothing_takes n ((b ∷ tail) ∷ next ∷ more) x e =
 
 -- ---- the lines that are left
 
--- the lines after a draft with `c` finished blocks: the lines of the events `es` that the current block still gets, of
--- the blocks `later`, and of the end
+-- the lines after a draft with `c` finished blocks: those of `es`, the further events of the current block, those of
+-- the blocks `later`, and the line `end`
 abbrev pub rest_lines : ℕ → List Event → List (List Event) → List (List ℕ)
 rest_lines c es later = map spaced ((map event_fields es ++ block_lines (suc c) later) ++ (codes "end" ∷ []) ∷ [])
     ++ [] ∷ []
@@ -71,7 +71,7 @@ pub record Continues (d : Draft) (lines : List (List ℕ)) (s : Script) : Type 0
   pub spelt : lines ≡ rest_lines (length d.done) es later
   pub whole : Whole d.version d.cpus (callers_with d es later)
 
--- ---- the lines that give a script are its lines
+-- ---- lines that are read as a script are the script's lines
 
 few_cpus : (version cpus : ℕ) → cpus ≤ most_cpus version → cpus ≤ 256
 few_cpus version cpus few = grind arith
@@ -202,13 +202,13 @@ from_takes d n (line ∷ more) s fine e =
     subst (λ l. Continues d (l ∷ more) s) (sym is)
     (by_said d n more s what.0 next.0 fine says.1 what.2 next.2 (λ d' m fine' e'. from_takes d' m more s fine' e'))
 
--- ---- the lines of a script give it
+-- ---- reading the lines of a script gives the script
 
 first_after : (lines : List (List ℕ)) (line : List ℕ) (more : List (List ℕ)) → HasFirst (lines ++ line ∷ more)
 first_after [] line more = record { first = line; others = more; is = refl }
 first_after (l ∷ lines) line more = record { first = l; others = lines ++ line ∷ more; is = refl }
 
--- reading the line of some content that may come next leads to the next draft, or to the end
+-- if the content `what` may come after the draft, reading its line leads to the next draft, or to the end
 step_again : (d : Draft) (n : ℕ) (what : Said) (more : List (List ℕ)) (next : Next) → d.cpus ≤ 256 →
     SaidInRange d.version d.cpus what
     → HasFirst more → after d what ≡ Ok next

@@ -15,7 +15,7 @@ pub keystream_zero : keystream (replicate 32 0) 64 64 ≡ 159 ∷ 7 ∷ 231 ∷ 
 unfolding keystream_byte u32_at block_word double_rounds column_round diagonal_round quarter_round
 keystream_zero = refl
 
--- a piece of keystream is two pieces joined
+-- a piece of `a + b` bytes is a piece of `a` bytes and then a piece of the next `b` bytes
 pub keystream-add : (key : List ℕ) (from a b : ℕ) → keystream key from (a + b) ≡ keystream key from a ++
     keystream key (from + a) b
 keystream-add key from zero b =
@@ -48,7 +48,7 @@ drop-keystream key from len n within =
     ap (λ k. drop n (keystream key from k)) sum ∙ ap (drop n) (keystream-add key from n (len - n))
     ∙ drop_at (keystream key from n) (keystream key (from + n) (len - n)) n (length-keystream key from n)
 
--- a part of a piece is a piece
+-- bytes `i` to `j` of a piece are a piece that begins `i` bytes later
 pub slice_range-keystream : (key : List ℕ) (from len i j : ℕ) → i ≤ j → j ≤ len →
     slice_range (keystream key from len) i j ≡ keystream key (from + i) (j - i)
 slice_range-keystream key from len i j ordered within =

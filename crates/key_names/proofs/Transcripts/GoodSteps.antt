@@ -39,7 +39,7 @@ look_some : (look g : ℕ) → g ≡ published_by look → 1 ≤ g → 1 ≤ loo
 look_some zero g is some = let p : g ≡ 0 = is in absurd (omega arith)
 look_some (suc look) g is some = omega arith
 
--- the steps that a line shows are good if each look of the line found the core ready
+-- if each look of a line found the core ready, then the steps that the line shows are good
 good_shown : (lists : Lists) (set : Setting) (steps : List HostStep) (effects : List Effect) → AllThere lists effects →
     AllKnown 1 (looks_of effects) → Shows set steps effects → Good lists steps
 good_shown lists set [] effects there known shows = tt
@@ -69,7 +69,7 @@ good_shown lists set (system_call n flags answer ∷ steps) effects there known 
       good_shown lists set steps shows.rest h.1 (looks_append 1 shows.call shows.rest after) shows.goes_on,
     )
 
--- the steps after the first look of a call are good if that look found the core ready
+-- if the looks of a call never fall, and the first look found the core ready, then the steps after that look are good
 pub good_after : (lists : Lists) (set : Setting) (steps : List HostStep) (effects : List Effect) → AllThere lists effects →
     NeverFall (looks_of effects) → Shows set steps effects →
     (g : ℕ) (rest : List HostStep) → steps ≡ publishes g ∷ rest → 1 ≤ g → Good lists rest

@@ -1,5 +1,5 @@
--- If the visits of a book are marks for which PlacesConform holds in each lane, then each lane has as many visits as
--- marks.
+-- Let VisitsAre hold for a book and some marks, and let PlacesConform hold for the marks of each lane. Then each lane
+-- has as many visits as marks.
 use Rattle.std.proofs.Common.{◌≡◌, ℕ, zero, suc, ◌+◌, ◌<◌, ◌≤◌, Bool, true, false, List, [], ◌∷◌, refl, sym}
 use Rattle.std.proofs.Common.{subst, ap, ◌∙◌, arith, Some, length}
 use Rattle.std.specs.Prelude.{count_by, ◌==◌, if◌then◌else◌}
@@ -116,7 +116,7 @@ one_more_mark : (lane : LaneId) (by : MarkBy) (marks : List MarkBy) →
     mark_count lane (by ∷ marks) ≡ one_if (is_same_lane by.mark.lane lane) + mark_count lane marks
 one_more_mark lane by marks = count_if (is_same_lane by.mark.lane lane) by (lane_marks lane marks)
 
--- a mark is not counted if its lane is none of the CPUs from `c` on
+-- if the lane of a mark is none of the CPUs from `c` on, the mark is not counted
 skips : {X : Type 0} (c : ℕ) (xs : List X) (by : MarkBy) (marks : List MarkBy) →
     ((d : ℕ) → c ≤ d → is_same_lane by.mark.lane (CpuLane d) ≡ false) →
     cpu_counts c xs (by ∷ marks) ≡ cpu_counts c xs marks
@@ -242,7 +242,8 @@ cpus_equal {X = X} c (xs ∷ xss) marks le same d =
     at_number (suc e) first rest =
         let next : c + suc e ≡ suc c + e = omega arith in ap (λ i. mark_count (CpuLane i) marks) next ∙ rest e
 
--- a lane has as many visits as marks
+-- if VisitsAre holds for the book and the marks, and PlacesConform for the marks of each lane, then each lane has as
+-- many visits as marks
 pub lane_counts : (book : Book) (marks : List MarkBy) → ((lane : LaneId) → PlacesConform (lane_marks lane marks)) →
     VisitsAre book marks → (lane : LaneId) → mark_count lane marks ≡ lane_length book lane
 lane_counts book marks places visits lane = at_lane lane

@@ -70,7 +70,7 @@ module _ (fast : ℕ → ℕ → FastPool) where
       (effects : List Effect) → Looked P effects → Quiet effects
   after_look P quiet effects f = are effects (looked f.0 ∷ f.1) f.2 (tt, quiet f.0 f.1 f.3)
 
-  -- the effects are quiet if both sides of a choice make them quiet
+  -- if each side of a choice makes the effects quiet, then the choice makes them quiet
   choice : (b : Bool) (A B : Type 0) (effects : List Effect) → (A → Quiet effects) → (B → Quiet effects) → MatchBool b A B →
       Quiet effects
   choice true A B effects x y h = x h
@@ -149,7 +149,7 @@ module _ (fast : ℕ → ℕ → FastPool) where
   pub end_quiet : (effects : List Effect) → EndForm effects → Quiet effects
   end_quiet effects f = base_only _ effects f
 
-  -- the samples of an event are correct if the event is not an interrupt
+  -- if an event is not an interrupt, its samples are correct
   pub form_samples : (set : Setting) (event : Event) (effects : List Effect) → IsNoInterrupt event → Form set event effects →
       SamplesConform fast effects
   form_samples set event effects other f = inl (quiet set event effects other f)

@@ -34,8 +34,8 @@ module _ (c p : ℕ) where
   abbrev all_takes : List (List CallMeaning) → ℕ
   all_takes = calls.all_takes c p
 
-  -- the entries of one state take the read at most as often as all entries of the state's caller. So do the entries of
-  -- two states together
+  -- the entries of one state take the read at most as often as all entries of the state's caller. The same is true of
+  -- the entries of two different states together
   one_state : (k : ℕ) (ms : List CallMeaning) → takes c p (entries_of_state k ms) ≤ caller_takes ms
   one_state k [] = omega arith
   one_state k (m ∷ ms) =
@@ -218,7 +218,7 @@ module _ (c p : ℕ) where
       let rest : 2 ≤ takes c p es = counts_two es n m (λ x. ne (ap suc x)) is at in
       let more : takes c p es ≤ takes c p (e ∷ es) = more_takes e es in omega arith
 
-  -- only one entry takes the read, if all callers together take it at most once
+  -- if all callers together take the read at most once, then only one entry takes it
   pub one_entry : (mss : List (List CallMeaning)) → all_takes mss ≤ 1 → (h i j k n m : ℕ) →
       rekey_at (list_at (list_at (map state_lists mss) h) j) n ≡ Some (c, p) →
       rekey_at (list_at (list_at (map state_lists mss) i) k) m ≡ Some (c, p) →

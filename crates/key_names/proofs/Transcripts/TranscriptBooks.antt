@@ -20,7 +20,7 @@ lt_or_le a zero = inr (omega arith)
 lt_or_le zero (suc b) = inl (omega arith)
 lt_or_le (suc a) (suc b) = elim (lt_or_le a b) [ inl lt ↦ inl (omega arith) | inr le ↦ inr (omega arith) ]
 
--- element k of the list that f makes from a range is f of the number k places after the range's first
+-- if a list consists of `f from`, `f (from + 1)` and so on, its element k is `f (from + k)`
 pub made_at : {A : Type 0} (f : ℕ → List A) (from count k : ℕ) → k < count →
     list_at (map f (range_with_len from count)) k ≡ f (from + k)
 made_at f from zero k lt = absurd (omega arith)

@@ -123,7 +123,7 @@ module _ (lists : Lists) (caller k : ℕ) (below : k < 16) where
   not_true true h = cc
   not_true false h = refl
 
-  -- a copy that the batch alone served leaves the state that the replay of the state's list gives
+  -- if the batch alone served a copy, the state after the copy matches the replay of the state's list
   local_holds : (x : Both) (n : ℕ) (rest : List Effect) (m : CallMeaning) → 1 ≤ n → length m.before.states ≡ 16 →
       Holds x (state_number k m.before) → ByLocalCopy n rest m → Leaves x m
   local_holds x n rest m some len h by =

@@ -58,7 +58,7 @@ module _ (lists : Lists) (caller k : ℕ) (below : k < 16) where
         (if m.before.current == k then m.entries else [])
     reads : Reads m.entries
 
-  -- the lists stay in order if a call changes no state
+  -- if state k was settled, and a call changes no state and has no entry, then `Leaves` holds
   same_states : (t : NamedState) (m : CallMeaning) → length m.before.states ≡ 16 → Settled t (state_at m.before k) →
       m.entries ≡ [] → m.after.states ≡ m.before.states → Leaves t m
   same_states t m len h none same = record {
@@ -80,8 +80,8 @@ module _ (lists : Lists) (caller k : ℕ) (below : k < 16) where
           (λ u. Settled u (state_at m.after k)) t es in subst P (sym none) empty
       go false = empty
 
-  -- if a call replaces the current state, and the call's entries keep the list of that state in order, then the lists
-  -- stay in order
+  -- let state k be settled before a call that replaces only the current state. If the call's entries keep the list of
+  -- the current state in order, and take reads of 32 bytes, then `Leaves` holds
   set_state : (t : NamedState) (m : CallMeaning) (x : VgetrandomState) → length m.before.states ≡ 16 →
       Settled t (state_at m.before k) →
       m.after.states ≡ slice_set m.before.states m.before.current x →

@@ -1,4 +1,5 @@
--- Answers and data do not change the calls, marks, orders and settings that lines make. A bare line has neither.
+-- Answers and data do not change the calls, marks, orders and settings that lines make. A bare line has no answer and
+-- no data.
 use Rattle.std.proofs.Common.{◌≡◌, ℕ, zero, suc, Bool, true, false, Option, Some, None, List, [], ◌∷◌, ◌++◌, length, map, refl, sym, ap, ◌∙◌}
 use Rattle.std.specs.Prelude.{◌==◌, take, drop, if◌then◌else◌}
 use Rattle.std.specs.List.{fold, flat_map}

@@ -1,4 +1,4 @@
--- The book and the meanings that a transcript's steps make do not depend on its answers and data.
+-- The book and the meanings that a transcript's steps make do not depend on the transcript's answers and data.
 use Rattle.std.proofs.Common.{◌≡◌, ℕ, suc, Bool, true, false, List, [], ◌∷◌, length, map, refl, sym, subst, ap, ◌∙◌}
 use Rattle.std.specs.Prelude.{◌==◌, ◌&&◌, ◌||◌, not, MatchBool}
 use Rattle.std.specs.List.{AllByRecursion}

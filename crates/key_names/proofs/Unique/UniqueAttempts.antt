@@ -19,7 +19,8 @@ use Rattle.key_names.proofs.Transcripts.KeyVisits.{answers_done}
 use Rattle.key_names.proofs.Unique.TwoBooks.{SameCpu, SameSteps, AllInferred, same_at, inferred_at, same_looks}
 use Rattle.key_names.proofs.Unique.UniqueForms.{inferred_system}
 
--- if a choice goes the same way in both books, what follows from each side follows from the choice
+-- if two choices have equal tests, and C follows both from their first sides and from their second sides, then C
+-- follows from the choices
 pub match_both : (A B A' B' C : Type 0) (b b' : Bool) → b ≡ b' → ((b ≡ true) → A → A' → C) → ((b ≡ false) → B → B' →
     C) →
     MatchBool b A B → MatchBool b' A' B' → C
@@ -56,7 +57,7 @@ record RefilledKey (call : List Effect) : Type 0 where
   cpu : CpuVisit
   is : call ≡ looked g ∷ looked look ∷ at_base base ∷ at_cpu cpu ∷ []
 
--- a system call for a new key is a PlainKey or a RefilledKey, if each of its looks found the core ready
+-- if each look of a system call for a new key found the core ready, then the call is a PlainKey or a RefilledKey
 key_read : (set : Setting) (call more : List Effect) → SysForm set 32 0 call → AllReady (call ++ more) →
     PlainKey call ⊎ RefilledKey call
 key_read set call more form ready =
@@ -111,7 +112,7 @@ module _ (book book' : Book) (who : Who) (set : Setting) where
   same_ready ds ds' same ready = let P : List ℕ → Type 0 = λ gs. AllByRecursion (λ g. 1 ≤ g) gs in
       subst P (same_looks book book' who ds ds' same) ready
 
-  -- two system calls that begin at the same step end at the same step, and read the same visit
+  -- two system calls that begin at the same step end at the same step, and read their keys from the same visit
   record SameRead (call call' more more' : List Effect) : Type 0 where
     key : List ℕ
     key' : List ℕ
@@ -210,7 +211,7 @@ module _ (book book' : Book) (who : Who) (set : Setting) where
         },
       )
 
-  -- a system call for a new key reads the same visit in both books
+  -- a system call for a new key reads the key from the same visit in both books
   pub record Keys (V : List PointReached → Type 0) (answer answer' : SystemAnswer) (steps steps' : List HostStep)
       (ds ds' : List Effect) : Type 0 where
     pub key : List ℕ

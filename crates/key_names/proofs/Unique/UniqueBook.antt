@@ -52,7 +52,7 @@ module _ (script : Script) (t : List (List SeenLine)) where
   first_number data_clause = omega arith
   first_number looks_clause = omega arith
 
-  -- each clause before the first that fails holds
+  -- if clause `d` is the first that fails, then each clause before `d` holds
   passes : (d c : Clause) → clause_number c < clause_number d → FirstFails script t d → Passes c
   passes lines_clause c lt f = let least : 2 ≤ clause_number c = first_number c in absurd (omega arith)
   passes marks_clause lines_clause lt f = f.0

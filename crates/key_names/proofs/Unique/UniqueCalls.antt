@@ -36,7 +36,8 @@ module _ (book book' : Book) (who : Who) (set : Setting) where
   abbrev H : Type 0
   H = lists_of book ≡ lists_of book'
 
-  -- two calls that went alike, one in each book
+  -- two calls, one in each book: their outcomes are alike (`SameOutcome`), their points are equal, and AllInferred
+  -- holds for their effects
   pub record CallAlike (steps steps' : List HostStep) (ds ds' : List Effect) (o o' : Outcome) : Type 0 where
     pub inferred : AllInferred book book' who ds ds'
     pub outcome : SameOutcome H o o'
@@ -100,7 +101,8 @@ module _ (book book' : Book) (who : Who) (set : Setting) where
     points = ap points_of by.steps_are ∙ sym (ap points_of by'.steps_are);
   }
 
-  -- an attempt and the rest of its call go alike in both books
+  -- let the states before an attempt be alike. If what follows an outdated attempt is alike in both books, then so are
+  -- the attempt and the rest of its call together
   tried_alike : (W V : List PointReached → Type 0) (wipes : Point → Bool) →
       ((wiped : Bool) (points : List PointReached) → W (reached Start wiped ∷ points) →
       (wiped ≡ wipes Start) × V points) →
@@ -149,7 +151,7 @@ module _ (book book' : Book) (who : Who) (set : Setting) where
           more more' by by' h.shows h.shows' h.same
 
   module _ (acts : List BoundAct) where
-    -- how WipesConform limits the points that are left, in the first attempt and in the second
+    -- what WipesConform requires of the points that are left, in the first attempt and in the second
     abbrev InFirst : List PointReached → Type 0
     InFirst points = AllByRecursion (λ r. r.wiped ≡ is_wiped acts r.point) (before_start points)
         × AllByRecursion (λ r. r.wiped ≡ false) (from_start points)
@@ -196,7 +198,7 @@ module _ (book book' : Book) (who : Who) (set : Setting) where
       points = ap points_of by.steps_are ∙ sym (ap points_of by'.steps_are);
     }
 
-    -- the rest of a call after its first look goes alike in both books
+    -- if two calls have the same steps, on states that are alike, then the parts after their first looks are alike
     published_alike : (n flags published : ℕ) (s s' : VgetrandomState) → SameState H s s' →
         (steps steps' : List HostStep) (o o' : Outcome) (ds ds' : List Effect) →
         FromPublished n flags s published steps o → FromPublished n flags s' published steps' o' →
@@ -227,7 +229,7 @@ module _ (book book' : Book) (who : Who) (set : Setting) where
         }))))
         f f'
 
-    -- calls with the same steps go alike on states that are alike
+    -- if two calls have the same steps, on states that are alike, then the calls are alike (`CallAlike`)
     pub call_alike : (n flags : ℕ) (s s' : VgetrandomState) → SameState H s s' →
         (steps steps' : List HostStep) (o o' : Outcome) (ds ds' : List Effect) →
         IsCall n flags s steps o → IsCall n flags s' steps' o' → Shows set steps ds → Shows set steps' ds' →

@@ -1,4 +1,5 @@
--- If an event is a call by itself, its form determines the entry of each of its visits, from earlier entries.
+-- If an event is a call by itself, the event's form and the earlier entries determine the entry of each visit of the
+-- event.
 use Rattle.std.proofs.Common.{◌≡◌, ℕ, zero, suc, List, [], ◌∷◌, ◌⊎◌, refl, sym, subst, ap, ◌∙◌, Some, None, take, ◌≤◌}
 use Rattle.std.proofs.Common.{Bool, true, inl, inr, arith, Option}
 use Rattle.std.specs.Prelude.{◌==◌, map}
@@ -51,7 +52,7 @@ module _ (book book' : Book) (who : Who) (samples : LawfulSamples book) (samples
   abbrev Tell : (List Effect → Type 0) → (List Effect → Type 0) → Type 0
   Tell = Tells book book' who
 
-  -- the pool's list determines the threshold that a credit crossed
+  -- if equal lists of the pool imply equal thresholds, the form of the effects after a credit determines their entries
   inferred_cross : (set : Setting) (c c' : Crossing) → ((lists_of book).pool ≡ (lists_of book').pool → c ≡ c') →
       Tell (Cross set c) (Cross set c')
   inferred_cross set none none alike ds ds' f f' same = inferred_nothing book book' who ds ds' f f' same
@@ -76,7 +77,7 @@ module _ (book book' : Book) (who : Who) (samples : LawfulSamples book) (samples
   inferred_cross set early early alike ds ds' f f' same =
       inferred_rooted_or_not book book' who set (λ r. Early (Some r)) (Early None) ds ds' f f' same
 
-  -- a credit's form determines the entries of its visits, if the CPUs' lists determine the entry that credits
+  -- if the CPUs' lists determine the entry that credits, then a credit's form determines the entries of its visits
   inferred_credit : (set : Setting) (e e' : PoolEntry) (ds ds' : List Effect) (f : CreditForm set e ds)
       (f' : CreditForm set e' ds') →
       (SamePool book book' who f.pool f'.pool → (lists_of book).cpus ≡ (lists_of book').cpus → e ≡ e') →

@@ -1,4 +1,4 @@
--- The form of a line determines the entry of each of its visits, from earlier entries. So two books with the same
+-- The form of a line and the earlier entries determine the entry of each visit of the line. So two books with the same
 -- earlier entries also have the same entries for the line's steps.
 use Rattle.std.proofs.Common.{◌≡◌, ℕ, ◌≤◌, List, [], ◌⊎◌, inl, inr, refl, sym, subst, ap, ◌∙◌, arith, Some, None}
 use Rattle.std.specs.Prelude.{◌==◌, ◌&&◌, not}
@@ -56,7 +56,7 @@ module _ (book book' : Book) (who : Who) where
   inferred_cpu_only c e ds ds' f f' same =
       through book book' who f.effects_are f'.effects_are (λ s. (λ fills. f.is ∙ sym f'.is, tt)) same
 
-  -- an entry that names a root has other steps than one that names none, so the steps decide between the two
+  -- the steps determine whether the base's entry names a root: a visit of the pool comes first exactly if it does
   pub inferred_rooted_or_not : (set : Setting) (e : ℕ → BaseEntry) (plain : BaseEntry) →
       Tell (λ ds. Rooted set e ds ⊎ BaseOnly plain ds) (λ ds. Rooted set e ds ⊎ BaseOnly plain ds)
   inferred_rooted_or_not set e plain =

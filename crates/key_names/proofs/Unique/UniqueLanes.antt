@@ -1,4 +1,4 @@
--- Two books with the same marks have the same lanes, if each entry is determined by the entries before it.
+-- If each entry is determined by the entries before it, then two books with the same marks have the same lanes.
 use Rattle.std.proofs.Common.{◌≡◌, ℕ, suc, ◌<◌, List, [], ◌∷◌, refl, sym, subst, ap, ◌∙◌, arith, Some, Option, length}
 use Rattle.std.proofs.Common.{take}
 use Rattle.std.specs.Prelude.{slice_get, option_and_then, option_map, unwrap_or}
@@ -27,7 +27,7 @@ use Rattle.key_names.proofs.Unique.UniqueEvents.{entries_at}
 use Rattle.key_names.proofs.Unique.UniqueMarks.{one_entry}
 use Rattle.key_names.proofs.Transcripts.LaneCounts.{every_place, lane_length, lane_counts}
 
--- two lists of the same length are equal if, at each place, equal elements before the place imply equal elements there
+-- two lists of the same length are equal if, at each place, equal earlier elements imply equal elements
 pub same_lists : {E : Type 0} (xs ys : List E) → length xs ≡ length ys →
     ((i : ℕ) (x y : E) → i < length xs → slice_get xs i ≡ Some x → slice_get ys i ≡ Some y → take i xs ≡ take i ys →
     x ≡ y) →
@@ -42,7 +42,7 @@ same_lists {E = E} (x ∷ xs) (y ∷ ys) long each =
     (ap (λ z. z ∷ take i xs) here ∙ ap (λ zs. y ∷ zs) same)) in
     ap (λ z. z ∷ xs) here ∙ ap (λ zs. y ∷ zs) rest
 
--- two lists of lists are equal if they have the same length, and the lists at each place are equal
+-- if two lists of lists have the same length, and the lists at each place are equal, then both are equal
 same_rows : {E : Type 0} (xss yss : List (List E)) → length xss ≡ length yss →
     ((i : ℕ) → list_at xss i ≡ list_at yss i) → xss ≡ yss
 same_rows [] [] long each = refl
@@ -71,7 +71,7 @@ module _ (book book' : Book) where
   abbrev l' : Lists
   l' = lists_of book'
 
-  -- the entries at a place are equal in both books, if the entries that determine them are equal
+  -- if the entries that determine the entry at a place are equal in both books, so are the entries at that place
   abbrev pub PlaceInferred : LaneId → ℕ → Type 0
   PlaceInferred lane place = Inferred book book' nobody (effect_at l lane place) (effect_at l' lane place)
 
@@ -99,7 +99,7 @@ module _ (book book' : Book) where
       each_append (λ (by : MarkBy). PlaceInferred by.mark.lane by.mark.place) (flat_map line_marks lines) (all_marks t)
       (lines_inferred lines inferred.0) (marks_inferred t inferred.1)
 
--- two lists of visits are equal if they have the same length, the same marks and the same entries
+-- if two lists of visits have the same length, the same stamps and makers, and the same entries, then they are equal
 visits_same : {E : Type 0} (xs ys : List (Visit E)) → length xs ≡ length ys →
     ((i : ℕ) → i < length xs → stamped xs i ≡ stamped ys i) → entries_of xs ≡ entries_of ys → xs ≡ ys
 visits_same {E = E} xs ys long marks entries = same_lists xs ys long one

@@ -1,4 +1,5 @@
--- The calls of a transcript have exactly its lines, so a fact about the lines of all calls is one about all lines.
+-- The calls of a transcript have exactly the transcript's lines. So a fact holds for the lines of all calls if and only
+-- if it holds for all lines.
 use Rattle.std.proofs.Common.{◌≡◌, ℕ, suc, Bool, true, false, List, [], ◌∷◌, ◌++◌, ◌⊎◌, inl, inr, refl, sym, subst, ap}
 use Rattle.std.proofs.Common.{◌∙◌, Some}
 use Rattle.std.specs.Prelude.{map, if◌then◌else◌}
@@ -22,8 +23,8 @@ module _ (P Q : SeenLine → Type 0) where
   abbrev Waiting : (SeenLine → Type 0) → List BoundAct → Type 0
   Waiting R waiting = AllByRecursion (λ bound. R bound.line) waiting
 
-  -- the calls have exactly these waiting acts and lines. If P holds for all of these, P holds for the lines of the
-  -- calls. If Q holds for the lines of the calls, Q holds for all of these
+  -- the calls have exactly these waiting acts and lines. If P holds for the waiting acts and the lines, P holds for the
+  -- lines of the calls. If Q holds for the lines of the calls, Q holds for the waiting acts and the lines
   pub record Covers (waiting : List BoundAct) (lines : List SeenLine) (calls : List Call) : Type 0 where
     pub to_calls : Waiting P waiting → AllByRecursion P lines → AllByRecursion (OfCall P) calls
     pub to_lines : AllByRecursion (OfCall Q) calls → Waiting Q waiting × AllByRecursion Q lines
@@ -104,7 +105,7 @@ module _ (book book' : Book) (lawful : LawfulLanes (lists_of book)) (lawful' : L
       let p' = each_parts (Conforms book') (line_marks line) (flat_map line_marks lines) conform' in
       (same_steps book book' lawful lawful' line.caller line.event 0 line.steps p.0 p'.0, lines_same lines p.1 p'.1)
 
-  -- SameSteps holds for the effects of each line, if the marks of all lines are visits of both books
+  -- if the marks of all lines are visits of both books, then SameSteps holds for the effects of each line
   pub all_same : (t : List (List SeenLine)) → AllByRecursion (Conforms book) (all_marks t) →
       AllByRecursion (Conforms book') (all_marks t) → AllByRecursion (λ lines. AllByRecursion Same lines) t
   all_same [] conform conform' = tt

@@ -71,7 +71,7 @@ module _ (book book' : Book) (lawful : LawfulLanes (lists_of book)) (lawful' : L
       SameEvent f.visit.who who
   made_by visits i place f = (ap (λ (w : Who). w.caller) f.made, ap (λ (w : Who). w.event) f.made)
 
-  -- if the effects of two entries are those of one step, so are the effects found at the places of these entries
+  -- if SameStep holds for the effects of two entries, it holds for the effects found at the places of these entries
   effects_there : {E : Type 0} (d d' : E → Effect) (o o' : Option E) (e e' : E) → o ≡ Some e → o' ≡ Some e' →
       SameStep book book' who (d e) (d' e') → SameStep book book' who (effect_or d o) (effect_or d' o')
   effects_there {E = E} d d' o o' e e' p q same =
@@ -159,7 +159,7 @@ module _ (book book' : Book) (lawful : LawfulLanes (lists_of book)) (lawful' : L
       same_cpu i cpu place (found (list_at book.cpus cpu) place stamp (by i) at)
       (found (list_at book'.cpus cpu) place stamp (by i) at')
 
-  -- SameSteps holds for the effects of a line, if the line's marks are visits of both books
+  -- if the marks of a line are visits of both books, then SameSteps holds for the line's effects
   pub same_steps : (i : ℕ) (steps : List Step) → AllByRecursion (Conforms book) (marks_from c n i steps) →
       AllByRecursion (Conforms book') (marks_from c n i steps) →
       SameSteps book book' who (effects_of l steps) (effects_of l' steps)

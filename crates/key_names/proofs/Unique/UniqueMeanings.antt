@@ -54,7 +54,7 @@ module _ (book book' : Book) (samples : LawfulSamples book) (samples' : LawfulSa
   abbrev pub After' : SeenLine → LineMeaning → Type 0
   After' line m = effects_of (lists_of book') line.steps ≡ m.effects
 
-  -- a line has the same effects in both books if the books have the same lists
+  -- if both books have the same lists, a line has the same effects in both
   pub effects_equal : (line : SeenLine) (m m' : LineMeaning) → After line m → After' line m' → H → m.effects ≡ m'.effects
   effects_equal line m m' p p' h = sym p ∙ ap (λ lists. effects_of lists line.steps) h ∙ p'
 

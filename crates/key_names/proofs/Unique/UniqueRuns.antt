@@ -44,7 +44,7 @@ module _ (book book' : Book) (samples : LawfulSamples book) (samples' : LawfulSa
   abbrev Second : SeenLine → LineMeaning → Type 0
   Second = After' book book' samples samples'
 
-  -- the meanings of a vread in the two books are alike if the vread made a vgetrandom call in both
+  -- if a vread made a vgetrandom call in both books, then the vread's meanings in the two books are alike
   vgetrandom_alike : (n flags : ℕ) (line : SeenLine) (acts : List BoundAct) (m m' : CallMeaning) →
       OfCall Same (vread_call n flags line acts) → EachOfCall First (vread_call n flags line acts) m →
       EachOfCall Second (vread_call n flags line acts) m' → SameCaller H m.before m'.before →
@@ -91,7 +91,7 @@ module _ (book book' : Book) (samples : LawfulSamples book) (samples' : LawfulSa
   none_inside (bound ∷ acts) [] each p = absurd each
   none_inside (bound ∷ acts) (m ∷ ms) each p = cc
 
-  -- the meanings of a vread in the two books are alike if a copy served the vread in both
+  -- if a copy served a vread in both books, then the vread's meanings in the two books are alike
   local_alike : (n flags g g' : ℕ) (rest rest' : List Effect) (line : SeenLine) (acts : List BoundAct)
       (m m' : CallMeaning) →
       EachOfCall First (vread_call n flags line acts) m → EachOfCall Second (vread_call n flags line acts) m' →

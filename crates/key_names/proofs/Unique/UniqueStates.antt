@@ -1,5 +1,5 @@
--- Two vgetrandom states are alike if they differ at most in the bytes of key and batch. If H holds, alike states are
--- equal. The same use of both leaves them alike.
+-- Two vgetrandom states are alike if they differ at most in the bytes of key and batch, and are equal if H holds
+-- (`SameState`). Two states that are alike stay alike if both get the same use.
 use Rattle.std.proofs.Common.{◌≡◌, ℕ, ◌+◌, Bool, true, false, List, ◌++◌, refl, sym, subst, ap, ◌∙◌}
 use Rattle.std.specs.Prelude.{if◌then◌else◌}
 use Rattle.key_names.specs.declared.entries.VEntry.{VEntry}
@@ -51,7 +51,7 @@ module _ (H : Type 0) where
         ∙ ap (λ k. record s' { key = k; pos = 96 }) (keys h);
   }
 
-  -- if two choices go the same way between states that are alike, the chosen states are alike
+  -- if the tests of two choices are equal, and the states on each side are alike, then the chosen states are alike
   same_if : (b b' : Bool) → b ≡ b' → (x y x' y' : VgetrandomState) → SameState x x' → SameState y y' →
       SameState (if b then x else y) (if b' then x' else y')
   same_if true true p x y x' y' here there = here
@@ -85,7 +85,8 @@ module _ (H : Type 0) where
         equal = λ h. ap (λ x. state_of_new_batch x (c + whole_blocks x n) (new_batch_bytes x n)) (same.equal h);
       } in m)
 
-  -- two attempts that went alike
+  -- two attempts with the same end, next block and entries, and with states that are alike. If H holds, the attempts
+  -- are equal
   pub record SameAttempt (a a' : Attempt) : Type 0 where
     pub end : a.end ≡ a'.end
     pub next_block : a.next_block ≡ a'.next_block
@@ -109,7 +110,7 @@ module _ (H : Type 0) where
     equal = λ h. ap (λ x. prefix_attempt x a) p ∙ ap (λ x. prefix_attempt es' x) (same.equal h);
   }
 
-  -- two calls that ended alike
+  -- two calls with the same entries, and with states that are alike. If H holds, the outcomes are equal
   pub record SameOutcome (o o' : Outcome) : Type 0 where
     pub entries : o.entries ≡ o'.entries
     pub state : SameState o.state o'.state

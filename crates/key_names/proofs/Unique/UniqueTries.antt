@@ -1,4 +1,4 @@
--- The attempts of a vread in two books go alike, from each of their points on.
+-- If a vread has the same steps in two books, its attempts in both are alike (`Alike`), from each of their points on.
 use Rattle.std.proofs.Common.{◌≡◌, ℕ, Bool, false, List, [], ◌∷◌, ◌++◌, refl, sym, subst, ap, ◌∙◌, Option}
 use Rattle.std.specs.Prelude.{◌==◌, if◌then◌else◌}
 use Rattle.key_names.specs.declared.names.Who.{Who}
@@ -37,7 +37,7 @@ module _ (book book' : Book) (who : Who) (set : Setting) (W V : List PointReache
     pub attempt : SameAttempt H a a'
     pub points : points_of more ≡ points_of more' → points_of (steps ++ more) ≡ points_of (steps' ++ more')
 
-  -- two attempts for which F and F' hold go alike, if they have the same steps and U holds for their points
+  -- if F and F' hold for two attempts with the same steps, and U holds for their points, then the attempts are alike
   abbrev pub GoAlike : (List PointReached → Type 0) → (List HostStep → Attempt → Type 0) →
       (List HostStep → Attempt → Type 0) → Type 0
   GoAlike U F F' = (steps steps' : List HostStep) (a a' : Attempt) (ds ds' : List Effect) → F steps a → F' steps' a' →
@@ -173,7 +173,7 @@ module _ (book book' : Book) (who : Who) (set : Setting) (W V : List PointReache
       (written_alike n c) steps steps' a a' ds ds' x y here)
       f f'
 
-  -- attempts with the same steps go alike on states that are alike
+  -- if two attempts have the same steps, on states that are alike, then the attempts are alike
   pub attempt_alike : (n c : ℕ) (s s' : VgetrandomState) → SameState H s s' →
       GoAlike W (IsAttempt n c s) (IsAttempt n c s')
   attempt_alike n c s s' same steps steps' a a' ds ds' is is' here =

@@ -74,7 +74,7 @@ roots_rise : (pool : List PoolEntry) (s : BaseState) (o : Option ℕ) → RootCo
 roots_rise pool s None h = omega arith
 roots_rise pool s (Some r) h = omega arith
 
--- the uses of an entry do not overlap, and they are of the key in use or of the call key of the entry's place
+-- the uses of an entry do not overlap. They are of the key in use, or of the call key that the entry's place names
 record EntryUses (s : BaseState) (e : BaseEntry) : Type 0 where
   disjoint : Disjoint (base_uses_at s e)
   within : (k : KeyName) (q : ℕ) → IsUsed (base_uses_at s e) k q →
@@ -125,7 +125,7 @@ entry_uses s Unstall = none_used s Unstall refl
 abbrev pub KeyIsOld : BaseState → Type 0
 KeyIsOld s = (k : KeyName) → s.key ≡ Some k → IsOld s.place s.roots k
 
--- the key in use at an entry is the key before it, which is old, or a root, which is new
+-- the key in use at an entry is either the key before the entry, which has an old name, or a new root
 record InUse (refill : ℕ → Option (ℕ × ℕ)) (s : BaseState) (e : BaseEntry) : Type 0 where
   rise : s.roots ≤ roots_after (root_of e) s.roots
   old : (k : KeyName) → base_key_in_use e s.key ≡ Some k → IsOld s.place (roots_after (root_of e) s.roots) k
@@ -155,7 +155,7 @@ in_use refill pool s e conforms old = record {
     named_conforms r is = let W : Option ℕ → Type 0 = λ o. RootConforms pool s o in
         let R : RootConforms pool s (Some r) = subst W is conforms in R.0
 
--- the key after an entry: if the entry erases, this key is named by the place, and otherwise it is the key in use
+-- if the entry at place `i` erases, the key after it is named `Base i`; otherwise it is the key in use
 pub after_cases : (i : ℕ) (e : BaseEntry) (key : Option KeyName) (k : KeyName) → base_key_after i e key ≡ Some k →
     ((base_erases e ≡ true) × (Base i ≡ k)) ⊎ ((base_erases e ≡ false) × (base_key_in_use e key ≡ Some k))
 after_cases i e key k h = elim (choice_cases (base_erases e) (Some (Base i)) (base_key_in_use e key) (Some k) h)
@@ -176,7 +176,7 @@ MayUse refill s k q = (s.key ≡ Some k) ⊎ IsLater refill s.place s.roots k
 abbrev pub MayHold : (ℕ → Option (ℕ × ℕ)) → BaseState → KeyName → Type 0
 MayHold refill s k = MayUse refill s k 0
 
--- a byte that may be used after an entry may be used before it
+-- if MayUse allows a byte after an entry, it also allows the byte before the entry
 may_before : (refill : ℕ → Option (ℕ × ℕ)) (s : BaseState) (e : BaseEntry) → InUse refill s e →
     (k : KeyName) (q : ℕ) → MayUse refill (base_step s e) k q → MayUse refill s k q
 may_before refill s e used k q (inr later) = inr (later_less refill s.place s.roots _ k used.rise later)
@@ -186,7 +186,7 @@ may_before refill s e used k q (inl h) = elim (after_cases s.place e s.key k h) 
   | inr b ↦ used.may_use k b.1
 ]
 
--- a byte that an entry uses may not be used after it
+-- if an entry uses a byte, MayUse does not allow the byte after the entry
 now_not_later : (refill : ℕ → Option (ℕ × ℕ)) (s : BaseState) (e : BaseEntry) → InUse refill s e →
     (k : KeyName) (q : ℕ) → base_erases e ≡ true →
     (base_key_in_use e s.key ≡ Some k) ⊎ ((Call BaseLane s.place ≡ k) × (refill_of e ≡ None)) →
@@ -219,7 +219,7 @@ some_of : (o : Option ℕ) → is_some o ≡ true → (r : ℕ) × (o ≡ Some r
 some_of None h = cc
 some_of (Some r) h = (r, refl)
 
--- no byte of a key is used after a root replaced the key
+-- if an entry names a root, which replaces the base's key, MayUse allows no byte of the replaced key after the entry
 replaced_not_later : (refill : ℕ → Option (ℕ × ℕ)) (pool : List PoolEntry) (s : BaseState) (e : BaseEntry) →
     RootConforms pool s (root_of e) →
     InUse refill s e → KeyIsOld s → (k : KeyName) (q : ℕ) → is_some (root_of e) ≡ true → s.key ≡ Some k →

@@ -92,7 +92,7 @@ cpu_batch_step w s (Dump now) used bytes fits ok = ok
 cpu_batch_step w s Prepare used bytes fits ok = record { served = refl; dead = λ e. refl }
 cpu_batch_step w s Online used bytes fits ok = ok
 
--- a lawful list of a CPU keeps BatchOk for the batch of width w
+-- if BatchOk holds for the batch of width w, it still holds after the entries of a lawful list of a CPU
 pub cpu_batches_ok : (lists : Lists) (c w : ℕ) (s : CpuBytes) (es : List CpuEntry) →
     LawfulFrom (CpuMayCome lists.base c) (cpu_step lists.base c) s.named es → BatchOk w (s.named.fills w) (s.batch w) →
     BatchOk w ((fold (cpu_step lists.base c) s.named es).fills w) ((fold (cpu_bytes_step lists c) s es).batch w)

@@ -85,7 +85,7 @@ pub filled_before : (width : ℕ) (fills : ℕ → Option Fill) (w : ℕ) (k : K
 filled_before width fills w k f = let m = before_serving width fills w f.fill f.is in
     record { fill = m.fill; is = m.is; key_is = m.same_key ∙ f.key_is }
 
--- byte q is one of those that the next integer of a batch uses
+-- the next integer of the batch of this width uses byte q of key k
 pub record Serves (fills : ℕ → Option Fill) (width : ℕ) (k : KeyName) (q : ℕ) : Type 0 where
   pub fill : Fill
   pub is : fills width ≡ Some fill
@@ -110,7 +110,7 @@ batch_disjoint width (Some fill) = one_use_disjoint served fill.key _ _
 pub same_fill : (fills : ℕ → Option Fill) (w : ℕ) (f g : Fill) → fills w ≡ Some f → fills w ≡ Some g → f.count ≡ g.count
 same_fill fills w f g p q = ap (λ o. option_map_or (λ (x : Fill). x.count) o 0) (sym p ∙ q)
 
--- an integer that fills its batch uses no byte after its own, and only bytes of the key in use
+-- an integer that fills its batch uses only bytes of the key in use, and only those below 32 + `width`
 pub fill_within : (key : KeyName) (width : ℕ) (k : KeyName) (q : ℕ) →
     IsUsed (use_of kept key 0 32 ∷ use_of served key 32 width ∷ []) k q →
     (key ≡ k) × (q < 32 + width)

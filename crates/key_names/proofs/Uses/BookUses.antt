@@ -1,5 +1,5 @@
 -- A lawful book uses no byte twice, and it is erased. Each holder (the base, a CPU, a vgetrandom state) has its own
--- names, so the lists can be taken one by one.
+-- names, so the proof treats the lists one by one.
 use Rattle.std.proofs.Common.{◌≡◌, ℕ, zero, suc, ◌+◌, ◌-◌, ◌*◌, ◌≤◌, ◌<◌, List, [], ◌∷◌, ◌++◌, inl, inr, refl, sym, subst, ap, ◌∙◌, arith, Some, None, Option, length, take, replicate}
 use Rattle.std.specs.Option.{option_map_or}
 use Rattle.key_names.specs.declared.names.LaneId.TheVariants.{Pool as PoolLane, Base as BaseLane, Cpu as CpuLane}
@@ -101,7 +101,7 @@ abbrev pub owner : BatchHolder → KeyHolder
 owner (cpu_batch c width) = cpu_key c
 owner (state_batch caller state) = state_key caller state
 
--- a byte in a key's named span is a byte of that key
+-- if the span of `len` bytes from `from` on has byte q of key k, then `o` names k, and q is one of these bytes
 pub named_byte : (o : Option KeyName) (from len : ℕ) (span : Span) (k : KeyName) (q : ℕ) →
     named_span o from len ≡ Some span → HoldsByte span k q → UsesByte o from len k q
 named_byte None from len span k q is h = cc

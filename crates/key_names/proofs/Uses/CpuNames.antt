@@ -95,7 +95,7 @@ module _ (base : List BaseEntry) (c : ℕ) (taken : ℕ → Option Taken) where
   pub call_later : (place b : ℕ) (k : KeyName) → MadeFor b place → Call BaseLane b ≡ k → IsLater place k
   call_later place b k made e = let P : KeyName → Type 0 = λ x. IsLater place x in subst P e (place, made, omega arith)
 
-  -- the key after an entry: if the entry erases, this key is named by the place, and otherwise it is the key in use
+  -- if the entry at place `i` erases, the key after it is named `Cpu c i`; otherwise it is the key in use
   pub after_cases : (i : ℕ) (e : CpuEntry) (key : Option KeyName) (k : KeyName) → cpu_key_after c i e key ≡ Some k →
       ((cpu_erases e ≡ true) × (Cpu c i ≡ k)) ⊎ ((cpu_erases e ≡ false) × (cpu_key_in_use e key ≡ Some k))
   after_cases i e key k h = elim (choice_cases (cpu_erases e) (Some (Cpu c i)) (cpu_key_in_use e key) (Some k) h)

@@ -1,4 +1,5 @@
--- Each entry of a CPU's list uses only bytes that may be used before it, and none that may be used after it (`StepOk`).
+-- Each entry of a CPU's list uses only bytes that MayUse allows before the entry and no longer allows after it
+-- (`StepOk`).
 use Rattle.std.proofs.Common.{◌≡◌, ℕ, suc, ◌+◌, ◌*◌, ◌≤◌, ◌<◌, Bool, true, false, List, [], ◌∷◌, ◌⊎◌, inl, inr, refl, sym, subst, ap, ◌∙◌, arith, Some, None, Option}
 use Rattle.std.specs.Prelude.{◌==◌}
 use Rattle.std.proofs.lemmas.Bool.{eq-eqb}
@@ -88,7 +89,7 @@ module _ (base : List BaseEntry) (c : ℕ) (taken : ℕ → Option Taken) where
     may = λ k h. inr (call_later place b k (made b refl) cc);
   }
 
-  -- an entry uses only bytes that may be used before it and not after it, and keeps KeysApart
+  -- an entry uses only bytes that MayUse allows before the entry and no longer allows after it, and preserves KeysApart
   pub record StepOk (place : ℕ) (key : Option KeyName) (fills : ℕ → Option Fill)
       (now : List Use) (key' : Option KeyName) (fills' : ℕ → Option Fill) : Type 0 where
     pub disjoint : Disjoint now
@@ -137,7 +138,7 @@ module _ (base : List BaseEntry) (c : ℕ) (taken : ℕ → Option Taken) where
     };
   }
 
-  -- a byte of the key in use, or of the key that a long read serves from
+  -- k is the key in use, or the key that a long read at this place serves from
   abbrev IsOfRead : ℕ → Option KeyName → KeyName → Type 0
   IsOfRead place used k = (used ≡ Some k) ⊎ ((Call (CpuLane c) place ≡ k) × IsLong (taken place))
 

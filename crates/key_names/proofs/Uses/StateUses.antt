@@ -13,8 +13,8 @@ use Rattle.key_names.specs.Lanes.StateList.{Expected, anything, new_key, refill_
 use Rattle.key_names.proofs.Uses.UseLists.{one_use, one_use_disjoint}
 use Rattle.key_names.proofs.Uses.Walks.{StepFacts, Walk, walk, lawful_and_inferred}
 
--- byte q of the key is unused. If a refill from block n must come next, the bytes from 64 n on are unused; otherwise
--- all bytes are
+-- byte q of the key is unused. If a refill from block n must come next, the bytes from 64 n on are unused. Otherwise
+-- all bytes of the key are unused
 abbrev pub IsUnused : Expected → ℕ → Type 0
 IsUnused anything q = Unit {0}
 IsUnused new_key q = Unit {0}

@@ -90,7 +90,7 @@ pub named_uses_cases : (o : Option KeyName) (f : KeyName → List Use) (k : KeyN
 named_uses_cases None f k q h = absurd h
 named_uses_cases (Some key) f k q h = (key, refl, h)
 
--- byte q of key k is in a use of `len` bytes from `from` on
+-- `o` names key k, and byte q is one of the `len` bytes from `from` on
 pub record UsesByte (o : Option KeyName) (from len : ℕ) (k : KeyName) (q : ℕ) : Type 0 where
   pub key_is : o ≡ Some k
   pub above : from ≤ q
@@ -130,7 +130,7 @@ read_disjoint rekeys key call (User n) =
           ]
     ]
 
--- a read uses the key in use and, if it is long, the key that bytes 32 to 64 become
+-- a read uses only the key in use and, if the read is long, the key that bytes 32 to 64 of the keystream become
 pub read_within : (rekeys : Bool) (key call : KeyName) (t : Taken) (k : KeyName) (q : ℕ) →
     IsUsed (read_uses rekeys key call t) k q → (key ≡ k) ⊎ ((call ≡ k) × IsLong (Some t))
 read_within rekeys key call t k q (inl u) = inl u.same_key
@@ -152,7 +152,7 @@ read_within rekeys key call (User n) k q (inr h) = go (nat_lt 32 n) refl h
     ]
     go false is h = inl (one rekeys h)
 
--- the value of a choice is that of one of its sides
+-- if a choice has the value `z`, then the side that the test selects has the value `z`
 pub choice_cases : {A : Type 0} (b : Bool) (x y z : A) → (if b then x else y) ≡ z →
     ((b ≡ true) × (x ≡ z)) ⊎ ((b ≡ false) × (y ≡ z))
 choice_cases true x y z e = inl (refl, e)
@@ -163,7 +163,7 @@ pub record Part (Own : KeyName → Type 0) (us : List Use) : Type 0 where
   pub disjoint : Disjoint us
   pub within : (k : KeyName) (q : ℕ) → IsUsed us k q → Own k
 
--- the name belongs to one of the parts from this number on
+-- Own holds for the name and for some number that is at least `from`
 pub record OwnFrom (Own : ℕ → KeyName → Type 0) (from : ℕ) (k : KeyName) : Type 0 where
   pub number : ℕ
   pub above : from ≤ number
@@ -188,7 +188,8 @@ parts_from Own f one part from (suc count) =
       ];
     }
 
--- if no name belongs to two parts, all parts together are disjoint
+-- if the uses `f n` are a Part for each number n, and no name belongs to two numbers, then all these uses together are
+-- disjoint
 pub parts_below : (Own : ℕ → KeyName → Type 0) (f : ℕ → List Use) →
     ((m n : ℕ) (k : KeyName) → Own m k → Own n k → m ≡ n) →
     ((n : ℕ) → Part (Own n) (f n)) → (count : ℕ) → Part (OwnFrom Own 0) (uses_below count f)
@@ -202,7 +203,7 @@ used_from f from (suc count) k q h =
     elim (IsUsed-append_cases (f from) (flat_map f (range_with_len (from + 1) count)) k q h)
     [ inl a ↦ (from, a) | inr b ↦ used_from f (from + 1) count k q b ]
 
--- if a byte is in the uses of all numbers together, it is in the uses of some number
+-- if a byte is among the uses of all numbers below `count`, it is among the uses of some number
 pub used_below : (f : ℕ → List Use) (count : ℕ) (k : KeyName) (q : ℕ) → IsUsed (uses_below count f) k q →
     (n : ℕ) × IsUsed (f n) k q
 used_below f count k q h = used_from f 0 count k q h

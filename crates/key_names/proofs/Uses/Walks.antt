@@ -13,8 +13,8 @@ use Rattle.key_names.proofs.Uses.UseLists.{IsUsed-append_cases, Disjoint-append}
 module _ {S E : Type 0} (May : S → E → Type 0) (step : S → E → S) (uses_at : S → E → List Use)
     (Replaces : KeyName → S → E → Type 0) (Holds : S → Type 0) (MayUse : S → KeyName → ℕ → Type 0)
     (MayHold : S → KeyName → Type 0) where
-  -- an entry uses only bytes that may be used before it and not after it, and the keys that it replaces are not live
-  -- after it
+  -- an entry uses only bytes that MayUse allows before the entry and no longer allows after it. The keys that the entry
+  -- replaces are not live after it
   pub record StepFacts (s : S) (e : E) : Type 0 where
     pub disjoint : Disjoint (uses_at s e)
     pub within : (k : KeyName) (q : ℕ) → IsUsed (uses_at s e) k q → MayUse s k q
@@ -25,8 +25,8 @@ module _ {S E : Type 0} (May : S → E → Type 0) (step : S → E → S) (uses_
     pub gone : (k : KeyName) → Replaces k s e → MayHold (step s e) k → ⊥
     pub holds : Holds (step s e)
 
-  -- a list uses only bytes that may be used before it and not after it, and the keys that it replaces are not live
-  -- after it
+  -- a list uses only bytes that MayUse allows before the list and no longer allows after it. The keys that the list
+  -- replaces are not live after it
   pub record Walk (s : S) (es : List E) : Type 0 where
     pub disjoint : Disjoint (uses_from uses_at step s es)
     pub within : (k : KeyName) (q : ℕ) → IsUsed (uses_from uses_at step s es) k q → MayUse s k q
@@ -68,7 +68,7 @@ module _ {S E : Type 0} (May : S → E → Type 0) (step : S → E → S) (uses_
       let now : StepFacts s e = facts s e lawful.0 holds in
       join s e es now (walk facts (step s e) es lawful.1 now.holds)
 
--- if `at place ≡ of e` holds for the entry e at each place, then a lawful list is lawful with this condition added
+-- if `at` gives `of e` at the place of each entry e, then a lawful list is also lawful with this condition added
 pub lawful_and_inferred : {S E A : Type 0} (May : S → E → Type 0) (step : S → E → S) (place : S → ℕ) →
     ((s : S) (e : E) → place (step s e) ≡ suc (place s)) → (at : ℕ → A) (of : E → A) (s : S) (es : List E) →
     ((j : ℕ) (e : E) → slice_get es j ≡ Some e → at (place s + j) ≡ of e) → LawfulFrom May step s es →

@@ -1,5 +1,5 @@
--- A copy out of a vgetrandom state serves the bytes of the named spans that its entries serve. A vgetrandom call that
--- its batch ended serves the bytes of the spans that its last entries serve.
+-- A copy out of a vgetrandom state serves the bytes of the named spans that the copy's entries serve. If the batch
+-- serves a vgetrandom call, the call's last entries serve the spans with these bytes.
 use Rattle.std.proofs.Common.{◌≡◌, ℕ, zero, suc, ◌+◌, ◌-◌, ◌*◌, min, ◌≤◌, Bool, true, false, List, [], ◌∷◌, ◌++◌, inl, inr, refl, sym, subst, ap, ◌∙◌, arith, Some, None, Option, take, drop, append-nil, append_assoc}
 use Rattle.std.specs.Prelude.{if◌then◌else◌}
 use Rattle.std.specs.List.{fold}
@@ -57,15 +57,14 @@ module _ (lists : Lists) (caller k : ℕ) where
   abbrev pub entry_uses : NamedState → List VEntry → List Use
   entry_uses t es = uses_from state_uses_at (state_step caller k) t es
 
-  -- the value of the name of the state's key is the key, and the rest of the batch is keystream of the batch's named
-  -- key
+  -- the key is the value of its name, and the unserved bytes of the batch are keystream of the batch's named key
   pub record NamesTell (x : Both) : Type 0 where
     pub key : (name : KeyName) → x.named.key ≡ Some name → value_of lists name ≡ x.bytes.key
     pub rest : (name : KeyName) → x.named.batch_key ≡ Some name →
         drop x.named.pos x.bytes.batch
         ≡ keystream (value_of lists name) (64 * x.named.batch_from + x.named.pos) (96 - x.named.pos)
 
-  -- a served use of a named key has the bytes of its span
+  -- if `o` names a key, a served use has `len` bytes of that key's keystream, from byte `from` on
   one_served : (o : Option KeyName) (name : KeyName) (from len : ℕ) → o ≡ Some name →
       served_in lists (named_use served o from len) ≡ keystream (value_of lists name) from len
   one_served o name from len is =
@@ -76,7 +75,8 @@ module _ (lists : Lists) (caller k : ℕ) where
   none_kept None from len = refl
   none_kept (Some name) from len = refl
 
-  -- the entry for serving some bytes of the batch serves those bytes of the named key's keystream
+  -- if the batch's key has a name, the entry for serving `n` bytes of the batch serves these bytes of that key's
+  -- keystream
   serve_named : (t : NamedState) (name : KeyName) (pos n : ℕ) → t.batch_key ≡ Some name →
       served_in lists (entry_uses t (serve_entry pos n))
       ≡ keystream (value_of lists name) (64 * t.batch_from + pos) n
@@ -85,7 +85,7 @@ module _ (lists : Lists) (caller k : ℕ) where
       ap (served_in lists) (append-nil (named_use served t.batch_key (64 * t.batch_from + pos) (suc n)))
       ∙ one_served t.batch_key name (64 * t.batch_from + pos) (suc n) is
 
-  -- after a refill from a named key, the entries serve the first bytes of the new batch
+  -- if the key has a name, a refill and the entry after it serve the first `r` bytes of the new batch
   new_named : (t : NamedState) (name : KeyName) (at r : ℕ) → t.key ≡ Some name →
       served_in lists (entry_uses t (Refill at ∷ serve_entry 0 r)) ≡ keystream (value_of lists name) (64 * at) r
   new_named t name at r is =
@@ -113,7 +113,7 @@ module _ (lists : Lists) (caller k : ℕ) where
       (new_named u name (c + suc m) r is ∙ ap (λ f. keystream (value_of lists name) f r) at)
       ∙ sym (keystream-add (value_of lists name) (64 * c) (64 * suc m) r)
 
-  -- a copy out of a state with named keys serves the bytes of the spans that its entries serve
+  -- a copy out of a state with named keys serves the bytes of the spans that the copy's entries serve
   pub copy_named : (x : Both) (s : VgetrandomState) (c n : ℕ) → 1 ≤ n → replay.Holds lists caller k x s →
       1 ≤ s.generation → NamesTell x →
       copy_bytes s c n ≡ served_in lists (entry_uses x.named (copy_entries s c n))
@@ -125,7 +125,7 @@ module _ (lists : Lists) (caller k : ℕ) where
       left : ℕ
       left = bytes_left s
 
-      -- the first bytes of the batch's rest are those that the entry for them serves
+      -- the first `len` unserved bytes of the batch are those that the entry for them serves
       front : (len : ℕ) → len ≤ 96 - s.pos →
           take len (drop s.pos s.batch) ≡ served_in lists (entry_uses x.named (serve_entry s.pos len))
       front zero le = refl
@@ -205,7 +205,7 @@ module _ (lists : Lists) (caller k : ℕ) where
       ∙ served_append lists (entry_uses x.named xs) (entry_uses (fold (state_step caller k) x.named xs) ys)
       ∙ ap (λ t. bytes_of x xs ++ served_in lists (entry_uses t ys)) (sym (named_is x xs))
 
-  -- an attempt that held copied the bytes that its entries serve, if the names match after each prefix
+  -- if the names match after each prefix of its entries, an attempt that held copied the bytes that its entries serve
   abbrev pub AttemptNamed : Both → Attempt → Type 0
   AttemptNamed x attempt = Fronts x attempt.entries → attempt.end ≡ holds → attempt.out ≡ bytes_of x attempt.entries
 
@@ -346,14 +346,14 @@ module _ (lists : Lists) (caller k : ℕ) where
       is.rest attempt (λ u r rest later good f b. start_named n c is.published some u r rest later good f b)
       is.goes_on g.1 h
 
-  -- these entries end with some that serve the bytes `out`
+  -- the last of these entries serve the bytes `out`
   pub record LastServes (x : Both) (es : List VEntry) (out : List ℕ) : Type 0 where
     pub earlier : List VEntry
     pub last : List VEntry
     pub entries_are : es ≡ earlier ++ last
     pub bytes_are : out ≡ bytes_of (after x earlier) last
 
-  -- a call that its batch ended served the bytes that its last entries serve, if the names match after each prefix
+  -- if the names match after each prefix, and the batch served the call, then the call's last entries serve its bytes
   abbrev pub OutcomeNamed : Both → Outcome → Type 0
   OutcomeNamed x outcome = Fronts x outcome.entries → (out : List ℕ) → outcome.ending ≡ by_batch out →
       LastServes x outcome.entries out
@@ -368,8 +368,8 @@ module _ (lists : Lists) (caller k : ℕ) where
   system_named n flags x s steps outcome by fronts out ends =
       let e : by_system by.answer ≡ by_batch out = sym (ap (λ (o : Outcome). o.ending) by.outcome_is) ∙ ends in cc
 
-  -- OutcomeNamed holds for an attempt and the rest of its call, if AttemptNamed holds for the attempt and OutcomeNamed
-  -- for the rest
+  -- if AttemptNamed holds for an attempt, and OutcomeNamed for the rest of its call, then OutcomeNamed holds for both
+  -- together
   pub rest_named : (n flags : ℕ) (Outdated : ℕ → VgetrandomState → List HostStep → Outcome → Type 0)
       (Tried : List HostStep → Attempt → Type 0) (x : Both) (steps : List HostStep) (outcome : Outcome) →
       ((tried : List HostStep) (attempt : Attempt) → Good lists tried → Tried tried attempt → AttemptNamed x attempt) →
@@ -454,7 +454,8 @@ module _ (lists : Lists) (caller k : ℕ) where
   nothing_named x s steps outcome by fronts out ends =
       let e : no_bytes ≡ by_batch out = sym (ap (λ (o : Outcome). o.ending) by.outcome_is) ∙ ends in cc
 
-  -- OutcomeNamed holds for a vgetrandom call with good steps, if its state matches the replay of the state's list
+  -- if the state of a vgetrandom call matches the replay of its list, and the steps are good, then OutcomeNamed holds
+  -- for the call
   pub call_named : (n flags : ℕ) (x : Both) (s : VgetrandomState) (steps : List HostStep) (outcome : Outcome) →
       replay.GoodAfter lists caller k steps → IsCall n flags s steps outcome → replay.Holds lists caller k x s →
       OutcomeNamed x outcome

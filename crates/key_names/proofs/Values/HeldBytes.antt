@@ -53,7 +53,8 @@ new_rest at n w key used same is =
     ∙ keystream-drop used at (0 + w) 96 ∙ ap (λ i. keystream used (at + i) (96 - i)) q
     ∙ ap (λ k. keystream k (at + n) (96 - n)) (sym is)
 
--- the rest of a batch is still keystream of the key after n more bytes were served
+-- let the served bytes of a batch be 0, and let the rest be keystream of the key. Then the rest is still keystream of
+-- the key after `n` more bytes were served
 less_rest : (at pos n : ℕ) (key bytes : List ℕ) → StartsZero pos bytes →
     drop pos bytes ≡ keystream key (at + pos) (96 - pos) →
     drop (pos + n) (with_zeros pos n bytes) ≡ keystream key (at + (pos + n)) (96 - (pos + n))
@@ -83,7 +84,7 @@ front_of {A = A} xs front e rest is = ap (take (length front)) is ∙ go front
     go (x ∷ front) = ap (λ ys. x ∷ ys) (go front)
 
 module _ (lists : Lists) where
-  -- the rest of a CPU's batch is keystream of the key named by its fill
+  -- the rest of a CPU's batch is keystream of the key that the batch's fill names
   abbrev RestNamed : ℕ → Option Fill → List ℕ → Type 0
   RestNamed w o bytes = (f : Fill) (k : KeyName) → o ≡ Some f → f.key ≡ Some k →
       drop (w * f.count) bytes ≡ keystream (value_of lists k) (32 + w * f.count) (96 - w * f.count)
@@ -176,7 +177,7 @@ module _ (lists : Lists) where
       (every_front (λ es. FrontNamed c w es) (cpu_list lists c) [] (cpu_list lists c) refl (λ f k is key. cc)
       (front_named_more c w lawful) (length (cpu_list lists c)))
 
-  -- the rest of a state's batch is keystream of the key named by its refill
+  -- the rest of a state's batch is keystream of the batch's named key
   abbrev pub StateRest : NamedState → StateBytes → Type 0
   StateRest s b = (k : KeyName) → s.batch_key ≡ Some k →
       drop s.pos b.batch ≡ keystream (value_of lists k) (64 * s.batch_from + s.pos) (96 - s.pos)
@@ -249,7 +250,7 @@ module _ (lists : Lists) where
       (state_list lists caller state) refl (λ k is. cc)
       (state_front_more caller state lawful) (length (state_list lists caller state)))
 
-  -- the bytes of a named span are keystream of the key with that name
+  -- if `bytes` are keystream of the key that `o` names, then they are the bytes of the named span
   span_bytes : (o : Option KeyName) (from len : ℕ) (span : Span) (bytes : List ℕ) → named_span o from len ≡ Some span →
       ((k : KeyName) → o ≡ Some k → bytes ≡ keystream (value_of lists k) from len) →
       bytes ≡ keystream (value_of lists span.key) span.from span.len

@@ -27,7 +27,7 @@ cpu_key_at lists c k =
     option_and_then (λ e. cpu_key_in_use e (cpu_after lists.base c (take k (cpu_list lists c))).key)
     (slice_get (cpu_list lists c) k)
 
--- if each entry keeps a fact true, then the fact holds for each prefix of a list
+-- if P holds for `front`, and each later entry of `xs` preserves P, then P holds for each longer prefix of `xs`
 pub every_front : {A : Type 0} (P : List A → Type 0) (xs front rest : List A) → xs ≡ front ++ rest → P front →
     ((front : List A) (e : A) (rest : List A) → xs ≡ (front ++ e ∷ []) ++ rest → P front → P (front ++ e ∷ [])) →
     (j : ℕ) → P (front ++ take j rest)
@@ -57,7 +57,7 @@ abbrev pub BaseNamed : Lists → List BaseEntry → Type 0
 BaseNamed lists front = (k : KeyName) → (base_after front).key ≡ Some k →
     value_of lists k ≡ base_value_after lists.pool front
 
--- the key in use at an entry of the base has the value of its name
+-- if the base's key after `front` has the value of its name, so has the key in use at the next entry `e`
 base_in_use_named : (lists : Lists) (front : List BaseEntry) (e : BaseEntry) → BaseNamed lists front →
     (k : KeyName) → base_key_in_use e (base_after front).key ≡ Some k →
     value_of lists k ≡ base_value_in_use lists.pool e (base_value_after lists.pool front)

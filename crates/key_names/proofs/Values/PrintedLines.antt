@@ -1,5 +1,5 @@
--- A line prints the bytes of named spans. Its last visit serves these spans, or entries in a vgetrandom state's list
--- do.
+-- A line prints the bytes of named spans. These are the spans that the line's last visit serves, or spans that entries
+-- in a vgetrandom state's list serve.
 use Rattle.std.proofs.Common.{◌≡◌, ℕ, ◌+◌, ◌≤◌, ◌⊎◌, Bool, true, false, List, [], ◌∷◌, ◌++◌, inl, inr, refl, sym, ap, ◌∙◌, arith, Some, None, Option, length, take, append_assoc, append-nil}
 use Rattle.std.specs.Prelude.{map, slice_get}
 use Rattle.std.specs.List.{range_with_len}
@@ -41,14 +41,15 @@ bytes_of_some [] = refl
 bytes_of_some (b ∷ bs) = refl
 
 module _ (lists : Lists) where
-  -- the line prints by some entries (`LinePrints`)
+  -- `LinePrints` holds for the line with some list of entries
   abbrev pub Prints : StateEntries → SeenLine → Type 0
   Prints own line = (os : List Origin) × LinePrints lists own line os
 
   pub prints_none : (own : StateEntries) (line : SeenLine) → bytes_in line.shown ≡ [] → Prints own line
   prints_none own line none = ([], record { by = by_none refl; shown = none })
 
-  -- the entries `es` after `front` have the same uses whether they are read by place or as a list
+  -- the entries `es`, which follow `front` in a state's list, have the same uses whether computed place by place or
+  -- along the list
   entries_use : (caller k : ℕ) (front es post : List VEntry) →
       state_list lists caller k ≡ (front ++ es) ++ post →
       origins_uses lists (map (at_state caller k) (range_with_len (length front) (length es)))
@@ -74,7 +75,7 @@ module _ (lists : Lists) where
       (ap (λ n. origins_uses lists (map (at_state caller k) (range_with_len n (length es)))) (sym len) ∙ rest
       ∙ ap (λ s. uses_from state_uses_at (state_step caller k) s es) next)
 
-  -- a line prints by some of its own entries if it shows the bytes that they serve
+  -- if a line shows the bytes that some of its own entries serve, then `Prints` holds for the line
   pub prints_entries : (own : StateEntries) (line : SeenLine) (front es post : List VEntry) (out : List ℕ) →
       state_list lists own.caller own.state ≡ (front ++ es) ++ post → own.from ≤ length front →
       length front + length es ≤ own.from + own.count → line.shown ≡ bytes_or_none out →
@@ -89,7 +90,7 @@ module _ (lists : Lists) where
     },
   )
 
-  -- no vgetrandom state takes the last of these visits as its key
+  -- no vgetrandom state takes the visit that is the last of these effects as its key
   abbrev pub IsFree : List Effect → Type 0
   IsFree effects = (c p : ℕ) → is_rekeyed lists c p ≡ true → place_takes c p (last_place effects) ≡ 0
 
@@ -137,7 +138,8 @@ module _ (lists : Lists) (named : VisitsServeNamed lists) where
   place_named BaseLane place free = base_place place (slice_get lists.base place) refl
   place_named (CpuLane c) place free = cpu_place c place (slice_get (cpu_list lists c) place) refl free
 
-  -- a call serves the bytes of the named spans that its last visit serves, unless a state takes this visit as its key
+  -- the bytes that a call serves are those of the named spans of its last visit, unless a state takes this visit as its
+  -- key
   served_named : (steps : List Step) → IsFree lists (effects_of lists steps) →
       served_bytes (effects_of lists steps) ≡ served_in lists (origins_uses lists (last_origin steps))
   served_named [] free = refl
@@ -147,8 +149,8 @@ module _ (lists : Lists) (named : VisitsServeNamed lists) where
   served_named (Look g ∷ next ∷ steps) free = served_named (next ∷ steps) free
   served_named (Marked mark ∷ next ∷ steps) free = served_named (next ∷ steps) free
 
-  -- a line prints by its last visit, if it shows the bytes that the visit serves and no state takes the visit as its
-  -- key
+  -- if a line shows the bytes that its last visit serves, and no state takes this visit as its key, then `Prints` holds
+  -- for the line
   pub prints_visit : (own : StateEntries) (line : SeenLine) (effects : List Effect) → effects_of lists line.steps ≡ effects →
       line.shown ≡ bytes_or_none (served_bytes effects) → IsFree lists (effects_of lists line.steps) → Prints lists own line
   prints_visit own line effects is shown free = (
@@ -182,7 +184,7 @@ module _ (lists : Lists) (named : VisitsServeNamed lists) where
   shown_cases Int64 effects = inr refl
   shown_cases _ effects = inl refl
 
-  -- if an event is a call by itself, its line prints named bytes
+  -- if an event is a call by itself, its line prints the bytes of named spans
   pub alone_prints : (own : StateEntries) (event : Event) (line : SeenLine) (m : CallMeaning) →
       effects_of lists line.steps ≡ m.own.effects → line.shown ≡ m.own.shown → IsUntaken lists line →
       AloneMeans event m → Prints lists own line
@@ -192,7 +194,7 @@ module _ (lists : Lists) (named : VisitsServeNamed lists) where
         (untaken_free lists line untaken)
   ]
 
-  -- the line of an act that was done inside a vread prints named bytes
+  -- if an act was done inside a vread, the act's line prints the bytes of named spans
   act_prints : (own : StateEntries) (set : Setting) (act : InsideAct) (line : SeenLine) (m : LineMeaning) →
       effects_of lists line.steps ≡ m.effects → line.shown ≡ m.shown → IsUntaken lists line →
       ActMeans set act m → Prints lists own line
@@ -212,7 +214,7 @@ module _ (lists : Lists) (named : VisitsServeNamed lists) where
   abbrev act_lines : List BoundAct → List SeenLine
   act_lines acts = map (λ (bound : BoundAct). bound.line) acts
 
-  -- the lines of the acts inside a vread print named bytes
+  -- the lines of the acts inside a vread print the bytes of named spans
   pub acts_print : (own : StateEntries) (set : Setting) (reached : BoundAct → Bool) (acts : List BoundAct)
       (ms : List LineMeaning) → EachAct EffectsAre acts ms → EachAct ShownIs acts ms → ActsMean set reached acts ms →
       ((c p : ℕ) → is_rekeyed lists c p ≡ true → acts_marks (CpuLane c) p acts ≡ 0) →

@@ -43,8 +43,8 @@ module _ (lists : Lists) (named : VisitsServeNamed lists) (caller : ℕ) where
   abbrev ShownOf : SeenLine → LineMeaning → Type 0
   ShownOf = ShownIs lists named
 
-  -- if states take a read as a key, the lines of a call have the read's mark at most as often as the call's own entries
-  -- take the read
+  -- for each read that some state takes as a key: the call's lines have the mark of the read at most as often as the
+  -- call's entries take the read
   abbrev IsQuiet : Call → CallMeaning → Type 0
   IsQuiet call m = (c p : ℕ) → is_rekeyed lists c p ≡ true → marks.call_marks (CpuLane c) p call ≤ takes c p m.entries
 
@@ -55,7 +55,7 @@ module _ (lists : Lists) (named : VisitsServeNamed lists) (caller : ℕ) where
       go true is = refl
       go false is = cc
 
-  -- a vread's own line prints named bytes
+  -- a vread's own line prints the bytes of named spans
   vread_prints : (before : List CallMeaning) (n flags : ℕ) (line : SeenLine) (acts : List BoundAct) (m : CallMeaning)
       (post : List VEntry) → state_list lists caller m.before.current
       ≡ (entries_of_state m.before.current before ++ m.entries) ++ post →
@@ -96,7 +96,7 @@ module _ (lists : Lists) (named : VisitsServeNamed lists) (caller : ℕ) where
   none_inside own (bound ∷ acts) [] none effects = absurd effects
   none_inside own (bound ∷ acts) (m ∷ ms) none effects = cc
 
-  -- the lines of the acts inside a vread print named bytes
+  -- the lines of the acts inside a vread print the bytes of named spans
   inside_print : (own : StateEntries) (n flags : ℕ) (line : SeenLine) (acts : List BoundAct) (m : CallMeaning) →
       EachOfCall EffectsOf (vread_call n flags line acts) m → EachOfCall ShownOf (vread_call n flags line acts) m →
       VreadMeans n flags acts m →
@@ -118,7 +118,7 @@ module _ (lists : Lists) (named : VisitsServeNamed lists) (caller : ℕ) where
       by_call by = acts_print lists named own m.before.setting (is_reached (points_of by.steps)) acts m.acts effects.1
           shown.1 by.inside untaken
 
-  -- the lines of a call print named bytes
+  -- the lines of a call print the bytes of named spans
   call_prints : (before : List CallMeaning) (call : Call) (m : CallMeaning) (post : List VEntry) →
       state_list lists caller m.before.current ≡ (entries_of_state m.before.current before ++ m.entries) ++ post →
       EachOfCall EffectsOf call m → EachOfCall ShownOf call m → Means call m → IsQuiet call m →
@@ -149,7 +149,7 @@ module _ (lists : Lists) (named : VisitsServeNamed lists) (caller : ℕ) where
       let first = prints_none lists (entries_of_call caller before m) line (ap bytes_in (shown ∙ means.shown)) in
       (first.0 ∷ [], (first.1, tt))
 
-  -- a caller's current state stays one of its sixteen
+  -- if the number of the current state is below 16 before a call, it is below 16 after the call
   stays : (version cpus : ℕ) (call : Call) (m : CallMeaning) → CallInRange version cpus call → Means call m →
       m.before.current < 16 → m.after.current < 16
   stays version cpus (alone event line) m range means below =

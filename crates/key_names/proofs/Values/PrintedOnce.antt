@@ -1,5 +1,5 @@
--- In a lawful book, a list that has no entry twice uses no byte twice. So lines that print by different entries print
--- different bytes of keys.
+-- In a lawful book, a list that has no entry twice uses no byte twice. So lines that print the bytes of different
+-- entries print different bytes of keys.
 use Rattle.std.proofs.Common.{◌≡◌, ℕ, zero, suc, ◌+◌, ◌≤◌, true, List, [], ◌∷◌, ◌++◌, inl, inr, refl, sym, subst, ap, arith, take}
 use Rattle.std.specs.Prelude.{◌==◌, ◌&&◌, slice_get}
 use Rattle.std.specs.List.{fold}
@@ -18,7 +18,7 @@ use Rattle.key_names.proofs.Uses.UseLists.{IsUsed-append_cases, Disjoint-append,
 use Rattle.key_names.proofs.Uses.BookUses.{own_once, own_uses, uses_of}
 use Rattle.key_names.proofs.Transcripts.TakenMarks.{hit, lane_takes}
 
--- the uses of the entry at a place are among those of the whole list, and share no byte with the uses of other places
+-- the uses at one place are among the uses of the whole list. If the list's uses are disjoint, two places share no byte
 module _ {S E : Type 0} (uses_at : S → E → List Use) (step : S → E → S) where
   abbrev at_place : S → List E → ℕ → List Use
   at_place s es i = uses_or (uses_at (fold step s (take i es))) (slice_get es i)

@@ -1,5 +1,5 @@
--- The lines of a transcript print by each entry at most once. The entry of a lane has its mark in one line, and the
--- entry of a vgetrandom state belongs to one call.
+-- The lines of a transcript print the bytes of each entry at most once. The mark of a lane's entry is in one line, and
+-- an entry of a vgetrandom state belongs to one call.
 use Rattle.std.proofs.Common.{◌≡◌, ℕ, zero, suc, ◌+◌, ◌<◌, ◌≤◌, Bool, true, false, List, [], ◌∷◌, ◌++◌, inl, inr, refl, ap, arith, length}
 use Rattle.std.specs.Prelude.{◌==◌, ◌&&◌, map, if◌then◌else◌}
 use Rattle.std.specs.List.{flat_map, range_with_len}
@@ -20,7 +20,7 @@ use Rattle.key_names.proofs.Transcripts.CallTakes.{acts_marks, call_marks, calls
 use Rattle.key_names.proofs.Transcripts.TranscriptBooks.{lt_or_le}
 use Rattle.key_names.proofs.Values.PrintedOnce.{is_same, times, times_append}
 
--- lines print by the entry of a lane at most as often as the lines have the mark of the entry's place
+-- lines print the bytes of a lane's entry at most as often as the lines have the mark of the entry's place
 module _ (lane : LaneId) (p : ℕ) (lists : Lists) where
   abbrev here : Origin
   here = at_lane lane p
@@ -126,7 +126,7 @@ once_or n a b P Q R is first second left right both = elim (lt_or_le 0 a) [
   }
 ]
 
--- lines print by an entry of a vgetrandom state at most once, since the entry belongs to one call
+-- lines print the bytes of a vgetrandom state's entry at most once, since the entry belongs to one call
 module _ (c k i : ℕ) (lists : Lists) where
   abbrev this : Origin
   this = at_state c k i
@@ -265,7 +265,7 @@ module _ (c k i : ℕ) (lists : Lists) where
       (calls_once d [] calls ms os print.0) (callers_once (suc d) callers mss oss print.1)
       (λ e. let same = e.0 in omega arith) (λ le. omega arith) (λ e le. let same = e.0 in omega arith)
 
--- if the calls have each mark at most once, the calls print by each entry at most once
+-- if the calls have each mark at most once, their lines print the bytes of each entry at most once
 pub printed_once : (lists : Lists) (callers : List (List Call)) (mss : List (List CallMeaning))
     (oss : List (List (List (List Origin)))) →
     ((lane : LaneId) (p : ℕ) → all_calls_marks lane p callers ≤ 1) → CallersPrint lists 0 callers mss oss →

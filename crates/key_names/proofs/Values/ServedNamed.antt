@@ -36,7 +36,7 @@ use Rattle.key_names.specs.Keys.ServedNamed.{cpu_place_uses, LawfulServesNamed}
 use Rattle.key_names.proofs.Values.Named.{cpu_key_at, cpu_key_named, every_front}
 use Rattle.key_names.proofs.Values.HeldBytes.{entry_after, front_of}
 
--- a read serves the bytes of its named spans
+-- if `key` and `call` name the key in use and its call key, then a read serves the bytes of its named spans
 module _ (lists : Lists) (key call : KeyName) (used : List ℕ) (is : value_of lists key ≡ used)
     (next : value_of lists call ≡ keystream used 32 32) where
   user_named : (n : ℕ) (b : Bool) →
@@ -53,7 +53,7 @@ module _ (lists : Lists) (key call : KeyName) (used : List ℕ) (is : value_of l
       ap (λ v. keystream v 32 n) (sym is) ∙ sym (append-nil (keystream (value_of lists key) 32 n))
   read_named false (User n) none = user_named n (nat_lt 32 n)
 
--- the state before an entry has the entry's number as its place
+-- if each entry adds 1 to the place, then the state before entry `i` has the place `place s + i`
 pub place_at : {S E : Type 0} (place : S → ℕ) (step : S → E → S) → ((s : S) (e : E) → place (step s e) ≡ suc (place s)) →
     (s : S) (xs : List E) (i : ℕ) (e : E) → slice_get xs i ≡ Some e → place (fold step s (take i xs)) ≡ place s + i
 place_at place step next s [] i e is = cc
@@ -63,7 +63,7 @@ place_at place step next s (x ∷ xs) (suc i) e is =
     place_at place step next (step s x) xs i e is in
     let q : place (step s x) ≡ suc (place s) = next s x in omega arith
 
--- after the empty phase the base has a key
+-- if the base is past the phase empty, its key has a name
 abbrev BaseKeyed : BaseState → Type 0
 BaseKeyed s = (s.phase ≡ empty → ⊥) → HasName s.key
 
@@ -93,7 +93,7 @@ late_phase p q is other none = other (sym is ∙ none)
 early_late : early ≡ empty → ⊥
 early_late is = cc
 
--- a draw has a key in use
+-- if BaseKeyed holds and a draw fits, then the key in use at the draw has a name
 draw_keyed : (s : BaseState) (o : Option ℕ) (taken : Taken) → BaseKeyed s → BaseFits s (Draw o taken) →
     HasName (base_key_in_use (Draw o taken) s.key)
 draw_keyed s None taken keyed fits = keyed (late_phase s.phase early fits early_late)
@@ -150,13 +150,13 @@ module _ (lists : Lists) (lawful : LawfulBase lists.pool lists.base) where
   base_visit_named i Stall is = refl
   base_visit_named i Unstall is = refl
 
--- each fill is of the key in use at its place, which has a name
+-- the fill was made from the key in use at its place, and this key has a name
 module _ (lists : Lists) (c : ℕ) where
   record FillOk (f : Fill) : Type 0 where
     used_key : cpu_key_at lists c f.place ≡ f.key
     keyed : HasName f.key
 
-  -- a CPU with a generation above 0 has a key, and each fill is of the key in use at its place
+  -- if the CPU's generation is above 0, its key has a name. `FillOk` holds for each fill
   record CpuOk (s : CpuState) : Type 0 where
     keyed : 1 ≤ s.generation → HasName s.key
     fills : (w : ℕ) (f : Fill) → s.fills w ≡ Some f → FillOk f
@@ -189,7 +189,8 @@ module _ (lists : Lists) (c : ℕ) where
       same_fill_ok g f (ap (λ o. option_map_or (λ (x : Fill). x.place) o 0) is)
       (ap (λ o. option_map_or (λ (x : Fill). x.key) o None) is) (old g refl)
 
-  -- a read has a key in use, and so has an integer that fills its batch
+  -- if CpuOk holds and a read fits, then the key in use at the read has a name. The same is true of an integer that
+  -- fills its batch
   read_keyed : (s : CpuState) (look : ℕ) (refill : Option ℕ) → CpuOk s → ReadFits s look refill →
       HasName (call_or refill s.key)
   read_keyed s look None ok fits =

@@ -35,7 +35,7 @@ module _ (lists : Lists) (caller state : ℕ) where
   refills_after s (Serve pos len ∷ es) = refills_after (state_step caller state s (Serve pos len)) es
   refills_after s (Wipe ∷ es) = refills_after (state_step caller state s Wipe) es
 
-  -- the value of a refill's key is made from the value of the key before it
+  -- if a refill comes after `front`, the value of the key that it keeps is made from the value of the key after `front`
   refill_value_at : (v : List ℕ) (front : List VEntry) (from : ℕ) (rest : List VEntry) →
       refill_value_from lists v (refills_in front) ((front ++ Refill from ∷ []) ++ rest) ≡ refill_value
       (fold (state_value_step lists) v front) from

@@ -1,4 +1,4 @@
--- A vread that its batch served shows the bytes of the named spans that the entries of its last attempt serve.
+-- If the batch served a vread, its line shows the bytes of the named spans that the entries of the last attempt serve.
 use Rattle.std.proofs.Common.{◌≡◌, ℕ, zero, suc, ◌<◌, ◌≤◌, Bool, true, false, List, [], ◌∷◌, ◌++◌, refl, sym, subst, ap, ◌∙◌, arith, length, take, append_assoc}
 use Rattle.std.specs.Prelude.{◌==◌, not, ⊤, if◌then◌else◌}
 use Rattle.std.specs.List.{fold}

@@ -1,4 +1,4 @@
--- If a system call ended a vread, then the vread shows no data, or the bytes of its line's last visit.
+-- If a system call ended a vread, then the line of the vread shows no data, or the bytes that its last visit serves.
 use Rattle.std.proofs.Common.{◌≡◌, ℕ, ◌⊎◌, inl, inr, true, List, [], ◌∷◌, ◌++◌, refl, sym, subst, ap, ◌∙◌, append_assoc, append-nil, Option, Some, None}
 use Rattle.std.specs.Prelude.{◌==◌}
 use Rattle.key_names.specs.declared.errno.Errno.{Errno}
@@ -117,7 +117,7 @@ module _ (answer : SystemAnswer) where
       effects_after shows.call shows.rest effects shows.effects_are
       (shows_asked set before n flags shows.rest shows.goes_on)
 
-  -- the line shows what its last visit serves, and the answer of the system call is from that visit
+  -- the line shows the bytes that its last visit serves, and the answer of the system call is from that visit
   pub record AskedShown (effects : List Effect) : Type 0 where
     pub shown : system_line_shown answer ≡ bytes_or_none (served_bytes effects)
     pub place : (c p : ℕ) → place_takes c p (last_place effects) ≡ answer_takes c p answer
@@ -145,7 +145,7 @@ module _ (answer : SystemAnswer) where
     place = λ c p. ap (place_takes c p) (last_visit before d ds) ∙ sym (ap (answer_takes c p) is);
   })
 
-  -- if the host's last step was a system call, the line shows no data, or the bytes of its last visit
+  -- if the host's last step was a system call, the line shows no data, or the bytes that its last visit serves
   pub steps_shown : (set : Setting) (steps : List HostStep) (effects : List Effect) → EndsAsked answer steps →
       Shows set steps effects → ShowsOrNone effects
   steps_shown set steps effects e shows =

@@ -1,4 +1,5 @@
--- Which attempt some steps of the host make: one on a state whose key is current, and one that reads a key.
+-- The host's steps of two attempts, and the results: an attempt on a state whose key is current, and one that reads a
+-- key.
 use Rattle.std.proofs.Common.{◌≡◌, ℕ, Bool, true, false, Option, List, [], ◌∷◌, ◌++◌, refl, sym, subst}
 use Rattle.std.specs.Prelude.{◌==◌, MatchBool, if◌then◌else◌}
 use Rattle.key_names.specs.declared.point.Point.TheVariants.{Start, Written, Serve, End}
@@ -12,7 +13,7 @@ match_true A B b is a = subst (λ (x : Bool). MatchBool x A B) (sym is) a
 pub match_false : (A B : Type 0) (b : Bool) → b ≡ false → B → MatchBool b A B
 match_false A B b is h = subst (λ (x : Bool). MatchBool x A B) (sym is) h
 
--- the result of an attempt from Serve on, with or without wipes at Serve and at End
+-- the result of an attempt after the point Serve. `wiped` is true if the state is wiped at End
 abbrev pub served_attempt : ℕ → ℕ → ℕ → Bool → VgetrandomState → Attempt
 served_attempt n c end wiped s = record {
   out = copy_bytes s c n;

@@ -28,7 +28,7 @@ use Rattle.key_names.proofs.Uses.BatchBytes.{zeros_more}
 use Rattle.key_names.proofs.Vgetrandom.CopiesKeep.{Settled, Ready, ready, ready_start, may_start}
 use Rattle.key_names.proofs.Vgetrandom.CopiesKeep as copies
 
--- what follows from both sides of a choice follows from the choice
+-- if `C` follows from each side of a choice, it follows from the choice
 pub match_cases : (A B C : Type 0) (b : Bool) → ((b ≡ true) → A → C) → ((b ≡ false) → B → C) → MatchBool b A B → C
 match_cases A B C true f g h = f refl h
 match_cases A B C false f g h = g refl h
@@ -66,7 +66,8 @@ module _ (caller state : ℕ) where
       let P : Attempt → Type 0 = λ a. AttemptKeeps t a in
       subst P (sym is) (keeps_append (λ u. Settled u after.state) t es after.entries h)
 
-  -- an attempt from a point on keeps the list in order, if its steps after the point do. `Before` holds at the point
+  -- if the part of an attempt after a point keeps the list in order, so does the attempt from that point on. `Before`
+  -- holds at the point
   point_keeps : (Before : NamedState → VgetrandomState → Type 0) →
       ((t : NamedState) (s : VgetrandomState) → Before t s → MayStart t.expected) →
       ((t : NamedState) → Settled t wiped_state → Before t wiped_state) →
@@ -204,7 +205,7 @@ module _ (caller state : ℕ) where
   settled_after : (t : NamedState) (s : VgetrandomState) → Settled t s → Settled t (state_after_call s)
   settled_after t s h = record { same_pos = h.same_pos; within = h.within; expects = h.expects; zeros = h.zeros }
 
-  -- an attempt and the rest of its call together keep the list in order, if each of them does
+  -- if an attempt keeps the list in order, and so does the rest of its call, then both together do
   tried_keeps : (n flags : ℕ) (Outdated : ℕ → VgetrandomState → List HostStep → Outcome → Type 0)
       (Tried : List HostStep → Attempt → Type 0) →
       (t : NamedState) (steps : List HostStep) (outcome : Outcome) →

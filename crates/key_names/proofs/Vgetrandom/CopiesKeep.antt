@@ -112,7 +112,7 @@ module _ (caller state : ℕ) where
       fits : nat_le n (bytes_left s) ≡ true → s.pos + n ≤ 96
       fits is = let le : n ≤ 96 - s.pos = leb-true n (bytes_left s) is in let w = r.within in omega arith
 
-      -- this is the case without a new key, since a new key leaves the batch no bytes
+      -- the key is not new in this case, since a new key leaves no bytes in the batch
       old : nat_le n (bytes_left s) ≡ true → (t.expected ≡ anything) × (t.pos ≡ s.pos) × StartsZero s.pos s.batch
       old is = elim r.expects [
         | inl batch ↦ batch

@@ -1,5 +1,5 @@
--- Each rekey of a vgetrandom call takes a user's read of 32 bytes, if each answer of the host to a system call for a
--- key is such a read or an error.
+-- Let the host answer each system call for a key with a user's read of 32 bytes or with an error. Then each rekey of a
+-- vgetrandom call takes such a read.
 use Rattle.std.proofs.Common.{◌≡◌, ℕ, zero, suc, Bool, true, false, Some, None, List, [], ◌∷◌, ◌++◌, refl, sym, subst}
 use Rattle.std.specs.Prelude.{⊤, ◌==◌, if◌then◌else◌}
 use Rattle.std.specs.List.{AllByRecursion}
@@ -140,7 +140,7 @@ module _ (cpus : ℕ → List CpuEntry) where
       (after_names n flags IfOutdated goes by.attempt.end by.attempt by.rest by.outcome_after
       all.1 by.goes_on))
 
-  -- each rekey of a call takes a read of 32 bytes
+  -- if `KeyReads` holds for the steps of a call, then each rekey of the call takes a user's read of 32 bytes
   pub call_names : (n flags : ℕ) (s : VgetrandomState) (steps : List HostStep) (outcome : Outcome) →
       KeyReads cpus steps → IsCall n flags s steps outcome → AllByRecursion (TakesRead cpus) outcome.entries
   call_names n flags s steps outcome names is = match_cases _ _ _ (is_bad flags)

@@ -1,5 +1,5 @@
--- A vgetrandom call takes a read, as keys and as its own answer together, at most as often as its steps contain the
--- read.
+-- A vgetrandom call can take a read as a key or as its own answer. Both together happen at most as often as the call's
+-- steps contain the read.
 use Rattle.std.proofs.Common.{◌≡◌, ℕ, zero, suc, ◌+◌, ◌≤◌, Bool, true, false, cond, List, [], ◌∷◌, ◌++◌, refl, ap, ◌∙◌, arith, Some, None, Option}
 use Rattle.std.specs.Prelude.{◌==◌, ◌&&◌, if◌then◌else◌}
 use Rattle.key_names.specs.declared.entries.VEntry.{VEntry}
@@ -48,7 +48,7 @@ module _ (c p : ℕ) where
   answer_takes (failed errno) = 0
   answer_takes (read bytes visit) = place_takes visit
 
-  -- how many of the system calls are answered by the read
+  -- how many of the system calls have the read as their answer
   abbrev pub step_takes : List HostStep → ℕ
   step_takes [] = 0
   step_takes (publishes g ∷ steps) = step_takes steps
@@ -91,7 +91,7 @@ module _ (c p : ℕ) where
           takes_append (serve_entry s.pos (bytes_left s))
           (refill_entries from (whole_blocks s n) (new_batch_bytes s n)) ∙ omega arith
 
-  -- the entries of an attempt take the read at most as often as the attempt's steps contain it
+  -- an attempt's entries take the read as a key at most as often as the attempt's steps contain the read
   pub record Bounded (steps : List HostStep) (attempt : Attempt) : Type 0 where
     pub is : takes attempt.entries ≤ step_takes steps
 
@@ -167,7 +167,7 @@ module _ (c p : ℕ) where
   ending_takes (by_batch out) = 0
   ending_takes (by_system answer) = answer_takes answer
 
-  -- a call takes the read, as keys and as its own answer together, at most as often as its steps contain it
+  -- a call takes the read, as keys and as its own answer together, at most as often as the call's steps contain it
   pub record OutcomeBounded (steps : List HostStep) (outcome : Outcome) : Type 0 where
     pub is : takes outcome.entries + ending_takes outcome.ending ≤ step_takes steps
 
@@ -251,7 +251,7 @@ module _ (c p : ℕ) where
       record { is = (let h = b.is in omega arith) })
       is
 
-  -- how many of the effects are the visit at this place
+  -- how many of the effects are the visit at place `p` of CPU `c`
   abbrev pub effect_takes : List Effect → ℕ
   effect_takes [] = 0
   effect_takes (looked g ∷ ds) = effect_takes ds
@@ -293,7 +293,7 @@ module _ (c p : ℕ) where
   answered_takes None ds = last_takes ds
   answered_takes (Some errno) ds = omega arith
 
-  -- a line's steps contain the read at most as often as its effects do
+  -- if the effects show the host's steps, the steps contain the read at most as often as the effects contain the visit
   pub shown_takes : (set : Setting) (steps : List HostStep) (ds : List Effect) → Shows set steps ds →
       step_takes steps ≤ effect_takes ds
   shown_takes set [] ds shows = omega arith
@@ -311,7 +311,8 @@ module _ (c p : ℕ) where
       let rest : step_takes steps ≤ effect_takes shows.rest = shown_takes set steps shows.rest shows.goes_on in
       omega arith
 
-  -- a call takes the read, as keys and as its own answer together, at most as often as its line's effects contain it
+  -- a call takes the read, as keys and as its own answer together, at most as often as the line's effects contain the
+  -- visit
   pub call_takes : (set : Setting) (n flags : ℕ) (s : VgetrandomState) (steps : List HostStep) (outcome : Outcome)
       (ds : List Effect) →
       IsCall n flags s steps outcome → Shows set steps ds →

@@ -1,5 +1,5 @@
--- A vgetrandom state keeps the key, the batch and the position that a replay of its list gives, if each call's steps
--- are good (`Good`).
+-- If the steps of each call are good (`Good`), a vgetrandom state has the key, the batch and the position that a replay
+-- of its list gives.
 use Rattle.std.proofs.Common.{◌≡◌, ℕ, zero, suc, ◌+◌, ◌-◌, ◌*◌, ◌≤◌, Bool, true, false, List, [], ◌∷◌, ◌++◌, inl, inr, refl, sym, subst, ap, ◌∙◌, arith, Some, None, Option, take, drop, append-nil}
 use Rattle.std.specs.Prelude.{◌==◌, ⊤, if◌then◌else◌}
 use Rattle.std.specs.List.{fold}
@@ -67,12 +67,12 @@ module _ (lists : Lists) (caller k : ℕ) where
   abbrev pub after : Both → List VEntry → Both
   after x es = fold step x es
 
-  -- the batch and the position are those of the replay
+  -- the state's batch and position are those of the replay `x`
   pub record Loose (x : Both) (s : VgetrandomState) : Type 0 where
     pub batch : x.bytes.batch ≡ s.batch
     pub pos : x.named.pos ≡ s.pos
 
-  -- the batch, the position and the key are those of the replay
+  -- the state's batch, position and key are those of the replay `x`. If the state has a generation, its keys have names
   pub record Holds (x : Both) (s : VgetrandomState) : Type 0 where
     pub batch : x.bytes.batch ≡ s.batch
     pub pos : x.named.pos ≡ s.pos
@@ -85,7 +85,7 @@ module _ (lists : Lists) (caller k : ℕ) where
   pub wiped_holds : (x : Both) → Holds (step x Wipe) wiped_state
   wiped_holds x = record { batch = refl; pos = refl; key = refl; named = λ some. absurd (omega arith) }
 
-  -- how the entry for serving some bytes of the batch changes the names and the bytes
+  -- the names and bytes `y` follow from `x` by serving `n` bytes of the batch from byte `pos` on
   pub record Served (x y : Both) (pos n : ℕ) : Type 0 where
     pub batch : y.bytes.batch ≡ with_zeros pos n x.bytes.batch
     pub key : y.bytes.key ≡ x.bytes.key
@@ -104,7 +104,8 @@ module _ (lists : Lists) (caller k : ℕ) where
   serve_after x pos (suc n) at =
       record { batch = refl; key = refl; pos_is = refl; name = refl; batch_name = refl }
 
-  -- how the entries for blocks and a new batch change the names and the bytes
+  -- the names and bytes `y` follow from `x` by a refill from block `at`, and by serving the first `r` bytes of the new
+  -- batch
   pub record Refilled (x y : Both) (at r : ℕ) : Type 0 where
     pub batch : y.bytes.batch ≡ with_zeros 0 r (keystream x.bytes.key (64 * at) 96)
     pub key : y.bytes.key ≡ keystream x.bytes.key (64 * at + 96) 32
@@ -134,7 +135,7 @@ module _ (lists : Lists) (caller k : ℕ) where
       refilled u _ (c + suc m) r (serve_after (step u (Refill (c + suc m))) 0 r refl) in
       record { batch = h.batch; key = h.key; pos_is = h.pos_is; name = h.name; batch_name = h.batch_name }
 
-  -- a copy leaves the state that the replay of its entries gives
+  -- if the replay `x` matches the state, then `x` with the copy's entries added matches the state after the copy
   pub copy_holds : (x : Both) (s : VgetrandomState) (c n : ℕ) → 1 ≤ n → Holds x s →
       Holds (after x (copy_entries s c n)) (state_after_copy s c n)
   copy_holds x s c n some h = go (has_left s n) refl
@@ -177,7 +178,7 @@ module _ (lists : Lists) (caller k : ℕ) where
                 (w.name name, inr (has_name u.named.key (after u es).named.batch_key w.batch_name name));
           } in m)
 
-  -- after an attempt, or after a call, the state is that of the replay
+  -- the replay `x` with the entries of an attempt added matches the state after the attempt. The same is true of a call
   abbrev pub AttemptHolds : Both → Attempt → Type 0
   AttemptHolds x attempt = Holds (after x attempt.entries) attempt.state
 
@@ -319,7 +320,7 @@ module _ (lists : Lists) (caller k : ℕ) where
       (λ u d v rest later g by b. system_holds n flags u (state_after_call v) rest later by (called_holds u v b))
       good second h
 
-  -- a first attempt and the rest of its call leave the state that the replay gives, if the steps are good
+  -- if the steps are good, and the replay matches the state before a first attempt, it matches the state after the call
   pub first_holds : (n flags : ℕ) → 1 ≤ n → (x : Both) (s : VgetrandomState) (steps : List HostStep)
       (outcome : Outcome) → Good lists steps → FirstAttempt n flags s steps outcome → Holds x s →
       OutcomeHolds x outcome
@@ -344,7 +345,7 @@ module _ (lists : Lists) (caller k : ℕ) where
       (record { batch = h.batch; pos = h.pos; key = h.key; named = h.named }))))
       from
 
-  -- the steps after the first are good if the first published a generation of a ready core
+  -- if the first step publishes a generation of a ready core, then the later steps are good
   abbrev pub GoodAfter : List HostStep → Type 0
   GoodAfter steps = (g : ℕ) (rest : List HostStep) → steps ≡ publishes g ∷ rest → 1 ≤ g → Good lists rest
 

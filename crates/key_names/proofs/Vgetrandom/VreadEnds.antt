@@ -1,5 +1,5 @@
--- How a vread of a transcript ended. If the batch served the vread, it shows the bytes of the named spans that entries
--- of the vread's state serve.
+-- How a vread of a transcript ended. If the batch served the vread, its line shows the bytes of named spans. Entries of
+-- the vread's state serve these spans.
 use Rattle.std.specs.Prelude.{ℕ, ◌≡◌, ◌<◌, Some, List, ◌++◌, take, slice_get}
 use Rattle.key_names.specs.declared.entries.VEntry.{VEntry}
 use Rattle.key_names.specs.Lanes.Book.{Lists}
@@ -17,7 +17,7 @@ abbrev pub entry_bytes : Lists → ℕ → ℕ → List VEntry → List VEntry �
 entry_bytes lists caller k front es =
     served_in lists (uses_from state_uses_at (state_step caller k) (state_after caller k front) es)
 
--- these entries end with those of the attempt that held, which serve the bytes `out`
+-- the last of the entries `es`, those of the attempt that held, serve the bytes `out`
 pub record LastServe (lists : Lists) (caller k : ℕ) (front es : List VEntry) (out : List ℕ) : Type 0 where
   pub earlier : List VEntry
   pub last : List VEntry
@@ -33,7 +33,8 @@ pub data VreadEnd (lists : Lists) (caller k : ℕ) (front : List VEntry) (n flag
   asked_system : (by : ByVgetrandom n flags acts m) (answer : SystemAnswer) → by.outcome.ending ≡ by_system answer →
       VreadEnd lists caller k front n flags acts m
 
--- each vread of a caller ended in one of these ways, after the entries that earlier calls appended to the state's list
+-- `VreadEnd` holds for each vread of a caller. Its `front` has the entries that earlier calls appended to the state's
+-- list
 abbrev pub VreadsNamed : Lists → ℕ → List Call → List CallMeaning → Type 0
 VreadsNamed lists caller calls ms = (k j n flags : ℕ) (line : SeenLine) (acts : List BoundAct) (m : CallMeaning) →
     k < 16 → m.before.current ≡ k → slice_get calls j ≡ Some (vread_call n flags line acts) →

@@ -28,14 +28,14 @@ abbrev pub LooksFrom : ℕ → ℕ → List Effect → Type 0
 LooksFrom reseeds seen [] = ⊤
 LooksFrom reseeds seen (effect ∷ effects) = LookConforms reseeds seen effect × LooksFrom reseeds (seen_after seen effect) effects
 
--- LooksConform depends on the effects `before` only by one number: the greatest generation seen in `before`
+-- LooksConform depends on the effects `before` only through one number: the greatest generation seen in `before`
 abbrev pub LooksAreCounted : Type 0
 LooksAreCounted = (reseeds : ℕ) (before effects : List Effect) →
     (LooksConform reseeds before effects → LooksFrom reseeds (seen before) effects)
     × (LooksFrom reseeds (seen before) effects → LooksConform reseeds before effects)
 
--- looks can be checked in two parts: the front, and then the back, from the greatest generation seen by the end of the
--- front
+-- looks can be checked in two parts: first the front, and then the back. The check of the back starts from the greatest
+-- generation seen by the end of the front
 abbrev pub LooksInParts : Type 0
 LooksInParts = (reseeds seen : ℕ) (front back : List Effect) →
     (LooksFrom reseeds seen (front ++ back) →

@@ -129,8 +129,8 @@ pub record Stalled (child : ℕ) (effects : List Effect) : Type 0 where
   pub stalls : stall.entry ≡ Stall
   pub unstalls : unstall.entry ≡ Unstall
 
--- a dump of the setting's CPU, and the mix of the dump into the pool. The bytes and bits of the mix are left to
--- LawfulSamples
+-- a dump of the setting's CPU, and the mix of the dump into the pool. LawfulSamples determines the bytes and bits of
+-- the mix
 pub record DumpForm (set : Setting) (effects : List Effect) : Type 0 where
   pub dump : CpuVisit
   pub text : List ℕ

@@ -1,4 +1,5 @@
--- The order of a caller's steps, after those of its ancestors, and the greatest generation that the caller has seen.
+-- The order of a caller's steps: first the steps of its ancestors, and then its own. Also the greatest generation that
+-- the caller has seen.
 use Rattle.std.specs.Prelude.{ℕ, zero, suc, ◌≤◌, max, Bool, true, false, ⊤, Option, Some, None, List, []}
 use Rattle.std.specs.Prelude.{◌∷◌, ◌++◌, length, take, drop, slice_get, if◌then◌else◌}
 use Rattle.std.specs.Option.{option_map_or}
@@ -28,7 +29,7 @@ steps_at_point (bound ∷ acts) point =
     if is_same_point bound.point point then bound.line.steps ++ steps_at_point acts point
     else steps_at_point acts point
 
--- the visits at the front of the steps, and the other steps
+-- the steps before the first look, which are visits, and the steps from that look on
 abbrev pub cut_after_visits : List Step → List Step × List Step
 cut_after_visits [] = ([], [])
 cut_after_visits (step ∷ steps) =
@@ -107,7 +108,7 @@ LookConforms reseeds before (at_base v) = ⊤
 LookConforms reseeds before (at_cpu v) = ⊤
 LookConforms reseeds before nothing_there = ⊤
 
--- LookConforms holds for each look of some effects, after the caller's effects `before`
+-- LookConforms holds for each look among the effects, if the caller's effects `before` come first
 abbrev pub LooksConform : ℕ → List Effect → List Effect → Type 0
 LooksConform reseeds before [] = ⊤
 LooksConform reseeds before (effect ∷ effects) =

@@ -166,8 +166,8 @@ pub record ByVgetrandom (n flags : ℕ) (acts : List BoundAct) (m : CallMeaning)
 abbrev pub tries_local : ℕ → ℕ → List BoundAct → Bool
 tries_local n flags acts = length acts == 0 && (not (n == 0) && not (is_bad flags))
 
--- the rest of a vread that may try a copy, after its first look: the copy if the batch can serve it, else a vgetrandom
--- call
+-- a vread that may try a copy, after its first look: a copy if the batch can serve the bytes, and otherwise a
+-- vgetrandom call
 abbrev pub LocalOrCall : ℕ → ℕ → List BoundAct → CallMeaning → ℕ → List Effect → Type 0
 LocalOrCall n flags acts m look rest =
     MatchBool (serves_locally (published_by look) (current_state m.before) n) (ByLocalCopy n rest m)

@@ -129,7 +129,7 @@ pub record WipesConform (acts : List BoundAct) (points : List PointReached) : Ty
 abbrev pub is_reached : List PointReached → BoundAct → Bool
 is_reached points bound = list_any (λ reached. is_same_point reached.point bound.point) (first_points points)
 
--- the answer and the data of a line, from how its call ended
+-- the answer and the data of a line, given how the line's call ended
 abbrev pub answer_of_errno : Errno → Answer
 answer_of_errno EAGAIN = Again
 answer_of_errno EINVAL = Invalid

@@ -32,7 +32,8 @@ fills_after place (Dump now) key fills w = fills w
 fills_after place Prepare key fills w = None
 fills_after place Online key fills w = fills w
 
--- whether an integer of this width fills its batch first: the batch has no fill, is used up, or has another look
+-- whether an integer of this width fills its batch first: the batch has no fill, is used up, or was filled at another
+-- look
 abbrev pub must_fill : ℕ → ℕ → Option Fill → Bool
 must_fill look width None = true
 must_fill look width (Some fill) = nat_le (96 / width) fill.count || not (look == fill.look)
@@ -50,7 +51,8 @@ batch_pos width (Some fill) = width * fill.count
 abbrev pub with_zeros : ℕ → ℕ → List ℕ → List ℕ
 with_zeros from len bytes = take from bytes ++ replicate len 0 ++ drop (from + len) bytes
 
--- the bytes of a width's batch after an entry, given the value of the key in use and the last fill before the entry
+-- the bytes of the batch of width `w` after an entry. `used` is the value of the key in use, and `fill` is the last
+-- fill before the entry
 abbrev pub batch_step : ℕ → List ℕ → Option Fill → List ℕ → CpuEntry → List ℕ
 batch_step w used fill bytes (Read look refill taken) = bytes
 batch_step w used fill bytes (Int look refill width true) =

@@ -16,8 +16,8 @@ pub record CpuPlace : Type 0 where
   pub cpu : ℕ
   pub place : ℕ
 
--- the answer of a system call: the bytes that the call read, with the CPU visit that gave these bytes if the host has
--- such visits; or an error
+-- the answer of a system call: the bytes that the call read, or an error. If the host has CPU visits, the bytes come
+-- with the visit that gave them
 pub data SystemAnswer : Type 0 where
   read : List ℕ → Option CpuPlace → SystemAnswer
   failed : Errno → SystemAnswer

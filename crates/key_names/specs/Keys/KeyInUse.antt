@@ -97,7 +97,8 @@ state_value_step lists value Wipe = zero_key
 abbrev pub state_value_after : Lists → List VEntry → List ℕ
 state_value_after lists es = fold (state_value_step lists) zero_key es
 
--- the value of the key that refill n of these entries keeps, counted from 0, if `value` is the key's value before them
+-- the value of the key that refill `n` keeps. Refills are counted from 0, and `value` is the key's value before these
+-- entries
 abbrev pub refill_value_from : Lists → List ℕ → ℕ → List VEntry → List ℕ
 refill_value_from lists value n [] = []
 refill_value_from lists value zero (Refill from ∷ es) = refill_value value from
@@ -118,7 +119,7 @@ value_of lists (Call BaseLane i) = base_call_value lists i
 value_of lists (Call (CpuLane c) k) = cpu_call_value lists c k
 value_of lists (Vdso caller state n) = refill_value_from lists zero_key n (state_list lists caller state)
 
--- the bytes that a read serves with a key in use of this value
+-- the bytes that a read serves if the key in use has the value `key`
 abbrev pub taken_bytes : List ℕ → Taken → List ℕ
 taken_bytes key (User n) = if nat_lt 32 n then keystream (keystream key 32 32) 64 n else keystream key 32 n
 taken_bytes key (Kernel n) = keystream key 32 n

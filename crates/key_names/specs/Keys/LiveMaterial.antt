@@ -89,7 +89,7 @@ WasReplaced lists (cpu_key c) key = SomeFrom (CpuReplaces key) (cpu_step lists.b
 WasReplaced lists (state_key caller state) key =
     SomeFrom (StateReplaces key) (state_step caller state) state_start (state_list lists caller state)
 
--- the bytes of a CPU's batches after its entries, the names of its keys, and the value of its key
+-- a CPU after its entries: the names of its keys, the value of its key, and the bytes of its batches
 pub record CpuBytes : Type 0 where
   pub named : CpuState
   pub value : List ℕ
@@ -113,8 +113,8 @@ pub record StateBytes : Type 0 where
 abbrev pub state_bytes_start : StateBytes
 state_bytes_start = record { key = zero_key; batch = replicate 96 0 }
 
--- the bytes of the batch after an entry. A rekey leaves the bytes unchanged, but no later entry serves those that were
--- not served before
+-- the bytes of the batch after an entry. A rekey leaves the bytes unchanged, but later entries never serve the part
+-- that was still unserved
 abbrev pub state_batch_step : StateBytes → VEntry → List ℕ
 state_batch_step s (Rekey cpu cpu_place) = s.batch
 state_batch_step s (Blocks from count) = s.batch
@@ -132,7 +132,7 @@ replayed_batch lists (cpu_batch c width) =
 replayed_batch lists (state_batch caller state) =
     (fold (state_bytes_step lists) state_bytes_start (state_list lists caller state)).batch
 
--- the book is erased, if `batch` gives the bytes of each batch
+-- the book is erased; `batch` gives the bytes of each batch
 pub record IsErased (lists : Lists) (batch : BatchHolder → List ℕ) : Type 0 where
   -- a key that an entry replaced is live nowhere
   pub none_replaced : (a b : KeyHolder) (key : KeyName) → live_key lists a ≡ Some key → WasReplaced lists b key → ⊥

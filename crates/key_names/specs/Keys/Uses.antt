@@ -49,7 +49,7 @@ taken_uses rekeys key call (User n) =
     else (if rekeys then use_of kept key 32 32 else use_of served key 32 n) ∷ []
 taken_uses rekeys key call (Kernel n) = use_of served key 32 n ∷ []
 
--- the uses of an erasure and a read
+-- the uses of a read: the key that its erasure keeps, and the bytes of the read
 abbrev pub read_uses : Bool → KeyName → KeyName → Taken → List Use
 read_uses rekeys key call taken = use_of kept key 0 32 ∷ taken_uses rekeys key call taken
 
@@ -95,7 +95,7 @@ state_uses_at s (Refill from) = named_use kept s.key (64 * from + 96) 32
 state_uses_at s (Serve pos len) = named_use served s.batch_key (64 * s.batch_from + pos) len
 state_uses_at s Wipe = []
 
--- the uses of some entries, each entry in the state before it
+-- the uses of some entries. The uses of each entry depend on the state before the entry
 abbrev pub uses_from : {S E : Type 0} → (S → E → List Use) → (S → E → S) → S → List E → List Use
 uses_from uses_at step s [] = []
 uses_from uses_at step s (e ∷ es) = uses_at s e ++ uses_from uses_at step (step s e) es

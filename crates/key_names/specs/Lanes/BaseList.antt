@@ -92,7 +92,7 @@ abbrev pub root_or : Option ℕ → Option KeyName → Option KeyName
 root_or None key = key
 root_or (Some r) key = Some (Root r)
 
--- the key in use at an entry: the root that the entry names, or else the key before it
+-- the key in use at an entry: the root that the entry names, or, if the entry names none, the key before the entry
 abbrev pub base_key_in_use : BaseEntry → Option KeyName → Option KeyName
 base_key_in_use e key = root_or (root_of e) key
 
@@ -100,7 +100,8 @@ base_key_in_use e key = root_or (root_of e) key
 abbrev pub base_key_after : ℕ → BaseEntry → Option KeyName → Option KeyName
 base_key_after i e key = if base_erases e then Some (Base i) else base_key_in_use e key
 
--- the least root that a later entry may name, after an entry that names this root or no root. Roots rise along the list
+-- the least root that later entries may name, after an entry that names root `r` or no root. The roots that entries
+-- name rise along the list
 abbrev pub roots_after : Option ℕ → ℕ → ℕ
 roots_after None least = least
 roots_after (Some r) least = suc r
@@ -242,7 +243,7 @@ pub record BaseMayCome (pool : List PoolEntry) (s : BaseState) (e : BaseEntry) :
 abbrev pub LawfulBase : List PoolEntry → List BaseEntry → Type 0
 LawfulBase pool base = LawfulFrom (BaseMayCome pool) base_step base_start base
 
--- the root that the entry at a place names, and the refill that the entry names
+-- the root that the entry at place `i` names; below, the refill that the entry at place `i` names
 abbrev pub root_at : List BaseEntry → ℕ → Option ℕ
 root_at base i = option_and_then root_of (slice_get base i)
 

@@ -54,27 +54,29 @@ cpu_list lists c = list_at lists.cpus c
 abbrev pub state_list : Lists → ℕ → ℕ → List VEntry
 state_list lists caller state = list_at (list_at lists.callers caller) state
 
--- the lists of the base and of the CPUs are lawful. If an entry names a root or a refill, the entry at the named place
--- names it back
+-- the lists of the base and of the CPUs are lawful. Then, if an entry names a root or a refill, the root's extraction
+-- or the refill names the place of that entry
 pub record ForwardLawful (lists : Lists) : Type 0 where
   pub base : LawfulBase lists.pool lists.base
   pub cpus : (c : ℕ) → LawfulCpu lists.base c (cpu_list lists c)
 
--- the entry at the base place that an extraction names also names the extraction
+-- the base's entry at place `i` names the root that the extraction at pool place `p` gives
 abbrev pub ExtractionAnswered : Lists → ℕ → ℕ → Type 0
 ExtractionAnswered lists p i = root_at lists.base i ≡ Some p
 
--- the entry at the CPU's place that a refill names also names the refill
+-- the entry at place `k` of CPU `c` names the refill at base place `b`
 abbrev pub RefillAnswered : Lists → ℕ → ℕ → ℕ → Type 0
 RefillAnswered lists b c k = base_refill_at (cpu_list lists c) k ≡ Some b
 
--- the lists of the lanes are lawful. If an extraction or a refill names a place, the entry there names it back
+-- the lists of the lanes are lawful. If an extraction or a refill names a place, the entry at that place names the
+-- extraction or the refill
 pub record LawfulLanes (lists : Lists) : Type 0 where
   pub forward : ForwardLawful lists
   pub extractions : (p i : ℕ) → extraction_at lists.pool p ≡ Some i → ExtractionAnswered lists p i
   pub refills : (b c k : ℕ) → refill_at lists.base b ≡ Some (c, k) → RefillAnswered lists b c k
 
--- LawfulLanes while visits are half finished: a place that an extraction or a refill names may not be in its list yet
+-- LawfulLanes, but visits may be half finished: the place that an extraction or a refill names may still be missing
+-- from its list
 pub record HalfFinishedLanes (lists : Lists) : Type 0 where
   pub forward : ForwardLawful lists
   pub extractions : (p i : ℕ) → extraction_at lists.pool p ≡ Some i →
@@ -98,7 +100,8 @@ pub record LawfulStates (lists : Lists) : Type 0 where
   pub one_taker : (a b : StatePlace) (read : ℕ × ℕ) → rekey_in lists a ≡ Some read →
       rekey_in lists b ≡ Some read → a ≡ b
 
--- all lists are lawful. LawfulSamples is separate, because it depends on the makers of the visits, which Lists lacks
+-- all lists are lawful. LawfulSamples is separate, because it depends on the makers of the visits, which Lists does not
+-- contain
 pub record LawfulBook (lists : Lists) : Type 0 where
   pub lanes : LawfulLanes lists
   pub states : LawfulStates lists

@@ -51,8 +51,9 @@ pub record IsHistory (book : Book) (history : List Happening) : Type 0 where
   pub whole : IsPermutation (all_visits book) history
   pub sorted : IsSortedBy comes_before history
 
--- if MarksConform holds for a transcript whose marks are the visits of a book, then in a history the visits of one lane
--- are that lane's list, in the list's order. So a replay of each lane alone agrees with the history
+-- let MarksConform hold for a transcript, and let the transcript's marks be the visits of `book`. Then the visits of
+-- one lane in a history of `book` are that lane's list, in the same order. So a replay of each lane alone agrees with
+-- the history
 abbrev pub HistoryKeepsLanes : Type 0
 HistoryKeepsLanes = (script : Script) (t : List (List SeenLine)) (book : Book) (history : List Happening)
     (lane : LaneId) → MarksConform script t → VisitsAre book (all_marks t) → IsHistory book history →

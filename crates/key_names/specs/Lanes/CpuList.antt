@@ -47,7 +47,8 @@ abbrev pub call_or : Option ℕ → Option KeyName → Option KeyName
 call_or None key = key
 call_or (Some b) key = Some (Call BaseLane b)
 
--- the key in use at an entry: the key that the base handed over in the named refill, or else the key before it
+-- the key in use at an entry: the key that the base handed over in the named refill, or, if no refill is named, the key
+-- before the entry
 abbrev pub cpu_key_in_use : CpuEntry → Option KeyName → Option KeyName
 cpu_key_in_use e key = call_or (base_refill_of e) key
 
@@ -115,7 +116,8 @@ CpuFits s (Dump now) = ⊤
 CpuFits s Prepare = ⊤
 CpuFits s Online = ⊤
 
--- a named refill is a base entry that names this CPU and place. The base's generation there is at least the look
+-- if an entry names refill `b`, the base's entry `b` is a refill for this CPU and this place. The base's generation
+-- before that refill is at least the look
 abbrev pub RefillNames : List BaseEntry → ℕ → ℕ → ℕ → Option ℕ → Type 0
 RefillNames base c place look None = ⊤
 RefillNames base c place look (Some b) = (refill_at base b ≡ Some (c, place)) × (look ≤ generation_at base b)

@@ -11,7 +11,7 @@ use Rattle.key_names.specs.Lanes.Book.{Visit, Book, entries_of, list_at}
 abbrev pub SameEvent : Who → Who → Type 0
 SameEvent a b = (a.caller ≡ b.caller) × (a.event ≡ b.event)
 
--- a CPU's fast pool before a place of its list
+-- the fast pool of a CPU before the entry at place `k` of the CPU's list
 abbrev pub fast_before : List (Visit CpuEntry) → ℕ → FastPool
 fast_before visits k = fast_after (take k (entries_of visits))
 
@@ -32,21 +32,21 @@ IsDump (Irq v1 v2 now) = ⊥
 IsDump Prepare = ⊥
 IsDump Online = ⊥
 
--- at this place, a visit of the event made a dump due
+-- the visit at place `i` belongs to the event of `who`, and makes a dump due
 pub record DueAt (visits : List (Visit CpuEntry)) (i : ℕ) (who : Who) : Type 0 where
   pub visit : Visit CpuEntry
   pub is : slice_get visits i ≡ Some visit
   pub event : SameEvent visit.who who
   pub due : MakesDue (fast_before visits i) visit.entry
 
--- at this place, a visit of the event dumped
+-- the visit at place `k` belongs to the event of `who`, and is a dump
 pub record DumpAt (visits : List (Visit CpuEntry)) (k : ℕ) (who : Who) : Type 0 where
   pub visit : Visit CpuEntry
   pub is : slice_get visits k ≡ Some visit
   pub event : SameEvent visit.who who
   pub dumps : IsDump visit.entry
 
--- at this place of the pool's list, a visit of the event mixed bytes and credited bits
+-- the pool's visit at place `p` belongs to the event of `who`, mixes `text` and credits `bits`
 pub record MixAt (visits : List (Visit PoolEntry)) (p : ℕ) (who : Who) (text : List ℕ) (bits : ℕ) : Type 0 where
   pub visit : Visit PoolEntry
   pub is : slice_get visits p ≡ Some visit
@@ -67,7 +67,7 @@ pub record LawfulSamples (book : Book) : Type 0 where
       (k : ℕ) × (i < k) × DumpAt (visits_of book c) k who
   -- an event dumps at most once
   pub one_dump : (c j k : ℕ) (who : Who) → DumpAt (visits_of book c) j who → DumpAt (visits_of book c) k who → j ≡ k
-  -- the event mixes the fast pool as it is at the dump
+  -- the event of a dump mixes the dump's bytes into the pool, and credits the dump's bits
   pub dump_is_mixed : (c k : ℕ) (who : Who) → DumpAt (visits_of book c) k who →
       (p : ℕ) × MixAt book.pool p who (dump_bytes (fast_before (visits_of book c) k))
       (dump_bits (fast_before (visits_of book c) k))

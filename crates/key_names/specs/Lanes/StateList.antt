@@ -12,8 +12,8 @@ use Rattle.key_names.specs.declared.entries.VEntry.TheVariants.{Rekey, Blocks, R
 use Rattle.key_names.specs.Lanes.CpuList.{taken_at}
 use Rattle.key_names.specs.Lanes.LawfulList.{LawfulFrom}
 
--- which entry has to follow: after a rekey, it is a wipe, blocks or a refill; after blocks, it is the refill from the
--- next block
+-- which entry has to follow. After a rekey (`new_key`), it is a wipe, blocks or a refill. After blocks (`refill_from`),
+-- it is the refill from the next block
 pub data Expected : Type 0 where
   anything new_key : Expected
   refill_from : ℕ → Expected
@@ -43,7 +43,7 @@ state_start = record {
   expected = anything;
 }
 
--- the name of the key that a refill keeps. If the key before has no name, the key after has none
+-- the name of the key that a refill keeps; if the key in use has no name, the kept key has none
 abbrev pub refill_key : ℕ → ℕ → ℕ → Option KeyName → Option KeyName
 refill_key caller state n None = None
 refill_key caller state n (Some key) = Some (Vdso caller state n)

@@ -1,4 +1,4 @@
--- The first fault of a text that is the text of no script, line by line.
+-- Finds the first fault of a text, line by line, if the text is not the text of any script.
 use Rattle.std.specs.Prelude.{⊤, ◌<◌, ℕ, zero, suc, ◌+◌, ◌^◌, ◌==◌, ◌&&◌, ◌||◌, Bool, false, nat_lt, nat_le}
 use Rattle.std.specs.Prelude.{if◌then◌else◌, Option, Some, None, Result, Ok, Err, List, [], ◌∷◌, ◌++◌, codes, find}
 use Rattle.std.specs.Prelude.{fold, length, sum_by}
@@ -41,7 +41,7 @@ kind_number Unforked = 10
 kind_number TooMany = 11
 kind_number Unfinished = 12
 
--- two steps in a row give the first error, or else the value of the second step
+-- two steps in a row: the result is the first error, or else the value of the second step
 infixl 10 ◌>>=◌
 abbrev pub ◌>>=◌ : {A B E : Type 0} → Result A E → (A → Result B E) → Result B E
 (Ok x) >>= f = f x
@@ -231,8 +231,8 @@ said_by version cpus (first ∷ fields) =
 abbrev pub parts : ℕ → List ℕ → List (List ℕ)
 parts byte text = slice_split (λ b. b == byte) text
 
--- the content of a line, or its fault: a fault of kind 5 comes first, and then the fault of the leftmost bad field, of
--- kind 6 or 7
+-- the content of a line, or its fault. A fault of kind 5 comes before any other. Otherwise the fault is that of the
+-- leftmost bad field, of kind 6 or 7
 abbrev pub said : ℕ → ℕ → List ℕ → Result Said FaultKind
 said version cpus line = said_by version cpus (parts 32 line)
 
@@ -295,7 +295,7 @@ is_fork_from n _ = false
 abbrev pub has_orphan : Draft → Bool
 has_orphan d = list_any (list_any (is_fork_from (length (blocks_of d)))) (blocks_of d)
 
--- how the script goes on after a line, or that the script has ended
+-- the draft after a line, or the end of the script
 pub data Next : Type 0 where
   GoesOn : Draft → Next
   Ends : Next
@@ -312,7 +312,7 @@ after d (SaysCaller c) =
     else Err BadCaller
 after d SaysEnd = if has_orphan d then Err Unforked else Ok Ends
 
--- how the script goes on after this line
+-- the draft after this line, the end of the script, or the fault of the line
 abbrev pub after_line : Draft → List ℕ → Result Next FaultKind
 after_line d line = said d.version d.cpus line >>= after d
 
@@ -345,7 +345,7 @@ abbrev pub nothing_after : ℕ → List (List ℕ) → Result Next ScriptFault
 nothing_after n ([] ∷ []) = Ok Ends
 nothing_after n lines = at_line n (line_of lines >>= λ line. Err UnknownWord)
 
--- how the script goes on after the first of these lines
+-- the draft after the first of these lines, the end of the script, or the fault of that line
 abbrev pub after_first : Draft → List (List ℕ) → Result Next FaultKind
 after_first d lines = line_of lines >>= after_line d
 
@@ -361,8 +361,7 @@ script_from d n (line ∷ more) =
     >>= by_next (λ later. script_from later (n + 1) more)
     (nothing_after (n + 1) more >>= λ none. Ok (script_of_draft d))
 
--- what the first of these lines gives as line 1, 2 or 3 of the text: the version, the number of CPUs, or the first
--- draft
+-- reads the first of `lines` as line 1, 2 or 3 of the text: the version, the number of CPUs, or the first draft
 abbrev pub version_in : List (List ℕ) → Result ℕ FaultKind
 version_in lines = line_of lines >>= version_of
 

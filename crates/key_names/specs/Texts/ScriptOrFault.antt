@@ -6,7 +6,7 @@ use Rattle.key_names.specs.Texts.ScriptFaults.{script_of, first_fault}
 
 -- how a text relates to scripts
 pub record ScriptOrFault (text : List ℕ) : Type 0 where
-  -- the text of a script gives back that script
+  -- if `text` is the text of script `s`, then reading `text` gives `s`
   pub given : (s : Script) → IsScript s text → script_of text ≡ Ok s
   -- a text without a fault is the text of a script
   pub faultless : first_fault text ≡ None → (s : Script) × IsScript s text

@@ -56,7 +56,7 @@ line_text line = spaced (
     ∷ steps_text line.steps ∷ shown_text line.shown ∷ []
     )
 
--- the lines of all callers, the first caller's first
+-- the lines of all callers, in the order of the callers
 abbrev pub all_lines : List (List SeenLine) → List SeenLine
 all_lines callers = flat_map (λ lines. lines) callers
 
@@ -122,8 +122,9 @@ pub record BeginsTranscript (front : List (List ℕ)) : Type 0 where
   pub own : UnderOwnNumber 0 callers
   pub lines : front ++ rest ≡ transcript_lines callers
 
--- The text is the text of no transcript, and `number` is the number of its first faulty line. The lines before that
--- line begin a transcript. If that line is whole, then no transcript begins with it and the lines before.
+-- The text is the text of no transcript, and `number` is the number of its first faulty line. The lines before the
+-- faulty line begin a transcript. If the faulty line is whole, then no transcript begins with these lines and the
+-- faulty line.
 pub record IsFirstFault (text : List ℕ) (number : ℕ) : Type 0 where
   pub front : List (List ℕ)
   pub rest : List ℕ

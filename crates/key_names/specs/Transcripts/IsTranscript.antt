@@ -37,7 +37,7 @@ LinesFit c n [] (line ∷ more ∷ lines) = ⊥
 LinesFit c n (event ∷ events) [] = ⊥
 LinesFit c n (event ∷ events) (line ∷ lines) = LineIs c n (event_word event) line × LinesFit c (suc n) events lines
 
--- P holds for each caller's number and its elements of two lists; c is the number of the first caller
+-- P holds for each caller's number and the caller's elements of the two lists; c is the number of the first caller
 abbrev pub EachCaller : {A B : Type 0} → (ℕ → A → B → Type 0) → ℕ → List A → List B → Type 0
 EachCaller P c [] [] = ⊤
 EachCaller P c (x ∷ xs) (y ∷ ys) = P c x y × EachCaller P (suc c) xs ys
@@ -151,8 +151,8 @@ entries_of_state k (m ∷ ms) = (if m.before.current == k then m.entries else []
 abbrev pub state_lists : List CallMeaning → List (List VEntry)
 state_lists ms = map (λ k. entries_of_state k ms) (range_with_len 0 16)
 
--- each call of a caller has a meaning that is allowed after the calls before it, and the effects of the caller's lines
--- are those of the meanings
+-- each call of a caller has a meaning that is allowed after the calls before it. The steps of each line have the
+-- effects that the line's meaning gives
 pub record CallerMeans (lists : Lists) (setting : Setting) (calls : List Call) (ms : List CallMeaning) : Type 0 where
   pub follows : CallsMean (caller_start setting) calls ms
   pub effects : EachLine (λ line m. effects_of lists line.steps ≡ m.effects) calls ms

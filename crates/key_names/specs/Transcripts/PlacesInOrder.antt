@@ -15,7 +15,8 @@ abbrev pub ByStamp : List Mark → Type 0
 ByStamp [] = ⊤
 ByStamp (m ∷ ms) = AllByRecursion (λ n. m.stamp ≤ n.stamp) ms × ByStamp ms
 
--- PlacesConform holds for marks in order. If PlacesConform holds for marks that are sorted by stamp, these are in order
+-- if marks are in order, PlacesConform holds for them. If PlacesConform holds for marks that are sorted by stamp, then
+-- these marks are in order
 abbrev pub PlacesCountUp : Type 0
 PlacesCountUp = (ms : List Mark) → (InOrder 0 ms → PlacesConform ms) × (ByStamp ms → PlacesConform ms → InOrder 0 ms)
 

@@ -31,14 +31,14 @@ origin_uses lists (at_state caller state place) =
 abbrev pub origins_uses : Lists → List Origin → List Use
 origins_uses lists origins = flat_map (origin_uses lists) origins
 
--- the last of some steps, if it is a visit
+-- the entry of the last step, if this step is a visit
 abbrev pub last_origin : List Step → List Origin
 last_origin [] = []
 last_origin (Look g ∷ []) = []
 last_origin (Marked mark ∷ []) = at_lane mark.lane mark.place ∷ []
 last_origin (step ∷ next ∷ steps) = last_origin (next ∷ steps)
 
--- some entries of a state's list that follow each other
+-- consecutive entries of a vgetrandom state's list: `count` entries from place `from` on
 pub record StateEntries : Type 0 where
   pub caller : ℕ
   pub state : ℕ
@@ -60,15 +60,16 @@ entries_of_call caller before m = record {
 abbrev pub no_entries : StateEntries → StateEntries
 no_entries es = record es { count = 0 }
 
--- the entries by which a line prints: none, that of its last visit, or some of those that its call appended to a
--- state's list (`own`)
+-- the entries whose bytes a line prints: none, the entry of the line's last visit, or some of `own`. The entries `own`
+-- are those that the line's call appended to a state's list
 pub data PrintsBy (own : StateEntries) (steps : List Step) (origins : List Origin) : Type 0 where
   by_none : origins ≡ [] → PrintsBy own steps origins
   by_visit : origins ≡ last_origin steps → PrintsBy own steps origins
   by_entries : (from count : ℕ) → own.from ≤ from → from + count ≤ own.from + own.count →
       origins ≡ state_origins (record own { from = from; count = count }) → PrintsBy own steps origins
 
--- the line shows the bytes of the spans that these entries serve, and the value of a span's key gives the span's bytes
+-- the line shows the bytes of the spans that these entries serve. The bytes of a span follow from the value of the
+-- span's key
 pub record LinePrints (lists : Lists) (own : StateEntries) (line : SeenLine) (origins : List Origin) : Type 0 where
   pub by : PrintsBy own line.steps origins
   pub shown : bytes_in line.shown ≡ served_in lists (origins_uses lists origins)
@@ -80,7 +81,7 @@ call_lines (vread_call len flags line acts) = line ∷ map (λ (bound : BoundAct
 call_lines (unbound bound) = bound.line ∷ []
 call_lines (ending line) = line ∷ []
 
--- LinePrints holds for each line of a call. Only the first line, the call's own, may print by the entries of the call
+-- LinePrints holds for each line of a call. Only the first line, the call's own, may print bytes of the call's entries
 abbrev pub LinesPrint : Lists → StateEntries → List SeenLine → List (List Origin) → Type 0
 LinesPrint lists own [] [] = ⊤
 LinesPrint lists own (line ∷ lines) (os ∷ oss) = LinePrints lists own line os × LinesPrint lists (no_entries own) lines oss

@@ -1,4 +1,4 @@
--- If the lines of two transcripts differ only in answers and data, the steps of both make one book.
+-- If the lines of two transcripts differ only in answers and data, the steps of both make the same book.
 use Rattle.std.specs.Prelude.{◌≡◌, List, map}
 use Rattle.key_names.specs.declared.events.Answer.TheVariants.{Ok as Done}
 use Rattle.key_names.specs.Transcripts.SeenLine.{SeenLine, no_data}

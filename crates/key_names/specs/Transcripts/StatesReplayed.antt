@@ -26,7 +26,7 @@ caller_end s (m ∷ ms) = caller_end m.after ms
 abbrev pub HasName : Option KeyName → Type 0
 HasName key = (name : KeyName) × (key ≡ Some name)
 
--- the key has a name, and the batch's key has one unless the batch is used up
+-- the key has a name. The batch's key has a name too, unless the batch is used up
 abbrev pub IsNamed : NamedState → Type 0
 IsNamed t = HasName t.key × ((t.pos ≡ 96) ⊎ HasName t.batch_key)
 
@@ -43,7 +43,7 @@ pub record StatesReplayed (lists : Lists) (caller : ℕ) (setting : Setting) (ms
   -- after any number of the caller's calls, the state matches the replay of its entries so far
   pub between : (k j : ℕ) → k < 16 → IsReplayed lists caller k (entries_of_state k (take j ms))
       (state_number k (caller_end (caller_start setting) (take j ms)))
-  -- at the end, the state matches the replay of its list in the book, for which the laws of lawful books hold
+  -- at the end, the state matches the replay of its list in the book. The laws of lawful books apply to this list
   pub ends : (k : ℕ) → k < 16 → IsReplayed lists caller k (state_list lists caller k)
       (state_number k (caller_end (caller_start setting) ms))
 

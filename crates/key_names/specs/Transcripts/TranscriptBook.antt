@@ -12,12 +12,12 @@ abbrev pub TranscriptIsLawful : Type 0
 TranscriptIsLawful = (script : Script) (t : List (List SeenLine)) (book : Book) (ms : List (List CallMeaning)) →
     IsTranscriptBy script t book ms → LawfulBook (lists_of book)
 
--- the steps of a transcript make only one book, and give its calls only one meaning
+-- the steps of a transcript make only one book, and give each call only one meaning
 abbrev pub BookIsUnique : Type 0
 BookIsUnique = (script : Script) (t : List (List SeenLine)) (one other : MadeBook script t) →
     (one.book ≡ other.book) × (one.meanings ≡ other.meanings)
 
--- at most one clause is the first that fails, and in a lawful transcript none is
+-- if a clause is the first that fails, then no other clause is, and the transcript is not lawful
 abbrev pub FirstFailIsUnique : Type 0
 FirstFailIsUnique = (script : Script) (t : List (List SeenLine)) (c : Clause) → FirstFails script t c →
     ((d : Clause) → FirstFails script t d → c ≡ d) × (¬ IsTranscript script t)

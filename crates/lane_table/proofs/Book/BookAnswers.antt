@@ -44,7 +44,7 @@ module _ (lanes : ℕ) (visits : ℕ → List Visit) (callers : StateLists) (ok 
       ap (λ es. option_and_then base_refill_of (slice_get es k)) (cpu_listed lanes visits callers c below)
       ∙ ap (option_and_then base_refill_of) v.conforms ∙ sym (ap after_of v.is) ∙ names
 
-  -- the book's visit at place `following`, an extraction or a refill that names place `place` of the lane `lane`
+  -- the book's visit at place `following` is an extraction or a refill, and names place `place` of the lane `lane`
   pub record Ahead (lane following place : ℕ) (from : List Visit) : Type 0 where
     pub visit : Visit
     pub conforms : get_elem? from following ≡ some visit

@@ -25,7 +25,7 @@ not_used_up look width fill keeps = go (nat_le (96 / width) fill.count) refl
     go true is = let p : false ≡ true = keeps ∙ ap (λ b. b || not (look == fill.look)) is in cc
     go false is = grind (arith, nat_tests)
 
--- the bytes are those of a batch after this fill, which used the key in use at the fill's place
+-- the bytes are those of a batch after this fill. The fill used the key in use at the fill's place
 module _ (lists : Lists) (c width : ℕ) (some : 1 ≤ width) (within : width ≤ 96) where
   abbrev pub RestOf : Option Fill → List ℕ → Type 0
   RestOf None bytes = ⊤

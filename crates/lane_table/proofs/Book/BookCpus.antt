@@ -1,5 +1,5 @@
--- Before each place of a CPU's list, the CPU's model agrees with the entries before that place. It agrees in the
--- generator, the fills (without keys and places), the bytes of the batches, and the fast pool.
+-- Before each place of a CPU's list, the CPU's model agrees with the entries before that place: in the generator, in
+-- the fills (without keys and places), in the bytes of the batches, and in the fast pool.
 use Rattle.std.proofs.Common.{◌≡◌, ℕ, suc, ◌+◌, ◌≤◌, ◌<◌, Bool, true, false, List, length, take, refl, sym, ap, ◌∙◌, subst, arith, Some, None, Option}
 use Rattle.std.specs.Prelude.{◌==◌, slice_get, if◌then◌else◌}
 use Rattle.std.specs.List.{fold}
@@ -34,7 +34,8 @@ batch_pos_bare : (width : ℕ) (o : Option Fill) → batch_pos width (bare o) �
 batch_pos_bare width None = refl
 batch_pos_bare width (Some fill) = refl
 
--- if each fill equals the list's fill except for the key and the place, so does each fill after an entry
+-- if each fill of `f` equals the fill of `g` without its key and place, then the fills after an entry are equal in the
+-- same way
 module _ (place : ℕ) (key : Option KeyName) (f g : ℕ → Option Fill) (same : (w : ℕ) → f w ≡ bare (g w)) where
   filled : (w look : ℕ) (b : Bool) →
       (if b then Some (record { key = None; place = 0; count = 1; look = look }) else f w)

@@ -15,7 +15,7 @@ use Rattle.lane_table.proofs.Lists.VisitLists.{begins_trans}
 use Rattle.lane_table.proofs.Book.BookAnswers.{half_finished, lawful_lanes}
 use Rattle.lane_table.proofs.Book.BookMarks.{MarksVisit, MarksPlace, visits_are, places_conform, all_made}
 
--- lists that continue a later view continue the earlier one
+-- if lists continue the view `w`, and `w` continues the view `v`, then the lists continue `v`
 pub continues_before : (lanes : ℕ) (v w : View) (visits : ℕ → List Visit) → length w.lanes ≡ length v.lanes →
     Grows v w →
     Continues lanes w visits → Continues lanes v visits

@@ -116,7 +116,7 @@ module _ {E : Type 0} {lane : ℕ} (k : Kind E lane) (lanes : ℕ) (xs : List Vi
         let e = k.only x.entry may.kind in (e.0, ap k.of e.1 ∙ k.unwraps e.0);
   }
 
-  -- a visit's entry is in the book at the visit's place, and the other way round
+  -- a visit's entry is in the book at the visit's place, and an entry of the book has its visit at the entry's place
   pub entered_at : (i : ℕ) (x : Visit) (e : E) → slice_get xs i ≡ Some x → x.entry ≡ k.wrap e →
       slice_get (entries k.of xs) i ≡ Some e
   entered_at i x e at is = entry_at k.of xs one_kind i x e at (ap k.of is ∙ k.unwraps e)
@@ -168,8 +168,7 @@ module _ {E : Type 0} {lane : ℕ} (k : Kind E lane) (lanes : ℕ) (xs : List Vi
         who = ap (λ (w : of_book.Visit E). w.who) same;
       }
 
--- a prefix that is as long as its list is the whole list: so if P holds for such prefixes of both lists, P holds for
--- both lists
+-- if P holds for the first `length xs` visits and entries of a lane, P holds for all its visits and entries
 pub whole : {E : Type 0} {lane : ℕ} (k : Kind E lane) (lanes : ℕ) (xs : List Visit) → LawfulLane lanes lane xs →
     (P : List Visit → List E → Type 0) → P (take (length xs) xs) (take (length xs) (entries k.of xs)) →
     P xs (entries k.of xs)

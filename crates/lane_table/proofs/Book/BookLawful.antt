@@ -46,7 +46,7 @@ root_conforms : (pool : List PoolEntry) (s : BaseState) (o : Option ℕ) (least 
 root_conforms pool s None least same later named = tt
 root_conforms pool s (Some place) least same later named = (omega arith, named place refl)
 
--- a base's list in which each root is an extraction that names the place of the root's entry
+-- the base's list. If an entry names a root, the extraction of that root names the entry's place
 module _ (lanes : ℕ) (pool : List PoolEntry) (xs : List Visit) (lawful : LawfulLane lanes 1 xs)
     (value : (i : ℕ) → i ≤ length xs → (replay (take i xs)).base ≡ after_entries pool (take i (entries base_entry xs)))
     (rooted : (i place : ℕ) (x : Visit) (e : BaseEntry) → slice_get xs i ≡ Some x → x.entry ≡ Base e →
@@ -122,7 +122,8 @@ module _ (i : ℕ) (m : CpuModel) (s : CpuBytes) (met : CpuAlike i m s) where
   cpu_fits Prepare h = h
   cpu_fits Online h = h
 
--- a named refill is in the base's list, and its generation is at least the look
+-- if an entry names a refill, `RefillNames` holds: the refill is in the base's list, and its generation is at least the
+-- entry's look
 refill_names : (lists : Lists) (c i look : ℕ) (refill : Option ℕ) (got : Handed) → Reaches refill look got →
     ((b : ℕ) → refill ≡ Some b →
     (refill_at lists.base b ≡ Some (c, i)) × (got.generation ≡ generation_at lists.base b)) →

@@ -165,7 +165,7 @@ module _ (xs : List Visit) where
     rise = each_rises first rises marks marks all all;
   }
 
--- if a pass made as many visits of each lane as the lane has, it made all visits
+-- if `made` of each lane equals `count` of the lane, the sum of `made` over all lanes is the sum of `count`
 sum_made : (xs : List LaneView) (count : ℕ → ℕ) (first : ℕ) →
     ((i : ℕ) → i < length xs → (slice_index_or xs i blank).made ≡ count (first + i)) →
     sum_by (λ a. a.made) xs ≡ sum_by count (range_with_len first (length xs))

@@ -32,7 +32,7 @@ module _ (lanes c : ℕ) (lists : Lists) (xs : List Visit) (lane : CpuLane lanes
   abbrev model : ℕ → CpuModel
   model i = (replay (take i xs)).cpu
 
-  -- the book's two definitions of the value of the key in use at a place agree
+  -- the book defines the value of the key in use at a place in two ways, and both give the same value
   used_at : (i : ℕ) (e : CpuEntry) → slice_get es i ≡ Some e →
       cpu_value_in_use lists e (cpu_value_after lists (take i es)) ≡ cpu_used_at lists c i
   used_at i e is =

@@ -1,5 +1,5 @@
--- The book has each visit of the pool and of the CPUs, with its maker, and the fast pool before each CPU visit.
--- Proofs that a transcript's samples are right use these lemmas.
+-- The book has each visit of the pool and of the CPUs, with its maker. Before each CPU visit, the book's fast pool is
+-- the model's. Proofs that a transcript's samples are right use these lemmas.
 use Rattle.std.proofs.Common.{◌≡◌, ℕ, ◌+◌, ◌≤◌, ◌<◌, inl, inr, List, [], length, take, sym, ap, ◌∙◌, arith, Some, None, Option}
 use Rattle.std.specs.Prelude.{slice_get}
 use Rattle.key_names.specs.declared.entries.PoolEntry.{PoolEntry}

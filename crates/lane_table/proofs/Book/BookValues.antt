@@ -52,7 +52,8 @@ module _ (lanes : ℕ) (xs : List Visit) (lawful : LawfulLane lanes 0 xs) where
       ∙ entry_gives s.pool v.entry ∙ ap (λ t. root_given t (Some v.entry)) (pool_before i (omega arith))
       ∙ ap (root_given (pool_after (take i (entries pool_entry xs)))) (sym v.conforms)
 
--- an entry that erases a key hands on bytes 32 to 64 of that key's keystream, and a refill also the generation
+-- an entry that erases a key hands on bytes 32 to 64 of that key's keystream. A refill also hands on the base's
+-- generation
 erasure_gives : (b : BaseValue) (got : Handed) (e : BaseEntry) → IsTrue (base_erases e) →
     (base_gives b got e).key ≡ keystream (key_in_use (root_of e) got.key b.key) 32 32
 erasure_gives b got (Draw root taken) h = refl
@@ -64,7 +65,7 @@ refill_gives : (b : BaseValue) (got : Handed) (e : BaseEntry) (named : ℕ × �
 refill_gives b got (Refill cpu place) named h = refl
 refill_gives b got _ named h = cc
 
--- the lists of the base and the pool are lawful, and the base's references to the pool agree
+-- the lists of the base and the pool are lawful, and `Pointed` holds for the base's references to the pool
 pub record SameHeldLane (lanes : ℕ) (following xs : List Visit) : Type 0 where
   pub pool : LawfulLane lanes 0 following
   pub base : LawfulLane lanes 1 xs
@@ -111,7 +112,7 @@ module _ (lanes : ℕ) (following xs : List Visit) (ok : SameHeldLane lanes foll
       ap (λ (b : BaseValue). key_in_use (root_of e) x.got.key b.key) (base_before i (omega arith))
       ∙ key_in_use-root pool (root_of e) x.got.key (base_value_after pool (take i es)) (root_handed i x e at is)
 
-  -- a visit of the base hands on the key that its entry makes of the model before it
+  -- a visit of the base hands on the key that its entry gives, from the model before the visit
   gave_as : (i : ℕ) (x : Visit) (e : BaseEntry) → slice_get xs i ≡ Some x → x.entry ≡ Base e →
       x.gave ≡ base_gives (replay (take i xs)).base x.got e
   gave_as i x e at is =

@@ -1,6 +1,6 @@
--- All lanes together: closed and lawful lists make a book in which the lists of the base and of the CPUs are lawful,
--- and the roots and refills that they name fit (`ForwardLawful`). The lemmas find each CPU's list in the book, and each
--- named root and refill.
+-- All lanes together: closed and lawful lists make a book in which the lists of the base and of the CPUs are lawful. If
+-- an entry of these lists names a root or a refill, the entry at the named place names it back (`ForwardLawful`). The
+-- lemmas find each CPU's list in the book, and each named root and refill.
 use Rattle.std.proofs.Common.{◌≡◌, ℕ, zero, suc, ◌+◌, ◌-◌, ◌≤◌, ◌<◌, inl, inr, cond, List, [], ◌∷◌, map, refl, sym, ap, ◌∙◌, subst, arith, Some, None, Option}
 use Rattle.std.specs.Prelude.{slice_get, option_and_then, IsTrue}
 use Rattle.std.proofs.lemmas.Bool.{ne_eqb}
@@ -33,7 +33,7 @@ use Rattle.lane_table.proofs.Book.BookLawful.{lawful_base, lawful_cpu}
 pub parent_cpu : (c : ℕ) → parent (c + 2) ≡ 1
 parent_cpu c = ap (λ b. cond b 0 1) (ne_eqb (c + 2) 1 (λ e. omega arith))
 
--- if an entry names a place of a lane ahead, the entry's own field has that place
+-- if `ahead_of` gives a lane and a place for an entry, the entry's own field has that place
 extracts : (e : PoolEntry) (lane place : ℕ) → ahead_of (Pool e) ≡ Some (lane, place) → base_place_of e ≡ Some place
 extracts (Extract hw base_place) lane place names =
     let p : ◌≡◌ {A = ℕ × ℕ} (1, base_place) (lane, place) = cc in ap (λ (n : ℕ × ℕ). Some n.1) p
@@ -96,7 +96,7 @@ module _ (lanes : ℕ) (visits : ℕ → List Visit) (callers : StateLists) (ok 
       let P : ℕ → Type 0 = λ following. Pointed (c + 2) (visits following) (visits (c + 2)) in
       subst P (parent_cpu c) (ok.closed (c + 2) (omega arith) below)
 
-  -- the root that an entry names is that of an extraction, which names the entry's place
+  -- if an entry of the base names a root, the root's extraction names the entry's place
   rooted : (i place : ℕ) (x : Visit) (e : BaseEntry) → slice_get (visits 1) i ≡ Some x → x.entry ≡ Base e →
       root_of e ≡ Some place → extraction_at book.pool place ≡ Some i
   rooted i place x e at is names =
@@ -105,7 +105,8 @@ module _ (lanes : ℕ) (visits : ℕ → List Visit) (callers : StateLists) (ok 
       pool_at lanes (visits 0) pool_lawful place from.0 (conforms_at (visits 0) place from.0 from.1) in
       ap (option_and_then base_place_of) v.conforms ∙ extracts v.entry 1 i (sym (ap ahead_of v.is) ∙ from.2)
 
-  -- the refill that an entry names is for the entry's CPU and place
+  -- if an entry of a CPU names a refill, the refill is for the entry's CPU and place, and the entry's visit received
+  -- the generator that the refill hands over
   named_refill : (c i b : ℕ) (x : Visit) (e : CpuEntry) → c + 2 < lanes → slice_get (visits (c + 2)) i ≡ Some x →
       x.entry ≡ Cpu e → base_refill_of e ≡ Some b →
       (refill_at book.base b ≡ Some (c, i)) × (generator_of x.got ≡ handed_at book b)

@@ -21,7 +21,7 @@ use Rattle.lane_table.specs.Calls.{view, slots, count_of, IsPassOf, IsSamePass, 
 use Rattle.lane_table.specs.Hands.{HeldLane, hand, IsInHand, NotIn, AllInHand, HoldsLanes}
 use Rattle.lane_table.proofs.Rule.Shares.{merged_at}
 
--- the pass still holds a lane whose part of the view is unchanged
+-- if the view's part of a held lane does not change, the pass still holds the lane
 held_same : (v w : View) (h : HeldLane) → at h.lane w ≡ at h.lane v → SameView v w → IsInHand v h → IsInHand w h
 held_same v w h e same k = record {
   near = (let n = k.near in let s = same.sized in omega arith);
@@ -33,7 +33,8 @@ held_same v w h e same k = record {
   last = k.last ∙ (λ q. last_stamp (sym same.first q) (sym e q).known);
 }
 
--- the pass still holds all its lanes if the other held lanes are unchanged
+-- if the parts of all held lanes other than `lane` are unchanged, and `lane` is not in `hands`, the pass still holds
+-- the lanes of `hands`
 all_same : (lane : ℕ) (v w : View) (hands : List HeldLane) →
     ((j u : ℕ) → j < length v.lanes → j ≢ lane → (at j v).stage ≡ Holding u → at j w ≡ at j v)
     → SameView v w → NotIn lane hands → AllInHand v hands → AllInHand w hands
@@ -44,7 +45,8 @@ all_same lane v w (h ∷ hands) keeps same not all = (
   all_same lane v w hands keeps same not.1 all.2,
 )
 
--- the pass still holds all its lanes if at most two other lanes changed
+-- if only the lanes `one` and `two` can have changed, and neither is in `hands`, the pass still holds the lanes of
+-- `hands`
 all_but : (one two : ℕ) (v w : View) (hands : List HeldLane) → ((j : ℕ) → j ≢ one → j ≢ two → at j w ≡ at j v) →
     SameView v w → NotIn one hands → NotIn two hands → AllInHand v hands → AllInHand w hands
 all_but one two v w [] keeps same not₁ not₂ all = tt
@@ -123,7 +125,8 @@ has_looked t caller hands g p p' k is looked = let same : (j : ℕ) → at j (vi
       every same xs all.2,
     )
 
--- if the entry names no place ahead, then after a visit of the lane taken last the pass still holds its other lanes
+-- let `h` be the lane taken last. If the entry of a visit of `h` names no place ahead, the pass still holds its other
+-- lanes after the visit
 pub has_put : (t : Lanes) (caller : ℕ) (h : HeldLane) (hands : List HeldLane) (x : Visit) (p p' : Pass) →
     ahead_of x.entry ≡ None → HoldsLanes t caller (h ∷ hands) p → IsSamePass t p p' →
     Added h.lane x p.seat.me p'.seat.me → HoldsLanes t caller hands p'
@@ -138,7 +141,8 @@ has_put t caller h hands x p p' none k is added = let others : (j : ℕ) → j �
           ∙ k.away j low (ne, no));
     }
 
--- if the entry names the place of the lane taken before, then after the visit the pass still holds its other lanes
+-- let `h` be the lane taken last, and `o` the one taken before it. If the entry of a visit of `h` names a place of `o`,
+-- the pass still holds its other lanes after the visit, and owes an answer at `o`
 pub has_put_naming : (t : Lanes) (caller : ℕ) (h o : HeldLane) (hands : List HeldLane) (x : Visit) (b : ℕ)
     (p p' : Pass) → ahead_of x.entry ≡ Some (o.lane, b) → HoldsLanes t caller (h ∷ o ∷ hands) p → IsSamePass t p p' →
     Added h.lane x p.seat.me p'.seat.me

@@ -68,7 +68,7 @@ module _ {i t : ℕ} {m m₁ m₂ m₃ : Seated} {c : Content} (near : i < lengt
   got_first : m₃.0.first ≡ m₁.0.first
   got_first = ap (λ (v : View). v.first) got_view
 
-  -- the last stamp of the list that the pass knows is the value's last stamp
+  -- the value's last stamp is the last stamp of the list that the pass knows
   pub got_stamp : c.stamp ≡ last_stamp m₃.0.first (known_of m₃.0 i)
   got_stamp = got_replays.stamp ∙ (λ q. last_stamp (sym got_first q) (sym got_known q))
 
@@ -148,7 +148,7 @@ module _ {i t : ℕ} {m m₁ m₂ m₃ : Seated} {c : Content} (near : i < lengt
     drawn = got_drawn drawn;
   }
 
-  -- if the lane was given back at once, the call only tried to take it
+  -- if the lane's last stamp is 2^62 or more and the pass gave the lane back at once, the effect of the call is `Tried`
   pub left_tried : (at i m.0).stage ≡ Away → m₁.0.drawn ≡ m.0.drawn + 1 → 2 ^ 62 ≤ c.stamp → (m₄ : Seated) →
       m₄ ≡ left i m₃ → Tried i m m₄
   left_tried away drawn late m₄ e = let w : View = with_at i (staged Away (at i m₃.0)) m₃.0 in let v₄ : m₄.0 ≡ w =
@@ -209,7 +209,7 @@ module _ {i t : ℕ} {m m₁ m₂ m₃ : Seated} {c : Content} (near : i < lengt
         );
       }
 
--- a pass is still one of the table after its turn came
+-- after the turn of a pass came, the pass still belongs to the table
 pub got_pass : {i t : ℕ} {m m' : Seated} → Got i t m m' → (lanes : Lanes) (p q : Pass) → IsPassOf lanes p →
     p.seat.me ≡ m → q.seat.me ≡ m' → q.seat.table_id ≡ p.seat.table_id → q.stamp ≡ p.stamp → q.caller ≡ p.caller →
     IsSamePass lanes p q
@@ -240,7 +240,7 @@ owing_there : (place : ℕ) (u : View) (l b : ℕ) → l < length u.lanes →
     at l (owing (Some (l, b)) place u) ≡ record (at l u) { owes = Some place }
 owing_there place u l b low = get_or-set_same u.lanes l (record (at l u) { owes = Some place }) blank low
 
--- an owed answer changes only the lanes of a view
+-- `owing` changes only the field `lanes` of a view
 owing_rest : (o : Option (ℕ × ℕ)) (place : ℕ) (u : View) →
     owing o place u ≡ record u { lanes = (owing o place u).lanes }
 owing_rest None place u = refl
@@ -250,7 +250,7 @@ owing_long : (o : Option (ℕ × ℕ)) (place : ℕ) (u : View) → length (owin
 owing_long None place u = refl
 owing_long (Some z) place u = length-set u.lanes z.0 (record (at z.0 u) { owes = Some place })
 
--- an owed answer changes only `owes`
+-- if `f` does not depend on `owes`, then setting `owes` at one lane does not change `f` at any lane
 owes_set : {X : Type 0} (f : LaneView → X) → ((a : LaneView) (o : Option ℕ) → f (record a { owes = o }) ≡ f a) →
     (l : List LaneView) (i j : ℕ) (o : Option ℕ)
     → f (get_or (set l i (record (get_or l i blank) { owes = o })) j blank) ≡ f (get_or l j blank)
@@ -323,7 +323,7 @@ added_is i x m m' near names later e consistent = let v : View = m.0 in let a = 
       drawn = ap (λ (z : View). z.drawn) view';
     }
 
--- a pass is still one of the table after a visit
+-- after a visit, the pass still belongs to the table
 pub after_pass : (i : ℕ) (x : Visit) (lanes : Lanes) (p q : Pass) → IsPassOf lanes p → view q ≡ after i x (view p) →
     q.seat.table_id ≡ p.seat.table_id → q.stamp ≡ x.stamp → q.caller ≡ p.caller → IsSamePass lanes p q
 after_pass i x lanes p q h e table stamp caller = let u =

@@ -1,5 +1,5 @@
--- Worked lists: a reseed, a refill, and the read that needs it. They are closed and lawful, and each reference is
--- answered, so the laws of such lists are not empty.
+-- Worked lists: a reseed, a refill, and the read that needs the refill. The lists are closed and lawful, and each
+-- reference is answered, so the laws of such lists are not vacuous.
 use Rattle.std.proofs.Common.{◌≡◌, ℕ, zero, suc, ◌≤◌, ◌<◌, List, [], ◌∷◌, refl, sym, ap, ◌∙◌, arith, Some, None, Option, replicate}
 use mathlib.Core.Option.{some-injective, some-ne-none}
 use lib.ListN.{get_elem?}

@@ -83,7 +83,8 @@ generation_fold (x ∷ xs) s = let h = generation_fold xs (model_step s x) in le
 pub base_generation : (xs : List Visit) → (replay xs).base.generation ≡ raises xs
 base_generation xs = let h = generation_fold xs start_model in omega arith
 
--- each generation handed on is one that the base has had
+-- the generation that an entry of the base hands on is at most the base's generation. An entry of the pool hands on
+-- generation 0
 pool_gave : (s : PoolState) (e : PoolEntry) → (pool_gives s e).generation ≡ 0
 pool_gave s (Mix text bits) = refl
 pool_gave s (Input word kind code value now) = refl
@@ -154,7 +155,7 @@ cpu_fold_below g [] s low k = low
 cpu_fold_below g (x ∷ xs) s low k = cpu_fold_below g xs (model_step s x)
     (cpu_step_below s x.entry x.got g low (λ p e. k 0 p x refl e)) (λ b p y e q. k (suc b) p y e q)
 
--- the base has had each CPU's generation
+-- a CPU's generation is at most the number of raises in the base's list
 pub cpu_below : (n i : ℕ) (base cpu : List Visit) → LawfulLane n 1 base → Pointed i base cpu →
     (replay cpu).cpu.cpu.generation ≤ raises base
 cpu_below n i base cpu lawful h = cpu_fold_below (raises base) cpu start_model (omega arith)

@@ -8,7 +8,7 @@ use native.Mathlib.Decide.{ℕ_discrete}
 use lib.ListN.{get_elem?}
 use Rattle.std.proofs.lemmas.List.{get_or-set_other}
 
--- each test is true or false; the proof of each case gets the equation
+-- if P follows both when a test is true and when it is false, P holds. Each case may use the test's value
 pub bool_cases : (b : Bool) (P : Bool → Type 0) → (b ≡ true → P true) → (b ≡ false → P false) → P b
 bool_cases true P t f = t refl
 bool_cases false P t f = f refl
@@ -47,7 +47,7 @@ module _ {A : Type 0} (f : A → ℕ) where
   one_below (x ∷ xs) zero u e = let h = ap f (some-injective x u e) in omega (arith, sum_by-cons f x xs)
   one_below (x ∷ xs) (suc j) u e = let h = one_below xs j u e in omega (arith, sum_by-cons f x xs)
 
-  -- two different elements together weigh at most as much as all elements
+  -- the values of `f` at two different places add up to at most the sum of `f` over the list
   pub two_below : (l : List A) (i j : ℕ) (v u : A) → j ≢ i → get_elem? l i ≡ some v → get_elem? l j ≡ some u →
       f v + f u ≤ sum_by f l
   two_below [] i j v u ne a b = absurd (some-ne-none v (sym a))
@@ -64,7 +64,7 @@ module _ {A : Type 0} (f : A → ℕ) where
   all_zero (x ∷ xs) h = let a = h 0 x refl in let b = all_zero xs (λ j u e. h (suc j) u e) in
       omega (arith, sum_by-cons f x xs)
 
-  -- if all other elements weigh 0, the element at `i` weighs as much as all elements
+  -- if `f` is 0 at all other places, the sum of `f` over the list is its value at `i`
   pub only_one : (l : List A) (i : ℕ) (v : A) → get_elem? l i ≡ some v →
       ((j : ℕ) (u : A) → j ≢ i → get_elem? l j ≡ some u → f u ≡ 0) → sum_by f l ≡ f v
   only_one [] i v e h = absurd (some-ne-none v (sym e))

@@ -42,7 +42,7 @@ at_each_place xs P start next zero within = start
 at_each_place xs P start next (suc i) within =
     let x = some_at xs i (omega arith) in next i x.0 x.1 (at_each_place xs P start next i (omega arith))
 
--- a state that counts places has the count `i` before place `i`
+-- if each step raises the count of a state by one, and the first count is 0, then the count before place `i` is `i`
 pub counted : {S E : Type 0} (place : S → ℕ) (step : S → E → S) → ((s : S) (e : E) → place (step s e) ≡ suc (place s)) →
     (s : S) (es : List E) → place s ≡ 0 → (i : ℕ) → i ≤ length es → place (fold step s (take i es)) ≡ i
 counted place step next s es none = at_each_place es (λ i. place (fold step s (take i es)) ≡ i) none

@@ -26,7 +26,8 @@ begins_length xs ys a = let e = ap length a.1 in omega (arith, length-append xs 
 pub begins_nil : (ys : List Visit) → Begins [] ys
 begins_nil ys = (ys, refl)
 
--- if all lists of `with_list` are prefixes of the log, the added list is one, and each of the others is one
+-- if all lists of `with_list xs lists` are prefixes of the log, then `xs` is a prefix of the log, and so is each list
+-- of `lists`
 pub with_both : (xs : List Visit) (lists : List (List Visit)) (log : List Visit) → AllBegin (with_list xs lists) log →
     Begins xs log × AllBegin lists log
 with_both [] lists log all = (begins_nil log, all)
@@ -61,7 +62,8 @@ pub at_begun_back : (xs ys : List Visit) (p : ℕ) (y : Visit) → Begins xs ys 
     get_elem? xs p ≡ some y
 at_begun_back xs ys p y h lt e = sym (at_front xs h.0 p lt) ∙ ap (λ (l : List Visit). get_elem? l p) (sym h.1) ∙ e
 
--- an element at a place of one of two prefixes of `log` is at that place of the longer one too
+-- `xs` and `ys` are prefixes of `log`. If one of them has an element at a place, the longer one has the same element
+-- there
 module _ (xs ys log : List Visit) (h : Begins xs log) (k : Begins ys log) where
   abbrev lt : Bool
   lt = ltb (length xs) (length ys)
@@ -119,7 +121,7 @@ raises_few (x ∷ xs) = let h = raises_few xs in let k = raise_small x.entry in
 once_step : (p n : ℕ) → once_below p (n + 1) ≡ once_below p n + cond (eqb n p) 1 0
 once_step p n = grind (arith, nat_tests)
 
--- one more visit is at the next place
+-- if the place of a new visit is added to the places, `times` and `once_below` grow by the same number
 pub placed_push : (ps : List ℕ) (xs : List Visit) (x : Visit) (p : ℕ) →
     times p (ps ++ length xs ∷ []) + once_below p (length xs) ≡ times p ps + once_below p (length (xs ++ x ∷ []))
 placed_push ps xs x p = let s = sum_by_push (λ (y : ℕ). cond (eqb y p) 1 0) ps (length xs) in let t =

@@ -204,7 +204,7 @@ module _ {lane first ticket serving : ℕ} {home : Home} {col : List LaneView} {
         (t ≡ serving) × (t < ticket) × (owner t ≡ id) × (a.known ≡ log) × (home ≡ some none)
     holds_turn t hold = conforms_here (Holding t) hold
 
-    -- the value goes back, and the next ticket is served
+    -- the lane's rule still holds after the value goes back and the next ticket is served
     pub gives : (t : ℕ) (log' : List Visit) (c : Content) (a' : LaneView) → a.stage ≡ Holding t → Begins log log' →
         a'.stage ≡ Away → a'.known ≡ log' → a'.tickets ≡ a.tickets → a'.loaded ≡ a.loaded → a'.found ≡ a.found → a'.heard ≡ a.heard
         → a'.made + length log ≡ a.made + length log' →
@@ -242,7 +242,7 @@ module _ {lane first ticket serving : ℕ} {home : Home} {col : List LaneView} {
           rising = rises;
         }
 
-    -- a new view with the same knowledge of the lane keeps the lane's rule
+    -- if a view with the same knowledge of the lane is added, the lane's rule still holds
     pub enters : LaneOk lane first ticket serving home (col ++ recorded a ∷ []) log owner
     enters = record {
       ordered = ok.ordered;

@@ -61,7 +61,8 @@ module _ {first : ℕ} {s : St} {id : ℕ} {v : View} (h : Here first s id v) (i
       let P : ℕ × ℕ × Home → Type 0 = λ z. LaneOk i first z.0 z.1 z.2 (set (column i s.views) id a') log'
       (h.rule.owners i) in subst P (λ q. (sym e₁ q, sym e₂ q, sym e₃ q)) ok
 
-  -- the slot taken last is the one that goes back
+  -- `stepped` puts back the slot that was taken last. If the rule holds for the resulting words, slots and views, it
+  -- holds for the state that `stepped` gives
   stored : (held : List (ℕ × Option Content)) (c : Content) (w : View) → held ≡ (i, Some c) ∷ rest held →
       WorldRule first record { words = set s.words k (t + 1); homes = homes' c; views = set s.views id w }
       → WorldRule first (stepped s k (t + 1) id held w gives)

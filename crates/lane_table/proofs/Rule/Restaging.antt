@@ -23,7 +23,7 @@ set_twice [] i a b = refl
 set_twice (x ∷ xs) zero a b = refl
 set_twice (x ∷ xs) (suc i) a b = ap (λ (l : List _). x ∷ l) (set_twice xs i a b)
 
--- a view with the same known lists is consistent too
+-- if `v` is consistent and `w` has the same known lists, `w` is consistent
 pub consistent_same : (v w : View) → length w.lanes ≡ length v.lanes → ((j : ℕ) → known_of w j ≡ known_of v j) →
     Consistent v → Consistent w
 consistent_same v w long same ok = let lists : known_of w ≡ known_of v = λ k j. same j k in
@@ -71,7 +71,7 @@ module _ {i : ℕ} {m m' : Seated} (r : Restages i m m') (near : i < length m.0.
   pub to_same : SameView m.0 m'.0
   to_same = record { first = r.first; share = r.share; halvings = r.halvings; sized = to_long }
 
-  -- the pass is still one of the table
+  -- the pass still belongs to the table
   pub to_pass : (t : Lanes) (p q : Pass) → IsPassOf t p → p.seat.me ≡ m → q.seat.me ≡ m' →
       q.seat.table_id ≡ p.seat.table_id → q.stamp ≡ p.stamp → q.caller ≡ p.caller → IsSamePass t p q
   to_pass t p q h is is' table stamp caller = let v₀ : view p ≡ m.0 = ap (λ (z : Seated). z.0) is in
@@ -87,7 +87,7 @@ module _ {i : ℕ} {m m' : Seated} (r : Restages i m m') (near : i < length m.0.
         caller = caller;
       }
 
-  -- if the stage and the tickets stay, the pass did not get the lane
+  -- if the stage and the number of drawn tickets are unchanged, the pass did not get the lane
   pub to_tried : (at i m'.0).stage ≡ (at i m.0).stage → m'.0.drawn ≡ m.0.drawn → Tried i m m'
   to_tried stage drawn = record {
     consistent = consistent_same m.0 m'.0 to_long to_known;
@@ -214,6 +214,6 @@ restages_both {i} {m} {m'} {m''} near r q = let here = to_here r near in record 
   looks = q.looks ∙ r.looks;
 }
 
--- a step to an equal result restages too
+-- if `m''` equals `m'`, and the step from `m` to `m'` restages lane `i`, so does the step from `m` to `m''`
 pub restages_to : {i : ℕ} {m m' m'' : Seated} → Restages i m m' → m'' ≡ m' → Restages i m m''
 restages_to {i} {m} r e = subst (Restages i m) (sym e) r

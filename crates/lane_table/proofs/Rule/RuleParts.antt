@@ -22,7 +22,8 @@ use Rattle.lane_table.proofs.Rule.OneLane as lane
 use Rattle.lane_table.proofs.Rule.Tickets.{each_found}
 use Rattle.lane_table.proofs.Book.BookAnswers.{half_finished}
 
--- a pass's ticket is from the serving number up to the ticket number, and the pass is its owner
+-- if a pass has a ticket, the ticket is at least the serving number and below the ticket number, and the pass is its
+-- owner
 has_conforms : (ticket serving : ℕ) (owner : ℕ → ℕ) (home : Home) (log : List Visit) (j : ℕ) (known : List Visit)
     (g : TicketStage) (t : ℕ) → Conforms ticket serving owner home log j known g → HasTicket g t
     → (serving ≤ t) × (t < ticket) × (owner t ≡ j)
@@ -46,8 +47,8 @@ module _ {first : ℕ} {s : St} (r : WorldRule first s) where
         × (get_elem? s.homes i ≡ some none)
     holds j t v is stage = lane.holds_turn (r.lane i near) j (at_map (at i) s.views j v is) t stage
 
-    -- each ticket in the column is from the serving number up to the ticket number, and its owner is the pass that has
-    -- it
+    -- if a pass has a ticket of lane `i`, the ticket is at least the serving number and below the ticket number, and
+    -- the pass is its owner
     column_conforms : (j t : ℕ) (a : LaneView) → get_elem? (column i s.views) j ≡ some a → HasTicket a.stage t →
         (serving_of s i ≤ t) × (t < ticket_of s i) × (r.owners i t ≡ j)
     column_conforms j t a e h = has_conforms (ticket_of s i) (serving_of s i) (r.owners i) (get_elem? s.homes i) (r.logs i)

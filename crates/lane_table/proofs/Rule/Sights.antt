@@ -137,7 +137,7 @@ conform_known v caller event n (visited mark e ∷ made_steps) k = (
   conform_known v caller event (suc n) made_steps k.1,
 )
 
--- `Sees` still holds when more of the lists is known
+-- if `Sees` holds for a view that knows the visits of the steps, it still holds when the view knows more of the lists
 pub sees_grown : (v w : View) (low high : ℕ) (made_steps : List MadeStep) → Grows v w → AllKnown v made_steps →
     Sees v low made_steps high → Sees w low made_steps high
 sees_grown v w low high [] grows known s = s

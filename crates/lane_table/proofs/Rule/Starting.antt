@@ -1,4 +1,4 @@
--- A new table meets the rule.
+-- The rule holds for a new table.
 use Rattle.std.proofs.Common.{◌≡◌, ℕ, zero, suc, ◌+◌, ◌<◌, ◌≤◌, List, [], ◌∷◌, ◌++◌, length-append, map, length, get_or, set, replicate, sym, refl, ap, ◌∙◌, subst, inl, ⊎_elim, arith, Option, Some}
 use Rattle.std.specs.Prelude.{slice_get}
 use Rattle.std.proofs.lemmas.List.{length-set, length-map, get_or-replicate, get_or-set_same, get_or-set_other}
@@ -37,7 +37,7 @@ get_last [] x (suc i) e = absurd (omega arith)
 get_last (z ∷ zs) x zero e = absurd (omega arith)
 get_last (z ∷ zs) x (suc i) e = get_last zs x i (omega arith)
 
--- one more lane in its starting state can be added
+-- a list of `n` starting slots, extended by the starting slot of lane `n`, is a list of `n + 1` starting slots
 pub starts_push : (first n : ℕ) (contents : List (Option Content)) (c : Content) → AreStarts first n contents →
     Replays n first [] c → AreStarts first (n + 1) (contents ++ Some c ∷ [])
 starts_push first n contents c h plays = (

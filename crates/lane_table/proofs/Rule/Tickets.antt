@@ -1,5 +1,5 @@
--- Suppose that all tickets are in a range, are as many as the range has numbers, and belong to one pass each. Then
--- every number of the range is a ticket.
+-- Suppose that all tickets are in a range, that there are as many tickets as numbers in the range, and that each ticket
+-- belongs to one pass. Then every number of the range is a ticket.
 use Rattle.std.proofs.Common.{◌≡◌, ◌≢◌, ◌⊎◌, ℕ, zero, suc, ◌+◌, ◌<◌, ◌≤◌, List, [], ◌∷◌, ◌++◌, length, set, sym, refl, ◌∙◌, subst, inl, inr, ⊎_elim, arith}
 use Rattle.std.specs.List.{sum_by}
 use Rattle.std.proofs.lemmas.List.Sums.{sum_by_push}

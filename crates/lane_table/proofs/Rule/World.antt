@@ -39,8 +39,8 @@ pub pick_same : {A : Type 0} (i j : ℕ) (f : ℕ → A) → pick i (f i) f j �
 pick_same i j f = dite (ℕ_discrete j i) (λ e. ap (λ (k : ℕ). pick i (f i) f k) e ∙ pick_here i (f i) f ∙ ap f (sym e))
     (λ ne. pick_else i j (f i) f ne)
 
--- a view's part of another lane may change in its known list, `owes` and `raised`; the known list stays a prefix of
--- the log, or stays the whole log
+-- in another lane's part of a view, the known list, `owes` and `raised` may change. The known list stays a prefix of
+-- the log, and if it was the whole log, it is still the whole log
 pub record Recasts (log : List Visit) (a b : LaneView) : Type 0 where
   pub stage : b.stage ≡ a.stage
   pub made : b.made ≡ a.made
@@ -52,7 +52,7 @@ pub record Recasts (log : List Visit) (a b : LaneView) : Type 0 where
   pub begins : Begins b.known log
   pub whole : a.known ≡ log → b.known ≡ log
 
--- an unchanged part meets Recasts too
+-- if a part is unchanged, `Recasts` holds
 pub same_at : (log : List Visit) (a b : LaneView) → b ≡ a → Begins a.known log → Recasts log a b
 same_at log a b e h = record {
   stage = ap (λ (x : LaneView). x.stage) e;
@@ -121,7 +121,7 @@ module _ {first : ℕ} {s : St} {id : ℕ} {v : View} (h : Here first s id v) wh
         (begins (parent l) (parent_within l count two)) (begins l low);
   }
 
-  -- a view with the same known lists is consistent too
+  -- if `w` has the same known lists as `v`, `w` is consistent
   pub consistent_as : (w : View) → ((j : ℕ) → known_of w j ≡ known_of v j) → length w.lanes ≡ length v.lanes →
       Consistent w
   consistent_as w same long = consistent logs s.views w h.rule.lawful h.rule.pending (long ∙ sized.0)
@@ -129,7 +129,7 @@ module _ {first : ℕ} {s : St} {id : ℕ} {v : View} (h : Here first s id v) wh
       (λ l lo hi. subst (λ (z : List Visit × List Visit). Pointed l z.0 z.1)
       (λ k. (sym (same (parent l)) k, sym (same l) k)) ((h.rule.views id v h.is).closed l lo hi))
 
-  -- a view that owes an answer still owes it
+  -- if a step does not change `owes` of a view, an answer that some view owes is still owed
   pub owes_kept : (l : ℕ) (w : View) → (at l w).owes ≡ (at l v).owes → (p : ℕ) → Owes l p s.views →
       Owes l p (set s.views id w)
   owes_kept l w same p o = dite (ℕ_discrete o.0 id)

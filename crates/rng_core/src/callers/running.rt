@@ -32,7 +32,8 @@ pub fn unstall<R: Wait>(rt: &R, site: &mut Site)
     site.visit_base(base, BaseEntry::Unstall);
 }
 
-/// Ends the caller, in a visit of the base. After that the base's list has every generation that the pass has seen.
+/// Ends the caller, in a visit of the base. After that, the base's generation is at least each generation that the pass
+/// has seen.
 pub fn end<R: Wait>(rt: &R, site: &mut Site)
     requires idle { IsIdle 1 site.old }
     ensures does { Does 1 (BaseOnly End) site.old site.new }

@@ -22,7 +22,7 @@ use lane_table::LaneState;
 // bytes.
 const MOST_UNDER_LANE: usize = 32;
 
-/// The rest of a read after its first bytes. It needs no lane: its key was erased from the lane.
+/// The part of a read after its first bytes. This part needs no lane: the read's key was erased from the lane.
 #[derive(Drop)]
 pub(crate) struct Rest {
     pub(crate) made: usize,

@@ -24,7 +24,7 @@ pub struct Bound {
     pub act: InsideAct,
     /// The number of the act's event among the caller's events.
     pub event: u32,
-    /// Whether the call came to the point.
+    /// Whether the call reached the point.
     pub done: bool,
     /// The act's answer, once it is done.
     pub answer: Result<(), Errno>,
@@ -138,7 +138,7 @@ fn is_wiped_by(bound: &Bound, point: Point) -> bool
 }
 
 /// Runs the acts of a list that are bound to a point and not yet done, in order. Returns whether an act of the point
-/// wipes the state, even an act that was done before.
+/// wipes the state; an act that was done before counts too.
 pub(crate) fn run_acts<R: Wait>(
     rt: &R,
     site: &mut Site,

@@ -14,8 +14,8 @@ pub enum Attempt {
 }
 
 impl Attempt {
-    /// The attempt after the call came to a point. The first point begins the first attempt, and each later `Start`
-    /// begins a new one.
+    /// The attempt after the call reached a point. The first point begins the first attempt, and each later `Start`
+    /// begins a new attempt.
     pub(crate) fn reach(self, point: Point) -> Attempt
         ensures { result ≡ attempt_at self point }
     {

@@ -17,8 +17,8 @@ use std::thread::Threads;
 // The length of the long read. The long read takes about a millisecond, and a short read takes less than a microsecond.
 const LONG: usize = 1 << 20;
 
-// More short reads than fit between the end of a long read's visit and the return of the long read's call, if that call
-// had no work left after the visit.
+// If a long read had no work left after its visit, its call would return soon after the visit. Fewer short reads than
+// this would fit in between.
 const MANY: u64 = 64;
 
 const ROUNDS: u32 = 500;
@@ -72,7 +72,7 @@ fn long_read<R: Wait>(
 }
 
 // Makes short reads of caller 1 until the long read is over. Returns the place of the last short read that ended before
-// the long read did.
+// the long read.
 fn short_reads<R: Wait>(rt: &R, lanes: &Lanes, mut pass: Pass, is_over: &AtomicBool) -> u64
     requires has { HoldsLanes lanes.now 1 [] pass }
     requires cpu { 0 < lanes.now.cpus }

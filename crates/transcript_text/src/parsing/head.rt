@@ -8,7 +8,7 @@ use crate::printing::line_buffer::Piece;
 use crate::view::LineView;
 use key_names::{Answer, LaneId, Step};
 
-/// A lane, and the colon after it.
+/// Appends a lane and a colon.
 #[inline(always)]
 #[tactic(auto, unfolding(key_names::specs::Texts::TranscriptGrammar::lane_text))]
 fn append_lane(piece: &mut Piece, lane: LaneId)
@@ -48,7 +48,7 @@ fn append_step(piece: &mut Piece, step: &Step)
     }
 }
 
-/// A space and an answer.
+/// Appends a space and an answer.
 #[inline(always)]
 #[tactic(auto, unfolding(key_names::specs::Texts::TranscriptGrammar::answer_text))]
 fn append_answer(piece: &mut Piece, answer: Answer)
@@ -57,7 +57,7 @@ fn append_answer(piece: &mut Piece, answer: Answer)
     ensures short { length piece.new ≤ length piece.old + 9 }
 {
     piece.push(b' ');
-    // The answer of most lines.
+    // Most lines have the answer `ok`.
     if let Answer::Ok = answer {
         piece.push(b'o');
         piece.push(b'k');
@@ -66,7 +66,7 @@ fn append_answer(piece: &mut Piece, answer: Answer)
     piece.append_word(answer_name(answer));
 }
 
-/// A space and the steps, with commas between them.
+/// Appends a space and the steps, with commas between them.
 // The code for a step occurs once, so this function stays small enough to be inlined.
 #[inline(always)]
 fn append_steps(piece: &mut Piece, steps: &[Step])
@@ -87,8 +87,8 @@ fn append_steps(piece: &mut Piece, steps: &[Step])
     }
 }
 
-/// The line up to the space before its data.
-// Without the hint, a program that writes to two kinds of sinks makes a call for each line.
+/// Appends the line up to the space before its data.
+// Without the hint to inline, a program that writes to two kinds of sinks makes a call for each line.
 #[inline(always)]
 #[tactic(auto, unfolding(crate::specs::Heads::head_text))]
 pub(crate) fn append_head(piece: &mut Piece, line: LineView<'_>)

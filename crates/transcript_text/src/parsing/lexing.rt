@@ -11,7 +11,7 @@ const NEAR: usize = 8;
 /// Numbers of callers, events and CPUs, and counts of bits, are at most this.
 pub(crate) const MOST_U32: u64 = u32::MAX as u64;
 
-/// Whether a text equals `name`. Most texts have another length, which is checked without a call.
+/// Whether a text equals `name`. Most texts differ from `name` in length, which is compared without a call.
 #[inline(always)]
 pub(crate) fn spells(text: &[u8], name: &[u8]) -> bool
     ensures { IsTrue result ↔ (text.now ≡ name.now) }

@@ -71,12 +71,12 @@ impl TranscriptReader {
         Ok(())
     }
 
-    /// The transcript of the text that was fed, at most 2^31 bytes.
+    /// The transcript of the text that was fed. The text has at most 2^31 bytes.
     ///
     /// # Errors
     ///
-    /// `Fault` with the first faulty line if the text is no transcript's. `TooManyLines` if the transcript has more
-    /// lines than the limit. `NoMemory` if there is no memory for the transcript.
+    /// `Fault` with the first faulty line if the text is not that of a transcript. `TooManyLines` if the transcript has
+    /// more lines than the limit. `NoMemory` if there is no memory for the transcript.
     pub fn finish(self) -> Result<Transcript, TextError>
         requires short { (text : List ℕ) × HasFed text self × (length text ≤ 2 ^ 31) }
         ensures { (text : List ℕ) → HasFed text self → Answers (most_lines self) text result }

@@ -13,7 +13,7 @@ use std::alloc::Global;
 ///
 /// # Errors
 ///
-/// `Fault` with the first faulty line if the text is no transcript's. `NoMemory` if there is no memory for the
+/// `Fault` with the first faulty line if the text is not that of a transcript. `NoMemory` if there is no memory for the
 /// transcript. `TooManyLines` is never returned.
 pub fn read(alloc: Global, text: &[u8]) -> Result<Transcript, TextError>
     requires { length text.now ≤ 2 ^ 31 }

@@ -23,7 +23,7 @@ pub(crate) enum TranscriptStage {
     Lines,
     /// The last line was read.
     Ended,
-    /// The text is no transcript's, whatever follows. `line` is the number of the first faulty line.
+    /// The text is not that of a transcript, whatever follows. `line` is the number of the first faulty line.
     Faulty { line: u32 },
 }
 

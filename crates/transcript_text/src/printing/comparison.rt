@@ -37,7 +37,7 @@ impl Model for Comparison {
     ghost invariant = { λ c. IsBefore c.made c.same c.piece c.from c.place };
 }
 
-// At most `most` bytes of a text, from a place on.
+// At most `most` bytes of a text, from byte `from` on.
 fn bytes_from(text: &[u8], from: usize, most: usize) -> &[u8]
     requires { from ≤ length text.now }
     ensures bytes { result.now ≡ take most (drop from text.now) }

@@ -61,7 +61,7 @@ impl Piece {
         requires { length self.old < 4096 }
         ensures { self.new ≡ self.old ++ byte ∷ [] }
     {
-        // The length is kept in a variable, since it would have to be loaded again after the byte is stored.
+        // The length is kept in a variable. Otherwise it would be loaded again after the byte is stored.
         let len = self.len;
         self.bytes[len] = byte;
         self.len = len + 1;
@@ -77,7 +77,7 @@ impl Piece {
         self.len = end;
     }
 
-    /// A number.
+    /// Appends a number in decimal.
     // `itoa` writes the number in place, from its end. The hint keeps the length in a register.
     #[inline(always)]
     pub(crate) fn append_number(&mut self, number: u64)
@@ -90,7 +90,7 @@ impl Piece {
         self.len = end;
     }
 
-    /// A word of a few bytes, copied without a call.
+    /// Appends a word of a few bytes, without a call.
     #[inline(always)]
     pub(crate) fn append_word(&mut self, text: &[u8])
         requires { length self.old + length text.now ≤ 4096 }
@@ -105,7 +105,7 @@ impl Piece {
         }
     }
 
-    /// The bytes in hex.
+    /// Appends bytes in hex.
     pub(crate) fn append_hex(&mut self, bytes: &[u8])
         requires { length self.old + 2 * length bytes.now ≤ 4096 }
         ensures { self.new ≡ self.old ++ encode_lower bytes.now }

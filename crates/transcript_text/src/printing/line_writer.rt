@@ -12,7 +12,7 @@ use crate::printing::place::{TextAfter, TextPosition};
 use crate::view::LineView;
 use io_edges::{Failed, Sink, put_all};
 
-/// Writes lines one by one, and keeps none of them. Each put has at most 4,096 bytes, of one line (tested).
+/// Writes lines one by one, and keeps none of them. Each put writes at most 4,096 bytes, all of one line (tested).
 ///
 /// A call returns `Failed` if the sink failed and counted the fault. The sink then has a prefix of this call's text.
 /// The next call writes its own text from the start.

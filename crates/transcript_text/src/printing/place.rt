@@ -33,7 +33,7 @@ pub(crate) struct TextPosition {
     pub(crate) shown: usize,
 }
 
-// Hints inline each call into the loop over the pieces: a call for each line would keep the place in memory.
+// The hints inline these functions into the loop over the pieces: a call for each line would keep the place in memory.
 impl TextPosition {
     /// The place before the text.
     pub(crate) fn start() -> TextPosition

@@ -10,7 +10,7 @@ use crate::printing::place::TextPosition;
 use crate::transcript::Transcript;
 use io_edges::{Failed, Sink, put_all};
 
-/// Writes the text of a transcript without allocating. Each put has at most 4,096 bytes, of one line (tested).
+/// Writes the text of a transcript without allocating. Each put writes at most 4,096 bytes, all of one line (tested).
 ///
 /// # Errors
 ///

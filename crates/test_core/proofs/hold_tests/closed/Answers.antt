@@ -10,7 +10,7 @@ use Rattle.test_core.proofs.hold_tests.closed.Goals as goal
 abbrev whole : View
 whole = first_view (plan_of 0 0)
 
--- `p` has a quarter of the table, and so has the half `h` after `h` is split
+-- if `p` has a quarter of the table and `h` is a half, then `h` has the same share as `p` once `h` is split
 quarter_left : (h p : View) → p.share * 4 ≡ 2 ^ p.halvings → h.share ≡ 1 → h.halvings ≡ 1 → SameShare (halved h) p
 quarter_left h p is share halvings = ap (λ (z : ℕ). p.share * 2 ^ (z + 1)) halvings ∙ is
     ∙ (let y : ℕ = 2 ^ p.halvings in let e : y ≡ 1 * y = omega arith in e)
@@ -21,7 +21,7 @@ quarter_off h q one half share halvings = ap (λ (z : ℕ). q.share * 2 ^ (z + 1
     ∙ ap (λ (z : ℕ). z * 4) share ∙ ap (λ (z : ℕ). 1 * 2 ^ z) (sym halvings)
     ∙ ap (λ (z : ℕ). z * 2 ^ q.halvings) (sym one)
 
--- `p` has the share of the half `h`, and so has the whole after it is split
+-- if `p` has the same share as the half `h`, then the whole has this share too once the whole is split
 half_left : (h p : View) → h.share ≡ 1 → h.halvings ≡ 1 → SameShare h p → SameShare (halved whole) p
 half_left h p one half same = ap (λ (z : ℕ). p.share * 2 ^ z) (sym half) ∙ same
     ∙ ap (λ (z : ℕ). z * 2 ^ p.halvings) one

@@ -51,7 +51,7 @@ returns-in-Uread g c =
 
 -- ---- integers
 
--- the event of an integer is that of its width
+-- if an event reads an integer with `width` bytes, it is the integer event of this width
 by_width : (event : Event) (width : ℕ) → IsInteger event → width ≡ most_shown event → event ≡ int_event width
 by_width Int8 width is same = ap int_event (sym same)
 by_width Int16 width is same = ap int_event (sym same)
@@ -133,7 +133,7 @@ returns-in-Prepare g c = by_answer c.in-Prepare.is c.after-in-Prepare.ensures tt
 pub returns-in-Online : goal.returns-in-Online
 returns-in-Online g c = by_answer c.in-Online.is c.after-in-Online.ensures tt c.online.ensures
 
--- ---- what only sets something
+-- ---- events that only set something
 
 pub returns-in_default : goal.returns-in_default
 returns-in_default g c = asks_nothing c.requires.can (search rules) c.only.ensures

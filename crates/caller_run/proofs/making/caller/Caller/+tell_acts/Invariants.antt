@@ -1,4 +1,4 @@
--- The list gets shorter.
+-- The recursion ends, since the list gets shorter.
 use Rattle.std.proofs.Common.{length}
 use Rattle.caller_run.proofs.making.caller.Caller.+tell_acts.Given as goal
 

@@ -28,7 +28,7 @@ tell_acts-requires-clause-short g c =
     let many = can.few.0 in
     let long : length c.vread-said.new.into.inside.now ≡ all_wanted (asks_of c.deref.result.now) = search rules in omega arith
 
--- a list is no longer than before after its items were lent out and came back
+-- a list of n items has at most n items after its items were lent out and came back
 back_long : (back items : List Bound) (n : ℕ) → length (take n (back ++ drop (length back) items)) ≤ n
 back_long back items n = omega (arith, length-take n (back ++ drop (length back) items))
 

@@ -10,7 +10,7 @@ use Rattle.transcript_text.proofs.Places.{head_put}
 use Rattle.transcript_text.proofs.PuttingOn.{breaks_off, piece_put}
 use Rattle.transcript_text.proofs.printing.line_writer.LineWriter.write.Goals as goal
 
--- what was left of the line is the piece, and then the rest of the data with the line feed
+-- if `left` is `piece` and then `rest`, then `left` with a line feed is `piece`, then `rest`, then the line feed
 more_shown : (left piece rest : List ℕ) → piece ++ rest ≡ left → left ++ codes "\n" ≡ piece ++ (rest ++ codes "\n")
 more_shown left piece rest part = ap (λ text. text ++ codes "\n") (sym part) ∙ append_assoc piece rest (codes "\n")
 
