@@ -108,7 +108,7 @@ last_line run = record {
   shown = shown_by (take run.recorded.shown run.served.items) run.recorded.said.shows;
 }
 
--- a line was made, and fits a transcript
+-- the run has made a line, and the line's steps and data fit a transcript
 pub record HasLine (run : LoneRun) : Type 0 where
   pub steps_fit : AllByRecursion StepFits run.trace
   pub shows : ShowsFit run.recorded.word run.recorded.said.shows

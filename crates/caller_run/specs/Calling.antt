@@ -51,17 +51,18 @@ pub record Seen (found : ℕ) (s : CallerState) : Type 0 where
 abbrev pub StatesConform : Caller → Type 0
 StatesConform c = Seen (floor (view c.pass)) (conform c)
 
--- from m to n an event was done, with this answer and these data, and the samples of its visits match their definition
+-- from m to n the event was done with this answer and these data, and the samples of its visits match their definition
 abbrev pub Does : Setting → Event → Answer → Shown → Moment → Moment → Type 0
 Does set event answer shown m n = MakesIn (Sampled (IsOutcomeOf (setting_of set) event answer shown)) set m n
 
--- the call of any event can be made at this site, which has no step yet
+-- at the site `s` (a table, and a caller's pass, trace and setting) the call of any event can be made; the trace is
+-- empty
 pub record CanAsk (s : Site) : Type 0 where
   pub idle : IsIdle 20 s
   pub cpu : IsOnCpu s
   pub timely : IsTimely s
 
--- from m to n the call of an event was made, with this reply and these bytes
+-- from site m to site n the call of `event` was made, with this reply and these bytes
 pub record Asked (event : Event) (said : Reply) (served : List ℕ) (m n : Site) : Type 0 where
   pub same : Same m n
   pub has : HasInHands [] n

@@ -63,7 +63,7 @@ pub record RanAll (script : Script) (runs : List Run) (w : View) : Type 0 where
   pub wide : length w.lanes ≡ script.cpus + 2
   pub ended : Ended (script.cpus + 2) w
 
--- the lines are a lawful transcript, with the book of the lanes' lists
+-- `t` is a lawful transcript of the script, with the book of the lists that the view w has of the lanes
 pub record LawfulRuns (script : Script) (t : List (List SeenLine)) (w : View) : Type 0 where
   pub meanings : List (List CallMeaning)
   pub transcript : IsTranscriptBy script t (book_of (script.cpus + 2) (known_of w) (map state_lists meanings)) meanings

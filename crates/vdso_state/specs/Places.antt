@@ -92,7 +92,7 @@ pub record MayGoOn (at : Place) (looks calls floor : ℕ) : Type 0 where
   pub known : at.published ≤ floor
   pub near : at.next_block ≤ copies_by at.turn at.point * (2 ^ 14 + 2)
 
--- the host can serve the rest of the call after the place `at`, and `turns` attempts have begun before this place
+-- the host can serve the rest of the call after the place `at`, and `turns` attempts have their point Start before it
 pub record GoesOn (at : Place) (turns looks calls floor : ℕ) : Type 0 where
   pub may : MayGoOn at looks calls floor
   pub turns_are : turns_before at.turn at.point ≡ turns

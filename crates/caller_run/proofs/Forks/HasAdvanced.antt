@@ -45,7 +45,7 @@ call_alone (Vread len flags) is = absurd is
 call_alone (Inside point act) is = absurd is
 call_alone event is = tt
 
--- if the lines so far fit, and one more line is that of the next event, all these lines fit
+-- if `lines` fit the events so far, and `line` is the line of the next event, `lines` and `line` together fit
 pub fit_more : (caller n : ℕ) (events : List Event) (event : Event) (rest : List Event) (lines : List SeenLine)
     (line : SeenLine) →
     LineIs caller n (event_word event) line →
@@ -54,7 +54,7 @@ pub fit_more : (caller n : ℕ) (events : List Event) (event : Event) (rest : Li
 fit_more caller n events event rest lines line is fit more f =
     subst (LinesFit caller 0 events) (sym (append_assoc lines (line ∷ []) more)) (fit (line ∷ more) (is, f))
 
--- the line of an event's call; c is the caller before the call, and d after it
+-- suppose that the caller is c before the call of `event`, and d after it
 module _ {begun : Start} {events rest : List Event} {event : Event} {c : Caller} {lines : List SeenLine}
     {asks : List Ask} {kids : List Start}
     (d : Caller) (g : HasAdvanced begun events (event ∷ rest) c lines asks kids) (set : d.set ≡ c.set) where
