@@ -11,7 +11,7 @@ use Rattle.audit_keys.specs.declared.outline.Outline.{Outline}
 use Rattle.audit_keys.specs.Outline.{wiped_outline}
 use Rattle.audit_keys.specs.Left.{nothing_left, vread_left}
 
--- the outline of each state, and the number of the current state
+-- the outline of each of a caller's vgetrandom states, and the number of the current state
 pub record Outlines : Type 0 where
   pub each : List Outline
   pub current : ℕ

@@ -1,4 +1,4 @@
--- The keys and the rests of batches that are held after all entries.
+-- The keys, and the rests of batches (their bytes not served), that are held after all entries.
 use Rattle.std.specs.Prelude.{ℕ, Option, Some, None, List, [], ◌∷◌, nat_lt, if◌then◌else◌}
 use Rattle.std.specs.List.{flat_map}
 use Rattle.key_names.specs.declared.names.KeyName.{KeyName}
@@ -14,7 +14,7 @@ use Rattle.audit_keys.specs.declared.held.BatchHolder.TheVariants.{Cpu as CpuBat
 use Rattle.audit_keys.specs.declared.held.HeldKey.{HeldKey}
 use Rattle.audit_keys.specs.declared.held.HeldRest.{HeldRest}
 
--- the same holder in the type that `key_names` has for holders
+-- the same holder, in the type of holders that `key_names` has
 abbrev pub key_holder : KeyHolder → BookKeyHolder
 key_holder Base = base_key
 key_holder (Cpu cpu) = cpu_key cpu

@@ -56,7 +56,7 @@ pub struct HeldMaterial {
 }
 
 impl HeldMaterial {
-    /// No key and no rest.
+    /// No held key and no held rest.
     pub(crate) fn none(alloc: Global) -> HeldMaterial
         ensures keys { result.keys.items ≡ [] }
         ensures rests { result.rests.items ≡ [] }
@@ -104,7 +104,7 @@ impl HeldMaterial {
         Ok(())
     }
 
-    /// Adds the key that the base has after all these entries.
+    /// Adds the key that the base holds after all entries of `base`.
     ///
     /// # Errors
     ///
@@ -117,7 +117,7 @@ impl HeldMaterial {
         self.key(KeyHolder::Base, base_end(base))
     }
 
-    /// Adds the key and the rests that a CPU has after all these entries.
+    /// Adds the key, and the rests of batches, that a CPU holds after all entries of `lane`.
     ///
     /// # Errors
     ///
@@ -134,7 +134,7 @@ impl HeldMaterial {
         Ok(())
     }
 
-    /// Adds the key and the rest that a vgetrandom state has after all these entries.
+    /// Adds the key, and the rest of the batch, that a vgetrandom state holds after all of `entries`.
     ///
     /// # Errors
     ///

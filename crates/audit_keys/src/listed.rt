@@ -90,7 +90,7 @@ fn rekeyed_places(
     Ok(places)
 }
 
-// The index of a CPU, a caller or a state as a number of 32 bits. In every book these indices fit.
+// The index of a CPU, a caller or a state, as a number of 32 bits. The indices of every book fit.
 pub(crate) fn number_of(index: usize) -> Result<u32, AllocError>
     ensures number { IfOk result (λ number. number ≡ index) }
     ensures none { OnErr result (2 ^ 32 ≤ index) }

@@ -63,7 +63,7 @@ pub struct Lives {
 }
 
 impl Lives {
-    /// No births, endings or rests.
+    /// No births, no endings and no rests of batches.
     pub(crate) fn none(alloc: Global) -> Lives
         ensures births { result.births.items ≡ [] }
         ensures endings { result.endings.items ≡ [] }
