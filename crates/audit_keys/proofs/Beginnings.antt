@@ -30,7 +30,7 @@ use Rattle.key_names.proofs.Uses.StateUses as state_side
 use Rattle.audit_keys.specs.HeldUnused.{HoldsUnused}
 use Rattle.audit_keys.specs.Moments.{BeginsWith, AreBeginnings, BeginningsHoldUnused}
 
--- if a list is lawful, so is each beginning of it
+-- if the list `whole` is lawful, so is its beginning `part`
 lawful_front : {S E : Type 0} (May : S → E → Type 0) (step : S → E → S) (s : S) (whole part : List E) →
     BeginsWith whole part → LawfulFrom May step s whole → LawfulFrom May step s part
 lawful_front {S} {E} May step s whole part begins lawful =

@@ -1,4 +1,4 @@
--- Each list of a book is a beginning of itself. So by the law of beginnings no held key, and no held rest of a batch,
+-- Each list of a book is a beginning of itself. So by `BeginningsHoldUnused` no held key, and no held rest of a batch,
 -- was used.
 use Rattle.std.proofs.Common.{[], sym}
 use Rattle.std.proofs.lemmas.List.{append-nil}

@@ -86,7 +86,7 @@ module _ (lists : Lists) where
 
   -- ---- the system call that reads a key for a state ----
 
-  -- the first steps read `key`, and `rest` has the steps after the call
+  -- `steps` begin with a system call that reads `key`, and `rest` are the steps after this call
   pub record KeyListed (steps : List Step) (more : List Effect) (answer : SystemAnswer) : Type 0 where
     pub key : KeyRead
     pub rest : List Step
@@ -98,8 +98,8 @@ module _ (lists : Lists) where
 
   module _ (steps : List Step) (call more : List Effect) (answer : SystemAnswer)
       (effects : effects_of lists steps ≡ call ++ more) (answers : answer ≡ answer_after 0 call) where
-    -- if the effects of the call are `ds`, without an interruption, its answer is a read of the bytes that `ds` served,
-    -- at their last place
+    -- if the effects of the system call are `ds`, and `ds` were not interrupted, the answer is a read of the bytes that
+    -- `ds` served, at the last place of `ds`
     answer_at : (ds : List Effect) → call ≡ ds → was_interrupted ds ≡ false →
         answer ≡ read (served_bytes ds) (last_place ds)
     answer_at ds is calm =

@@ -52,7 +52,7 @@ rekey_whole steps = go (option_map_or is_mark (slice_get steps 2) false)
         ∙ take-append-drop 2 steps
     go false = refl
 
--- at the point of the act `bound`, the steps of `bound` count too; at the other points they do not
+-- the steps of the act `bound` count at the act's own point; at other points they do not count
 pub at_point : (stamp : ℕ) (bound : BoundAct) (acts : List BoundAct) (point : Point) → is_same_point bound.point point ≡ true →
     latest_of stamp (steps_at_point (bound ∷ acts) point)
     ≡ latest_of (latest_of stamp bound.line.steps) (steps_at_point acts point)
@@ -63,7 +63,7 @@ pub elsewhere : (stamp : ℕ) (bound : BoundAct) (acts : List BoundAct) (point :
     latest_of stamp (steps_at_point (bound ∷ acts) point) ≡ latest_of stamp (steps_at_point acts point)
 elsewhere stamp bound acts point is = rw is refl
 
--- if steps come in seven parts, the fourth part and the last part may be counted right after the first part
+-- in the greatest stamp of seven lists of steps, the lists `c` and `d` may be counted right after `a`
 parts_move : (s : ℕ) (a p q c r t d : List Step) →
     latest_of s (a ++ p ++ q ++ c ++ r ++ t ++ d)
     ≡ latest_of (latest_of (latest_of (latest_of (latest_of s (a ++ c ++ d)) p) q) r) t

@@ -85,7 +85,7 @@ cut_same caller k whole part whole' part' p q cut = record {
   ends = ap (λ es. (state_after caller k es).expected) q ∙ cut.ends;
 }
 
--- the entries of the first `n` calls are a beginning of the entries of all calls
+-- in the list of state `k`, the entries of the first `n` calls are a beginning of the entries of all calls
 entries_begin : (k n : ℕ) (ms : List CallMeaning) →
     BeginsWith (entries_of_state k ms) (entries_of_state k (take n ms))
 entries_begin k zero ms = (entries_of_state k ms, refl)

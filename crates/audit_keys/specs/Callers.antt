@@ -58,6 +58,6 @@ abbrev pub list_left : ℕ → Outlines → List Call → List VEntry
 list_left k o [] = []
 list_left k o (call ∷ calls) = left_in k o call ++ list_left k (outlines_after o call) calls
 
--- the lists that a caller's calls leave
+-- the lists that a caller's calls leave for its sixteen vgetrandom states
 abbrev pub lists_left : List Call → List (List VEntry)
 lists_left calls = map (λ k. list_left k first_outlines calls) (range_with_len 0 16)

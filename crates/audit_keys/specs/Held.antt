@@ -24,12 +24,12 @@ abbrev pub batch_holder : BatchHolder → BookBatchHolder
 batch_holder (CpuBatch cpu width) = cpu_batch cpu width
 batch_holder (StateBatch of) = state_batch of.caller of.state
 
--- the key of a holder, if it has one
+-- the key that a holder holds, if it holds one
 abbrev pub held_key : KeyHolder → Option KeyName → List HeldKey
 held_key holder None = []
 held_key holder (Some key) = record { holder = holder; key = key } ∷ []
 
--- the rest of a holder's batch, if this rest has bytes
+-- the rest of the batch that a holder holds, if this rest has bytes
 abbrev pub held_rest : BatchHolder → Option Span → List HeldRest
 held_rest holder None = []
 held_rest holder (Some span) = if nat_lt 0 span.len then record { holder = holder; span = span } ∷ [] else []

@@ -107,7 +107,7 @@ looked_again acts n c l found rest =
       left = end;
     }
 
--- an attempt from its point Serve on
+-- the end of an attempt, from its point Serve on
 abbrev pub from_serve : List BoundAct → ℕ → ℕ → Left → List Step → After
 from_serve acts n c l (Look found ∷ rest) = looked_again acts n c (met (is_wiped acts Serve) l) found rest
 from_serve acts n c l _ = cut_short c l
@@ -116,17 +116,17 @@ abbrev pub with_key : List BoundAct → ℕ → ℕ → Left → Option KeyAndRe
 with_key acts n c l None = cut_short c l
 with_key acts n c l (Some k) = from_serve acts n c (keyed k.key l) k.rest
 
--- an attempt from its point Written on
+-- the end of an attempt, from its point Written on
 abbrev pub from_written : List BoundAct → ℕ → ℕ → Left → List Step → After
 from_written acts n c l steps = with_key acts n c (met (is_wiped acts Written) l) (key_in_front steps)
 
--- an attempt after its point Start; its look found the generation `found`
+-- the end of an attempt, after its point Start; the attempt's look found the generation `found`
 abbrev pub from_start : List BoundAct → ℕ → ℕ → ℕ → Left → List Step → After
 from_start acts n c found l steps =
     if l.outline.found == found then from_serve acts n c l steps
     else from_written acts n c (record l { outline = record l.outline { found = found } }) steps
 
--- an attempt to copy `n` bytes; `c` is the key's next block
+-- the end of an attempt to copy `n` bytes; `c` is the key's next block before the attempt
 abbrev pub attempted : List BoundAct → ℕ → ℕ → Left → List Step → After
 attempted acts n c l (Look found ∷ rest) = from_start acts n c found (met (is_wiped acts Start) l) rest
 attempted acts n c l _ = cut_short c l
@@ -143,7 +143,7 @@ tried_twice acts n l steps = tried_again n (attempted acts n 0 l steps)
 abbrev pub copies_alone : List BoundAct → ℕ → ℕ → Left → Bool
 copies_alone acts n found l = length acts == 0 && (l.outline.found == found && has_left (outlined l.outline) n)
 
--- a vread after its first look
+-- the state after a vread whose first look found the generation `found`; `rest` are the steps after that look
 abbrev pub from_look : List BoundAct → ℕ → ℕ → Left → List Step → Left
 from_look acts n found l rest =
     if found == 0 then l else (if copies_alone acts n found l then copied n 0 l else tried_twice acts n l rest)

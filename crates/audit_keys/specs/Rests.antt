@@ -33,7 +33,7 @@ given_up by (Some span) = if nat_lt 0 span.len then record { span = span; by = b
 unfoldable pub widths : List ℕ
 widths = range_with_len 0 256
 
--- the rests of all batches of a CPU
+-- the rests of all batches of a CPU, which the entry `by` gives up
 abbrev pub fills_given_up : Origin → (ℕ → Option Fill) → List GivenUp
 fills_given_up by fills = flat_map (λ width. given_up by (fill_rest width (fills width))) widths
 

@@ -75,7 +75,8 @@ list_over k o i before (call ∷ calls) =
 abbrev pub caller_over : ℕ → List Call → List (List StateEntry)
 caller_over start calls = map (λ k. list_over k first_outlines 0 start calls) (range_with_len 0 16)
 
--- the lists that the calls of all callers leave; `c` is the number of the first caller
+-- the lists that the calls of all callers leave; `starts` gives the stamp of the last visit before a caller's calls,
+-- and `c` is the number of the first caller
 abbrev pub all_over : (ℕ → ℕ) → ℕ → List (List Call) → List (List (List StateEntry))
 all_over starts c [] = []
 all_over starts c (calls ∷ callers) = caller_over (starts c) calls ∷ all_over starts (suc c) callers

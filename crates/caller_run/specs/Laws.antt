@@ -26,8 +26,8 @@ pub record Run : Type 0 where
   pub lines : List SeenLine
   pub kids : List Start
 
--- the caller of this number made these events and ended. At its end, a replay of what its pass has seen of the base's
--- list gives a generation that is at least each generation that the pass saw
+-- the caller of this number made these events and ended. At its end, a replay of the part of the base's list that its
+-- pass has seen gives a generation that is at least each generation that the pass saw
 pub record HasRun (caller : ℕ) (events : List Event) (r : Run) : Type 0 where
   pub own : r.begun.caller ≡ caller
   pub ended : RunEnded r.begun events r.end r.lines r.kids

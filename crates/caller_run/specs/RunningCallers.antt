@@ -217,7 +217,7 @@ pub record WentBeside (t : Lanes) (script : Script) (child : ℕ) (rest : List E
       GoneIn begun events (Fork child ∷ rest) m w kids →
       Past script begun events kids at.forked.before (kid_of m child at.forked.before) y
 
--- all callers of a script ran, and these are their lines
+-- all callers of the script ran, and `lines` are their lines
 pub record WholeRan (script : Script) (lines : List (List SeenLine)) (w : View) : Type 0 where
   pub runs : List Run
   pub ran : RanAll script runs w

@@ -19,7 +19,7 @@ pub record NextAttempt (steps : List HostStep) : Type 0 where
   pub quiet : Quiet First rest
   pub looks : LooksFirst rest
 
--- `steps` may come after a first attempt that copied bytes: there is none, or a second attempt begins
+-- `steps` may come after a first attempt that copied bytes: there are none, or they begin with a second attempt
 abbrev pub AfterPoint : List HostStep → Type 0
 AfterPoint steps = (steps ≡ []) ⊎ NextAttempt steps
 

@@ -234,7 +234,7 @@ module _ (script : Script) (well : WellFormed script) (one : length script.calle
       (lawful_runs script _ (view q) well
       (whole script well (first_start p) (view q) own [] ran none (refl, refl) tree_of are refl wide ends))
 
--- ---- the run of the only caller
+-- ---- the line that the run of the only caller makes for one event ----
 
 -- the line that the run `y` made last is the line of `event`; d is the caller after the event's call
 pub record MadeLine (y : LoneRun) (event : Event) (d : Caller) (said : Reply) (served : List ℕ) (steps : List Step)
@@ -290,7 +290,7 @@ made_one done event goes made script rest well one same whole =
     goes script rest (made script (event ∷ rest) well one same
     (whole ∙ ap (λ (events : List Event). events ∷ []) (append_assoc done (event ∷ []) rest)))
 
--- ---- before the first event of a script that is still being written
+-- ---- the run before the first event of a script that is still being written ----
 
 few_shown : (version cpus : ℕ) (event : Event) → InRange version cpus event → most_shown event ≤ 2 ^ 20
 few_shown version cpus (Read len flags) range = range.0

@@ -100,7 +100,7 @@ tells_then set a b l m n xs ys p q =
           ∙ sym (items_append set.event (length l.steps) xs ys);
     }
 
--- the visit of the fork took the pass from the view v to u
+-- suppose that the visit of the fork took the pass from the view v to u
 module _ (set : Setting) (child : ℕ) (v u : View) (mark : Mark)
     (did : Makes (BaseOnly (Forks child)) set (knowing v []) (knowing u (Marked mark ∷ []))) where
   first_tells : Tells set 0 (knowing v []) (knowing u (Marked mark ∷ [])) (Marked mark ∷ [])

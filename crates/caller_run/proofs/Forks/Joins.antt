@@ -79,7 +79,8 @@ pub record OwnPlaces (r : Run) : Type 0 where
   pub made : (lane : LaneId) → index_of lane < length r.end.lanes →
       (at (index_of lane) r.end).made ≡ marked_by (λ p. 1) lane r
 
--- one more pass is joined: that of caller r, which had joined the passes of the callers ys
+-- suppose that a pass, which had joined the passes of the runs `xs`, joins the pass of run `r`, which had joined those
+-- of the runs `ys`
 module _ (v w d : View) (r : Run) (xs ys : List Run) (mine : Joined v w xs) (theirs : Joined r.end d ys)
     (own : OwnPlaces r) (alike : length r.end.lanes ≡ length v.lanes) where
   long : length w.lanes ≡ length d.lanes

@@ -151,7 +151,7 @@ module _ (m w : Caller) (steps : List Step) (child : ℕ) (theirs : Pass) (at : 
         (subst (λ (s : Setting). Makes (BaseOnly Unstall) s here.middle (moment p after)) at.set here.unstall);
   }
 
--- ---- the preconditions of a caller's next events
+-- ---- the preconditions of a caller's next events ----
 
 -- if a caller can go on, it can still go on after its pass has seen more
 pub can_still : (t : Lanes) (c d : Caller) (log : Log) {served inside : ℕ} {rest : List Event} → d.set ≡ c.set →

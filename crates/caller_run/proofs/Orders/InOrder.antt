@@ -103,7 +103,7 @@ in_order (suc count) k runs once =
     (one_of k runs (first_once count k runs once)).run
     ∷ in_order count (suc k) runs (rest_once count k runs once)
 
--- the list in order contains each of `runs` whose caller is among the `count` callers from k on
+-- `in_order` contains each of `runs` whose caller is among the `count` callers from k on
 pub in_order_all : (count k : ℕ) (runs : List Run) (once : AllOnce k count runs) (r : Run) → IsOneOf r runs →
     k ≤ number r → number r < k + count → IsOneOf r (in_order count k runs once)
 in_order_all zero k runs once r here from to = absurd (omega arith)
@@ -114,7 +114,7 @@ in_order_all (suc count) k runs once r here from to =
     (λ ne. inr (in_order_all count (suc k) runs (rest_once count k runs once) r here (omega arith)
     (omega arith)))
 
--- the list in order contains no other runs: if a fact holds for each of `runs`, it holds for each run in order
+-- `in_order` contains no other runs: if P holds for each of `runs`, it holds for each run in `in_order`
 pub in_order_of : (P : Run → Type 0) (count k : ℕ) (runs : List Run) (once : AllOnce k count runs) →
     ((r : Run) → IsOneOf r runs → P r) → AllByRecursion P (in_order count k runs once)
 in_order_of P zero k runs once all = tt

@@ -1,4 +1,4 @@
--- How an event of each kind changes a caller's lines, the room for more, and the waiting acts (`Fills`).
+-- How an event of each kind changes a caller's lines, the memory left for more lines, and the waiting acts (`Fills`).
 use Rattle.std.proofs.Common.{◌≡◌, ℕ, nat_cmp, false, Ok, ◌+◌, ◌*◌, ◌<◌, ◌≤◌, List, [], ◌∷◌, ◌++◌, length, take, drop, refl, sym, ap, ◌∙◌, subst, arith, length-append}
 use Rattle.std.specs.List.{AllByRecursion}
 use Rattle.std.specs.Ordering.{ord_max}

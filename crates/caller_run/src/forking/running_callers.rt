@@ -28,7 +28,7 @@ use lane_table::{Lanes, Pass};
 use rng_core::Setting;
 use std::sync::Wait;
 
-/// A running caller, with the memory that it fills.
+/// A running caller, with the memory (the buffers) that it fills.
 #[derive(Drop)]
 pub(crate) struct RunningCaller {
     pub(crate) caller: Caller,
