@@ -135,8 +135,8 @@ module _ (lists : Lists) (settings : ℕ → Setting) (made : ℕ → ℕ) where
       at xs lt = let p : 0 + k ≡ k = omega arith in
           made_at (λ i. entries_of_state i xs) 0 16 k lt ∙ ap (λ i. entries_of_state i xs) p
 
-  -- for each state of all callers: the state's list after the first calls of its caller is a beginning of its list; `c`
-  -- is the number of the first caller
+  -- for each state of all callers: the state's list after the first calls of its caller is a beginning of its whole
+  -- list; `c` is the number of the first caller
   all_callers : (caller c : ℕ) (callers : List (List Call)) (mss : List (List CallMeaning)) →
       EachCaller (λ c calls ms. CallerMeans lists (settings c) calls ms) c callers mss → (i k : ℕ) →
       CutState caller k (list_at (list_at (map state_lists mss) i) k)

@@ -281,7 +281,8 @@ module _ (lists : Lists) (n flags : ℕ) (acts : List BoundAct) (steps : List St
     conforms = h.conforms;
   }
 
-  -- the call on the current state: if `bad` is true, the call goes to the system; otherwise it begins with its look
+  -- the vgetrandom call on the current state: if `bad` is true, it goes to the system; otherwise it begins with its
+  -- look
   abbrev CallBy : ByVgetrandom n flags acts m → Bool → Type 0
   CallBy v bad = MatchBool bad (BySystem n flags s v.steps v.outcome) (FromLook n flags s v.steps v.outcome)
 

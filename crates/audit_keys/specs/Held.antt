@@ -14,7 +14,7 @@ use Rattle.audit_keys.specs.declared.held.BatchHolder.TheVariants.{Cpu as CpuBat
 use Rattle.audit_keys.specs.declared.held.HeldKey.{HeldKey}
 use Rattle.audit_keys.specs.declared.held.HeldRest.{HeldRest}
 
--- the same holder, in the type of holders that `key_names` has
+-- the holder of a key, in the type of holders that `key_names` has
 abbrev pub key_holder : KeyHolder → BookKeyHolder
 key_holder Base = base_key
 key_holder (Cpu cpu) = cpu_key cpu

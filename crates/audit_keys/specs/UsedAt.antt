@@ -46,7 +46,7 @@ taken_used rekeys by key call (User n) =
     else (if rekeys then kept_as by key 32 call else served_by by key 32 n) ∷ []
 taken_used rekeys by key call (Kernel n) = served_by by key 32 n ∷ []
 
--- the uses of a read: its erasure keeps the next key, and the read takes bytes after it
+-- the uses of a read: its erasure keeps bytes 0 to 32 as the key `next`, and the read takes the bytes after them
 abbrev pub read_used : Bool → Origin → KeyName → KeyName → KeyName → Taken → List Used
 read_used rekeys by key next call taken = kept_as by key 0 next ∷ taken_used rekeys by key call taken
 

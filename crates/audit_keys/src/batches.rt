@@ -34,12 +34,12 @@ fn named_span(key: Option<KeyName>, from: u64, len: u64) -> Option<Span>
     key.map(|key| Span { key, from, len })
 }
 
-/// The rest of a CPU's batch. In a run each byte's number (its position in the keystream) fits into 64 bits, since no
-/// memory has room for so many integers.
+/// The rest of a CPU's batch. In a run each byte's position in the keystream fits into 64 bits, since no memory has
+/// room for so many integers.
 ///
 /// # Errors
 ///
-/// `AllocError` if a byte's number is 2^64 or more.
+/// `AllocError` if a byte's position is 2^64 or more.
 pub(crate) fn fill_rest(width: u64, fill: Option<Fill>) -> Result<Option<Span>, AllocError>
     ensures rest { (book : Option BookFill) → fill ≡ fill_of book →
         IfOk result (λ span. span ≡ fill_rest width book) }
@@ -87,7 +87,7 @@ impl StateBatch {
     ///
     /// # Errors
     ///
-    /// `AllocError` if the number of the rest's first byte is 2^64 or more.
+    /// `AllocError` if the position of the rest's first byte in its keystream is 2^64 or more.
     pub(crate) fn rest(&self) -> Result<Option<Span>, AllocError>
         ensures rest { (s : NamedState) (place : ℕ) → BatchConforms s place self.now →
             IfOk result (λ span. span ≡ state_rest s) }

@@ -223,7 +223,8 @@ fn rekeys_at(rekeyed: &[bool], place: u64) -> bool
 ///
 /// # Errors
 ///
-/// `AllocError` if there is no memory for the uses, or if a byte of a batch has a number of 2^64 or more.
+/// `AllocError` if there is no memory for the uses, or if a byte of a batch has a position of 2^64 or more in its
+/// keystream.
 pub fn cpu_uses(
     alloc: Global,
     cpu: u32,

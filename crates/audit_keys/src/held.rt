@@ -121,7 +121,8 @@ impl HeldMaterial {
     ///
     /// # Errors
     ///
-    /// `AllocError` if there is no memory for them, or if a byte of a batch has a number of 2^64 or more.
+    /// `AllocError` if there is no memory for them, or if a byte of a batch has a position of 2^64 or more in its
+    /// keystream.
     pub(crate) fn add_cpu(&mut self, cpu: u32, lane: &[KeptCpu]) -> Result<(), AllocError>
         ensures keys { (base : List BookBase) → OnOk result (self.new.keys.items
             ≡ self.old.keys.items ++ held_key (Cpu cpu) (cpu_after base cpu (cpu_entries lane.now)).key) }
@@ -138,7 +139,8 @@ impl HeldMaterial {
     ///
     /// # Errors
     ///
-    /// `AllocError` if there is no memory for them, or if a byte of a batch has a number of 2^64 or more.
+    /// `AllocError` if there is no memory for them, or if a byte of a batch has a position of 2^64 or more in its
+    /// keystream.
     pub(crate) fn add_state(&mut self, of: StateOf, entries: &[VEntry]) -> Result<(), AllocError>
         ensures keys { OnOk result (self.new.keys.items ≡ self.old.keys.items
             ++ held_key (State of) (state_after of.caller of.state entries.now).key) }

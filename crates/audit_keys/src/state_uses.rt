@@ -133,7 +133,7 @@ impl StateKeys {
 ///
 /// # Errors
 ///
-/// `AllocError` if there is no memory for them, or if a byte of a key has a number of 2^64 or more.
+/// `AllocError` if there is no memory for them, or if a byte has a position of 2^64 or more in its key's keystream.
 pub fn state_uses(alloc: Global, of: StateOf, entries: &[VEntry]) -> Result<Vec<Used>, AllocError>
     ensures { IfOk result (λ uses. uses.items
         ≡ listed_from (state_used_at of) (state_step of.caller of.state) state_start entries.now) }

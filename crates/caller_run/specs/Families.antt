@@ -23,7 +23,7 @@ pub record RunsIn (script : Script) (r : Run) : Type 0 where
   pub there : slice_get script.callers r.begun.caller ≡ Some events
   pub has : HasRun r.begun.caller events r
 
--- all these callers ran. Each began from one of these starts, or was forked by one of these callers
+-- `runs` are runs of callers. Each caller began from one of these starts, or was forked by a caller of one of `runs`
 pub record Family (script : Script) (starts : List Start) (runs : List Run) : Type 0 where
   pub each : AllByRecursion (RunsIn script) runs
   pub began : AllByRecursion

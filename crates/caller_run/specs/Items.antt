@@ -42,8 +42,8 @@ cut_items [] = ([], [])
 cut_items (item ∷ items) =
     if is_mark item.step then (let cut = cut_items items in (item ∷ cut.0, cut.1)) else ([], item ∷ items)
 
--- cuts the third and later steps of a vread at the points Serve and End. The cut is after the steps for a new key, or
--- at the front if there are no such steps
+-- cuts `items`, the steps of a vread after its first two, for the points Serve and End. The cut is after the steps for
+-- a new key, or at the front if there are no such steps
 abbrev pub cut_rekey : List Item → List Item × List Item
 cut_rekey items =
     if option_map_or (λ item. is_mark item.step) (slice_get items 2) false

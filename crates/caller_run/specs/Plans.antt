@@ -32,7 +32,7 @@ IsPlanFor script plan = IsPlanned script (layout plan.root) plan.slots.items
 abbrev pub lines_in : List Gathered → List (List SeenLine)
 lines_in slots = map (λ c. c.lines) slots
 
--- the lines in the slots, after the lines of each listed caller were put into that caller's slot
+-- the lines in the slots `t`, after the lines of each listed caller were put into that caller's slot
 abbrev pub put_in : List (List SeenLine) → List (ℕ × List SeenLine) → List (List SeenLine)
 put_in t [] = t
 put_in t (x ∷ xs) = put_in (slice_set t x.0 x.1) xs

@@ -80,7 +80,8 @@ module _ (script : Script) (ok : WellFormed script) (root : Start) (w : View) (o
   low = numbers_low (own ∷ runs)
       (subst (AllByRecursion (λ x. x < length script.callers)) (sym same) (below script ok f are))
 
-  -- w has joined all other passes, so its lists begin with the visits that it and each joined pass had seen
+  -- the pass has joined all other passes, so the lists that w has seen begin with the visits that each joined pass had
+  -- seen
   hears : Hears (known_of w) w
   hears = record {
     known = λ lane near. begins_refl (known_of w lane);

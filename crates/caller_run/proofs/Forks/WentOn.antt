@@ -153,7 +153,7 @@ module _ (m w : Caller) (steps : List Step) (child : ℕ) (theirs : Pass) (at : 
 
 -- ---- the preconditions of a caller's next events ----
 
--- if a caller can go on, it can still go on after its pass has seen more
+-- if a caller can go on (`CanAdvance`), it can still go on after its pass has seen later generations
 pub can_still : (t : Lanes) (c d : Caller) (log : Log) {served inside : ℕ} {rest : List Event} → d.set ≡ c.set →
     d.states ≡ c.states → HoldsLanes t d.set.caller [] d.pass → floor (view c.pass) ≤ floor (view d.pass) →
     CanAdvance t c log served inside rest → CanAdvance t d log served inside rest
@@ -244,7 +244,7 @@ can_on t script child rest w z steps tell kids can = record {
   ready = subst (λ ks. ArePrepared script.callers (fork_tree_of (map layout ks.items)) (forks rest)) (sym kids) tell.ready;
 }
 
--- the line of the fork was made, and the caller went on to its end
+-- suppose that the line of the fork was made, and that the parent then went on to its end
 module _ (t : Lanes) (script : Script) (child : ℕ) {rest : List Event} (w : RunningCaller) {z y : RunningCaller} (d : Caller) (steps : List Step)
     (gone : (begun : Start) (events : List Event) (kids : List Start) (m : Caller) (u : View) →
     TookFrom m d child u steps → begun.caller < child → GoneIn begun events (Fork child ∷ rest) m w kids →

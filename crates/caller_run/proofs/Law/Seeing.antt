@@ -28,7 +28,7 @@ use Rattle.caller_run.specs.Says.{ShowsFit}
 use Rattle.caller_run.specs.declared.making.caller.Caller.{Caller}
 use Rattle.caller_run.specs.declared.output.reply.Reply.{Reply}
 
--- `Seen` holds at a caller's start
+-- `Seen`, the bound on the generations of the vgetrandom states, holds at a caller's start
 pub seen_start : (found : ℕ) (set : calls.Setting) → Seen found (caller_start set)
 seen_start found set = let P : VgetrandomState → Type 0 =
     λ (st : VgetrandomState). st.generation ≤ published_by found in record {

@@ -126,7 +126,7 @@ module _ (caller : ℕ) where
       each_weaker (HasLine caller lines) (λ (a : Ask). a.event < length lines) asks
       (λ a has. slice_get_within lines a.event has.line has.there) idle
 
-  -- the lines still fit the events after the lines of the acts are replaced
+  -- if lines fit the events, they still fit after the lines of the acts `asks` are replaced
   module _ (set : Setting) (own : set.caller ≡ caller) (events : List Event) where
     pub fit_anew : (asks : List Ask) (zs : List ActOutcome) (lines more : List SeenLine) → Idle lines asks →
         LinesFit caller 0 events (lines ++ more) →

@@ -22,7 +22,7 @@ use Rattle.caller_run.specs.Items.{Item, items_from}
 use Rattle.caller_run.proofs.Orders.PartItems.{Part, part_nothing, part_then, part_went, items_append}
 use Rattle.caller_run.proofs.Events.ActSteps.{Apart, Untouched, act_items, untouched_items, acts_part, acts_elsewhere}
 
--- a moment in a call: the pass's view, the steps so far, and the outcomes of the acts
+-- a spot in a vgetrandom call: the pass's view, the steps so far, and the outcomes of the acts
 pub record Spot : Type 0 where
   pub moment : Moment
   pub outcomes : List ActOutcome
@@ -62,7 +62,7 @@ module _ (set : Setting) (asks : List Ask) where
   abbrev pub at : Attempt → Spot → ActConform
   at attempt s = act_conform (record { set = set; moment = s.moment }) attempt asks s.outcomes
 
-  -- the items of the caller's own line up to the moment s
+  -- the items of the caller's own line up to the spot s
   abbrev pub line_of : Spot → List Item
   line_of s = items_from set.event 0 s.moment.steps
 
@@ -110,7 +110,8 @@ module _ (set : Setting) (asks : List Ask) where
 
   -- Steps of the caller's own line
 
-  -- from s to t the caller appended these items to its own line, and the outcomes of the acts did not change
+  -- from the spot s to the spot t the caller appended `items` to its own line, and the outcomes of the acts did not
+  -- change
   pub record OwnSteps (s t : Spot) (items : List Item) : Type 0 where
     pub line : line_of t ≡ line_of s ++ items
     pub part : Part set.caller (view_at s) (view_at t) items
@@ -130,7 +131,7 @@ module _ (set : Setting) (asks : List Ask) where
     outcomes = b.outcomes ∙ a.outcomes;
   }
 
-  -- the items of `steps`, which follow the steps up to the moment s
+  -- the items of `steps`, which follow the steps up to the spot s
   abbrev pub next_items : Spot → List Step → List Item
   next_items s steps = items_from set.event (length s.moment.steps) steps
 
