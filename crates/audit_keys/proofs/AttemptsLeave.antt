@@ -38,8 +38,8 @@ gives_at before rest a a' b b' p q g =
     let P : Attempt → Type 0 = λ x. Gives before rest x b in let Q : After → Type 0 = λ x. Gives before rest a' x in
     subst P (sym p) (subst Q (sym q) g)
 
--- if the entries of `b` are `before`, then `es`, and then those of the attempt `a`, and `b` otherwise ends as `a` does,
--- then `Gives` holds after `before` for `a` with `es` in front of its entries
+-- suppose that the entries of `b` are `before`, `es` and those of the attempt `a`, and that `b` otherwise ends as `a`
+-- does. Then `Gives` holds after `before` for `a` with `es` in front of its entries
 gives_after : (es before now : List VEntry) (rest : List Step) (a : Attempt) (b : After) → now ≡ before ++ es →
     Gives now rest a b → Gives before rest (prefix_attempt es a) b
 gives_after es before now rest a b more g = record {

@@ -1,5 +1,5 @@
--- If each list of a book is cut to a beginning, no byte of a key or of a batch's rest that is held after these
--- beginnings was used in them.
+-- If each list of a book is cut to a beginning, no byte of a key or rest that is held after these beginnings was used
+-- in them. A rest is the bytes of a batch that were not served.
 use Rattle.std.proofs.Common.{◌≡◌, ℕ, ◌+◌, ◌-◌, ◌*◌, ◌++◌, List, [], ◌∷◌, length, Option, Some, None, inl, inr, refl, sym, subst, ap, ◌∙◌, arith}
 use Rattle.std.specs.Prelude.{Bool, true, false, slice_get, option_and_then}
 use Rattle.std.specs.List.{fold}

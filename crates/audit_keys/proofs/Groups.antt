@@ -72,8 +72,8 @@ module _ {X K : Type 0} {R : K → K → Ordering} (o : IsTotalOrder R) (key : X
   abbrev is_at : X → Bool
   is_at x = is_eq (R (key x) k)
 
-  -- the group of the key k (the elements with this key) begins at `first`, where no element is below k any more, and
-  -- has `count` elements, up to the first one above k
+  -- the group of the key k (the elements with this key) is `count` elements from `first` on: from the first element
+  -- that is not below k to the last one that is not above k
   group_is : (xs : List X) (first count : ℕ) → first ≤ length xs →
       IsPartitionPoint (λ x. is_lt (R (key x) k) ≡ true) (λ x. is_lt (R (key x) k) ≡ false) xs first →
       IsPartitionPoint (λ x. is_le (R (key x) k) ≡ true) (λ x. is_le (R (key x) k) ≡ false) (drop first xs) count →

@@ -98,8 +98,8 @@ module _ (lists : Lists) where
 
   module _ (steps : List Step) (call more : List Effect) (answer : SystemAnswer)
       (effects : effects_of lists steps ≡ call ++ more) (answers : answer ≡ answer_after 0 call) where
-    -- if the effects of the system call are `ds`, and `ds` were not interrupted, the answer is a read of the bytes that
-    -- `ds` served, at the last place of `ds`
+    -- if the effects `ds` of the system call were not interrupted, the answer is a read of the bytes that `ds` served,
+    -- at the last place of `ds`
     answer_at : (ds : List Effect) → call ≡ ds → was_interrupted ds ≡ false →
         answer ≡ read (served_bytes ds) (last_place ds)
     answer_at ds is calm =

@@ -150,8 +150,8 @@ module _ (n : ℕ) where
       ∙ ap (λ es. es ++ entries_by (ByCall n) rest) (of_others i (end_of before call) (left_in k o call) test)
       ∙ none_first k (outlines_after o call) (i + 1) (over_at before call) calls (omega arith)
 
-  -- if the first of `calls` has number `i`, and `m` of them have a number of at most `n`, a cut at call `n` keeps the
-  -- entries of the first `m`
+  -- if the first of `calls` has number `i`, so that the first `m` are numbered up to `n`, a cut at call `n` keeps the
+  -- entries of these `m` calls
   first_list : (k : ℕ) (o : Outlines) (i m before : ℕ) (calls : List Call) → i + m ≡ suc n →
       entries_by (ByCall n) (list_over k o i before calls) ≡ list_left k o (take m calls)
   first_list k o i zero before calls is = none_first k o i before calls (omega arith)

@@ -65,8 +65,8 @@ fn add_callers(held: &mut HeldMaterial, callers: &[Vec<Vec<VEntry>>]) -> Result<
 ///
 /// # Errors
 ///
-/// `AllocError` if there is no memory for them, if a byte has a position of 2^64 or more in its key's keystream, or if
-/// there are more than 2^32 CPUs, callers or states of a caller.
+/// `AllocError` if there is no memory for them, or if a byte has a position of 2^64 or more in its key's keystream.
+/// Also if there are more than 2^32 CPUs, callers or states of a caller.
 pub fn hold_book(
     alloc: Global,
     kept: &Lists,

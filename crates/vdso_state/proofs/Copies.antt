@@ -14,14 +14,14 @@ refilled s block = record s {
   pos = 0;
 }
 
--- if `refilled_state` is `s` after a refill from `block`, and `t` is that state after `m` = `r` bytes of its batch were
--- served, then `t` is `state_of_new_batch s block r`
+-- if `refilled_state` is `s` after a refill from `block`, and `t` is that state after `r` bytes of its batch were
+-- served, `t` is `state_of_new_batch s block r`
 pub state_at : (s refilled_state t : VgetrandomState) (block r m : ℕ) → refilled_state ≡ refilled s block → m ≡ r →
     t ≡ state_of_same_batch refilled_state m → t ≡ state_of_new_batch s block r
 state_at s u t block r m new same is = let sum : 0 + r ≡ r = omega arith in rw (is, new, same, sum) refl
 
--- if `blocks` is the whole blocks of a copy of `n` bytes from block `c` on, and `front` is the rest of the copy, from
--- the front of the new batch, then the two together are `n` bytes of the keystream from block `c` on
+-- the whole blocks of a copy of `n` bytes, and the front of the new batch after them, together are `n` bytes of the
+-- keystream from block `c` on
 pub bytes_at : (key : List ℕ) (c n : ℕ) (blocks batch front : List ℕ) →
     blocks ≡ keystream key (64 * c) (n / 64 * 64) → batch ≡ keystream key (64 * (c + n / 64)) 96 →
     front ≡ take (n % 64) (drop 0 batch) → blocks ++ front ≡ keystream key (64 * c) n

@@ -34,8 +34,8 @@ ends_err : (answer : SystemAnswer) (errno : Errno) (buf : List ℕ) → IsAnswer
 ends_err (read bytes visit) errno buf is = cc
 ends_err (failed why) errno buf is = cc
 
--- if the read of a new key failed with `errno`, `KeyIsRead` holds for the state with generation 0 and with the key
--- `buf`, which the system call left in the buffer
+-- if the read of a new key failed with `errno`, `KeyIsRead` holds for `s` with generation 0 and with the key `buf`,
+-- which is the buffer after the system call
 pub key_not_read : (answer : SystemAnswer) (errno : Errno) (buf : List ℕ) (s : VgetrandomState) →
     IsAnswer answer (Err errno) buf →
     KeyIsRead answer (Err errno) s (record s { key = buf; generation = 0 })

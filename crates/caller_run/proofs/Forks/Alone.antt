@@ -281,8 +281,8 @@ goes_on {lines = lines} x y event rest d said served steps g k m same long = rec
       (event_goes event d said served steps k m.on g.goes)));
 }
 
--- if in each script y can go on after `event` whenever x can go on with `event`, and x has made the events `done`, then
--- y has made `done` and then `event`
+-- suppose that in each script y can go on after `event` whenever x can go on with `event`. If x has made the events
+-- `done`, y has made `done` and then `event`
 pub made_one : {cpus : ℕ} {x y : LoneRun} {lines after : List SeenLine} (done : List Event) (event : Event) →
     ((script : Script) (rest : List Event) → IsGoing script (event ∷ rest) x lines → IsGoing script rest y after) →
     HasMade cpus done x lines → HasMade cpus (done ++ event ∷ []) y after

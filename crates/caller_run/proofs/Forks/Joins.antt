@@ -71,8 +71,8 @@ joined_nothing v = record {
   made = λ lane low. omega arith;
 }
 
--- at the end of the run `r`, the places of the pass's own visits are those of the marks in the lines of `r`: in each
--- lane a sum over the ones equals the sum over the others
+-- at the end of the run `r`, a sum over the places of the pass's own visits in a lane equals the sum over those of the
+-- marks in the lines of `r`
 pub record OwnPlaces (r : Run) : Type 0 where
   pub placed : (f : ℕ → ℕ) (lane : LaneId) → index_of lane < length r.end.lanes →
       sum_by f (at (index_of lane) r.end).places ≡ marked_by f lane r

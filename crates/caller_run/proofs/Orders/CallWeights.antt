@@ -30,8 +30,8 @@ module _ (f : Item → ℕ) where
   Weighs waiting events lines calls =
       weight (calls_items calls) ≡ weight (lines_items (map act_line waiting)) + weight (lines_items lines)
 
-  -- if the weight of `call` is n more than that of `line`, and the weight of `calls` is m more than that of `lines`,
-  -- then with `call` and `line` in front the difference is n + m
+  -- suppose that `call` weighs n more than `line`, and that `calls` weigh m more than `lines`. Then `call` and `calls`
+  -- together weigh n + m more than `line` and `lines`
   in_front_of : (call : Call) (line : SeenLine) (calls : List Call) (lines : List SeenLine) (n m : ℕ) →
       weight (call_items call) ≡ n + weight (line_items line) →
       weight (calls_items calls) ≡ m + weight (lines_items lines) →
