@@ -1,5 +1,5 @@
--- The code goes along a list and appends the results of each entry. At the end the code has appended `listed_from` of
--- the whole list.
+-- If the code goes along a list and appends the results of each entry, it has appended `listed_from` of the whole list
+-- at the end.
 use Rattle.std.proofs.Common.{◌≡◌, ◌≤◌, ◌<◌, ◌+◌, ℕ, List, [], ◌∷◌, ◌++◌, length, take, get_or, Some, refl, sym, ap, ◌∙◌, append_assoc, append-nil}
 use Rattle.std.specs.Prelude.{map, slice_get}
 use Rattle.std.specs.List.{fold}
@@ -11,8 +11,8 @@ use Rattle.audit_keys.specs.ListedFrom.{listed_from}
 pub after_same : {T : Type 0} (old mid new add : List T) → mid ≡ old → new ≡ mid ++ add → new ≡ old ++ add
 after_same old mid new add stayed added = added ∙ ap (λ ts. ts ++ add) stayed
 
--- if a list has `f` of each of the first `i` elements, and `f` of the next one is appended, it has `f` of the first `i
--- + 1` elements
+-- if `f` of the next element is appended to `old` and `f` of each of the first `i` elements of `xs`, the list has `f`
+-- of the first `i + 1` elements
 pub map_more : {A B : Type 0} (f : A → B) (xs : List A) (i : ℕ) (d : A) (old now new : List B) → i < length xs →
     now ≡ old ++ map f (take i xs) → new ≡ now ++ f (get_or xs i d) ∷ [] → new ≡ old ++ map f (take (i + 1) xs)
 map_more f xs i d old now new below h more =
@@ -30,7 +30,7 @@ module _ {S E T : Type 0} (tells : S → E → List T) (step : S → E → S) wh
       (listed_from tells step (fold step (step s e) es) fs))
 
   module _ (start : S) (entries : List E) where
-    -- `now` is the list `old`, and then the results of the entries before `place`
+    -- `now` is `old`, and then the results of the entries before `place`
     abbrev pub IsListed : ℕ → List T → List T → Type 0
     IsListed place old now = now ≡ old ++ listed_from tells step start (take place entries)
 
@@ -51,8 +51,8 @@ module _ {S E T : Type 0} (tells : S → E → List T) (step : S → E → S) wh
     listed_all place old now all h =
         h ∙ ap (λ es. old ++ listed_from tells step start es) (take_all place entries all)
 
-    -- if `mid` equals `now`, and the results of the entry at `place` are appended to `mid`, `new` has the results of
-    -- the entries before `place + 1`
+    -- suppose that `mid` equals `now`, which has the results of the entries before `place`. If those of the entry at
+    -- `place` are appended, `new` has the results of the entries before `place + 1`
     pub listed_after : (place : ℕ) (e : E) (old now mid new : List T) → slice_get entries place ≡ Some e →
         IsListed place old now → mid ≡ now → new ≡ mid ++ tells (fold step start (take place entries)) e →
         IsListed (place + 1) old new

@@ -23,8 +23,8 @@ use Rattle.audit_keys.specs.Left.{Left, After, met, copied, keyed, with_key, fro
 use Rattle.audit_keys.proofs.Outlines.{generation_test, same_entries, same_block, copy_outline, met_outline, met_entries}
 use Rattle.audit_keys.proofs.KeySteps.{FirstStep, first_step, key_listed}
 
--- `b` ends as the attempt `a` does. Its entries are `before` and then those of `a`; its outline is that of the state
--- that `a` leaves; its `rest` is `rest`
+-- `b` ends as the attempt `a` does, followed by the steps `rest`. Its entries are `before` and then those of `a`; its
+-- outline is that of the state that `a` leaves
 pub record Gives (before : List VEntry) (rest : List Step) (a : Attempt) (b : After) : Type 0 where
   pub entries : b.left.entries ≡ before ++ a.entries
   pub outline : IsOutline b.left.outline a.state
@@ -38,8 +38,8 @@ gives_at before rest a a' b b' p q g =
     let P : Attempt → Type 0 = λ x. Gives before rest x b in let Q : After → Type 0 = λ x. Gives before rest a' x in
     subst P (sym p) (subst Q (sym q) g)
 
--- suppose that after the entries `before` and `es`, `b` ends as the attempt `a` does. Then after `before`, `b` ends as
--- `a` does with `es` put in front of its entries
+-- suppose that the entries of `b` are `before`, `es` and those of the attempt `a`, and that `b` otherwise ends as `a`
+-- does. Then `Gives` holds after `before` for `a` with `es` in front of its entries
 gives_after : (es before now : List VEntry) (rest : List Step) (a : Attempt) (b : After) → now ≡ before ++ es →
     Gives now rest a b → Gives before rest (prefix_attempt es a) b
 gives_after es before now rest a b more g = record {
@@ -50,7 +50,8 @@ gives_after es before now rest a b more g = record {
   end = g.end;
 }
 
--- the acts wipe at a point exactly if the attempt's state was wiped there; `Written` counts only if a key was read
+-- at each point the acts wipe exactly if the attempt's state was wiped there (`w1` to `w4`); `Written` counts only if a
+-- key was read (`keyed`)
 pub record WipesAre (acts : List BoundAct) (keyed w1 w2 w3 w4 : Bool) : Type 0 where
   pub start : is_wiped acts Start ≡ w1
   pub written : keyed ≡ true → is_wiped acts Written ≡ w2
@@ -58,7 +59,7 @@ pub record WipesAre (acts : List BoundAct) (keyed w1 w2 w3 w4 : Bool) : Type 0 w
   pub end : is_wiped acts End ≡ w4
 
 module _ (lists : Lists) (set : Setting) (more : List HostStep) where
-  -- ---- from Serve on
+  -- ---- `from_serve` ends as an attempt from its point Serve on does ----
 
   copy_gives : (acts : List BoundAct) (n c h : ℕ) (w3 w4 : Bool) (s : VgetrandomState) (l : Left) (rest : List Step) →
       is_wiped acts Serve ≡ w3 → is_wiped acts End ≡ w4 → IsOutline l.outline s →
@@ -83,7 +84,7 @@ module _ (lists : Lists) (set : Setting) (more : List HostStep) where
         end = ap (λ b. if b then holds else outdated) (generation_test end.outline (state_left w4 sc) h is_end);
       })
 
-  -- ---- an attempt
+  -- ---- `attempted` ends as a whole attempt does ----
 
   pub record AttemptLeaves (n c : ℕ) (s : VgetrandomState) (tried : List HostStep) (steps : List Step)
       (a : Attempt) : Type 0 where
@@ -130,7 +131,7 @@ module _ (lists : Lists) (set : Setting) (more : List HostStep) where
       goes : FromStart n c (published_by g) s1 st.rest st.attempt_after
       goes = let P : ℕ → Type 0 = λ x. FromStart n c x s1 st.rest st.attempt_after in subst P y.3.0 st.goes_on
 
-      -- after its look, an attempt goes on from the point `Start`
+      -- after its look, an attempt goes on from its point Start
       looks : (acts : List BoundAct) (l : Left) → attempted acts n c l steps
           ≡ from_start acts n c g (met (is_wiped acts Start) l) f.rest
       looks acts l = ap (attempted acts n c l) (f.steps_are ∙ ap (λ x. x ∷ f.rest) f.tells)

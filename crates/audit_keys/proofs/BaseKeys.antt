@@ -1,4 +1,4 @@
--- If the code has the key of the base's state before an entry, `key_after` gives the key of the state after the entry.
+-- If the code has the base's key before an entry, `key_after` gives the base's key after the entry.
 use Rattle.std.proofs.Common.{◌≡◌, ◌+◌, ℕ, sym, ap, ◌∙◌, arith}
 use Rattle.std.specs.Prelude.{Option}
 use Rattle.key_names.specs.declared.names.KeyName.{KeyName}

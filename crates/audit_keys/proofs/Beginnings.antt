@@ -1,5 +1,5 @@
--- If a book's lists are cut to beginnings, no byte of a key or rest that is held after these beginnings was used in
--- them.
+-- If each list of a book is cut to a beginning, no byte of a key or rest that is held after these beginnings was used
+-- in them. A rest is the bytes of a batch that were not served.
 use Rattle.std.proofs.Common.{◌≡◌, ℕ, ◌+◌, ◌-◌, ◌*◌, ◌++◌, List, [], ◌∷◌, length, Option, Some, None, inl, inr, refl, sym, subst, ap, ◌∙◌, arith}
 use Rattle.std.specs.Prelude.{Bool, true, false, slice_get, option_and_then}
 use Rattle.std.specs.List.{fold}
@@ -30,7 +30,7 @@ use Rattle.key_names.proofs.Uses.StateUses as state_side
 use Rattle.audit_keys.specs.HeldUnused.{HoldsUnused}
 use Rattle.audit_keys.specs.Moments.{BeginsWith, AreBeginnings, BeginningsHoldUnused}
 
--- if a list is lawful, so is each beginning of it
+-- if the list `whole` is lawful, so is its beginning `part`
 lawful_front : {S E : Type 0} (May : S → E → Type 0) (step : S → E → S) (s : S) (whole part : List E) →
     BeginsWith whole part → LawfulFrom May step s whole → LawfulFrom May step s part
 lawful_front {S} {E} May step s whole part begins lawful =
@@ -38,14 +38,13 @@ lawful_front {S} {E} May step s whole part begins lawful =
     subst P (take-append_seam part begins.0)
     (lawful_take May step s (part ++ begins.0) (length part) (subst P begins.1 lawful))
 
--- if `of` gives a name for the entry at a place of a beginning, `of` gives the same name for this place of the whole
--- list
+-- if `of` gives the name `b` for the entry at place i of a beginning `part`, it gives `b` for place i of `whole` too
 named_front : {A B : Type 0} (of : A → Option B) (whole part : List A) (i : ℕ) (b : B) → BeginsWith whole part →
     option_and_then of (slice_get part i) ≡ Some b → option_and_then of (slice_get whole i) ≡ Some b
 named_front of whole part i b begins is =
     ap (λ es. option_and_then of (slice_get es i)) begins.1 ∙ named_stays of part begins.0 i b is
 
--- each use in a beginning is a use in the whole list
+-- each use of byte q of `k` in the beginning `es` of a list is a use in the whole list
 used_front : {S E : Type 0} (uses_at : S → E → List Use) (step : S → E → S) (s : S) (es fs : List E) (k : KeyName)
     (q : ℕ) → IsUsed (uses_from uses_at step s es) k q → IsUsed (uses_from uses_at step s (es ++ fs)) k q
 used_front uses_at step s [] fs k q h = absurd h
@@ -117,7 +116,7 @@ module _ (whole part : Lists) (lanes : ForwardLawful whole) (states : LawfulStat
         ends = begins.ends caller state;
       })
 
-  -- a key that the base has had is one of the base's own keys
+  -- each key that the base has held is one of the base's own keys
   base_own : (place roots : ℕ) (k : KeyName) → base_side.IsOld place roots k → Own whole base_key k
   base_own place roots (Root r) old = omega arith
   base_own place roots (Base i) old = omega arith
@@ -134,7 +133,7 @@ module _ (whole part : Lists) (lanes : ForwardLawful whole) (states : LawfulStat
           let P : Option Taken → Type 0 = λ o. IsLong o in
           subst P (sym (named_front taken_of (cpu_list whole c) (cpu_list part c) i taken (begins.cpus c) is)) long
 
-  -- a name that a beginning of a CPU's list gives is a name of the CPU
+  -- a name that the beginning of a CPU's list gives a key is the name of one of the CPU's own keys
   cpu_own : (c : ℕ) (k : KeyName) → cpu_names.IsLater whole.base c (taken_at (cpu_list part c)) 0 k →
       Own whole (cpu_key c) k
   cpu_own c (Root r) later = later
@@ -145,7 +144,7 @@ module _ (whole part : Lists) (lanes : ForwardLawful whole) (states : LawfulStat
   cpu_own c (Call (CpuLane d) i) later = (later.0, later.1, long_front c i later.2)
   cpu_own c (Vdso caller state n) later = later
 
-  -- a name that a beginning of a state's list gives is a name of the state
+  -- a name that the beginning of a state's list gives a key is the name of one of the state's own keys
   state_own : (caller state : ℕ) (k : KeyName) →
       state_side.IsLater caller state (rekey_at (state_list part caller state)) 0 0 k →
       Own whole (state_key caller state) k
@@ -159,14 +158,15 @@ module _ (whole part : Lists) (lanes : ForwardLawful whole) (states : LawfulStat
     is = t.is;
   })
 
-  -- if a CPU used a byte in `part`, the replay of the CPU's list over the base's whole list has the same use
+  -- if CPU c used byte q of `k` in `part`, a replay of its list in `part` over the base's list in `whole` has the same
+  -- use
   walk_used : (c : ℕ) (k : KeyName) (q : ℕ) → IsUsed (cpu_uses part c) k q →
       IsUsed (uses_from (cpu_uses_at c (is_rekeyed part c)) (cpu_step whole.base c) cpu_start (cpu_list part c)) k q
   walk_used c k q used =
       let P : List Use → Type 0 = λ us. IsUsed us k q in
       subst P (same_uses part.base whole.base c (is_rekeyed part c) 0 cpu_start (cpu_list part c)) used
 
-  -- each key that a holder uses is one of the holder's own keys
+  -- each key that a holder uses is one of this holder's own keys
   own_used : (h : KeyHolder) (k : KeyName) (q : ℕ) → IsUsed (uses_of part h) k q → Own whole h k
   own_used base_key k q used =
       let P : List BaseEntry → Type 0 = λ es. IsUsed (uses_from base_uses_at base_step base_start es) k q in
@@ -180,7 +180,7 @@ module _ (whole part : Lists) (lanes : ForwardLawful whole) (states : LawfulStat
     | inr (inr l) ↦ state_own caller state k l
   ]
 
-  -- `k` is one of the holder's own keys, and the holder did not use byte `q` of `k`
+  -- `k` is one of the own keys of holder `h`, and `h` did not use byte q of `k`
   record Unused (h : KeyHolder) (k : KeyName) (q : ℕ) : Type 0 where
     own : Own whole h k
     unused : IsUsed (uses_of part h) k q → ⊥
@@ -237,7 +237,7 @@ module _ (whole part : Lists) (lanes : ForwardLawful whole) (states : LawfulStat
         unused = λ used. (state_walk caller state).apart k q used (inr (inl b));
       }
 
-  -- if a holder did not use a byte of its own key, no holder used this byte
+  -- if the holder `h` did not use byte q of its own key `k`, no holder used it
   apart : (h : KeyHolder) (k : KeyName) (q : ℕ) → Unused h k q → IsUsed (uses part) k q → ⊥
   apart h k q ok used =
       let by = used_by part k q used in

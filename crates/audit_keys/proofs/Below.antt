@@ -19,7 +19,7 @@ below_more tells n =
     ∙ flat_map-append tells (range_with_len 0 n) (n ∷ [])
     ∙ ap (λ ts. listed_below n tells ++ ts) (append-nil (tells n))
 
--- if the results for `n` are appended to the results for the numbers below `n`, the list has those for the numbers
+-- if the results for `n` are appended to the results for the numbers below `n`, they become the results for the numbers
 -- below `n + 1`
 pub added_more : {T : Type 0} (tells : ℕ → List T) (n : ℕ) (old now new : List T) →
     now ≡ old ++ listed_below n tells → new ≡ now ++ tells n → new ≡ old ++ listed_below (n + 1) tells

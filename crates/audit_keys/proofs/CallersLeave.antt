@@ -25,14 +25,14 @@ use Rattle.audit_keys.proofs.VreadsLeave.{vread_leaves}
 abbrev pub outline_at : Outlines → ℕ → Outline
 outline_at o k = unwrap_or (slice_get o.each k) wiped_outline
 
--- `o` has the outline of each of the caller's states, and the number of the current state
+-- `o` has the outline of each of the caller's vgetrandom states, and the number of the current state
 pub record Conforms (o : Outlines) (c : CallerState) : Type 0 where
   pub count : length o.each ≡ 16
   pub states : length c.states ≡ 16
   pub current : o.current ≡ c.current
   pub each : (k : ℕ) → k < 16 → IsBetweenCalls (outline_at o k) (state_at c k)
 
--- after a call the outlines match the states, and the call left the entries of its meaning
+-- after `call` the outlines match the caller's states, and the call left the entries of its meaning `m`
 pub record Goes (o : Outlines) (call : Call) (m : CallMeaning) : Type 0 where
   pub conforms : Conforms (outlines_after o call) m.after
   pub entries : entries_left o call ≡ m.entries
@@ -107,7 +107,7 @@ current_conforms o c st = go (nat_lt o.current 16) refl
         (ap (λ o. unwrap_or o wiped_state)
         (slice_get_past c.states c.current (omega (arith, st.states, st.current)))) wiped_conforms
 
--- ---- one call
+-- ---- one call of a caller ----
 
 alone_goes : (o : Outlines) (event : Event) (m : CallMeaning) → Conforms o m.before → AloneMeans event m →
     Conforms (outlines_after_event o event) m.after × (entries_of_event event ≡ m.entries)
@@ -153,7 +153,7 @@ call_goes lists o (ending line) m st means effects = record {
   entries = sym means.entries;
 }
 
--- ---- one call after another
+-- ---- the calls of a caller, one after another ----
 
 pub conforms_at : (o : Outlines) (c d : CallerState) → c ≡ d → Conforms o c → Conforms o d
 conforms_at o c d e st = let P : CallerState → Type 0 = λ x. Conforms o x in subst P e st
@@ -173,7 +173,7 @@ calls_go lists o c (call ∷ calls) (m ∷ ms) st means effects k =
     ap (λ es. es ++ list_left k (outlines_after o call) calls) first
     ∙ ap (λ es. (if m.before.current == k then m.entries else []) ++ es) more
 
--- ---- the lists
+-- ---- the lists of a caller's states after its calls ----
 
 pub at_start : (setting : Setting) → Conforms first_outlines (caller_start setting)
 at_start setting = record {

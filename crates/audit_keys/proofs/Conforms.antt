@@ -1,5 +1,5 @@
--- The code carries a value along a list. At each place the value matches the state before this place. At the end it
--- matches the last state.
+-- The code carries a value along a list of entries. Before each entry the value matches the state that the earlier
+-- entries leave, and at the end it matches the last state.
 use Rattle.std.proofs.Common.{◌≡◌, ◌≤◌, ◌+◌, ℕ, List, length, take, Some, sym, subst}
 use Rattle.std.specs.Prelude.{slice_get}
 use Rattle.std.specs.List.{fold}

@@ -13,7 +13,8 @@ use Rattle.audit_keys.specs.Listed.{cpu_lists}
 use Rattle.audit_keys.specs.Cut.{is_by, lane_moments, list_to, moment_lists, stamps_of, visit_stamps}
 
 module _ {K : Type 0} (stamp : ℕ) where
-  -- the kept entry `k` if `b` is true (the visit's stamp is at most `stamp`), and otherwise nothing
+  -- the kept data `k` of a visit if `b` is true, and otherwise nothing; `b` is whether the visit's stamp is at most
+  -- `stamp`
   abbrev kept_by : Bool → K → List K
   kept_by b k = if b then k ∷ [] else []
 
@@ -59,7 +60,8 @@ module _ {K : Type 0} (stamp : ℕ) where
       cut_more moments kept place k cut cut' b is so by
       (more ∙ sym (append-nil cut) ∙ ap (λ t. cut ++ kept_by t k) (sym e))
 
--- if kept entries are cut at a stamp by their moments, the entries of the visits up to the stamp remain
+-- if the kept data of a lane's visits are cut at `stamp` by the moments of the visits, the entries of the visits up to
+-- `stamp` remain
 pub visits_kept : {K E : Type 0} (entry : K → E) (stamp : ℕ) (kept : List K) (moments : List Moment)
     (visits : List (Visit E)) → map entry kept ≡ entries_of visits → stamps_of moments ≡ visit_stamps visits →
     map entry (list_to stamp moments kept) ≡ entries_of (visits_to stamp visits)

@@ -13,7 +13,7 @@ at_replicate n i a low =
     slice_get-get_or (replicate n a) i a (let long = length-replicate n a in omega (arith, low, long))
     ∙ ap Some (get_or-replicate n i a a low)
 
--- if the code counts one more integer in the fill of a width, the code's fills are those after this integer was served
+-- if the code counts one more integer for the last fill of `width`, its fills are those after this integer was served
 pub served_one_more : (kept : List (Option Fill)) (fills : ℕ → Option BookFill) (width : ℕ) (more : Option Fill) →
     width < 256 → AreFills fills kept → more ≡ fill_of (one_more_served (fills width)) →
     AreFills (served_more width fills) (slice_set kept width more)

@@ -1,4 +1,4 @@
--- In a list sorted by key, the elements with the same key form a range. Two partition points bound this range.
+-- In a list sorted by key, the elements with the same key form a range, which two partition points bound.
 use Rattle.std.proofs.Common.{◌≡◌, ◌≤◌, ◌<◌, ◌+◌, ◌-◌, ℕ, Bool, true, false, List, [], ◌∷◌, ◌++◌, length, take, drop, get_or, refl, sym, ap, subst, ◌∙◌, append-nil, arith}
 use Rattle.std.specs.Prelude.{All, not, ◌&&◌, filter, IsSortedByKey}
 use Rattle.std.specs.Cmp.{IsTotalOrder}
@@ -72,8 +72,8 @@ module _ {X K : Type 0} {R : K → K → Ordering} (o : IsTotalOrder R) (key : X
   abbrev is_at : X → Bool
   is_at x = is_eq (R (key x) k)
 
-  -- the group of a key begins at the first element that is not before the key. The group ends with the last element
-  -- that is not after the key
+  -- the group of the key k (the elements with this key) is `count` elements from `first` on: from the first element
+  -- that is not below k to the last one that is not above k
   group_is : (xs : List X) (first count : ℕ) → first ≤ length xs →
       IsPartitionPoint (λ x. is_lt (R (key x) k) ≡ true) (λ x. is_lt (R (key x) k) ≡ false) xs first →
       IsPartitionPoint (λ x. is_le (R (key x) k) ≡ true) (λ x. is_le (R (key x) k) ≡ false) (drop first xs) count →
@@ -114,7 +114,7 @@ module _ {X K : Type 0} {R : K → K → Ordering} (o : IsTotalOrder R) (key : X
           (after_is_not (R (key (get_or (drop first xs) (count + i) d)) k)
           (counts.1 (count + i) d (omega arith) (omega (arith, below, size, high))))
 
--- the order of names
+-- the order of the names of keys
 abbrev cmp : KeyName → KeyName → Ordering
 cmp = order.cmp
 
@@ -130,7 +130,7 @@ module _ {X : Type 0} (key : X → KeyName) (k : KeyName) where
       IsPartitionedBy (λ x. is_le (cmp (key x) k)) (take (length all - first) (drop first all))
   after_parted all first sorted = rw (whole all first) (count_parted total-law key k all first sorted)
 
-  -- the group of a name lies between two partition points
+  -- the group of the name k lies between two partition points: it begins at `first` and has `count` elements
   pub named : (all : List X) (first count : ℕ) → first ≤ length all →
       IsPartitionPoint (λ x. is_lt (cmp (key x) k) ≡ true) (λ x. is_lt (cmp (key x) k) ≡ false) all first →
       IsPartitionPoint (λ x. is_le (cmp (key x) k) ≡ true) (λ x. is_le (cmp (key x) k) ≡ false)
@@ -151,7 +151,7 @@ module _ {X : Type 0} (key : X → KeyName) where
   ties_are Equal b e = rw e refl
   ties_are Greater b e = rw e refl
 
-  -- a stable sort leaves each group unchanged
+  -- a stable sort leaves the elements with the same name in their order
   pub group_stays : (x : X) (xs ys : List X) →
       filter (ties (λ a b. is_lt (cmp (key a) (key b))) x) ys
       ≡ filter (ties (λ a b. is_lt (cmp (key a) (key b))) x) xs →

@@ -1,4 +1,5 @@
--- Each list of a book is a beginning of itself. So by the law of beginnings, held keys and rests were not used.
+-- Each list of a book is a beginning of itself. So by `BeginningsHoldUnused` no held key, and no held rest of a batch,
+-- was used.
 use Rattle.std.proofs.Common.{[], sym}
 use Rattle.std.proofs.lemmas.List.{append-nil}
 use Rattle.key_names.specs.Lanes.Book.{Lists, lists_of, cpu_list, state_list, LawfulStates}
@@ -7,7 +8,7 @@ use Rattle.audit_keys.specs.HeldUnused.{BooksHoldUnused, TranscriptsHoldUnused}
 use Rattle.audit_keys.specs.Moments.{AreBeginnings}
 use Rattle.audit_keys.proofs.Beginnings.{hold_unused, beginnings_hold_unused}
 
--- each list is a beginning of itself
+-- each list of `lists` is a beginning of itself
 all_of : (lists : Lists) → LawfulStates lists → AreBeginnings lists lists
 all_of lists states = record {
   base = ([], sym (append-nil lists.base));

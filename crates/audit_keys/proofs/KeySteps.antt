@@ -23,9 +23,9 @@ use Rattle.audit_keys.specs.declared.leaving.KeyRead.{KeyRead}
 use Rattle.audit_keys.specs.Left.{key_read, second_key, key_in_front, or_key}
 
 module _ (lists : Lists) where
-  -- ---- the step that reads the key
+  -- ---- the step by which a system call reads a key ----
 
-  -- a step reads a key exactly if it is a visit of a CPU
+  -- `step` reads a key exactly if its effect is a visit of a CPU, and then reads it from that visit
   abbrev Tells : Effect → Step → Type 0
   Tells (looked g) step = step ≡ Look g
   Tells (at_pool v) step = key_read step ≡ None
@@ -84,9 +84,9 @@ module _ (lists : Lists) where
         following = cc;
       }
 
-  -- ---- a key's call
+  -- ---- the system call that reads a key for a state ----
 
-  -- the first steps read `key`, and `rest` has the steps after the call
+  -- `steps` begin with a system call that reads `key`, and `rest` are the steps after this call
   pub record KeyListed (steps : List Step) (more : List Effect) (answer : SystemAnswer) : Type 0 where
     pub key : KeyRead
     pub rest : List Step
@@ -98,8 +98,8 @@ module _ (lists : Lists) where
 
   module _ (steps : List Step) (call more : List Effect) (answer : SystemAnswer)
       (effects : effects_of lists steps ≡ call ++ more) (answers : answer ≡ answer_after 0 call) where
-    -- if the call's effects are `ds`, and `ds` were not interrupted, the call's answer is a read of their bytes at
-    -- their last place
+    -- if the effects `ds` of the system call were not interrupted, the answer is a read of the bytes that `ds` served,
+    -- at the last place of `ds`
     answer_at : (ds : List Effect) → call ≡ ds → was_interrupted ds ≡ false →
         answer ≡ read (served_bytes ds) (last_place ds)
     answer_at ds is calm =

@@ -1,5 +1,5 @@
--- `latest_of` does not depend on the order of visits. So the code may count the vread's own visits first, and the
--- visits of the acts after them.
+-- `latest_of`, the greatest stamp of some visits, does not depend on their order. So the code may count the vread's own
+-- visits first, and the visits of the acts after them.
 use Rattle.std.proofs.Common.{◌≡◌, ℕ, ◌≤◌, max, Bool, true, false, List, [], ◌∷◌, ◌++◌, refl, sym, ap, ◌∙◌, append_assoc, arith, take, drop}
 use Rattle.std.specs.Prelude.{if◌then◌else◌, slice_get}
 use Rattle.std.specs.Option.{option_map_or}
@@ -33,7 +33,7 @@ latest_swaps stamp a b =
     let one = latest_max stamp a in let two = latest_max (latest_of stamp a) b in
     let three = latest_max stamp b in let four = latest_max (latest_of stamp b) a in omega arith
 
--- ---- a vread
+-- ---- the order of the visits in a vread ----
 
 visits_whole : (steps : List Step) → (cut_after_visits steps).0 ++ (cut_after_visits steps).1 ≡ steps
 visits_whole [] = refl
@@ -52,7 +52,7 @@ rekey_whole steps = go (option_map_or is_mark (slice_get steps 2) false)
         ∙ take-append-drop 2 steps
     go false = refl
 
--- the steps of one more act count at the act's own point; at other points they do not count
+-- the steps of the act `bound` count at the act's own point; at other points they do not count
 pub at_point : (stamp : ℕ) (bound : BoundAct) (acts : List BoundAct) (point : Point) → is_same_point bound.point point ≡ true →
     latest_of stamp (steps_at_point (bound ∷ acts) point)
     ≡ latest_of (latest_of stamp bound.line.steps) (steps_at_point acts point)
@@ -63,7 +63,7 @@ pub elsewhere : (stamp : ℕ) (bound : BoundAct) (acts : List BoundAct) (point :
     latest_of stamp (steps_at_point (bound ∷ acts) point) ≡ latest_of stamp (steps_at_point acts point)
 elsewhere stamp bound acts point is = rw is refl
 
--- if steps come in seven parts, the fourth part and the last part may be counted right after the first part
+-- in the greatest stamp of seven lists of steps, the lists `c` and `d` may be counted right after `a`
 parts_move : (s : ℕ) (a p q c r t d : List Step) →
     latest_of s (a ++ p ++ q ++ c ++ r ++ t ++ d)
     ≡ latest_of (latest_of (latest_of (latest_of (latest_of s (a ++ c ++ d)) p) q) r) t
@@ -88,7 +88,7 @@ parts_move s a p q c r t d =
     y : ℕ
     y = latest_of (latest_of s a) c
 
--- the visits of the acts may be counted after the vread's own visits
+-- the visits of the acts inside a vread may be counted after the vread's own visits
 pub latest_vread : (stamp : ℕ) (steps : List Step) (acts : List BoundAct) →
     latest_of stamp (vread_steps steps acts)
     ≡ latest_of (latest_of (latest_of (latest_of (latest_of stamp steps) (steps_at_point acts Start))

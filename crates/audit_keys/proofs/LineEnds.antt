@@ -1,10 +1,10 @@
--- The ends of all lines depend only on the calls and on the stamps at the callers' starts.
+-- The ends of all lines (their calls and stamps) depend only on the calls, and on the stamps at the callers' starts.
 use Rattle.std.proofs.Common.{◌≡◌, ℕ, suc, ◌+◌, ◌<◌, ◌≤◌, List, [], ◌∷◌, length, refl, ap, arith}
 use Rattle.key_names.specs.Callers.Calls.{Call}
 use Rattle.audit_keys.specs.LineEnds.{all_line_ends, line_ends, listed_lines}
 use Rattle.audit_keys.specs.Stamps.{start_stamp}
 
--- if f and g give equal stamps at the start of each caller, the line ends are the same
+-- if f and g give equal stamps at the start of each caller, the line ends computed from them are equal
 lines_same : (f g : ℕ → ℕ) (c : ℕ) (callers : List (List Call)) →
     ((d : ℕ) → c ≤ d → d < c + length callers → f d ≡ g d) → all_line_ends f c callers ≡ all_line_ends g c callers
 lines_same f g c [] same = refl

@@ -1,4 +1,4 @@
--- Whatever meanings the calls have, `all_over` lists each entry with the end of the call that left the entry.
+-- Whatever meanings the calls have, `all_over` lists each entry together with the end of the call that left the entry.
 use Rattle.std.proofs.Common.{◌≡◌, ℕ, suc, ◌+◌, ◌<◌, ◌≤◌, List, [], ◌∷◌, ◌++◌, map, length, refl, sym, ap, ◌∙◌, arith}
 use Rattle.std.specs.Prelude.{◌==◌, if◌then◌else◌}
 use Rattle.std.specs.List.{range_with_len}

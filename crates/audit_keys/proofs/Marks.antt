@@ -25,7 +25,7 @@ pub or_false : (a : Bool) → a ≡ (a || false)
 or_false true = refl
 or_false false = refl
 
--- `now` has the marks of `old`, and a mark at each place that one of the first `i` elements takes
+-- `now` has a mark at each place that `old` marks or that one of the first `i` elements of `xs` takes (`takes`)
 abbrev pub MarkedBy : {X : Type 0} → (ℕ → X → Bool) → List X → ℕ → List Bool → List Bool → Type 0
 MarkedBy takes xs i old now = (k : ℕ) → k < length old →
     rekeys_of now k ≡ (rekeys_of old k || list_any (takes k) (take i xs))
@@ -46,7 +46,7 @@ pub marked_all : {X : Type 0} (takes : ℕ → X → Bool) (xs : List X) (i : �
 marked_all takes xs i old now all h k low =
     h k low ∙ ap (λ ys. rekeys_of old k || list_any (takes k) ys) (take_all i xs all)
 
--- the image of some element passes a test exactly if some element of the mapped list passes the test
+-- some element of `xs` has an image under `f` that passes the test, exactly if some element of `map f xs` passes it
 any_map : {A B : Type 0} (f : A → B) (test : B → Bool) (xs : List A) →
     list_any (λ x. test (f x)) xs ≡ list_any test (map f xs)
 any_map f test [] = refl

@@ -12,7 +12,7 @@ use Rattle.audit_keys.specs.declared.outline.Outline.{Outline}
 use Rattle.audit_keys.specs.Outline.{IsOutline, outlined}
 use Rattle.audit_keys.specs.Left.{Left, left_more, with_served, met, refilled, copied}
 
--- ---- the generation
+-- ---- the generation in an outline ----
 
 published_once : (f g : ℕ) → published_by f ≡ published_by g → f ≡ g
 published_once zero zero e = refl
@@ -45,9 +45,9 @@ pub generation_test : (o : Outline) (s : VgetrandomState) (g : ℕ) → IsOutlin
     (s.generation == published_by g) ≡ (o.found == g)
 generation_test o s g is = ap (λ x. x == published_by g) is.generation ∙ same_test o.found g
 
--- ---- a copy
+-- ---- a copy of bytes out of a state, by its outline ----
 
--- a state with position `pos` in its batch
+-- some state with the position `pos` in its batch
 abbrev at : ℕ → VgetrandomState
 at pos = record { batch = []; key = []; generation = 0; pos = pos; in_use = false }
 
@@ -106,7 +106,7 @@ refilled_is n c served left whole last l m new is left_is more m_is whole_is las
     let t : nat_le n (96 - l.outline.served) ≡ false = grind (arith, nat_tests) in t) in
     rw (new_is, m_is, whole_is, last_is, left_is, is) (sym (copied_beyond n c l beyond))
 
--- ---- a wipe
+-- ---- a wipe of a state, by its outline ----
 
 pub met_outline : (b w : Bool) (l : Left) (s : VgetrandomState) → b ≡ w → IsOutline l.outline s →
     IsOutline (met b l).outline (state_left w s)

@@ -1,5 +1,5 @@
--- Call by call, the code appends to each list the entries of `list_over`. At the end the lists are those of
--- `caller_over`.
+-- Call by call, the code appends to each list of a vgetrandom state the entries that `list_over` gives. At the end the
+-- lists of a caller's states are those of `caller_over`.
 use Rattle.std.proofs.Common.{◌≡◌, ℕ, zero, suc, ◌+◌, ◌<◌, Bool, true, false, List, [], ◌∷◌, ◌++◌, map, refl, sym, ap, ◌∙◌, append_assoc, append-nil, arith, length, replicate, get_or}
 use Rattle.std.specs.Prelude.{◌==◌, if◌then◌else◌, slice_get, slice_set, unwrap_or}
 use Rattle.std.specs.List.{range_with_len}
@@ -22,7 +22,7 @@ use Rattle.audit_keys.specs.Stamped.{left_by, kept_lists, States, first_states, 
 abbrev list_of : States → ℕ → List StateEntry
 list_of s k = unwrap_or (slice_get s.lists k) []
 
--- the entries `es` if the list is that of the current state, and otherwise none
+-- the entries `es` if `b` is true (the list is that of the current state), and otherwise none
 abbrev here_or_none : {E : Type 0} → Bool → List E → List E
 here_or_none b es = if b then es else []
 
@@ -65,7 +65,7 @@ puts_left s i end l = record {
         λ p. (let yes : (s.outlines.current == k) ≡ true = eq-eqb s.outlines.current k p in absurd cc) in
         ap (λ o. unwrap_or o []) (set_other s.lists s.outlines.current k new ne) ∙ sym (append-nil (list_of s k))
 
--- ---- one call
+-- ---- one call of a caller ----
 
 record Goes (s : States) (i : ℕ) (call : Call) (t : States) : Type 0 where
   outlines : t.outlines ≡ outlines_after s.outlines call
@@ -100,7 +100,7 @@ call_goes s i (unbound bound) =
 call_goes s i (ending line) =
     record { outlines = refl; stamp = refl; puts = puts_none s i (end_of s.stamp (ending line)) _ refl }
 
--- ---- one call after another
+-- ---- the calls of a caller, one after another ----
 
 record AllPut (s : States) (i : ℕ) (calls : List Call) (t : States) : Type 0 where
   count : length t.lists ≡ length s.lists
@@ -126,7 +126,7 @@ calls_put : (s : States) (i : ℕ) (calls : List Call) → AllPut s i calls (sta
 calls_put s i [] = record { count = refl; lists = λ k below. sym (append-nil (list_of s k)) }
 calls_put s i (call ∷ calls) = one_more s i call calls (calls_put (states_after i s call) (i + 1) calls)
 
--- ---- the lists
+-- ---- the lists of a caller's states, as one list of lists ----
 
 abbrev none : List StateEntry
 none = []
@@ -159,7 +159,7 @@ calls_over start calls =
     ∙ ap (λ es. es ++ list_over k first_outlines 0 start calls) (none_at_first 16 k)
     ∙ (let same : k ≡ 0 + k = omega arith in ap (λ j. list_over j first_outlines 0 start calls) same))
 
--- ---- the lists as they are kept
+-- ---- the lists in the vectors that keep them ----
 
 pub list_put : (lists : List (Vec StateEntry)) (i : ℕ) (list new : Vec StateEntry) (more : List StateEntry) →
     i < length lists → list ≡ get_or lists i list → new.items ≡ list.items ++ more →
@@ -172,7 +172,7 @@ list_put (x ∷ xs) zero list new more low is put =
 list_put (x ∷ xs) (suc i) list new more low is put =
     ap (λ ls. x.items ∷ ls) (list_put xs i list new more (omega arith) is put)
 
--- the lists of all callers are the lists of the first caller, and then those of the callers after it
+-- the lists of all callers from number `c` on are those of caller `c`, and then those of the callers after it
 pub one_caller : (starts : ℕ → ℕ) (c : ℕ) (calls : List Call) (callers : List (List Call))
     (lists : List (List StateEntry)) → lists ≡ caller_over (starts c) calls →
     all_over starts c (calls ∷ callers) ≡ (lists ∷ []) ++ all_over starts (c + 1) callers

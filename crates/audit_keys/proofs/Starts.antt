@@ -20,7 +20,7 @@ use Rattle.judge_lines.proofs.Forks.{AtParent, at_parent, steps_before}
 use Rattle.audit_keys.specs.Stamps.{latest_of, start_stamp}
 use Rattle.audit_keys.proofs.Latest.{latest-append}
 
--- `owns` has the own steps of all callers: at each caller's number it has the steps of this caller
+-- `owns` has at each caller's number the own steps of that caller
 pub own_kept : (owns : List (Vec Step)) (callers : List (List Call)) (c : ℕ) (steps : Vec Step) →
     map (λ own. own.items) owns ≡ map calls_steps callers → c < length owns → steps ≡ get_or owns c steps →
     steps.items ≡ calls_steps (list_at callers c)
@@ -36,7 +36,7 @@ pub owns_long : (owns : List (Vec Step)) (callers : List (List Call)) →
 owns_long owns callers e =
     sym (length-map callers calls_steps) ∙ sym (ap length e) ∙ length-map owns (λ (own : Vec Step). own.items)
 
--- the stamp at the start of the caller that this fork makes; 0 if no fork makes the caller
+-- the stamp at the start of the caller that `fork` makes, or 0 if there is no fork
 abbrev pub start_from : (ℕ → ℕ) → List (List Call) → Option Fork → ℕ
 start_from starts callers None = 0
 start_from starts callers (Some fork) =
@@ -78,7 +78,7 @@ module _ (starts : ℕ → ℕ) (callers : List (List Call)) (c : ℕ)
           ∙ ap (λ n. latest_of (starts parent.caller) (take n (calls_steps (list_at callers f.k)))) f.steps
           ∙ ap (latest_of (starts parent.caller)) f.front ∙ sym (after_parent parent is)
 
--- ---- the own steps
+-- ---- a caller's own steps ----
 
 pub none_past : (owns : List (Vec Step)) (callers : List (List Call)) (p n : ℕ) →
     map (λ own. own.items) owns ≡ map calls_steps callers → length owns ≤ p →
@@ -87,7 +87,7 @@ none_past owns callers p n are past =
     let long = owns_long owns callers are in
     ap (λ calls. take n (calls_steps calls)) (list_beyond callers p (omega arith)) ∙ take-nil n
 
--- ---- one caller after another
+-- ---- the stamps at the callers' starts, one caller after another ----
 
 pub known_more : (callers : List (List Call)) (starts : List ℕ) (x c : ℕ) → length starts ≡ c →
     ((p : ℕ) → p < c → unwrap_or (slice_get starts p) 0 ≡ start_stamp callers p) → x ≡ start_stamp callers c →

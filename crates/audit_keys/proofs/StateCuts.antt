@@ -1,4 +1,5 @@
--- The lists have the entries that all calls left. A cut at a stamp or at a call keeps the entries of the first calls.
+-- The lists of the vgetrandom states have the entries that all calls left. A cut at a stamp or at a call keeps the
+-- entries of the first calls.
 use Rattle.std.proofs.Common.{◌≡◌, ℕ, zero, suc, ◌+◌, ◌<◌, ◌≤◌, Bool, true, false, List, [], ◌∷◌, ◌++◌, map, refl, sym, ap, ◌∙◌, arith, length, take}
 use Rattle.std.specs.Prelude.{if◌then◌else◌, nat_le, filter}
 use Rattle.std.specs.List.{range_with_len}
@@ -23,7 +24,7 @@ use Rattle.audit_keys.specs.StateCut.{AreCut, all_lists_by, calls_by, entries_by
 use Rattle.audit_keys.proofs.CallersLeave.{map_same}
 use Rattle.audit_keys.proofs.Latest.{latest_above}
 
--- ---- all entries
+-- ---- the entries of all calls ----
 
 bare_by : (i : ℕ) (end : CallEnd) (es : List VEntry) → entries_in (left_by i end es) ≡ es
 bare_by i end [] = refl
@@ -65,7 +66,7 @@ pub entries_are_left : (starts : ℕ → ℕ) (callers : List (List Call)) (list
 entries_are_left starts callers lists is =
     sym (bare_all_lists lists) ∙ ap (map (map entries_in)) is ∙ bare_all starts 0 callers
 
--- ---- the entries up to a stamp
+-- ---- the entries of the calls that were over by a stamp ----
 
 kept-append : (cut : Cut) (a b : List StateEntry) → entries_by cut (a ++ b) ≡ entries_by cut a ++ entries_by cut b
 kept-append cut a b =
@@ -86,8 +87,8 @@ module _ (stamp : ℕ) where
   later : (before : ℕ) (call : Call) → nat_le before stamp ≡ false → nat_le (over_at before call) stamp ≡ false
   later before call by = let above = latest_above before (call_steps call) in grind (arith, nat_tests)
 
-  -- `before` is the stamp of the last visit before these calls. If `before` is above the cut's stamp, the cut keeps no
-  -- entry of these calls
+  -- `before` is the stamp of the last visit before `calls`. If it is above `stamp`, a cut at `stamp` keeps no entry of
+  -- `calls`
   none_kept : (k : ℕ) (o : Outlines) (i before : ℕ) (calls : List Call) → nat_le before stamp ≡ false →
       entries_by (Stamp stamp) (list_over k o i before calls) ≡ []
   none_kept k o i before [] by = refl
@@ -126,7 +127,7 @@ module _ (stamp : ℕ) where
           ap (λ es. es ++ entries_by (Stamp stamp) rest) (too_late i end (left_in k o call) is)
           ∙ none_kept k (outlines_after o call) (i + 1) done calls is
 
--- ---- the entries up to a call
+-- ---- the entries of the calls up to call `n` ----
 
 module _ (n : ℕ) where
   of_first : (i : ℕ) (end : CallEnd) (es : List VEntry) → nat_le i n ≡ true →
@@ -149,8 +150,8 @@ module _ (n : ℕ) where
       ∙ ap (λ es. es ++ entries_by (ByCall n) rest) (of_others i (end_of before call) (left_in k o call) test)
       ∙ none_first k (outlines_after o call) (i + 1) (over_at before call) calls (omega arith)
 
-  -- if the first of these calls has number `i`, and the cut keeps `m` calls, the cut keeps the entries of the first `m`
-  -- calls
+  -- if the first of `calls` has number `i`, so that the first `m` are numbered up to `n`, a cut at call `n` keeps the
+  -- entries of these `m` calls
   first_list : (k : ℕ) (o : Outlines) (i m before : ℕ) (calls : List Call) → i + m ≡ suc n →
       entries_by (ByCall n) (list_over k o i before calls) ≡ list_left k o (take m calls)
   first_list k o i zero before calls is = none_first k o i before calls (omega arith)
@@ -163,7 +164,7 @@ module _ (n : ℕ) where
       ∙ ap (λ es. left_in k o call ++ es)
       (first_list k (outlines_after o call) (i + 1) m (over_at before call) calls (omega arith))
 
--- ---- of all callers
+-- ---- the entries that cuts keep, for all callers ----
 
 cut_list : (cut : Cut) (k before : ℕ) (calls : List Call) →
     entries_by cut (list_over k first_outlines 0 before calls)
@@ -184,7 +185,8 @@ by_lists cut [] = refl
 by_lists cut (list ∷ lists) = ap (λ es. entries_by cut list.items ∷ es) (by_lists cut lists)
 
 module _ (cuts : ℕ → Cut) (starts others : ℕ → ℕ) where
-  -- if `starts` and `others` give equal stamps at the start of each caller, the kept lists are the same with both
+  -- if `starts` and `others` give equal stamps at the start of each caller, the lists that the cuts keep are the same
+  -- with both
   cut_all : (c : ℕ) (callers : List (List Call)) (lists : List (Vec (Vec StateEntry))) →
       all_kept lists ≡ all_over starts c callers → ((d : ℕ) → c ≤ d → d < c + length callers → starts d ≡ others d) →
       all_lists_by cuts c lists ≡ lists_made cuts others c callers

@@ -1,5 +1,5 @@
--- The lists of the book at a moment are beginnings of the whole book's lists. So what is held at the moment was not
--- used before it.
+-- The lists of the book at a moment are beginnings of the whole book's lists. So keys and rests that are held at the
+-- moment were not used before it.
 use Rattle.std.proofs.Common.{◌≡◌, ℕ, zero, suc, ◌+◌, ◌<◌, Bool, true, false, cond, List, [], ◌∷◌, ◌++◌, inl, inr, refl, sym, ap, ◌∙◌, arith, take, append_assoc}
 use Rattle.std.specs.Prelude.{map, nat_le, ◌==◌, if◌then◌else◌}
 use Rattle.std.specs.List.{AllByRecursion}
@@ -40,7 +40,7 @@ above_too stamp low [] lt above = tt
 above_too stamp low (h ∷ hs) lt above = (let le = above.0 in omega arith, above_too stamp low hs lt above.1)
 
 module _ {E : Type 0} (lane : LaneId) (stamp : ℕ) where
-  -- if all visits are after a stamp, none of them is up to the stamp
+  -- if all visits of a lane have stamps above `stamp`, none of them is up to `stamp`
   none_to : (i : ℕ) (visits : List (Visit E)) → AllByRecursion (λ h. stamp < h.stamp) (visits_from lane i visits) →
       visits_to stamp visits ≡ []
   none_to i [] above = refl
@@ -54,7 +54,7 @@ module _ {E : Type 0} (lane : LaneId) (stamp : ℕ) where
       ]
       go false is none = none
 
-  -- if stamps rise, the visits up to a stamp are a beginning of all visits
+  -- if the stamps of a lane's visits rise, the visits up to `stamp` are a beginning of all its visits
   visits_begin : (i : ℕ) (visits : List (Visit E)) → Rising (λ (h : Happening). h.stamp) (visits_from lane i visits) →
       BeginsWith (entries_of visits) (entries_of (visits_to stamp visits))
   visits_begin i [] rising = ([], refl)
@@ -70,7 +70,7 @@ module _ {E : Type 0} (lane : LaneId) (stamp : ℕ) where
           let none = none_to (suc i) visits (above_too stamp v.stamp (visits_from lane (suc i) visits) lt rising.0) in
           (entries_of (v ∷ visits), ap (λ vs. entries_of vs ++ entries_of (v ∷ visits)) (sym none))
 
--- `part` is a beginning of a state's list `whole`, and after `part` any entry may come next in the state
+-- `part` is a beginning of the state's list `whole`, and after `part` the state may have any entry next
 record CutState (caller k : ℕ) (whole part : List VEntry) : Type 0 where
   begins : BeginsWith whole part
   ends : (state_after caller k part).expected ≡ anything
@@ -85,7 +85,7 @@ cut_same caller k whole part whole' part' p q cut = record {
   ends = ap (λ es. (state_after caller k es).expected) q ∙ cut.ends;
 }
 
--- the entries of the first `n` calls are a beginning of the entries of all calls
+-- in the list of state `k`, the entries of the first `n` calls are a beginning of the entries of all calls
 entries_begin : (k n : ℕ) (ms : List CallMeaning) →
     BeginsWith (entries_of_state k ms) (entries_of_state k (take n ms))
 entries_begin k zero ms = (entries_of_state k ms, refl)
@@ -135,8 +135,8 @@ module _ (lists : Lists) (settings : ℕ → Setting) (made : ℕ → ℕ) where
       at xs lt = let p : 0 + k ≡ k = omega arith in
           made_at (λ i. entries_of_state i xs) 0 16 k lt ∙ ap (λ i. entries_of_state i xs) p
 
-  -- for all callers' states: each state's list after the first calls of its caller is a beginning of the state's list;
-  -- `c` is the number of the first caller
+  -- for each state of all callers: the state's list after the first calls of its caller is a beginning of its whole
+  -- list; `c` is the number of the first caller
   all_callers : (caller c : ℕ) (callers : List (List Call)) (mss : List (List CallMeaning)) →
       EachCaller (λ c calls ms. CallerMeans lists (settings c) calls ms) c callers mss → (i k : ℕ) →
       CutState caller k (list_at (list_at (map state_lists mss) i) k)

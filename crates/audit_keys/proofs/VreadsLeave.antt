@@ -35,12 +35,13 @@ leaves_at l o o' new new' p q h =
     let P : Outcome → Type 0 = λ x. CallLeaves l x new in let Q : Left → Type 0 = λ x. CallLeaves l o' x in
     subst P (sym p) (subst Q (sym q) h)
 
--- if a call leaves no entries, and `l` has the outline of the state after the call, the call leaves `l` as it was
+-- if the call `o` leaves no entries, and `l` has the outline of the state after it, `CallLeaves` holds with `l`
+-- unchanged
 nothing_more : (l : Left) (o : Outcome) → o.entries ≡ [] → IsBetweenCalls l.outline o.state → CallLeaves l o l
 nothing_more l o none is =
     record { entries = sym (append-nil l.entries) ∙ ap (λ es. l.entries ++ es) (sym none); conforms = is }
 
--- if the call ends with this attempt, the attempt leaves the entries and the outline that the call leaves
+-- if the call ends with the attempt `a`, the call leaves the entries and the outline that `a` leaves
 attempt_alone : (l : Left) (rest : List Step) (a : Attempt) (b : After) (after : Outcome) → Gives l.entries rest a b →
     after.entries ≡ [] → after.state.in_use ≡ false → after.state.generation ≡ a.state.generation →
     after.state.pos ≡ a.state.pos → CallLeaves l (prefix_outcome a.entries after) b.left
@@ -59,7 +60,7 @@ module _ (lists : Lists) (set : Setting) (n flags : ℕ) where
   shows_at : (xs ys : List HostStep) (ds : List Effect) → xs ≡ ys → Shows set xs ds → Shows set ys ds
   shows_at xs ys ds p shows = let P : List HostStep → Type 0 = λ x. Shows set x ds in subst P p shows
 
-  -- ---- the second attempt
+  -- ---- the second attempt of a call ----
 
   second_leaves : (acts : List BoundAct) (k w1 w2 w3 w4 : Bool) (points : List PointReached) (c : ℕ)
       (s : VgetrandomState) (l : Left) (ds : List Effect) (rest : List Step) (steps : List HostStep) (outcome : Outcome) →
@@ -107,7 +108,7 @@ module _ (lists : Lists) (set : Setting) (n flags : ℕ) where
           (ap (λ (o : Outcome). o.state.in_use) x.outcome_is) (ap (λ (o : Outcome). o.state.generation) x.outcome_is)
           (ap (λ (o : Outcome). o.state.pos) x.outcome_is)
 
-  -- ---- the first attempt
+  -- ---- the first attempt of a call ----
 
   first_leaves : (acts : List BoundAct) (s : VgetrandomState) (l : Left) (ds : List Effect) (rest : List Step)
       (steps : List HostStep) (outcome : Outcome) → FirstAttempt n flags s steps outcome → Shows set steps ds →
@@ -169,7 +170,7 @@ module _ (lists : Lists) (set : Setting) (n flags : ℕ) where
           (ap (λ (o : Outcome). o.state.pos) x.outcome_is)
       go false x = again x
 
-  -- ---- a call
+  -- ---- a whole vgetrandom call ----
 
   system_leaves : (s : VgetrandomState) (l : Left) (steps : List HostStep) (outcome : Outcome) →
       BySystem n flags s steps outcome → IsBetweenCalls l.outline s → CallLeaves l outcome l
@@ -254,7 +255,7 @@ module _ (lists : Lists) (set : Setting) (n flags : ℕ) where
           let nothing : ByNothing s by.rest outcome = subst P none x in
           leaves_at l outcome _ l l nothing.outcome_is refl (nothing_more l _ refl is)
 
--- ---- a vread
+-- ---- a vread, with its first look ----
 
 kept_idle : (b : Bool) (s : VgetrandomState) (c n : ℕ) → s.in_use ≡ false →
     (if b then state_of_same_batch s n
@@ -280,7 +281,8 @@ module _ (lists : Lists) (n flags : ℕ) (acts : List BoundAct) (steps : List St
     conforms = h.conforms;
   }
 
-  -- the call on the current state: if the flags are bad, the call goes to the system; otherwise it begins with its look
+  -- the vgetrandom call on the current state: if `bad` is true, it goes to the system; otherwise it begins with its
+  -- look
   abbrev CallBy : ByVgetrandom n flags acts m → Bool → Type 0
   CallBy v bad = MatchBool bad (BySystem n flags s v.steps v.outcome) (FromLook n flags s v.steps v.outcome)
 

@@ -11,7 +11,7 @@ use Rattle.audit_keys.specs.declared.outline.Outline.{Outline}
 use Rattle.audit_keys.specs.Outline.{wiped_outline}
 use Rattle.audit_keys.specs.Left.{nothing_left, vread_left}
 
--- the outline of each state, and the number of the current state
+-- the outline of each of a caller's vgetrandom states, and the number of the current state
 pub record Outlines : Type 0 where
   pub each : List Outline
   pub current : ℕ
@@ -58,6 +58,6 @@ abbrev pub list_left : ℕ → Outlines → List Call → List VEntry
 list_left k o [] = []
 list_left k o (call ∷ calls) = left_in k o call ++ list_left k (outlines_after o call) calls
 
--- the lists that a caller's calls leave
+-- the lists that a caller's calls leave for its sixteen vgetrandom states
 abbrev pub lists_left : List Call → List (List VEntry)
 lists_left calls = map (λ k. list_left k first_outlines calls) (range_with_len 0 16)

@@ -18,12 +18,13 @@ abbrev pub lane_moments : Option (Vec Moment) → List Moment
 lane_moments None = []
 lane_moments (Some lane) = lane.items
 
--- whether there is a moment, and its stamp is at most `stamp`
+-- whether there is a moment and its stamp is at most `stamp`
 abbrev pub is_by : ℕ → Option Moment → Bool
 is_by stamp None = false
 is_by stamp (Some moment) = nat_le moment.stamp stamp
 
--- the kept entries of a lane whose visits have stamps of at most `stamp`; `moments` has the stamps of the visits
+-- the kept data of those visits of a lane whose stamps are at most `stamp`; `moments` has the stamps of the lane's
+-- visits
 abbrev pub list_to : {K : Type 0} → ℕ → List Moment → List K → List K
 list_to stamp moments [] = []
 list_to stamp [] (k ∷ kept) = []
@@ -33,7 +34,7 @@ list_to stamp (m ∷ moments) (k ∷ kept) =
 abbrev pub visit_stamps : {E : Type 0} → List (Visit E) → List ℕ
 visit_stamps visits = map (λ v. v.stamp) visits
 
--- `kept` has the entries of the book's visits of the base and the CPUs, and `moments` has the stamps of these visits
+-- `kept` has the entries of the book's visits of the base and of the CPUs, and `moments` has the stamps of these visits
 pub record KeepsVisits (book : Book) (kept : KeptLists) (moments : Moments) : Type 0 where
   pub base : base_entries kept.base.items ≡ entries_of book.base
   pub base_stamps : stamps_of moments.base.items ≡ visit_stamps book.base

@@ -1,4 +1,4 @@
--- In a list of `StateEntry`, each entry is listed with the call that left the entry. Here are the entries alone.
+-- The entries of a list of `StateEntry`, which has each entry with the call that left the entry.
 use Rattle.std.specs.Prelude.{List, map}
 use Rattle.std.specs.Global.{Vec}
 use Rattle.key_names.specs.declared.entries.VEntry.{VEntry}

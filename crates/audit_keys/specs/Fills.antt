@@ -8,12 +8,12 @@ use Rattle.key_names.specs.Lanes.CpuList.{CpuState}
 use Rattle.audit_keys.specs.declared.cpu_uses.Fill.{Fill}
 use Rattle.audit_keys.specs.declared.cpu_uses.CpuKeys.{CpuKeys}
 
--- a fill in the form that the code keeps
+-- the last fill of a batch, in the form that the code keeps
 abbrev pub fill_of : Option BookFill → Option Fill
 fill_of None = None
 fill_of (Some fill) = Some (record { key = fill.key; count = fill.count })
 
--- how many integers a batch served since its fill
+-- how many integers the batch has served since this fill
 abbrev pub count_of : Option Fill → ℕ
 count_of None = 0
 count_of (Some fill) = fill.count
@@ -21,7 +21,7 @@ count_of (Some fill) = fill.count
 abbrev pub count_at : List (Option Fill) → ℕ → ℕ
 count_at kept w = count_of (unwrap_or (slice_get kept w) None)
 
--- after this entry the count of the entry's batch would not fit into 64 bits
+-- after this entry, the count of integers that the entry's batch served since its last fill would not fit into 64 bits
 abbrev pub IsCountedOut : List (Option Fill) → CpuEntry → Type 0
 IsCountedOut kept (Int look refill width false) = (width < 256) × (2 ^ 64 ≤ count_at kept width + 1)
 IsCountedOut kept (Int look refill width true) = ⊥
@@ -31,11 +31,11 @@ IsCountedOut kept (Dump now) = ⊥
 IsCountedOut kept Prepare = ⊥
 IsCountedOut kept Online = ⊥
 
--- for each width that fits into a byte, `kept` has the last fill
+-- `kept` has, for each width that fits into a byte, the last fill that `fills` has
 abbrev pub AreFills : (ℕ → Option BookFill) → List (Option Fill) → Type 0
 AreFills fills kept = (w : ℕ) → w < 256 → slice_get kept w ≡ Some (fill_of (fills w))
 
--- the fills after one more integer of this width was served
+-- the last fills after one more integer of width `width` was served
 abbrev pub served_more : ℕ → (ℕ → Option BookFill) → ℕ → Option BookFill
 served_more width fills w = if w == width then one_more_served (fills w) else fills w
 
@@ -45,6 +45,6 @@ pub record CpuConforms (s : CpuState) (place : ℕ) (keys : CpuKeys) : Type 0 wh
   pub key : keys.key ≡ s.key
   pub fills : AreFills s.fills keys.fills
 
--- whether a vgetrandom state takes the read at `place`; the list has the answer for each place
+-- whether a vgetrandom state takes the read at `place` as its key; the list has this for each place
 abbrev pub rekeys_of : List Bool → ℕ → Bool
 rekeys_of rekeyed place = unwrap_or (slice_get rekeyed place) false

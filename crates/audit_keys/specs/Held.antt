@@ -1,4 +1,4 @@
--- The keys and the rests of batches that are held after all entries.
+-- The keys, and the rests of batches (their bytes not served), that are held after all entries.
 use Rattle.std.specs.Prelude.{ℕ, Option, Some, None, List, [], ◌∷◌, nat_lt, if◌then◌else◌}
 use Rattle.std.specs.List.{flat_map}
 use Rattle.key_names.specs.declared.names.KeyName.{KeyName}
@@ -14,7 +14,7 @@ use Rattle.audit_keys.specs.declared.held.BatchHolder.TheVariants.{Cpu as CpuBat
 use Rattle.audit_keys.specs.declared.held.HeldKey.{HeldKey}
 use Rattle.audit_keys.specs.declared.held.HeldRest.{HeldRest}
 
--- the same holder in the type that `key_names` has for holders
+-- the holder of a key, in the type of holders that `key_names` has
 abbrev pub key_holder : KeyHolder → BookKeyHolder
 key_holder Base = base_key
 key_holder (Cpu cpu) = cpu_key cpu
@@ -24,12 +24,12 @@ abbrev pub batch_holder : BatchHolder → BookBatchHolder
 batch_holder (CpuBatch cpu width) = cpu_batch cpu width
 batch_holder (StateBatch of) = state_batch of.caller of.state
 
--- the key of a holder, if it has one
+-- the key that a holder holds, if it holds one
 abbrev pub held_key : KeyHolder → Option KeyName → List HeldKey
 held_key holder None = []
 held_key holder (Some key) = record { holder = holder; key = key } ∷ []
 
--- the rest of a holder's batch, if this rest has bytes
+-- the rest of the batch that a holder holds, if this rest has bytes
 abbrev pub held_rest : BatchHolder → Option Span → List HeldRest
 held_rest holder None = []
 held_rest holder (Some span) = if nat_lt 0 span.len then record { holder = holder; span = span } ∷ [] else []

@@ -1,4 +1,4 @@
--- The keys and rests in `book_tells` are those that the book's holders have after all entries.
+-- The keys and the rests of batches in `book_tells` are those that the book's holders have after all entries.
 use Rattle.std.specs.Prelude.{◌≡◌, ◌<◌, ⊤, Some, All, Contains}
 use Rattle.key_names.specs.declared.names.KeyName.{KeyName}
 use Rattle.key_names.specs.declared.names.Span.{Span}

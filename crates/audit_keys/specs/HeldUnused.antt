@@ -18,11 +18,11 @@ pub record HoldsUnused (lists : Lists) : Type 0 where
   pub rests : (a : BatchHolder) (span : Span) (key : KeyName) (q : ℕ) → live_rest lists a ≡ Some span →
       HoldsByte span key q → IsUsed (uses lists) key q → ⊥
 
--- in every book, even with half-finished visits, no byte of a held key or rest was used
+-- in every book, even a half-finished one, no byte of a held key or of a held rest was used
 abbrev pub BooksHoldUnused : Type 0
 BooksHoldUnused = (lists : Lists) → HalfFinishedBook lists → HoldsUnused lists
 
--- in the book of every lawful transcript, no byte of a held key or rest was used
+-- in the book of every lawful transcript, no byte of a held key or of a held rest was used
 abbrev pub TranscriptsHoldUnused : Type 0
 TranscriptsHoldUnused = (script : Script) (t : List (List SeenLine)) (book : Book) (ms : List (List CallMeaning)) →
     IsTranscriptBy script t book ms → HoldsUnused (lists_of book)

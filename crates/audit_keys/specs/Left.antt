@@ -23,7 +23,7 @@ pub record Left : Type 0 where
   pub outline : Outline
   pub entries : List VEntry
 
--- the beginning of a call: the call has left no entry, and the state has this outline
+-- a state at the beginning of a call: it has this outline, and the call has left no entry
 abbrev pub nothing_left : Outline → Left
 nothing_left outline = record { outline = outline; entries = [] }
 
@@ -36,23 +36,23 @@ pushed entry l = left_more (entry ∷ []) l
 abbrev pub wiped : Left → Left
 wiped l = record { outline = wiped_outline; entries = l.entries ++ Wipe ∷ [] }
 
--- the state after a point: wiped if an act there wipes, and otherwise unchanged
+-- the state after a point: wiped if `wipes` is true (an act at the point wipes), and otherwise unchanged
 abbrev pub met : Bool → Left → Left
 met wipes l = if wipes then wiped l else l
 
--- the state, with `served` bytes of its batch served
+-- the state `l`, with `served` bytes of its batch served
 abbrev pub with_served : ℕ → Left → Left
 with_served served l = record l { outline = record l.outline { served = served } }
 
 abbrev pub refilled : ℕ → ℕ → ℕ → Left → Left
 refilled c m r l = with_served r (left_more (refill_entries c m r) l)
 
--- the state after `n` bytes were copied out; `c` is the key's next block before the copy
+-- the state `l` after `n` bytes were copied out; `c` is the key's next block before the copy
 abbrev pub copied : ℕ → ℕ → Left → Left
 copied n c l =
     with_served (state_after_copy (outlined l.outline) c n).pos (left_more (copy_entries (outlined l.outline) c n) l)
 
--- ---- a new key
+-- ---- a new key for a state ----
 
 abbrev pub key_at : LaneId → ℕ → Option KeyRead
 key_at PoolLane place = None
@@ -76,7 +76,7 @@ abbrev pub second_key : List Step → Option KeyAndRest
 second_key [] = None
 second_key (step ∷ rest) = or_key (key_read step) rest None
 
--- if these steps begin with a system call that reads a key: the key that it reads, and the steps after the call
+-- the key and the steps after the call, if the steps begin with a system call that reads a key
 abbrev pub key_in_front : List Step → Option KeyAndRest
 key_in_front (Look a ∷ Look b ∷ step ∷ rest) = or_key (key_read step) rest (second_key rest)
 key_in_front _ = None
@@ -84,7 +84,7 @@ key_in_front _ = None
 abbrev pub keyed : KeyRead → Left → Left
 keyed key l = pushed (Rekey key.cpu key.place) (with_served 96 l)
 
--- ---- an attempt
+-- ---- an attempt of a vgetrandom call ----
 
 -- the end of an attempt: the key's next block, whether the attempt held, the steps after the attempt, and the outline
 -- and entries that the attempt left
@@ -94,7 +94,7 @@ pub record After : Type 0 where
   pub rest : List Step
   pub left : Left
 
--- the end of an attempt whose steps end too early
+-- the end of an attempt whose steps end too early: it leaves `l`, and the key's next block is `c`
 abbrev pub cut_short : ℕ → Left → After
 cut_short c l = record { next_block = c; holds = true; rest = []; left = l }
 
@@ -107,7 +107,7 @@ looked_again acts n c l found rest =
       left = end;
     }
 
--- an attempt from the point Serve on
+-- the end of an attempt, from its point Serve on
 abbrev pub from_serve : List BoundAct → ℕ → ℕ → Left → List Step → After
 from_serve acts n c l (Look found ∷ rest) = looked_again acts n c (met (is_wiped acts Serve) l) found rest
 from_serve acts n c l _ = cut_short c l
@@ -116,22 +116,22 @@ abbrev pub with_key : List BoundAct → ℕ → ℕ → Left → Option KeyAndRe
 with_key acts n c l None = cut_short c l
 with_key acts n c l (Some k) = from_serve acts n c (keyed k.key l) k.rest
 
--- an attempt from the point Written on
+-- the end of an attempt, from its point Written on
 abbrev pub from_written : List BoundAct → ℕ → ℕ → Left → List Step → After
 from_written acts n c l steps = with_key acts n c (met (is_wiped acts Written) l) (key_in_front steps)
 
--- an attempt after the point Start; the attempt's look found the generation `found`
+-- the end of an attempt, after its point Start; the attempt's look found the generation `found`
 abbrev pub from_start : List BoundAct → ℕ → ℕ → ℕ → Left → List Step → After
 from_start acts n c found l steps =
     if l.outline.found == found then from_serve acts n c l steps
     else from_written acts n c (record l { outline = record l.outline { found = found } }) steps
 
--- an attempt to copy `n` bytes; `c` is the key's next block
+-- the end of an attempt to copy `n` bytes; `c` is the key's next block before the attempt
 abbrev pub attempted : List BoundAct → ℕ → ℕ → Left → List Step → After
 attempted acts n c l (Look found ∷ rest) = from_start acts n c found (met (is_wiped acts Start) l) rest
 attempted acts n c l _ = cut_short c l
 
--- ---- a vread
+-- ---- a vread and its attempts ----
 
 abbrev pub tried_again : ℕ → After → Left
 tried_again n b = if b.holds then b.left else (attempted [] n b.next_block b.left b.rest).left
@@ -143,7 +143,7 @@ tried_twice acts n l steps = tried_again n (attempted acts n 0 l steps)
 abbrev pub copies_alone : List BoundAct → ℕ → ℕ → Left → Bool
 copies_alone acts n found l = length acts == 0 && (l.outline.found == found && has_left (outlined l.outline) n)
 
--- a vread after its first look
+-- the state after a vread whose first look found the generation `found`; `rest` are the steps after that look
 abbrev pub from_look : List BoundAct → ℕ → ℕ → Left → List Step → Left
 from_look acts n found l rest =
     if found == 0 then l else (if copies_alone acts n found l then copied n 0 l else tried_twice acts n l rest)

@@ -37,19 +37,19 @@ cpu_lists cpus = map (λ lane. cpu_entries lane.items) cpus
 abbrev pub caller_lists : List (Vec (Vec VEntry)) → List (List (List VEntry))
 caller_lists callers = map (λ states. map (λ es. es.items) states.items) callers
 
--- whether an entry of some vgetrandom state takes the read at place `k` of the CPU
+-- whether an entry of some vgetrandom state takes the read at place `k` of CPU `cpu` as the state's key
 abbrev pub takes_read : ℕ → List (Vec (Vec VEntry)) → ℕ → Bool
 takes_read cpu callers k =
     list_any (λ states. list_any (λ es. list_any (rekeys_place cpu k) es.items) states.items) callers
 
--- `kept` has the entries that `lists` has for the base and the CPUs; `callers` has those for the vgetrandom states
+-- `kept` has the entries that `lists` has for the base and the CPUs, and `callers` those for the vgetrandom states
 pub record HasEntries (lists : Lists) (kept : KeptLists) (callers : List (Vec (Vec VEntry))) : Type 0 where
   pub base : base_entries kept.base.items ≡ lists.base
   pub cpus : cpu_lists kept.cpus.items ≡ lists.cpus
   pub states : caller_lists callers ≡ lists.callers
 
--- the results of some entries: the keys that the entries make and erase, the rests that they give up, and their uses;
--- also the keys and rests that are held after these entries
+-- the results of entries: the keys that they make and erase, the rests of batches that they give up, and their uses;
+-- also the keys and rests that are held after them
 pub record Tells : Type 0 where
   pub births : List Birth
   pub endings : List Ending
@@ -68,7 +68,7 @@ tells_of listed = record {
   uses = listed.uses.items;
 }
 
--- no results
+-- the results of no entry
 abbrev pub nothing : Tells
 nothing = record { births = []; endings = []; given_up = []; keys = []; rests = []; uses = [] }
 
@@ -82,7 +82,7 @@ joined a b = record {
   uses = a.uses ++ b.uses;
 }
 
--- the results for each number below `count`, one after another
+-- the results for each number below `count`, one number after another
 abbrev pub listed_below : {T : Type 0} → ℕ → (ℕ → List T) → List T
 listed_below count tells = flat_map tells (range_with_len 0 count)
 

@@ -31,11 +31,11 @@ all_ends starts c (calls ∷ callers) [] = []
 all_ends starts c (calls ∷ callers) (ms ∷ mss) =
     state_ends (starts c) calls ms ∷ all_ends starts (suc c) callers mss
 
--- for each entry of all states, the end of the call that left the entry, if the calls have these meanings
+-- for each entry of all callers' states, the end of the call that left the entry; `mss` are the meanings of the calls
 abbrev pub listed_ends : List (List Call) → List (List CallMeaning) → List (List (List CallEnd))
 listed_ends callers mss = all_ends (start_stamp callers) 0 callers mss
 
--- the ends of the calls that left these entries
+-- the ends of the calls that left the entries of `list`
 abbrev pub ends_in : List StateEntry → List CallEnd
 ends_in list = map (λ e. e.end) list
 

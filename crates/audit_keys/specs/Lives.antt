@@ -35,7 +35,7 @@ abbrev pub ended : Origin → Option KeyName → List Ending
 ended by None = []
 ended by (Some key) = record { key = key; by = by } ∷ []
 
--- a user's read of more than 32 bytes makes a call key (the same read erases this key)
+-- a user's read of more than 32 bytes makes a call key, which the same read erases
 abbrev pub long_births : LaneId → ℕ → Taken → List Birth
 long_births lane place (User n) =
     if nat_lt 32 n then born (Call lane place) InRead (Lane lane place) ∷ [] else []
@@ -51,7 +51,7 @@ abbrev pub root_births : Option ℕ → List Birth
 root_births None = []
 root_births (Some r) = born (Root r) InBase (Lane PoolLane r) ∷ []
 
--- if an entry names a root or a refill, its key replaces the key that was there before
+-- if an entry names a root or a refill, this new key replaces `key`, which was there before
 abbrev pub replaced : Origin → Option ℕ → Option KeyName → List Ending
 replaced by None key = []
 replaced by (Some n) key = ended by key

@@ -17,7 +17,7 @@ abbrev pub state_moments : Option (Vec (Vec Moment)) → ℕ → List Moment
 state_moments None state = []
 state_moments (Some states) state = lane_moments (slice_get states.items state)
 
--- the moment at which an entry was left, if this moment is known
+-- the moment (stamp and line) at which an entry was left, if it is known
 abbrev pub moment_at : Moments → Origin → Option Moment
 moment_at moments (Lane Pool place) = slice_get moments.pool.items place
 moment_at moments (Lane Base place) = slice_get moments.base.items place

@@ -30,7 +30,7 @@ BeginningsHoldUnused = (whole part : Lists) → HalfFinishedBook whole → AreBe
 abbrev pub visits_to : {E : Type 0} → ℕ → List (Visit E) → List (Visit E)
 visits_to stamp visits = filter (λ visit. nat_le visit.stamp stamp) visits
 
--- the first calls of each caller; `made` gives for each caller how many, and `c` is the number of the first caller
+-- the first calls of each caller: `made` gives the number of these calls, and `c` is the number of the first caller
 abbrev pub first_calls : {C : Type 0} → (ℕ → ℕ) → ℕ → List (List C) → List (List C)
 first_calls made c [] = []
 first_calls made c (calls ∷ callers) = take (made c) calls ∷ first_calls made (suc c) callers

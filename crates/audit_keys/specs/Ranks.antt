@@ -1,4 +1,4 @@
--- The pieces, and likewise the endings, are sorted by the names of their keys.
+-- The pieces of keys, and likewise their endings, are sorted by the names of the keys.
 use Rattle.std.specs.Prelude.{List, IsSortedByKey}
 use Rattle.key_names.specs.contracts.names.KeyNameOrd.TheImpl.{ghosts as names}
 use Rattle.audit_keys.specs.declared.lives.Ending.{Ending}

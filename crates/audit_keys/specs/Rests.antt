@@ -1,4 +1,4 @@
--- Entries give up rests of batches. The rest of a batch is its bytes that were not served.
+-- The rest of a batch is its bytes that were not served. Here are the rests that each entry gives up.
 use Rattle.std.specs.Prelude.{ℕ, ◌≡◌, true, false, Option, Some, None, List, [], ◌∷◌, nat_lt, if◌then◌else◌}
 use Rattle.std.specs.List.{flat_map, range_with_len}
 use Rattle.key_names.specs.declared.names.LaneId.TheVariants.{Cpu as CpuLane}
@@ -19,12 +19,12 @@ use Rattle.audit_keys.specs.UsedAt.{state_origin}
 use Rattle.audit_keys.specs.declared.lives.GivenUp.{GivenUp}
 use Rattle.audit_keys.specs.declared.batches.StateBatch.{StateBatch}
 
--- `s` is a state before the entry at `place`, and `batch` has the keys and the position of `s`
+-- `s` is a vgetrandom state before the entry at `place`, and `batch` has the keys of `s` and its position in its batch
 pub record BatchConforms (s : NamedState) (place : ℕ) (batch : StateBatch) : Type 0 where
   pub keys : StateConforms s place batch.keys
   pub pos : batch.pos ≡ s.pos
 
--- the rest `span` that the entry `by` gives up, if this rest has bytes
+-- `span` is the rest of a batch that the entry `by` gives up; if it has no bytes, nothing is listed
 abbrev pub given_up : Origin → Option Span → List GivenUp
 given_up by None = []
 given_up by (Some span) = if nat_lt 0 span.len then record { span = span; by = by } ∷ [] else []
@@ -33,7 +33,7 @@ given_up by (Some span) = if nat_lt 0 span.len then record { span = span; by = b
 unfoldable pub widths : List ℕ
 widths = range_with_len 0 256
 
--- the rests of all batches of a CPU
+-- the rests of all batches of a CPU, which the entry `by` gives up
 abbrev pub fills_given_up : Origin → (ℕ → Option Fill) → List GivenUp
 fills_given_up by fills = flat_map (λ width. given_up by (fill_rest width (fills width))) widths
 

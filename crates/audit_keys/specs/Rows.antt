@@ -18,7 +18,7 @@ use Rattle.audit_keys.specs.declared.rows.Fate.TheVariants.{Became, Served as Se
 use Rattle.audit_keys.specs.declared.rows.KeyPiece.{KeyPiece}
 use Rattle.audit_keys.specs.declared.rows.KeyRow.{KeyRow}
 
--- the fate of bytes with this purpose
+-- the fate of bytes that the entry `by` used for this purpose
 abbrev pub fate_of : Origin → Purpose → Fate
 fate_of by (Kept name) = Became name
 fate_of by Served = ServedAt by
@@ -46,11 +46,11 @@ endings_of key endings = filter (λ ending. names.eq ending.key key) endings
 abbrev pub birth_of : KeyRow → Birth
 birth_of row = record { key = row.key; holder = row.holder; by = row.made }
 
--- the row of a key is right, given the pieces and the endings of all keys
+-- `row` is right: its ending and its pieces are those of its key, among the pieces and the endings of all keys
 pub record IsRow (pieces : List KeyPiece) (endings : List Ending) (row : KeyRow) : Type 0 where
   -- the entry that ended the key, if one did
   pub ended_by : row.ended ≡ option_map (λ ending. ending.by) (slice_get (endings_of row.key endings) 0)
-  -- the pieces are the key's uses and rests, each once
+  -- the row's pieces are those of its key, each once
   pub all_of : IsPermutation (pieces_of row.key pieces) row.pieces.items
-  -- the pieces are in the order of their first bytes
+  -- the row's pieces are in the order of their first bytes
   pub ordered : IsNonDecreasingBy (λ piece. piece.span.from) row.pieces.items

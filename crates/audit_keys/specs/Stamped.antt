@@ -23,7 +23,7 @@ kept_lists lists = map (λ list. list.items) lists
 abbrev pub all_kept : List (Vec (Vec StateEntry)) → List (List (List StateEntry))
 all_kept callers = map (λ lists. kept_lists lists.items) callers
 
--- the outlines, the lists up to now, and the stamp of the caller's last visit
+-- a caller's outlines, the lists of its states up to now, and the stamp of its last visit
 pub record States : Type 0 where
   pub outlines : Outlines
   pub lists : List (List StateEntry)
@@ -50,7 +50,7 @@ states_after_event call end s (State number) =
     record s { outlines = record s.outlines { current = number }; stamp = end.stamp }
 states_after_event call end s _ = record s { stamp = end.stamp }
 
--- the states after the call with the number `i`
+-- the states after `call`, which has the number `i`
 abbrev pub states_after : ℕ → States → Call → States
 states_after i s (alone event line) = states_after_event i (end_of s.stamp (alone event line)) s event
 states_after i s (vread_call n flags line acts) = left_over i (end_of s.stamp (vread_call n flags line acts))
@@ -71,11 +71,12 @@ list_over k o i before (call ∷ calls) =
     left_by i (end_of before call) (left_in k o call)
     ++ list_over k (outlines_after o call) (i + 1) (over_at before call) calls
 
--- the lists that a caller's calls leave
+-- the lists that the calls of a caller leave; `start` is the stamp of the last visit before the first call
 abbrev pub caller_over : ℕ → List Call → List (List StateEntry)
 caller_over start calls = map (λ k. list_over k first_outlines 0 start calls) (range_with_len 0 16)
 
--- the lists that the calls of all callers leave; `c` is the number of the first caller
+-- the lists that the calls of all callers leave; `starts` gives the stamp of the last visit before a caller's calls,
+-- and `c` is the number of the first caller
 abbrev pub all_over : (ℕ → ℕ) → ℕ → List (List Call) → List (List (List StateEntry))
 all_over starts c [] = []
 all_over starts c (calls ∷ callers) = caller_over (starts c) calls ∷ all_over starts (suc c) callers

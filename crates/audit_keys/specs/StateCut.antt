@@ -16,11 +16,11 @@ abbrev pub is_kept : Cut → StateEntry → Bool
 is_kept (Stamp stamp) e = nat_le e.end.stamp stamp
 is_kept (ByCall n) e = nat_le e.call n
 
--- the entries of a list that are kept
+-- the entries of a list that the cut keeps
 abbrev pub entries_by : Cut → List StateEntry → List VEntry
 entries_by cut list = entries_in (filter (is_kept cut) list)
 
--- the kept entries of each of a caller's lists
+-- the entries that the cut keeps of each of a caller's lists
 abbrev pub lists_by : Cut → List (Vec StateEntry) → List (List VEntry)
 lists_by cut lists = map (λ list. entries_by cut list.items) lists
 

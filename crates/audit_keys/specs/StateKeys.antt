@@ -5,7 +5,7 @@ use Rattle.key_names.specs.declared.entries.VEntry.TheVariants.{Rekey, Blocks, R
 use Rattle.key_names.specs.Lanes.StateList.{NamedState}
 use Rattle.audit_keys.specs.declared.state_uses.StateKeys.{StateKeys}
 
--- `s` is a state before the entry at `place`, and `keys` has the keys of `s`
+-- `s` is a vgetrandom state before the entry at `place`, and `keys` has the keys of `s`
 pub record StateConforms (s : NamedState) (place : ℕ) (keys : StateKeys) : Type 0 where
   pub place_is : s.place ≡ place
   pub key : keys.key ≡ s.key
@@ -13,7 +13,7 @@ pub record StateConforms (s : NamedState) (place : ℕ) (keys : StateKeys) : Typ
   pub batch_key : keys.batch_key ≡ s.batch_key
   pub batch_from : keys.batch_from ≡ s.batch_from
 
--- after this entry the number of refills would not fit into 64 bits
+-- after this entry, a refill, the number of refills would not fit into 64 bits
 abbrev pub IsRefilledOut : ℕ → VEntry → Type 0
 IsRefilledOut refills (Refill from) = 2 ^ 64 ≤ refills + 1
 IsRefilledOut refills (Rekey cpu cpu_place) = ⊥

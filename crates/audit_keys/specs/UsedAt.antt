@@ -33,7 +33,7 @@ abbrev pub served_by : Origin → KeyName → ℕ → ℕ → Used
 served_by by key from len =
     record { span = record { key = key; from = from; len = len }; purpose = Served; by = by }
 
--- the uses of a key in use; a key without a name has none
+-- the uses that `used_of` gives for the key in use; a key without a name has none
 abbrev pub named_used : Option KeyName → (KeyName → List Used) → List Used
 named_used None used_of = []
 named_used (Some key) used_of = used_of key
@@ -46,7 +46,7 @@ taken_used rekeys by key call (User n) =
     else (if rekeys then kept_as by key 32 call else served_by by key 32 n) ∷ []
 taken_used rekeys by key call (Kernel n) = served_by by key 32 n ∷ []
 
--- the uses of a read: its erasure keeps the next key, and the read takes bytes
+-- the uses of a read: its erasure keeps bytes 0 to 32 as the key `next`, and the read takes the bytes after them
 abbrev pub read_used : Bool → Origin → KeyName → KeyName → KeyName → Taken → List Used
 read_used rekeys by key next call taken = kept_as by key 0 next ∷ taken_used rekeys by key call taken
 
@@ -67,13 +67,13 @@ base_used_at s Interrupt = []
 base_used_at s Stall = []
 base_used_at s Unstall = []
 
--- the use of the next integer of a batch
+-- the use of the next integer that a batch serves after its fill
 abbrev pub batch_used : Origin → ℕ → Option Fill → List Used
 batch_used by width None = []
 batch_used by width (Some fill) =
     named_used fill.key (λ key. served_by by key (32 + width * fill.count) width ∷ [])
 
--- the uses of a CPU's entry; for each place, `rekeys` is whether a vgetrandom state takes the read there
+-- the uses of the entry of CPU `c`; `rekeys` is whether a vgetrandom state takes the read at a place as its key
 abbrev pub cpu_used_at : ℕ → (ℕ → Bool) → CpuState → CpuEntry → List Used
 cpu_used_at c rekeys s (Read look refill taken) = named_used (cpu_key_in_use (Read look refill taken) s.key)
     (λ key. read_used (rekeys s.place) (Lane (CpuLane c) s.place) key (Cpu c s.place) (Call (CpuLane c) s.place) taken)

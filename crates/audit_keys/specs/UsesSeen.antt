@@ -1,5 +1,5 @@
--- A use that the code lists also contains its entry and, if its bytes are kept, the name of the new key. Without these
--- two, the listed uses are the uses of `key_names`.
+-- A use that the code lists also has its entry and, if its bytes were kept, the name of the new key. Without these two,
+-- the listed uses are the uses of `key_names`.
 use Rattle.std.specs.Prelude.{ℕ, ◌≡◌, Bool, List, map}
 use Rattle.key_names.specs.declared.entries.BaseEntry.{BaseEntry}
 use Rattle.key_names.specs.declared.entries.CpuEntry.{CpuEntry}

@@ -1,4 +1,4 @@
-//! The rests of batches: bytes that were not served.
+//! The rests of batches: the bytes of a batch that were not served.
 ghost use Rattle.std.specs.Prelude.{ℕ, List, ◌≡◌, ◌≤◌, ◌+◌, ◌*◌, ◌^◌, Option, length, IfOk, OnOk, OnErr};
 ghost use Rattle.key_names.specs.declared.entries.BaseEntry.{BaseEntry as BookBase};
 ghost use Rattle.key_names.specs.Kernel.Batches.{Fill as BookFill};
@@ -34,12 +34,12 @@ fn named_span(key: Option<KeyName>, from: u64, len: u64) -> Option<Span>
     key.map(|key| Span { key, from, len })
 }
 
-/// The rest of a CPU's batch. In a run a byte's number fits into 64 bits, since no memory has room for so many
-/// integers.
+/// The rest of a CPU's batch. In a run each byte's position in the keystream fits into 64 bits, since no memory has
+/// room for so many integers.
 ///
 /// # Errors
 ///
-/// `AllocError` if a byte's number is 2^64 or more.
+/// `AllocError` if a byte's position is 2^64 or more.
 pub(crate) fn fill_rest(width: u64, fill: Option<Fill>) -> Result<Option<Span>, AllocError>
     ensures rest { (book : Option BookFill) → fill ≡ fill_of book →
         IfOk result (λ span. span ≡ fill_rest width book) }
@@ -87,7 +87,7 @@ impl StateBatch {
     ///
     /// # Errors
     ///
-    /// `AllocError` if the number of the rest's first byte is 2^64 or more.
+    /// `AllocError` if the position of the rest's first byte in its keystream is 2^64 or more.
     pub(crate) fn rest(&self) -> Result<Option<Span>, AllocError>
         ensures rest { (s : NamedState) (place : ℕ) → BatchConforms s place self.now →
             IfOk result (λ span. span ≡ state_rest s) }
@@ -102,7 +102,7 @@ impl StateBatch {
     }
 }
 
-/// The key of the base after all these entries.
+/// The key of the base after all entries of `base`.
 pub(crate) fn base_end(base: &[KeptBase]) -> Option<KeyName>
     ensures { result ≡ (base_after (base_entries base.now)).key }
 {
@@ -113,7 +113,7 @@ pub(crate) fn base_end(base: &[KeptBase]) -> Option<KeyName>
     key
 }
 
-/// The key and the fills of a CPU after all these entries.
+/// The key and the fills of a CPU after all entries of `lane`.
 ///
 /// # Errors
 ///
@@ -130,7 +130,7 @@ pub(crate) fn cpu_end(cpu: u32, lane: &[KeptCpu]) -> Result<CpuKeys, AllocError>
     Ok(keys)
 }
 
-/// The keys and the batch of a vgetrandom state after all these entries.
+/// The keys and the batch of a vgetrandom state after all of `entries`.
 ///
 /// # Errors
 ///

@@ -14,7 +14,7 @@ use std::marker::Model;
 /// How many vgetrandom states a caller has.
 const STATES: usize = 16;
 
-// Appends to a list the entries that a call left. Each gets the number of the call and the call's end.
+// Appends the entries `left` of a call to a list. Each gets the number of the call and the call's end.
 fn put_after(
     list: &mut Vec<StateEntry>,
     left: &[VEntry],
@@ -115,7 +115,7 @@ impl AuditedCaller {
         Ok(())
     }
 
-    // Keeps, for the current state, the outline and the entries that the call with this number and this end left.
+    // Keeps the outline and the entries that a call left for the current state; the call has this number and this end.
     fn keep(&mut self, left: &Leaving, call: usize, end: CallEnd) -> Result<(), AllocError>
         ensures { OnOk result (self.new ≡ left_over call end left.now self.old) }
     {
@@ -124,7 +124,7 @@ impl AuditedCaller {
         self.put(left.entries(), call, end)
     }
 
-    // Takes a call that is a single event. The call has this number and this end.
+    // Adds a call that is a single event, and has this number and this end.
     fn event(
         &mut self,
         alloc: Global,
@@ -147,7 +147,7 @@ impl AuditedCaller {
         Ok(())
     }
 
-    /// Takes a call, which has this number among the caller's calls.
+    /// Adds a call, which has this number among the caller's calls.
     ///
     /// # Errors
     ///

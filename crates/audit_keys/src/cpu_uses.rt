@@ -25,7 +25,7 @@ pub struct Fill {
     pub count: u64,
 }
 
-/// The key of a CPU, and for each width the last fill of its batch.
+/// The key of a CPU, and for each width of integers the last fill of that width's batch.
 #[derive(Clone, Copy)]
 pub struct CpuKeys {
     pub key: Option<KeyName>,
@@ -55,12 +55,12 @@ pub fn key_after(cpu: u32, place: u64, entry: CpuEntry, key: Option<KeyName>) ->
     }
 }
 
-/// After `count` integers of this width from a fill, the next integer begins at the byte of the key's keystream that
-/// has this number. In a run the number fits into 64 bits, since no memory has room for so many integers.
+/// The position, in the key's keystream, of the first byte of the next integer after `count` integers of this width
+/// from a fill. In a run it fits into 64 bits, since no memory has room for so many integers.
 ///
 /// # Errors
 ///
-/// `AllocError` if the byte's number is 2^64 or more.
+/// `AllocError` if the position is 2^64 or more.
 pub fn next_byte(width: u64, count: u64) -> Result<u64, AllocError>
     ensures byte { IfOk result (λ from. from ≡ 32 + width * count) }
     ensures none { OnErr result (2 ^ 64 ≤ 32 + width * count) }
@@ -69,7 +69,7 @@ pub fn next_byte(width: u64, count: u64) -> Result<u64, AllocError>
     served.checked_add(32).ok_or(AllocError)
 }
 
-// Adds the use of the next integer of a batch.
+// Adds the use of the next integer that a batch serves.
 fn push_batched(
     uses: &mut Vec<Used>,
     by: Origin,
@@ -94,7 +94,7 @@ fn push_batched(
     Ok(())
 }
 
-// The fill after one more integer was served.
+// The fill after its batch served one more integer.
 fn one_more(fill: Option<Fill>) -> Result<Option<Fill>, AllocError>
     ensures more { (book : Option BookFill) → fill ≡ fill_of book →
         IfOk result (λ more. more ≡ fill_of (one_more_served book)) }
@@ -107,14 +107,14 @@ fn one_more(fill: Option<Fill>) -> Result<Option<Fill>, AllocError>
     Ok(Some(Fill { key, count }))
 }
 
-// No width has a fill.
+// The fills of a CPU before any batch was filled.
 fn no_fills() -> [Option<Fill>; WIDTHS]
     ensures { AreFills (λ w. None) result }
 {
     [None; WIDTHS]
 }
 
-// Counts one more integer of this width.
+// Counts one more integer of this width in the last fill of its batch.
 fn serve_more(fills: &mut [Option<Fill>; WIDTHS], width: u8) -> Result<(), AllocError>
     ensures more { (book : ℕ → Option BookFill) → AreFills book fills.old →
         OnOk result (AreFills (served_more width book) fills.new) }
@@ -223,7 +223,8 @@ fn rekeys_at(rekeyed: &[bool], place: u64) -> bool
 ///
 /// # Errors
 ///
-/// `AllocError` if there is no memory for the uses, or if a byte of a batch has a number of 2^64 or more.
+/// `AllocError` if there is no memory for the uses, or if a byte of a batch has a position of 2^64 or more in its
+/// keystream.
 pub fn cpu_uses(
     alloc: Global,
     cpu: u32,

@@ -38,7 +38,7 @@ fn list_to<T: Copy + Drop>(
     Ok(cut)
 }
 
-// For each CPU, the kept entries of its visits up to a stamp.
+// For each CPU, the kept entries of those visits whose stamps are at most `stamp`.
 fn cpus_to(
     alloc: Global,
     stamp: u64,

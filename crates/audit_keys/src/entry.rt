@@ -35,7 +35,7 @@ pub enum Cut {
 }
 
 impl Cut {
-    /// Whether an entry is kept.
+    /// Whether this cut keeps an entry.
     pub fn keeps(self, entry: &StateEntry) -> bool
         ensures { result ≡ is_kept self entry.now }
     {

@@ -56,7 +56,7 @@ pub struct HeldMaterial {
 }
 
 impl HeldMaterial {
-    /// No key and no rest.
+    /// No held key and no held rest.
     pub(crate) fn none(alloc: Global) -> HeldMaterial
         ensures keys { result.keys.items ≡ [] }
         ensures rests { result.rests.items ≡ [] }
@@ -104,7 +104,7 @@ impl HeldMaterial {
         Ok(())
     }
 
-    /// Adds the key that the base has after all these entries.
+    /// Adds the key that the base holds after all entries of `base`.
     ///
     /// # Errors
     ///
@@ -117,11 +117,12 @@ impl HeldMaterial {
         self.key(KeyHolder::Base, base_end(base))
     }
 
-    /// Adds the key and the rests that a CPU has after all these entries.
+    /// Adds the key, and the rests of batches, that a CPU holds after all entries of `lane`.
     ///
     /// # Errors
     ///
-    /// `AllocError` if there is no memory for them, or if a byte of a batch has a number of 2^64 or more.
+    /// `AllocError` if there is no memory for them, or if a byte of a batch has a position of 2^64 or more in its
+    /// keystream.
     pub(crate) fn add_cpu(&mut self, cpu: u32, lane: &[KeptCpu]) -> Result<(), AllocError>
         ensures keys { (base : List BookBase) → OnOk result (self.new.keys.items
             ≡ self.old.keys.items ++ held_key (Cpu cpu) (cpu_after base cpu (cpu_entries lane.now)).key) }
@@ -134,11 +135,12 @@ impl HeldMaterial {
         Ok(())
     }
 
-    /// Adds the key and the rest that a vgetrandom state has after all these entries.
+    /// Adds the key, and the rest of the batch, that a vgetrandom state holds after all of `entries`.
     ///
     /// # Errors
     ///
-    /// `AllocError` if there is no memory for them, or if a byte of a batch has a number of 2^64 or more.
+    /// `AllocError` if there is no memory for them, or if a byte of a batch has a position of 2^64 or more in its
+    /// keystream.
     pub(crate) fn add_state(&mut self, of: StateOf, entries: &[VEntry]) -> Result<(), AllocError>
         ensures keys { OnOk result (self.new.keys.items ≡ self.old.keys.items
             ++ held_key (State of) (state_after of.caller of.state entries.now).key) }

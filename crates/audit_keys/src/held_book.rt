@@ -10,7 +10,7 @@ use judge_log::{KeptCpu, Lists};
 use key_names::VEntry;
 use std::alloc::{AllocError, Global};
 
-// Adds the keys and rests of each CPU.
+// Adds the keys and the rests of batches that each CPU holds.
 fn add_cpus(held: &mut HeldMaterial, cpus: &[Vec<KeptCpu>]) -> Result<(), AllocError>
     ensures keys { (lists : BookLists) → cpu_lists cpus.now ≡ lists.cpus →
         OnOk result (held.new.keys.items ≡ held.old.keys.items ++ (cpus_tell lists).keys) }
@@ -24,7 +24,7 @@ fn add_cpus(held: &mut HeldMaterial, cpus: &[Vec<KeptCpu>]) -> Result<(), AllocE
     Ok(())
 }
 
-// Adds the keys and rests of each vgetrandom state of a caller.
+// Adds the keys and the rests of batches that each vgetrandom state of a caller holds.
 fn add_states(
     held: &mut HeldMaterial,
     caller: u32,
@@ -46,7 +46,7 @@ fn add_states(
     Ok(())
 }
 
-// Adds the keys and rests of the vgetrandom states of all callers.
+// Adds the keys and the rests of batches that the vgetrandom states of all callers hold.
 fn add_callers(held: &mut HeldMaterial, callers: &[Vec<Vec<VEntry>>]) -> Result<(), AllocError>
     ensures keys { (lists : BookLists) → caller_lists callers.now ≡ lists.callers →
         OnOk result (held.new.keys.items ≡ held.old.keys.items ++ (callers_tell lists).keys) }
@@ -65,8 +65,8 @@ fn add_callers(held: &mut HeldMaterial, callers: &[Vec<Vec<VEntry>>]) -> Result<
 ///
 /// # Errors
 ///
-/// `AllocError` if there is no memory for them, if a byte of a key has a number of 2^64 or more, or if there are more
-/// than 2^32 CPUs, callers or states of a caller.
+/// `AllocError` if there is no memory for them, or if a byte has a position of 2^64 or more in its key's keystream.
+/// Also if there are more than 2^32 CPUs, callers or states of a caller.
 pub fn hold_book(
     alloc: Global,
     kept: &Lists,

@@ -33,7 +33,7 @@ pub(crate) struct AttemptOutcome<'a> {
 }
 
 impl<'a> AttemptOutcome<'a> {
-    // The outcome of an attempt whose steps end too early.
+    // The end of an attempt whose steps end too early.
     fn cut_short(block: u64) -> AttemptOutcome<'a>
         ensures next { result.next_block ≡ block }
         ensures holds { result.holds ≡ true }
@@ -74,8 +74,7 @@ fn key_read(step: Step) -> Option<KeyRead>
     }
 }
 
-// If these steps begin with a system call that reads 32 bytes: the key that the call reads, and the steps after the
-// call.
+// If `steps` begin with a system call that reads 32 bytes: the key that it reads, and the steps after the call.
 fn key_in_front(steps: &[Step]) -> Option<(KeyRead, &[Step])>
     ensures { MatchOption result (key_in_front steps.now ≡ None)
         (λ r. key_in_front steps.now ≡ Some (record { key = r.0; rest = r.1.now })) }
@@ -89,8 +88,8 @@ fn key_in_front(steps: &[Step]) -> Option<(KeyRead, &[Step])>
     }
 }
 
-// The key that the call reads and the steps after the call, if the call visits the base before the CPU. `steps` begin
-// after the visit of the base.
+// The key that a system call reads, and the steps after the call, if the call visits the base before the CPU. `steps`
+// begin after the visit of the base.
 fn second_key(steps: &[Step]) -> Option<(KeyRead, &[Step])>
     ensures { MatchOption result (second_key steps.now ≡ None)
         (λ r. second_key steps.now ≡ Some (record { key = r.0; rest = r.1.now })) }
@@ -170,7 +169,7 @@ impl Leaving {
         Ok(())
     }
 
-    // Takes the acts of a point: the state is wiped if one of them wipes.
+    // Replays the acts at a point: the state is wiped if one of them wipes.
     fn meet(&mut self, acts: &[ActLine<'_>], point: Point) -> Result<(), AllocError>
         ensures { OnOk result (self.new ≡ met (is_wiped (map seen_act acts.now) point) self.old) }
     {
@@ -231,7 +230,7 @@ impl Leaving {
         Ok(block + whole + 2)
     }
 
-    // An attempt from the point Serve on.
+    // Replays an attempt from its point Serve on.
     fn from_serve<'a>(
         &mut self,
         acts: &[ActLine<'_>],
@@ -269,7 +268,7 @@ impl Leaving {
         })
     }
 
-    // An attempt from the point Written on.
+    // Replays an attempt from its point Written on.
     fn from_written<'a>(
         &mut self,
         acts: &[ActLine<'_>],
@@ -292,7 +291,7 @@ impl Leaving {
         }
     }
 
-    // An attempt to copy `len` bytes; `block` is the key's next block.
+    // Replays an attempt to copy `len` bytes; `block` is the key's next block.
     fn attempt<'a>(
         &mut self,
         acts: &[ActLine<'_>],
@@ -318,7 +317,7 @@ impl Leaving {
         }
     }
 
-    // An attempt. If the attempt does not hold, a second attempt without acts follows.
+    // Replays an attempt, and a second one without acts if the first does not hold.
     fn try_twice(
         &mut self,
         acts: &[ActLine<'_>],
@@ -334,7 +333,7 @@ impl Leaving {
         Ok(())
     }
 
-    // A `vread` after its first look. The `vread` wants at least one byte, and its flags are good.
+    // Replays a `vread` after its first look. The `vread` wants at least one byte, and its flags are good.
     fn look(
         &mut self,
         acts: &[ActLine<'_>],
@@ -355,7 +354,7 @@ impl Leaving {
         self.try_twice(acts, len, steps)
     }
 
-    /// Takes a `vread` of `len` bytes with these flags and acts, by the steps of its line.
+    /// Replays a `vread` of `len` bytes with these flags and acts, by the steps of its line.
     ///
     /// # Errors
     ///

@@ -25,7 +25,7 @@ pub struct LineEnd {
     pub stamp: u64,
 }
 
-// Adds the lines of the acts inside a call. The call has this number, and was over at this stamp.
+// Adds the ends of the lines of the acts inside a call, which has this number and was over at this stamp.
 fn push_acts(
     lines: &mut Vec<LineEnd>,
     call: usize,
@@ -44,7 +44,7 @@ fn push_acts(
     Ok(())
 }
 
-// Adds the lines of a call. The call has this number, and was over at this stamp.
+// Adds the ends of all lines of a call, which has this number and was over at this stamp.
 fn push_call(
     lines: &mut Vec<LineEnd>,
     number: usize,
@@ -65,7 +65,7 @@ fn push_call(
     Ok(())
 }
 
-// The lines of a caller with these calls. `stamp` is the stamp of the last visit before the first call.
+// The ends of the lines of a caller with these calls. `stamp` is the stamp of the last visit before the first call.
 fn caller_lines(
     alloc: Global,
     stamp: u64,
@@ -82,7 +82,7 @@ fn caller_lines(
     Ok(lines)
 }
 
-// The lines of all callers.
+// The ends of the lines of all callers.
 fn all_lines(
     alloc: Global,
     starts: &[u64],

@@ -90,7 +90,7 @@ fn rekeyed_places(
     Ok(places)
 }
 
-// The index of a CPU, a caller or a state as a number of 32 bits. In every book these indices fit.
+// The index of a CPU, a caller or a state, as a number of 32 bits. The indices of every book fit.
 pub(crate) fn number_of(index: usize) -> Result<u32, AllocError>
     ensures number { IfOk result (λ number. number ≡ index) }
     ensures none { OnErr result (2 ^ 32 ≤ index) }
@@ -202,8 +202,8 @@ impl ListedKeys {
 ///
 /// # Errors
 ///
-/// `AllocError` if there is no memory for them, if a byte of a key has a number of 2^64 or more, or if there are more
-/// than 2^32 CPUs, callers or states of a caller.
+/// `AllocError` if there is no memory for them, or if a byte has a position of 2^64 or more in its key's keystream.
+/// Also if there are more than 2^32 CPUs, callers or states of a caller.
 pub fn tell_book(
     alloc: Global,
     kept: &Lists,

@@ -32,7 +32,7 @@ fn first_steps(steps: &[Step], count: usize) -> &[Step]
     steps.get(..count).unwrap_or(steps)
 }
 
-// The parent's own steps before a fork.
+// The own steps of the fork's parent before the fork.
 fn steps_before<'a>(own: &'a [Vec<Step>], fork: Fork) -> &'a [Step]
     ensures { (callers : List (List Call)) → map (λ own. own.items) own.now ≡ map calls_steps callers →
         result.now ≡ take fork.steps (calls_steps (list_at callers fork.parent)) }
@@ -66,7 +66,7 @@ fn start_stamp(starts: &[u64], own: &[Vec<Step>], forks: &[Fork], caller: usize)
     }
 }
 
-// The stamp at the start of each caller.
+// For each caller, the stamp of the last visit before its start (made by an ancestor).
 fn start_stamps(alloc: Global, own: &[Vec<Step>], forks: &[Fork]) -> Result<Vec<u64>, AllocError>
     ensures { IfOk result (λ starts. (callers : List (List Call)) →
         map (λ own. own.items) own.now ≡ map calls_steps callers → forks.now ≡ all_forks 0 callers →
@@ -80,7 +80,7 @@ fn start_stamps(alloc: Global, own: &[Vec<Step>], forks: &[Fork]) -> Result<Vec<
     Ok(starts)
 }
 
-// The lists of a caller with these calls. `stamp` is the stamp of the last visit before the first call.
+// The lists of the states of a caller with these calls. `stamp` is the stamp of the last visit before the first call.
 fn caller_lists(
     alloc: Global,
     stamp: u64,
@@ -95,7 +95,7 @@ fn caller_lists(
     Ok(caller.lists())
 }
 
-// The lists of all callers.
+// The lists of the states of all callers.
 fn all_lists(
     alloc: Global,
     starts: &[u64],

@@ -63,7 +63,7 @@ pub struct Lives {
 }
 
 impl Lives {
-    /// No births, endings or rests.
+    /// No births, no endings and no rests of batches.
     pub(crate) fn none(alloc: Global) -> Lives
         ensures births { result.births.items ≡ [] }
         ensures endings { result.endings.items ≡ [] }
@@ -267,7 +267,8 @@ impl Lives {
     ///
     /// # Errors
     ///
-    /// `AllocError` if there is no memory for them, or if a byte of a batch has a number of 2^64 or more.
+    /// `AllocError` if there is no memory for them, or if a byte of a batch has a position of 2^64 or more in its
+    /// keystream.
     pub(crate) fn cpu(&mut self, cpu: u32, lane: &[KeptCpu]) -> Result<(), AllocError>
         ensures births { (base : List BookBase) → OnOk result (self.new.births.items ≡ self.old.births.items
             ++ listed_from (cpu_births_at cpu) (cpu_step base cpu) cpu_start (cpu_entries lane.now)) }
@@ -328,7 +329,8 @@ impl Lives {
     ///
     /// # Errors
     ///
-    /// `AllocError` if there is no memory for them, or if a byte of a batch has a number of 2^64 or more.
+    /// `AllocError` if there is no memory for them, or if a byte of a batch has a position of 2^64 or more in its
+    /// keystream.
     pub(crate) fn state(&mut self, of: StateOf, entries: &[VEntry]) -> Result<(), AllocError>
         ensures births { OnOk result (self.new.births.items ≡ self.old.births.items
             ++ listed_from (state_births_at of) (state_step of.caller of.state) state_start entries.now) }

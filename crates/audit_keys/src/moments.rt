@@ -30,7 +30,7 @@ pub struct Moments {
     pub callers: Vec<Vec<Vec<Moment>>>,
 }
 
-// The moment at a place of a list.
+// The moment of the entry at a place, out of a list of moments.
 fn moment_in(list: &[Moment], place: u64) -> Option<Moment>
     ensures { result ≡ slice_get list.now place }
 {
@@ -61,7 +61,7 @@ impl Moments {
         }
     }
 
-    /// The moment of an entry. None if no moment is listed for the entry.
+    /// The moment of an entry, or `None` if no moment is listed for it.
     pub fn at(&self, origin: Origin) -> Option<Moment>
         ensures { result ≡ moment_at self.now origin }
     {

@@ -13,7 +13,7 @@ pub struct Outline {
 }
 
 impl Outline {
-    /// A state whose memory is all zeros.
+    /// The outline of a state whose memory is all zeros.
     pub fn wiped() -> Outline
         ensures { result ≡ wiped_outline }
     {

@@ -14,7 +14,7 @@ pub(crate) struct InUse {
 }
 
 impl InUse {
-    /// The use by which these bytes of the key became a key.
+    /// The use that keeps bytes of the key, from byte `from` on, as the key `name`.
     pub(crate) fn kept(self, from: u64, name: KeyName) -> Used
         ensures { result ≡ kept_as self.by self.key from name }
     {
@@ -29,7 +29,7 @@ impl InUse {
         }
     }
 
-    /// The use by which these bytes of the key were served.
+    /// The use that serves `len` bytes of the key, from byte `from` on.
     pub(crate) fn served(self, from: u64, len: u64) -> Used
         ensures { result ≡ served_by self.by self.key from len }
     {

@@ -94,8 +94,8 @@ fn push_held(pieces: &mut Vec<KeyPiece>, rests: &[HeldRest]) -> Result<(), Alloc
     Ok(())
 }
 
-// The uses and the rests of all keys, as pieces. The uses themselves are freed, since they take as much memory as the
-// pieces.
+// The uses and the rests of all keys, as pieces of keystreams. The uses themselves are freed, since they take as much
+// memory as the pieces.
 fn all_pieces(
     alloc: Global,
     uses: Vec<Used>,
@@ -174,7 +174,7 @@ fn row_of(
     })
 }
 
-// The uses and the rests of all keys, in the order of the keys' names.
+// The uses and the rests of all keys, as pieces in the order of the keys' names.
 fn sorted_pieces(
     alloc: Global,
     uses: Vec<Used>,
@@ -200,7 +200,7 @@ fn sorted_endings(alloc: Global, all: &[Ending]) -> Result<Vec<Ending>, AllocErr
     Ok(endings)
 }
 
-// The row of each birth.
+// A row for each birth of a key.
 fn rows_of(
     alloc: Global,
     births: &[Birth],

@@ -27,19 +27,19 @@ pub struct StateOf {
 #[derive(Clone, Copy)]
 pub struct StateKeys {
     pub key: Option<KeyName>,
-    /// How many refills the state had.
+    /// How many refills of its batch the state had.
     pub refills: u64,
     pub batch_key: Option<KeyName>,
     /// The first block of the batch.
     pub batch_from: u64,
 }
 
-/// The number, in a key's keystream, of the byte that is `more` bytes after the first byte of `block`. In a run this
-/// number fits into 64 bits, since no run uses a block with so large a number.
+/// The position, in a key's keystream, of the byte that is `more` bytes after the first byte of `block`. In a run it
+/// fits into 64 bits, since no run uses a block with so large a number.
 ///
 /// # Errors
 ///
-/// `AllocError` if the number is 2^64 or more.
+/// `AllocError` if the position is 2^64 or more.
 pub fn byte_of(block: u64, more: u64) -> Result<u64, AllocError>
     ensures byte { IfOk result (λ byte. byte ≡ 64 * block + more) }
     ensures none { OnErr result (2 ^ 64 ≤ 64 * block + more) }
@@ -97,7 +97,7 @@ impl StateKeys {
         Ok(())
     }
 
-    /// The keys after an entry.
+    /// The keys of the state after an entry.
     ///
     /// # Errors
     ///
@@ -133,7 +133,7 @@ impl StateKeys {
 ///
 /// # Errors
 ///
-/// `AllocError` if there is no memory for them, or if a byte of a key has a number of 2^64 or more.
+/// `AllocError` if there is no memory for them, or if a byte has a position of 2^64 or more in its key's keystream.
 pub fn state_uses(alloc: Global, of: StateOf, entries: &[VEntry]) -> Result<Vec<Used>, AllocError>
     ensures { IfOk result (λ uses. uses.items
         ≡ listed_from (state_used_at of) (state_step of.caller of.state) state_start entries.now) }

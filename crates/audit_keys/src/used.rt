@@ -5,7 +5,7 @@ use key_names::{KeyName, LaneId, Span};
 pub const KEY_BYTES: u32 = 32;
 
 /// An entry that makes, uses or erases a key. The entry is at a place of a lane, or at a place in the list of a
-/// caller's vgetrandom state. In the order, entries of lanes come before entries of states.
+/// caller's vgetrandom state. Sorted, entries of lanes come before entries of states.
 #[derive(Clone, Copy, Debug, PartialEq, Eq, PartialOrd, Ord)]
 pub enum Origin {
     Lane(LaneId, u64),

@@ -1,4 +1,4 @@
--- One call of a caller, for each kind of event.
+-- Lemmas about one call of a caller, for each kind of event.
 pub mod ActSteps
 pub mod ActsMeant
 pub mod AloneDone

@@ -1,4 +1,4 @@
--- A caller with all callers that it forks.
+-- Lemmas about the run of a caller with all callers that it forks.
 pub mod HasAdvanced
 pub mod HasForked
 pub mod Forking

@@ -1,4 +1,4 @@
--- All callers together made a lawful transcript.
+-- The calls of all callers of a script make a lawful transcript.
 pub mod LineMarks
 pub mod Looks
 pub mod Marks

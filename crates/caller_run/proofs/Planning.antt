@@ -1,4 +1,4 @@
--- The parent of each caller, and the room that each caller gets before the first one starts.
+-- The parent of each caller, and the room (the memory) that each caller gets before the first caller starts.
 pub mod OnceEach
 pub mod Parents
 pub mod Ancestors

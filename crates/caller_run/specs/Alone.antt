@@ -34,14 +34,13 @@ pub record IsEmittedByOne (script : Script) : Type 0 where
   pub one : length script.callers ≡ 1
   pub once : AllByRecursion (AllByRecursion IsEmittedOnce) script.callers
 
--- from `c` to `d`, the caller made the call of an event whose line is final, with this reply, these bytes and these
--- steps
+-- the caller, which was `c` and is now `d`, made the call of an event whose line is final, with this reply, these bytes
+-- and these steps
 abbrev pub CalledOnce : Lanes → Event → Caller → Caller → Reply → List ℕ → List Step → Type 0
 CalledOnce t (Vread len flags) c d said served steps = StateRead t len flags c d said served steps [] []
 CalledOnce t event c d said served steps = Called t event c d said served steps
 
--- a record with `lines`, as if the run had kept them, and with room for the lines of the remaining events and for a
--- last line
+-- `lines`, as if the run had kept them, with memory for the lines of the events `rest` and for a last line
 abbrev pub as_kept : List SeenLine → List Event → Gathered
 as_kept lines rest = record {
   lines = lines;
@@ -108,7 +107,7 @@ last_line run = record {
   shown = shown_by (take run.recorded.shown run.served.items) run.recorded.said.shows;
 }
 
--- a line was made, and fits a transcript
+-- the run has made a line, and the line's steps and data fit a transcript
 pub record HasLine (run : LoneRun) : Type 0 where
   pub steps_fit : AllByRecursion StepFits run.trace
   pub shows : ShowsFit run.recorded.word run.recorded.said.shows

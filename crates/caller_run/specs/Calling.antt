@@ -40,8 +40,8 @@ caller_at set states = record { setting = set; states = states.all; current = st
 abbrev pub conform : Caller → CallerState
 conform c = caller_at (setting_of c.set) c.states.value
 
--- sixteen states, one of them current. Each state's generation is at most the generation that the vDSO publishes if the
--- core's generation is `found`
+-- the caller has sixteen vgetrandom states, one of them current. Each state's generation is at most the generation that
+-- the vDSO publishes if the core's generation is `found`
 pub record Seen (found : ℕ) (s : CallerState) : Type 0 where
   pub many : length s.states ≡ 16
   pub current : s.current < 16
@@ -51,30 +51,31 @@ pub record Seen (found : ℕ) (s : CallerState) : Type 0 where
 abbrev pub StatesConform : Caller → Type 0
 StatesConform c = Seen (floor (view c.pass)) (conform c)
 
--- from m to n an event was done, with this answer and these data, and the samples of its visits match their definition
+-- from m to n the event was done with this answer and these data, and the samples of its visits match their definition
 abbrev pub Does : Setting → Event → Answer → Shown → Moment → Moment → Type 0
 Does set event answer shown m n = MakesIn (Sampled (IsOutcomeOf (setting_of set) event answer shown)) set m n
 
--- the call of any event can be made at this site, which has no step yet
+-- at the site `s` (a table, and a caller's pass, trace and setting) the call of any event can be made; the trace is
+-- empty
 pub record CanAsk (s : Site) : Type 0 where
   pub idle : IsIdle 20 s
   pub cpu : IsOnCpu s
   pub timely : IsTimely s
 
--- from m to n the call of an event was made, with this reply and these bytes
+-- from site m to site n the call of `event` was made, with this reply and these bytes
 pub record Asked (event : Event) (said : Reply) (served : List ℕ) (m n : Site) : Type 0 where
   pub same : Same m n
   pub has : HasInHands [] n
   pub does : Does m.set event said.answer (shown_by served said.shows) (at m) (at n)
   pub shows : ShowsFit (event_word event) said.shows
 
--- the caller holds no lane, its CPU is in the table, and its moment is below 2^40
+-- the caller's pass holds no lane, and its setting has a CPU of the table and a moment below 2^40
 pub record IsReady (t : Lanes) (c : Caller) : Type 0 where
   pub has : HoldsLanes t c.set.caller [] c.pass
   pub cpu : c.set.cpu < t.cpus
   pub moment : c.set.now < 2 ^ 40
 
--- from `c` to `d`, the caller made the call of an event, with this reply, these bytes and these steps
+-- the caller, which was `c` and is now `d`, made the call of `event` with this reply, these bytes and these steps
 pub record Called (t : Lanes) (event : Event) (c d : Caller) (said : Reply) (served : List ℕ) (steps : List Step)
     : Type 0 where
   pub has : HoldsLanes t d.set.caller [] d.pass
@@ -83,15 +84,15 @@ pub record Called (t : Lanes) (event : Event) (c d : Caller) (said : Reply) (ser
   pub does : Does c.set event said.answer (shown_by served said.shows) (moment c.pass []) (moment d.pass steps)
   pub shows : ShowsFit (event_word event) said.shows
 
--- from `c` to `d`, the caller made its last visit
+-- the caller, which was `c` and is now `d`, made its last visit
 pub record HasLeft (t : Lanes) (c d : Caller) (steps : List Step) : Type 0 where
   pub has : HoldsLanes t d.set.caller [] d.pass
   pub set : d.set ≡ c.set
   pub reached : floor (view d.pass) ≤ (model d.pass 1).base.generation
   pub did : Makes (BaseOnly End) c.set (moment c.pass []) (moment d.pass steps)
 
--- from `c` to `d`, the caller read `n` bytes out of its current state with these flags. The requests `asks` are those
--- of the acts inside, and `zs` are the acts' outcomes
+-- the caller, which was `c` and is now `d`, read `n` bytes out of its current state with these flags. The requests
+-- `asks` are those of the acts inside, and `zs` are the acts' outcomes
 pub record StateRead (t : Lanes) (n flags : ℕ) (c d : Caller) (said : Reply) (served : List ℕ) (steps : List Step)
     (asks : List Ask) (zs : List ActOutcome) : Type 0 where
   pub has : HoldsLanes t d.set.caller [] d.pass

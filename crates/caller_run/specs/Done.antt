@@ -40,8 +40,8 @@ pub record CallMeant (lists : Lists) (s : CallerState) (call : Call) (t : Caller
 abbrev pub CallSamples : (ℕ → ℕ → FastPool) → Lists → Call → Type 0
 CallSamples fast lists call = AllByRecursion (λ line. SamplesConform fast (effects_of lists line.steps)) (lines_in_order call)
 
--- this call took the pass's view from v to w, and the caller's state from s to t. The call's meaning holds for all
--- final lists that extend the lists seen by the pass
+-- `call` took the pass's view from v to w, and the caller's state from s to t. The call's meaning holds for all final
+-- lists that extend the lists seen by the pass
 pub record CallDoneBy (caller splits : ℕ) (v w : View) (s t : CallerState) (call : Call) : Type 0 where
   pub numbered_steps : List NumberedStep
   pub ran : RanBy caller splits v w numbered_steps
@@ -51,7 +51,7 @@ pub record CallDoneBy (caller splits : ℕ) (v w : View) (s t : CallerState) (ca
   pub samples : (lanes : ℕ) (visits : ℕ → List Visit) (callers : StateLists) → Continues lanes w visits →
       CallSamples (fast_in visits) (book_lists lanes visits callers) call
 
--- `CallDoneBy` for a call that forks no caller
+-- `CallDoneBy` for a call that forks no caller, so that the pass is not split
 abbrev pub CallDone : ℕ → View → View → CallerState → CallerState → Call → Type 0
 CallDone caller v w s t call = CallDoneBy caller 0 v w s t call
 

@@ -17,13 +17,13 @@ pub record Hears (visits : ℕ → List Visit) (v : View) : Type 0 where
   pub known : (lane : ℕ) → lane < length v.lanes → Begins (known_of v lane) (visits lane)
   pub heard : (lane : ℕ) → lane < length v.lanes → AllBegin (at lane v).heard (visits lane)
 
--- a caller of the script made all its events
+-- `r` is the run of a caller of the script that made all its events
 pub record RunsIn (script : Script) (r : Run) : Type 0 where
   pub events : List Event
   pub there : slice_get script.callers r.begun.caller ≡ Some events
   pub has : HasRun r.begun.caller events r
 
--- all these callers ran. Each began from one of these starts, or was forked by one of these callers
+-- `runs` are runs of callers. Each caller began from one of these starts, or was forked by a caller of one of `runs`
 pub record Family (script : Script) (starts : List Start) (runs : List Run) : Type 0 where
   pub each : AllByRecursion (RunsIn script) runs
   pub began : AllByRecursion
@@ -49,7 +49,7 @@ pub record Joined (v w : View) (runs : List Run) : Type 0 where
 abbrev pub SameShare : View → View → Type 0
 SameShare v w = w.share * 2 ^ v.halvings ≡ v.share * 2 ^ w.halvings
 
--- the pass was not split between the two views
+-- the pass was not split between the views v and w
 pub record SameHalves (v w : View) : Type 0 where
   pub share : w.share ≡ v.share
   pub halvings : w.halvings ≡ v.halvings

@@ -17,11 +17,11 @@ pub record Item : Type 0 where
   pub number : ℕ
   pub step : Step
 
--- the steps without their numbers
+-- the steps of `items`, without their events and numbers
 abbrev pub steps_of : List Item → List Step
 steps_of items = map (λ item. item.step) items
 
--- the steps of a line; i is the number of the first
+-- the items of a line's steps; i is the number of the first step
 abbrev pub items_from : ℕ → ℕ → List Step → List Item
 items_from event i [] = []
 items_from event i (step ∷ steps) = record { event = event; number = i; step = step } ∷ items_from event (suc i) steps
@@ -36,14 +36,14 @@ items_at_point (bound ∷ acts) point =
     if is_same_point bound.point point then line_items bound.line ++ items_at_point acts point
     else items_at_point acts point
 
--- cuts a list after the visits at its front
+-- cuts `items` after the visits at their front
 abbrev pub cut_items : List Item → List Item × List Item
 cut_items [] = ([], [])
 cut_items (item ∷ items) =
     if is_mark item.step then (let cut = cut_items items in (item ∷ cut.0, cut.1)) else ([], item ∷ items)
 
--- cuts the third and later steps of a vread at the points Serve and End. The cut is after the steps for a new key, or
--- at the front if there are no such steps
+-- cuts `items`, the steps of a vread after its first two, for the points Serve and End. The cut is after the steps for
+-- a new key, or at the front if there are no such steps
 abbrev pub cut_rekey : List Item → List Item × List Item
 cut_rekey items =
     if option_map_or (λ item. is_mark item.step) (slice_get items 2) false

@@ -6,7 +6,7 @@ use Rattle.key_names.specs.declared.events.Event.TheVariants.{Read, Vread, Kread
 use Rattle.key_names.specs.declared.events.Event.TheVariants.{Int64, Reseed, Tick, Fork, Inside, Prepare, Online}
 use Rattle.key_names.specs.declared.events.Event.TheVariants.{Vmfork}
 
--- a sample or a credit, or the query of the pool's bits
+-- an event that adds a sample or a credit, or queries the pool's bits
 abbrev pub IsSample : Event → Type 0
 IsSample (Write text) = ⊤
 IsSample (Device word text) = ⊤
@@ -23,13 +23,13 @@ IsReseed Tick = ⊤
 IsReseed (Vmfork word text) = ⊤
 IsReseed _ = ⊥
 
--- a CPU is prepared, or comes online
+-- an event that prepares a CPU, or brings one online
 abbrev pub IsOfCpu : Event → Type 0
 IsOfCpu (Prepare cpu) = ⊤
 IsOfCpu (Online cpu) = ⊤
 IsOfCpu _ = ⊥
 
--- a read of bytes
+-- an event that reads bytes
 abbrev pub IsRead : Event → Type 0
 IsRead (Read len flags) = ⊤
 IsRead (Kread len) = ⊤
@@ -37,7 +37,7 @@ IsRead (Dread len flag) = ⊤
 IsRead (Uread len) = ⊤
 IsRead _ = ⊥
 
--- an integer out of a CPU's batches
+-- an event that reads an integer out of a CPU's batches
 abbrev pub IsInteger : Event → Type 0
 IsInteger Int8 = ⊤
 IsInteger Int16 = ⊤
@@ -52,7 +52,7 @@ IsCall (Fork child) = ⊥
 IsCall (Inside point act) = ⊥
 IsCall _ = ⊤
 
--- an event of none of these kinds: it makes no call of the core, and may set something
+-- an event other than a vread, a fork, an act and the kinds above: it makes no call of the core, and may set something
 abbrev pub IsQuiet : Event → Type 0
 IsQuiet event = IsCall event × (IsSample event → ⊥) × (IsReseed event → ⊥) × (IsOfCpu event → ⊥) × (IsRead event → ⊥)
     × (IsInteger event → ⊥)

@@ -26,8 +26,8 @@ pub record Run : Type 0 where
   pub lines : List SeenLine
   pub kids : List Start
 
--- the caller of this number made these events and ended. At its end, a replay of what its pass has seen of the base's
--- list gives a generation that is at least each generation that the pass saw
+-- the caller of this number made these events and ended. At its end, a replay of the part of the base's list that its
+-- pass has seen gives a generation that is at least each generation that the pass saw
 pub record HasRun (caller : ℕ) (events : List Event) (r : Run) : Type 0 where
   pub own : r.begun.caller ≡ caller
   pub ended : RunEnded r.begun events r.end r.lines r.kids
@@ -63,7 +63,7 @@ pub record RanAll (script : Script) (runs : List Run) (w : View) : Type 0 where
   pub wide : length w.lanes ≡ script.cpus + 2
   pub ended : Ended (script.cpus + 2) w
 
--- the lines are a lawful transcript, with the book of the lanes' lists
+-- `t` is a lawful transcript of the script, with the book of the lists that the view w has of the lanes
 pub record LawfulRuns (script : Script) (t : List (List SeenLine)) (w : View) : Type 0 where
   pub meanings : List (List CallMeaning)
   pub transcript : IsTranscriptBy script t (book_of (script.cpus + 2) (known_of w) (map state_lists meanings)) meanings

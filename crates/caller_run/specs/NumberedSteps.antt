@@ -9,7 +9,7 @@ pub record NumberedStep : Type 0 where
   pub number : ℕ
   pub made_step : MadeStep
 
--- the looks and visits of one event; n is the number of the first
+-- the numbered looks and visits of one event; n is the number of the first one
 abbrev pub numbered_steps_from : ℕ → ℕ → List MadeStep → List NumberedStep
 numbered_steps_from event n [] = []
 numbered_steps_from event n (made_step ∷ made_steps) =

@@ -12,7 +12,7 @@ use Rattle.caller_run.specs.ForkTree.{Layout}
 use Rattle.caller_run.specs.Layouts.{layout}
 use Rattle.caller_run.specs.RunningCallers.{IsNewBuffers, ArePrepared}
 
--- the room of caller c is new: it has new buffers for c and for all callers that c forks
+-- `a` is the new room (memory) of caller c: it has new buffers for c and for all callers that c forks
 pub record IsNewRoom (callers : List (List Event)) (c : ℕ) (a : Layout) : Type 0 where
   pub is : a.caller ≡ c
   pub there : a.caller < length callers
@@ -32,11 +32,11 @@ IsPlanFor script plan = IsPlanned script (layout plan.root) plan.slots.items
 abbrev pub lines_in : List Gathered → List (List SeenLine)
 lines_in slots = map (λ c. c.lines) slots
 
--- the slots after each caller's lines were put into that caller's slot
+-- the lines in the slots `t`, after the lines of each listed caller were put into that caller's slot
 abbrev pub put_in : List (List SeenLine) → List (ℕ × List SeenLine) → List (List SeenLine)
 put_in t [] = t
 put_in t (x ∷ xs) = put_in (slice_set t x.0 x.1) xs
 
--- each of these callers has a slot
+-- each of the listed callers has a slot: its number is below n
 abbrev pub HaveSlots : ℕ → List (ℕ × List SeenLine) → Type 0
 HaveSlots n recorded = AllByRecursion (λ x. x.0 < n) recorded

@@ -38,7 +38,7 @@ use Rattle.caller_run.specs.Says.{most_shown}
 use Rattle.caller_run.specs.Standing.{Start, CanAdvance, HasLogged, RunEnded, read_inside}
 use Rattle.caller_run.specs.Took.{Took}
 
--- room for these events, still empty
+-- the buffers are empty, and have room for the lines of `events`
 pub record IsNewBuffers (s : Buffers) (events : List Event) : Type 0 where
   pub lines : s.log.lines.lines ≡ []
   pub line_room : s.log.lines.line_room ≡ length events + 1
@@ -80,7 +80,7 @@ start_of set p = record { caller = set.caller; set = setting_of set; view = view
 abbrev pub CanAdvanceIn : Lanes → RunningCaller → List Event → Type 0
 CanAdvanceIn t w events = CanAdvance t w.caller w.buffers.log (vec_len w.buffers.served) (vec_len w.buffers.inside) events
 
--- a running caller has made all of `events` except the remaining `rest`
+-- a running caller, which began as `begun`, has made all of `events` except the remaining `rest`
 abbrev pub GoneIn : Start → List Event → List Event → Caller → RunningCaller → List Start → Type 0
 GoneIn begun events rest c w kids = HasLogged begun events rest c w.buffers.log kids
 
@@ -88,7 +88,7 @@ GoneIn begun events rest c w kids = HasLogged begun events rest c w.buffers.log 
 abbrev pub AreAbove : ℕ → List Event → Type 0
 AreAbove c events = AllByRecursion (IsForkAbove c) events
 
--- ---- preconditions
+-- ---- preconditions of a running caller's functions ----
 
 -- a caller can run from its start: its pass holds no lane, and its room is new
 pub record CanRun (t : Lanes) (script : Script) (set : Setting) (p : Pass) (a : Layout) : Type 0 where
@@ -110,7 +110,7 @@ pub record CanAdvanceOn (t : Lanes) (script : Script) (events : List Event) (w :
   pub cpus : t.cpus ≡ script.cpus
   pub ready : ArePrepared script.callers (kids_of w) (forks events)
 
--- the visit of a fork was made, and the caller can make the fork's line
+-- the visit of a fork was made, and the running caller can make the line of the fork
 pub record CanTell (t : Lanes) (script : Script) (child : ℕ) (rest : List Event) (w : RunningCaller) (steps : List Step)
     : Type 0 where
   pub can : CanAdvanceIn t w (Fork child ∷ rest)
@@ -126,7 +126,7 @@ pub record CanPart (t : Lanes) (script : Script) (child : ℕ) (rest : List Even
   pub child_can : CanRun t script (child_set child w.caller.set) theirs a
   pub parent_can : CanTell t script child rest w steps
 
--- ---- results
+-- ---- results of a running caller's functions ----
 
 -- the running caller x made its events up to the next fork, or all if no fork is left, and is now y
 pub record RanPlain (t : Lanes) (events : List Event) (x : RunningCaller) (rest : List Event) (y : RunningCaller) : Type 0 where
@@ -138,19 +138,19 @@ pub record RanPlain (t : Lanes) (events : List Event) (x : RunningCaller) (rest 
   pub short : length rest ≤ length events
   pub kids : y.kids ≡ x.kids
 
--- the caller m made the visit of a fork, and is now w
+-- the caller m made the visit that forks `child`, and is now w
 pub record AtFork (m w : Caller) (steps : List Step) (child : ℕ) (theirs : Pass) : Type 0 where
   pub set : w.set ≡ m.set
   pub states : w.states ≡ m.states
   pub forked : cuts.Forked m.set (moment m.pass []) steps child w.pass theirs
 
--- the caller made two more visits: with the first it stops running, and with the second it goes on
+-- from m to n the caller made two visits: with the first it stops running, and with the second it goes on
 pub record RanHere (set : Setting) (m n : Moment) : Type 0 where
   pub middle : Moment
   pub stall : Makes (BaseOnly Stall) set m middle
   pub unstall : Makes (BaseOnly Unstall) set middle n
 
--- the caller m made the steps of a fork, and is now d
+-- the caller m made all steps of the fork of `child`, and is now d
 pub record TookFrom (m d : Caller) (child : ℕ) (u : View) (steps : List Step) : Type 0 where
   pub set : d.set ≡ m.set
   pub states : d.states ≡ m.states
@@ -186,7 +186,7 @@ pub record WentFrom (script : Script) (begun : Start) (events : List Event) (kid
   pub seen : floor end ≤ (replay (known_of end 1)).base.generation
   pub recorded : emitted_in (kids_of y) ≡ map numbered runs
 
--- the children's rooms form the same tree as before; only their buffers may differ
+-- the rooms `ks'` of the children form the same tree as the rooms `ks` before; only their buffers may differ
 pub record SameKids (ks ks' : GlobalVec Room) : Type 0 where
   pub shape : tree (fork_tree_of (map layout ks'.items)) ≡ tree (fork_tree_of (map layout ks.items))
   pub many : vec_len ks' ≡ vec_len ks
@@ -217,7 +217,7 @@ pub record WentBeside (t : Lanes) (script : Script) (child : ℕ) (rest : List E
       GoneIn begun events (Fork child ∷ rest) m w kids →
       Past script begun events kids at.forked.before (kid_of m child at.forked.before) y
 
--- all callers of a script ran, and these are their lines
+-- all callers of the script ran, and `lines` are their lines
 pub record WholeRan (script : Script) (lines : List (List SeenLine)) (w : View) : Type 0 where
   pub runs : List Run
   pub ran : RanAll script runs w

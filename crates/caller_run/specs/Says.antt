@@ -37,7 +37,7 @@ ShowsFit word Nothing = ⊤
 ShowsFit word Served = word ≢ Bits
 ShowsFit word (Count n) = word ≡ Bits
 
--- the line of a call
+-- the line of a call: `served` are the bytes that the call served, and `said` is its reply
 abbrev pub line_of : Setting → Word → List ℕ → Reply → List Step → SeenLine
 line_of set word served said steps = record {
   caller = set.caller;

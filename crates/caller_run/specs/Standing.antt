@@ -60,7 +60,7 @@ pub record CanAdvance (t : Lanes) (c : Caller) (log : Log) (served inside : ℕ)
   pub goes : CanAdvanceWith t c log.lines log.acts.items served inside rest
   pub act_room : 8 ≤ vec_capacity log.acts
 
--- the line of a waiting act
+-- `lines` has the line of the waiting act `a`
 pub record HasLine (caller : ℕ) (lines : List SeenLine) (a : Ask) : Type 0 where
   pub line : SeenLine
   pub there : slice_get lines a.event ≡ Some line

@@ -116,7 +116,7 @@ impl LoneRun {
         LoneRun::with_room(alloc, cpus, MOST_SHOWN)
     }
 
-    /// Makes the next event, and its line. The gate is called before the event.
+    /// Makes the next event, and its line. The gate (a hook) is called before the event.
     pub fn make<R: Wait, G: Gate>(&mut self, rt: &R, gate: &G, event: &Event)
         requires { (script : SeenScript) × (rest : List Event) × (lines : List SeenLine)
             × IsGoing script (event.now ∷ rest) self.old lines }

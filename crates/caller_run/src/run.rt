@@ -30,8 +30,8 @@ use transcript_text::Transcript;
 /// memory.
 ///
 /// The caller starts with the CPU, the moment and the hardware words of `set`, at event 0 and with wiped vgetrandom
-/// states. It fills the room. A child gets a thread if children run in threads, and runs here if no thread can be made.
-/// The gate is called before each event.
+/// states. It fills the room, which is its memory. A child gets a thread if children run in threads, and runs here if
+/// no thread can be made. The gate is called before each event.
 pub fn run_caller<R: Threads + Wait + Sync, G: Gate>(
     shared: &Shared<'_, R, G>,
     pass: Pass,

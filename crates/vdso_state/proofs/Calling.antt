@@ -1,4 +1,4 @@
--- The first steps of a call lead to its first point or to its end.
+-- The first steps of a vgetrandom call lead to its first point or to its end.
 use Rattle.std.proofs.Common.{◌≡◌, ◌≢◌, ℕ, ◌≤◌, true, false, List, [], ◌∷◌, refl, subst, Ok, arith}
 use Rattle.std.proofs.lemmas.Bool.{eq-eqb}
 use Rattle.key_names.specs.declared.point.Point.TheVariants.{Start}
@@ -17,8 +17,8 @@ use Rattle.vdso_state.proofs.Leading.{in_call, says, then_came}
 use Rattle.vdso_state.proofs.Stepping.{ne-eqb, asks_at_once}
 
 module _ {H : Type 0} (host : Doings H) (floor : H → ℕ) (n flags look : ℕ) where
-  -- if `From` allows each ending by the system call, and the call ends in this way under `BySystem`, then the call ends
-  -- in this way under `From`
+  -- if `BySystem` implies `From`, and the call ends with `finish` under `BySystem`, then it ends with `finish` under
+  -- `From`
   said_asked : (From : List HostStep → Outcome → Type 0) (s : VgetrandomState) (h last : H) (finish : Finish) →
       ((steps : List HostStep) (outcome : Outcome) → BySystem n flags s steps outcome → From steps outcome) →
       Ends host floor (BySystem n flags s) h last finish →
@@ -34,7 +34,8 @@ module _ {H : Type 0} (host : Doings H) (floor : H → ℕ) (n flags look : ℕ)
   bad_flags s h last finish bad ends =
       said_asked (IsCall n flags s) s h last finish (λ steps outcome r. match_true _ _ _ bad r) ends
 
-  -- the first look, and then the call after that look, are a whole call
+  -- if the flags are good, the first look finds `published`, and the rest of the call after this look leads to `came`,
+  -- the whole call leads to `came`
   pub looked_then : (published : ℕ) (s : VgetrandomState) (h next last : H) (came : Came) (t : VgetrandomState)
       (buf : List ℕ) → is_bad flags ≡ false → host.publishes_as h published next → floor h ≤ published →
       published ≤ floor next →
@@ -66,7 +67,8 @@ module _ {H : Type 0} (host : Doings H) (floor : H → ℕ) (n flags look : ℕ)
         (λ steps outcome r. match_false _ _ _ (ne-eqb published 0 ready) (match_false _ _ _ (ne-eqb n 0 some)
         (match_true _ _ _ busy r))) ends
 
-    -- the call reaches the first point of its first attempt
+    -- if a generation is published, `n` is not 0 and the state is not in use, the call reaches the first point of its
+    -- first attempt
     pub tries : (t : VgetrandomState) (g : ℕ) (buf : List ℕ) → published ≢ 0 → n ≢ 0 → s.in_use ≡ false →
         t ≡ record s { in_use = true } → host.publishes_as h g last → floor h ≤ g → g ≤ floor last →
         CameTo host floor (FromPublished n flags s published) n flags look
@@ -84,7 +86,7 @@ module _ {H : Type 0} (host : Doings H) (floor : H → ℕ) (n flags look : ℕ)
           refl,
         )
 
-  -- a call for no bytes ends without a further step
+  -- if a generation is published, a call for no bytes ends without a further step
   pub nothing_done : (published : ℕ) (s : VgetrandomState) (h : H) (buf : List ℕ) → published ≢ 0 → n ≡ 0 →
       CameTo host floor (FromPublished n flags s published) n flags look (Ended (Ok Zero)) h h s buf
   nothing_done published s h buf ready none = (

@@ -1,11 +1,12 @@
--- The bytes that a copy takes from a key's stream.
+-- The bytes of a key's keystream that a copy out of a vgetrandom state takes.
 use Rattle.std.proofs.Common.{◌≡◌, ℕ, ◌+◌, ◌*◌, ◌/◌, ◌%◌, ◌≤◌, List, ◌++◌, take, drop, refl, ap, ◌∙◌, arith}
 use Rattle.key_names.specs.Kernel.Keystream.{keystream}
 use Rattle.key_names.specs.Kernel.VgetrandomState.{VgetrandomState}
 use Rattle.key_names.specs.Kernel.BatchCopy.{state_of_same_batch, state_of_new_batch}
 use Rattle.key_names.proofs.Standards.Keystreams.{keystream-append, take-keystream}
 
--- a state with a new batch and the next key, before any of the batch is served
+-- the state `s` after a refill from `block` of its key's keystream: with a new batch, of which no byte is served, and
+-- the next key
 abbrev pub refilled : VgetrandomState → ℕ → VgetrandomState
 refilled s block = record s {
   batch = keystream s.key (64 * block) 96;
@@ -13,12 +14,14 @@ refilled s block = record s {
   pos = 0;
 }
 
--- the state after some bytes of a new batch are served
+-- if `refilled_state` is `s` after a refill from `block`, and `t` is that state after `r` bytes of its batch were
+-- served, `t` is `state_of_new_batch s block r`
 pub state_at : (s refilled_state t : VgetrandomState) (block r m : ℕ) → refilled_state ≡ refilled s block → m ≡ r →
     t ≡ state_of_same_batch refilled_state m → t ≡ state_of_new_batch s block r
 state_at s u t block r m new same is = let sum : 0 + r ≡ r = omega arith in rw (is, new, same, sum) refl
 
--- whole blocks and the front of the new batch after them are one piece of the keystream
+-- the whole blocks of a copy of `n` bytes, and the front of the new batch after them, together are `n` bytes of the
+-- keystream from block `c` on
 pub bytes_at : (key : List ℕ) (c n : ℕ) (blocks batch front : List ℕ) →
     blocks ≡ keystream key (64 * c) (n / 64 * 64) → batch ≡ keystream key (64 * (c + n / 64)) 96 →
     front ≡ take (n % 64) (drop 0 batch) → blocks ++ front ≡ keystream key (64 * c) n

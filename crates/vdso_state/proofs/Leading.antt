@@ -38,7 +38,7 @@ last_look_append look (publishes g ∷ xs) ys = last_look_append g xs ys
 last_look_append look (system_call n flags answer ∷ xs) ys = last_look_append look xs ys
 last_look_append look (at_point point wiped ∷ xs) ys = last_look_append look xs ys
 
--- the entries before an attempt do not change what may follow it
+-- if these steps may follow `attempt`, they may still follow it with `entries` put in front of its entries
 pub after_same : (n flags : ℕ) (Outdated : ℕ → VgetrandomState → List HostStep → Outcome → Type 0) (end : AttemptEnd)
     (attempt : Attempt) (entries : List VEntry) (steps : List HostStep) (outcome : Outcome) →
     AfterAttempt n flags Outdated end attempt steps outcome →
@@ -54,7 +54,7 @@ module _ {H : Type 0} (host : Doings H) (floor : H → ℕ) where
   does_append h mid last (x ∷ xs) ys before after =
       (before.0, before.1, does_append before.0 mid last xs ys before.2 after)
 
-  -- if `To` implies `From`, then `From` leads to `To` without a step
+  -- if `To` implies `From`, then `From` leads to `To` (`Leads`) without a step
   abbrev pub says : (From To : List HostStep → Outcome → Type 0) (h : H) →
       ((steps : List HostStep) (outcome : Outcome) → To steps outcome → From steps outcome) →
       Leads host floor From To h h
@@ -138,7 +138,7 @@ module _ {H : Type 0} (host : Doings H) (floor : H → ℕ) where
     };
   }
 
-  -- the events at a point lead to the rest after the point
+  -- if the events at the point of `place` take the host from `h` to `next`, `AtPlace` leads to `AfterPlace`
   abbrev pub at_leads : (n flags : ℕ) (place : Place) (out : List ℕ) (s t : VgetrandomState) (wiped : Bool) (h next : H) →
       t ≡ state_left wiped s → host.passes_as h place.point wiped next → floor h ≤ floor next →
       Leads host floor (AtPlace n flags place out s) (AfterPlace n flags place out t) h next
@@ -157,7 +157,8 @@ module _ {H : Type 0} (host : Doings H) (floor : H → ℕ) where
         attempt_is = refl;
       })
 
--- after a point the host can still serve the rest of the call
+-- if the host has the same numbers of looks and system calls left, and its floor (the least generation that it may
+-- publish) has not fallen, `MayGoOn` still holds
 pub still_may : (place : Place) (looks calls floor looks_then calls_then floor_then : ℕ) →
     MayGoOn place looks calls floor → looks_then ≡ looks → calls_then ≡ calls → floor ≤ floor_then →
     MayGoOn place looks_then calls_then floor_then

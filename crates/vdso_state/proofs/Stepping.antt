@@ -34,7 +34,8 @@ ends_err : (answer : SystemAnswer) (errno : Errno) (buf : List ℕ) → IsAnswer
 ends_err (read bytes visit) errno buf is = cc
 ends_err (failed why) errno buf is = cc
 
--- after an error the key is what the system call left in the buffer
+-- if the read of a new key failed with `errno`, `KeyIsRead` holds for `s` with generation 0 and with the key `buf`,
+-- which is the buffer after the system call
 pub key_not_read : (answer : SystemAnswer) (errno : Errno) (buf : List ℕ) (s : VgetrandomState) →
     IsAnswer answer (Err errno) buf →
     KeyIsRead answer (Err errno) s (record s { key = buf; generation = 0 })
@@ -44,7 +45,8 @@ key_not_read (failed why) errno buf s answers = (answers, (buf, refl))
 no_error : (errno : Errno) → (let done : Result (Unit {0}) Errno = Ok tt in done ≡ Err errno) → ⊥
 no_error errno same = cc
 
--- an attempt that ended while the published generation was not the state's
+-- an attempt that copied `out`, left the state `s` and the next block `c`, and ended while the published generation was
+-- not that of `s`
 abbrev outdated_attempt : List ℕ → ℕ → VgetrandomState → Attempt
 outdated_attempt out c s = record { out = out; state = s; next_block = c; entries = []; end = outdated }
 
@@ -63,7 +65,8 @@ ended_outdated out c e s other = record {
 }
 
 module _ {H : Type 0} (host : Doings H) (floor : H → ℕ) where
-  -- the system call with this result ends the vgetrandom call
+  -- if the host answers a system call for `n` bytes with `answer`, the vgetrandom call ends with the result and the
+  -- buffer of this answer
   asked : (n flags : ℕ) (s : VgetrandomState) (h last : H) (answer : SystemAnswer) (result : Result VEnd Errno)
       (buf : List ℕ) →
       EndsAsAnswered answer result buf → host.answers_as h n flags answer last → floor h ≤ floor last →
@@ -100,7 +103,7 @@ module _ {H : Type 0} (host : Doings H) (floor : H → ℕ) where
   module _ (turn : Turn) (n flags look : ℕ) (Tail : List HostStep → Attempt → Type 0) (h mid last : H)
       (tried : List HostStep) (attempt : Attempt) (does : DoesAll host h tried mid)
       (climbs : Climbs (floor h) (floor mid) tried) (tries : Tail tried attempt) (quiet : points_of tried ≡ []) where
-    -- if an attempt ends, and the steps after the attempt end the call without reaching a point, the call ends
+    -- if the steps after `attempt` end the call without reaching a point, then the attempt and these steps end the call
     ends_after : (s : VgetrandomState) (result : Result VEnd Errno) (buf : List ℕ) →
         (ends : Ends host floor (AfterAttempt n flags (IfOutdated turn n flags) attempt.end attempt) mid last
         (record { state = s; result = result; buf = buf })) → points_of ends.runs.steps ≡ [] →
@@ -129,7 +132,7 @@ module _ {H : Type 0} (host : Doings H) (floor : H → ℕ) where
       points_append tried ends.runs.steps ∙ (λ i. quiet i ++ too i),
     )
 
-  -- After Start
+  -- The steps of an attempt after its point Start
 
   start_current : (turn : Turn) (n flags c published : ℕ) (out : List ℕ) (s : VgetrandomState) (h : H) →
       s.generation ≡ published →
@@ -177,7 +180,7 @@ module _ {H : Type 0} (host : Doings H) (floor : H → ℕ) where
       ] in
       subst (λ (p : Point). Goal p next t) (sym point) given
 
-  -- After Written
+  -- The steps of an attempt after its point Written
 
   pub key_came : (n flags : ℕ) (place next : Place) (out : List ℕ) (s t : VgetrandomState) (h last : H)
       (answer : SystemAnswer) →
@@ -233,7 +236,7 @@ module _ {H : Type 0} (host : Doings H) (floor : H → ℕ) where
       }) refl u result buf ends
       (asks_at_once n flags (state_after_call t) mid last (record { state = u; result = result; buf = buf }) ends)
 
-  -- After Serve
+  -- The steps of an attempt after its point Serve
 
   pub serve_came : (n flags : ℕ) (place next : Place) (before out : List ℕ) (s t : VgetrandomState) (h : H) →
       place.point ≡ Serve → out ≡ copy_bytes s place.next_block n → t ≡ state_after_copy s place.next_block n →
@@ -262,9 +265,9 @@ module _ {H : Type 0} (host : Doings H) (floor : H → ℕ) where
       (subst (λ (bs : List ℕ). Goal Serve (record place { point = End; next_block = block_after_copy s c n })
       (state_after_copy s c n) bs) (sym bytes) given)))
 
-  -- After End
+  -- The steps of an attempt after its point End
 
-  -- if the state still has the published generation, the call ends with the copied bytes
+  -- if at the end of an attempt the state still has the published generation, the call ends with the copied bytes
   pub end_holds : (turn : Turn) (n flags look c e : ℕ) (out : List ℕ) (s t : VgetrandomState) (h last : H) →
       e ≡ s.generation → t ≡ state_after_call s → host.publishes_as h e last → floor h ≤ e → e ≤ floor last →
       CameTo host floor (RestOf turn n flags (FromEnd out c s)) n flags look (Ended (Ok Batch)) h last t out
@@ -294,7 +297,8 @@ module _ {H : Type 0} (host : Doings H) (floor : H → ℕ) where
         climbs = omega arith;
       }) refl
 
-  -- if the state has another generation at the end of the first attempt, the second attempt begins
+  -- if at the end of the first attempt the state has another generation than the published one, the second attempt
+  -- begins
   pub end_again : (n flags look c e g : ℕ) (out : List ℕ) (s : VgetrandomState) (h mid last : H) →
       e ≢ s.generation → host.publishes_as h e mid → host.publishes_as mid g last → floor h ≤ e → e ≤ floor mid →
       floor mid ≤ g → g ≤ floor last →
@@ -330,7 +334,8 @@ module _ {H : Type 0} (host : Doings H) (floor : H → ℕ) where
     refl,
   )
 
-  -- if the state has another generation at the end of the second attempt, the system call ends the call
+  -- if at the end of the second attempt the state has another generation than the published one, the system call ends
+  -- the call
   pub end_outdated : (n flags look c e : ℕ) (out : List ℕ) (s t : VgetrandomState) (h mid last : H)
       (result : Result VEnd Errno) (buf : List ℕ) →
       e ≢ s.generation → host.publishes_as h e mid → floor h ≤ e → e ≤ floor mid →

@@ -7,24 +7,25 @@ use Rattle.key_names.specs.Kernel.VgetrandomState.{VgetrandomState}
 use Rattle.key_names.specs.Kernel.Vgetrandom.{SystemAnswer, read, failed, HostStep, Ending, no_bytes, by_batch, by_system, Outcome}
 use Rattle.vdso_state.specs.Host.{Doings, DoesAll}
 
--- the result and the buffer of a call that the system call ended; after an error the buffer is unspecified
+-- `result` and `buf` are those of a vgetrandom call that ended with this answer of the system call; after an error the
+-- buffer is unspecified
 abbrev pub EndsAsAnswered : SystemAnswer → Result VEnd Errno → List ℕ → Type 0
 EndsAsAnswered (read bytes visit) result buf = (result ≡ Ok System) × (buf ≡ bytes)
 EndsAsAnswered (failed errno) result buf = result ≡ Err errno
 
--- the result and the buffer of a call with this ending
+-- `result` and `buf` are those of a vgetrandom call with this ending
 abbrev pub EndsAs : Ending → Result VEnd Errno → List ℕ → Type 0
 EndsAs no_bytes result buf = result ≡ Ok Zero
 EndsAs (by_batch bytes) result buf = (result ≡ Ok Batch) × (buf ≡ bytes)
 EndsAs (by_system answer) result buf = EndsAsAnswered answer result buf
 
--- the state, the result and the buffer at the end of a call
+-- the state, the result and the buffer at the end of a vgetrandom call
 pub record Finish : Type 0 where
   pub state : VgetrandomState
   pub result : Result VEnd Errno
   pub buf : List ℕ
 
--- the host makes steps from `h` to `last`, and `Relates` holds for these steps and for an outcome with this finish.
+-- some steps take the host from `h` to `last`, and `Relates` holds for these steps and for an outcome with this finish.
 -- `Relates` describes a call, or the rest of a call
 pub record Runs {H : Type 0} (host : Doings H) (Relates : List HostStep → Outcome → Type 0) (h last : H)
     (finish : Finish) : Type 0 where

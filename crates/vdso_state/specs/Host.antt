@@ -19,7 +19,7 @@ Does host h (publishes g) next = host.publishes_as h g next
 Does host h (system_call n flags answer) next = host.answers_as h n flags answer next
 Does host h (at_point point wiped) next = host.passes_as h point wiped next
 
--- the host makes these steps one after another, from `h` to `last`
+-- these steps, one after another, take the host from `h` to `last`
 abbrev pub DoesAll : {H : Type 0} → Doings H → H → List HostStep → H → Type 0
 DoesAll host h [] last = h ≡ last
 DoesAll {H} host h (step ∷ steps) last = (next : H) × Does host h step next × DoesAll host next steps last
@@ -35,7 +35,8 @@ abbrev pub doings : {H : Type 0} → (H → ℕ → H → Type 0) → (H → ℕ
 doings publishes_as answers_as passes_as =
     record { publishes_as = publishes_as; answers_as = answers_as; passes_as = passes_as }
 
--- the state after the system call for a new key. After an error the key may be any list of bytes
+-- `after` is the state `before` after the system call for a new key. If the system call failed, the key of `after` may
+-- be any list of bytes
 abbrev pub KeyIsRead : SystemAnswer → Result (Unit {0}) Errno → VgetrandomState → VgetrandomState → Type 0
 KeyIsRead (read key visit) result before after = (result ≡ Ok tt) × (after ≡ record before { key = key; pos = 96 })
 KeyIsRead (failed errno) result before after =

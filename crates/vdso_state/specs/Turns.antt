@@ -22,7 +22,7 @@ calls_for Second Written = 2
 calls_for Second Serve = 1
 calls_for Second End = 1
 
--- the number of points that may come, from this one on
+-- the number of points that the call may still reach, this one included
 abbrev pub points_for : Turn → Point → ℕ
 points_for First Start = 8
 points_for First Written = 7
@@ -33,7 +33,7 @@ points_for Second Written = 3
 points_for Second Serve = 2
 points_for Second End = 1
 
--- the number of copies made before the point
+-- the number of copies that a call has made before it reaches this point
 abbrev pub copies_by : Turn → Point → ℕ
 copies_by First Start = 0
 copies_by First Written = 0
@@ -49,7 +49,7 @@ abbrev pub turn_number : Turn → ℕ
 turn_number First = 1
 turn_number Second = 2
 
--- the number of attempts that began before the point
+-- the number of attempts whose point Start comes before this point
 abbrev pub turns_before : Turn → Point → ℕ
 turns_before First Start = 0
 turns_before First Written = 1

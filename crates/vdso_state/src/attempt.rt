@@ -1,4 +1,4 @@
-//! The steps of a call from one of its points to the next.
+//! The steps of a vgetrandom call from one of its points to the next.
 
 ghost use Rattle.std.specs.Prelude.{◌≡◌, ◌≢◌, ◌+◌, ◌^◌, ◌<◌, ◌≤◌, length};
 ghost use Rattle.key_names.specs.declared.point.Point.TheVariants.{Written, Serve, End};
@@ -14,7 +14,7 @@ use crate::place::{Came, Place, Turn};
 use crate::state::VState;
 use key_names::{Errno, Point};
 
-/// Lets the system call fill the whole buffer.
+/// Lets the system call getrandom(2) fill the whole buffer.
 ///
 /// # Errors
 ///
@@ -57,8 +57,8 @@ fn give_up<H: VHost>(
     ask_system(host, st, buf, flags)
 }
 
-/// After `Start`: if the state's generation is not the published one, the state takes the published one, and needs a
-/// key.
+/// After `Start`: if the state's generation is not the published one, it becomes the published one, and a key for it
+/// has to be read.
 fn after_start(st: &mut VState, place: Place) -> Place
     ensures current { st.old.generation ≡ place.published →
         (st.new ≡ st.old) × (result ≡ record place { point = Serve }) }
@@ -73,7 +73,7 @@ fn after_start(st: &mut VState, place: Place) -> Place
     }
 }
 
-/// Reads a new key by the system call. If the read fails, the state has no generation.
+/// Reads a new key by the system call. If the read fails, the state's generation is 0.
 fn read_key<H: VHost>(host: &mut H, st: &mut VState) -> Result<(), Errno>
     requires calls { 1 ≤ H.calls_left host.old }
     ensures reads { (answer : SystemAnswer) × KeyIsRead answer result st.old st.new
@@ -173,7 +173,7 @@ fn after_end<H: VHost>(
     }
 }
 
-/// Continues a call after its point: to the next point, or to the end of the call.
+/// Continues a call from the point that it has reached, to its next point or to its end.
 ///
 /// `place` must come from `begin` or from this function, and the buffer has at most 2^20 bytes. The host publishes no
 /// generation below `place.published`. The host still has 3 looks in the first attempt, or 1 in the second. It also has

@@ -44,7 +44,7 @@ pub fn begin<H: VHost>(host: &mut H, st: &mut VState, buf: &mut [u8], flags: u32
     })
 }
 
-/// Continues a call after its point, up to the call's end.
+/// Continues a call from the point that it has reached to its end.
 ///
 /// The conditions are those of [`resume`].
 ///

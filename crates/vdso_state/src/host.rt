@@ -50,7 +50,7 @@ pub trait VHost {
         ensures looks { looks_left self.new ≡ looks_left self.old }
         ensures calls { calls_left self.old ≡ suc (calls_left self.new) };
 
-    /// A point of the call, where the state's memory may be wiped.
+    /// Called at a point of the call: the host may wipe the state's memory.
     fn at(&mut self, point: Point, st: &mut VState)
         ensures passes { (wiped : Bool) × (st.new ≡ state_left wiped st.old) × passes self.old point wiped self.new }
         ensures floor { floor self.old ≤ floor self.new }

@@ -25,7 +25,7 @@ pub struct Place {
 }
 
 impl Place {
-    /// The place of another point in the same attempt.
+    /// This place with another point of the same attempt.
     pub(crate) fn at(self, point: Point) -> Place
         ensures { result ≡ record self { point = point } }
     {
@@ -33,7 +33,7 @@ impl Place {
     }
 }
 
-/// The progress of a call.
+/// How far a call has come.
 #[derive(Clone, Copy, Debug, PartialEq, Eq)]
 pub enum Came {
     /// The call is at a point.

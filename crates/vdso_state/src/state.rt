@@ -150,7 +150,8 @@ impl VState {
         self.pos += out.len() as u8;
     }
 
-    /// Makes a new batch and the next key from the two blocks of the key's stream from `block` on. The old key is gone.
+    /// Makes a new batch and the next key, from two blocks of the key's keystream: `block` and the next one. The old
+    /// key is gone.
     fn refill(&mut self, block: u64)
         requires { block ≤ 2 ^ 21 }
         ensures { self.new ≡ record self.old {

@@ -15,11 +15,11 @@ use Rattle.rng_core.proofs.InsideCalls.{IsUndone}
 use Rattle.caller_run.specs.Items.{Item, items_from, line_items, items_at_point}
 use Rattle.caller_run.proofs.Orders.PartItems.{Part, part_nothing, part_then, part_went}
 
--- two different points
+-- p and q are different points
 abbrev pub Apart : Point → Point → Type 0
 Apart p q = is_same_point p q ≡ false
 
--- no act at this point was done
+-- in the outcomes `xs` of the acts `asks`, no act at point p is done
 abbrev pub Untouched : Point → List Ask → List ActOutcome → Type 0
 Untouched p [] xs = ⊤
 Untouched p (a ∷ asks) [] = ⊤
@@ -44,11 +44,11 @@ same_test End End = refl
 same_test p q = refl
 
 module _ (set : Setting) where
-  -- the steps of the acts at a point
+  -- the items (numbered steps) of the acts at point p; `xs` are the outcomes of the acts `asks`
   abbrev pub act_items : List Ask → List ActOutcome → Point → List Item
   act_items asks xs p = items_at_point (bound_acts set asks xs) p
 
-  -- if no act at a point was done, the acts at this point have no steps
+  -- if no act at point p was done, the acts at p have no items
   pub untouched_items : (p : Point) (asks : List Ask) (xs : List ActOutcome) → Untouched p asks xs →
       act_items asks xs p ≡ []
   untouched_items p [] xs k = refl
@@ -60,7 +60,7 @@ module _ (set : Setting) where
       go true h rest = ap (λ (l : List Step). items_from a.event 0 l ++ act_items asks xs p) h.empty ∙ rest
       go false h rest = rest
 
-  -- if one act ran from v to w (`ActRan`), the pass made exactly the steps in the act's line
+  -- if act `a` took the pass's view from v to w (`ActRan`), the pass made exactly the steps of the act's line
   act_part : (a : Ask) (v w : View) (y : ActOutcome) → ActRan set a v w y →
       Part set.caller v w (line_items (act_line set a y))
   act_part a v w y k =
@@ -68,8 +68,8 @@ module _ (set : Setting) where
       (part_went set.caller a.event 0 v w k.did.made_steps k.did.recorded.went)
 
   module _ (point : Point) where
-    -- if the acts at the point ran from v to w, and no act at the point was done before, the pass made exactly their
-    -- steps
+    -- if the acts at `point` took the pass's view from v to w, and none of them was done before, the pass made exactly
+    -- the steps of these acts
     pub acts_part : (asks : List Ask) (v w : View) (xs ys : List ActOutcome) → ActsAt set point asks v w xs ys →
         Untouched point asks xs → Part set.caller v w (act_items asks ys point)
     acts_part [] v w [] [] k untouched = part_nothing set.caller v w k
@@ -95,8 +95,8 @@ module _ (set : Setting) where
         go false false same h u rest = subst (λ (z : View). Part set.caller z w (act_items asks ys point))
             h.1 rest
 
-    -- if the acts at `point` ran, the acts at another point q keep their steps; if none of those was done, none is done
-    -- now
+    -- if the acts at `point` ran, the acts at another point q keep their steps; if no act at q was done before, none is
+    -- done after
     pub acts_elsewhere : (q : Point) → Apart point q →
         (asks : List Ask) (v w : View) (xs ys : List ActOutcome) →
         ActsAt set point asks v w xs ys →

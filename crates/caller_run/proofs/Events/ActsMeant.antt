@@ -1,4 +1,5 @@
--- Each act inside a call has its meaning, and the samples of its line match their definition.
+-- Each act inside a vgetrandom call has its meaning, and the samples of the act's line match their definition
+-- (`SamplesConform`).
 use Rattle.std.proofs.Common.{◌≡◌, ℕ, inl, Bool, true, false, List, [], ◌∷◌, map, refl, sym, ap, subst}
 use Rattle.std.specs.Prelude.{if◌then◌else◌}
 use Rattle.std.specs.List.{AllByRecursion}
@@ -28,7 +29,8 @@ use Rattle.rng_core.proofs.ActRuns.{Meant, AllMeant}
 use Rattle.key_names.proofs.Transcripts.QuietForms.{sys, form_samples}
 
 module _ (set : Setting) (w : View) where
-  -- if a fact holds for the line and the meaning of any single act, it holds for the line and the meaning of each act
+  -- if P holds for the line and the meaning of any single act that has its meaning (`Meant`), it holds for those of
+  -- each act
   module _ (lists : Lists) where
     pub each_act : (P : SeenLine → LineMeaning → Type 0) →
         ((a : Ask) (z : ActOutcome) → Meant set w a z → P (act_line set a z) (outcome_line lists z)) →
@@ -66,7 +68,7 @@ module _ (set : Setting) (w : View) where
         go true = refl
         go false = refl
 
-  -- no act makes a dump due, so the samples of its line match their definition
+  -- no act makes a dump of a fast pool due, so the samples of the act's line match their definition
   module _ (lanes : ℕ) (visits : ℕ → List Visit) (callers : StateLists) (c : Continues lanes w visits) where
     abbrev fast : ℕ → ℕ → FastPool
     fast = fast_in visits

@@ -22,7 +22,7 @@ use Rattle.rng_core.specs.SampleEffects.{fast_in}
 use Rattle.caller_run.specs.Done.{CallDone}
 use Rattle.caller_run.proofs.Orders.Chains.{items_from_doings, ran_nothing, ran_went}
 
--- the hypotheses: from v to w, the call of `line` made exactly the steps of `line`
+-- suppose that the call of `line` took the pass's view from v to w, by exactly the steps of `line`
 module _ (caller : ℕ) (v w : View) (s : CallerState) (line : SeenLine) (made_steps : List MadeStep)
     (went : Advances caller line.event 0 v w made_steps) (steps : line.steps ≡ map step_of made_steps) where
   order : items_of (numbered_steps_from line.event 0 made_steps) ≡ items_from line.event 0 line.steps

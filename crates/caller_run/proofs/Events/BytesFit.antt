@@ -1,4 +1,4 @@
--- If a line shows numbers as bytes, they are bytes, and their count is one that the line's word allows.
+-- The data of a line fit the line's word. Numbers shown as bytes are bytes, and a shown count is below 2^32.
 use Rattle.std.proofs.Common.{◌≡◌, ℕ, List, [], ◌∷◌, Fits, w8, arith}
 use Rattle.std.specs.Prelude.{slice_index, ◌<◌, ◌^◌, ⊤}
 use Rattle.key_names.specs.declared.events.Word.{Word}
@@ -14,7 +14,7 @@ pub bytes_fit : (word : Word) (bytes : List ℕ) → (word ≡ Bits → ⊥) →
 bytes_fit word [] other is = tt
 bytes_fit word (b ∷ bytes) other is = (other, omega arith, λ i. let byte = is i in omega arith)
 
--- a count that is shown is below 2^32
+-- if the data of a line are a count, this count is below 2^32
 abbrev pub IsSmall : LineData → Type 0
 IsSmall (Count n) = n < 2 ^ 32
 IsSmall _ = ⊤

@@ -11,7 +11,7 @@ use Rattle.key_names.specs.Kernel.VgetrandomState.{VgetrandomState}
 use Rattle.rng_core.specs.declared.vdso.attempt.Attempt.TheVariants.{Before, First}
 use Rattle.caller_run.proofs.Orders.OwnSteps.{Quiet, later_quiet, LooksFirst}
 
--- a second attempt, and the steps after it
+-- `steps` are those of a second attempt and of the rest of the call
 pub record NextAttempt (steps : List HostStep) : Type 0 where
   pub published : ℕ
   pub rest : List HostStep
@@ -19,11 +19,11 @@ pub record NextAttempt (steps : List HostStep) : Type 0 where
   pub quiet : Quiet First rest
   pub looks : LooksFirst rest
 
--- the steps after a first attempt that copied
+-- `steps` may come after a first attempt that copied bytes: there are none, or they begin with a second attempt
 abbrev pub AfterPoint : List HostStep → Type 0
 AfterPoint steps = (steps ≡ []) ⊎ NextAttempt steps
 
--- the steps from the point Serve on
+-- `steps` are those of a call from the point Serve of its first attempt on
 pub record Copies (steps : List HostStep) : Type 0 where
   pub at_serve : Bool
   pub at_end : Bool
@@ -32,7 +32,7 @@ pub record Copies (steps : List HostStep) : Type 0 where
   pub steps_are : steps ≡ at_point Serve at_serve ∷ at_point End at_end ∷ publishes published ∷ rest
   pub following : AfterPoint rest
 
--- after Written, a new key was read
+-- `steps` are those of a call after the point Written of its first attempt, if a new key was read
 pub record Rekeys (steps : List HostStep) : Type 0 where
   pub key : List ℕ
   pub visit : Option CpuPlace
@@ -40,7 +40,8 @@ pub record Rekeys (steps : List HostStep) : Type 0 where
   pub steps_are : steps ≡ system_call 32 0 (read key visit) ∷ rest
   pub copies : Copies rest
 
--- after Written, the read of a new key failed, and one last system call follows
+-- `steps` are those of a call after the point Written of its first attempt, if the read of a new key failed: that
+-- system call, and a last one
 pub record Fails (steps : List HostStep) : Type 0 where
   pub errno : Errno
   pub n : ℕ
@@ -48,14 +49,14 @@ pub record Fails (steps : List HostStep) : Type 0 where
   pub answer : SystemAnswer
   pub steps_are : steps ≡ system_call 32 0 (failed errno) ∷ system_call n flags answer ∷ []
 
--- the steps from the point Written on
+-- `steps` are those of a call from the point Written of its first attempt on
 pub record Writes (steps : List HostStep) : Type 0 where
   pub at_written : Bool
   pub rest : List HostStep
   pub steps_are : steps ≡ at_point Written at_written ∷ rest
   pub keys : Rekeys rest ⊎ Fails rest
 
--- the steps of a call with a first attempt
+-- `steps` are those of a call that makes a first attempt
 pub record Tries (steps : List HostStep) : Type 0 where
   pub found : ℕ
   pub ready : 1 ≤ found
@@ -65,7 +66,7 @@ pub record Tries (steps : List HostStep) : Type 0 where
   pub steps_are : steps ≡ publishes found ∷ publishes published ∷ at_point Start at_start ∷ rest
   pub goes_on : Copies rest ⊎ Writes rest
 
--- the steps of an attempt from the point Serve on, and how the attempt ended
+-- `steps` are those of `attempt` from the point Serve on; the record also has how the attempt ended
 record ServeSteps (steps : List HostStep) (attempt : Attempt) : Type 0 where
   pub at_serve : Bool
   pub at_end : Bool
@@ -92,7 +93,8 @@ module _ (n : ℕ) where
             ∙ ap end_of last.attempt_is;
       }
 
-  -- if an attempt goes on from the point Start, the caller's own first step is a look
+  -- if `steps` are those of an attempt after its point Start, the first of `steps ++ more` that the caller makes itself
+  -- is a look
   start_looks : (c published : ℕ) (s : VgetrandomState) (steps more : List HostStep) (attempt : Attempt) →
       FromStart n c published s steps attempt → LooksFirst (steps ++ more)
   start_looks c published s steps more attempt k = go (s.generation == published) k
@@ -221,7 +223,8 @@ module _ (n : ℕ) where
             let ne = eqb-false found 0 some in
             inr (first_attempt found (record s { in_use = true }) steps outcome (omega (arith, ne)) h)
 
-    -- each vgetrandom call has one of the two shapes
+    -- the steps of each vgetrandom call have one of the two shapes: without a point of a first attempt (`Quiet`), or
+    -- with these points in order (`Tries`)
     pub call_shape : (s : VgetrandomState) (steps : List HostStep) (outcome : Outcome) →
         IsCall n flags s steps outcome →
         Quiet Before steps ⊎ Tries steps

@@ -45,7 +45,7 @@ quietly set event answer shown m n other did = record {
   };
 }
 
--- if the core did the event with the answer and the data of the reply, `Asked` holds from m to n
+-- if the core did the event with the answer and the data of the reply `said`, `Asked` holds from site m to site n
 module _ {event e : Event} {m n : Site} {said : Reply} {served : List ℕ} {steps : ℕ} (is : event ≡ e) where
   pub by_does : {answer : Answer} (shown : Shown) → said.answer ≡ answer → shown_by served said.shows ≡ shown →
       ShowsFit (event_word e) said.shows →
@@ -59,7 +59,8 @@ module _ {event e : Event} {m n : Site} {said : Reply} {served : List ℕ} {step
         shows = fit;
       })
 
-  -- if the core completed an event other than an interrupt, with the answer and the data of the reply, `Asked` holds
+  -- if the core completed an event other than an interrupt, with the answer and the data of the reply `said`, `Asked`
+  -- holds
   pub by_shown : {answer : Answer} (shown : Shown) → said.answer ≡ answer → shown_by served said.shows ≡ shown →
       ShowsFit (event_word e) said.shows → IsNoInterrupt e → Completes steps e answer shown m n →
       Asked event said served m n
@@ -70,14 +71,14 @@ module _ {event e : Event} {m n : Site} {said : Reply} {served : List ℕ} {step
     did = quietly m.set e answer shown (at m) (at n) other done.did;
   })
 
-  -- if the core completed an event other than an interrupt, and the reply is only an answer, `Asked` holds
+  -- if the core completed an event other than an interrupt, and the reply `said` is only an answer, `Asked` holds
   pub by_answer : {answer : Answer} → said ≡ record { answer = answer; shows = Nothing } → IsNoInterrupt e →
       Completes steps e answer no_data m n → Asked event said served m n
   by_answer says other done =
       by_shown no_data (ap (λ (s : Reply). s.answer) says) (ap (λ (s : Reply). shown_by served s.shows) says)
       (subst (λ (s : Reply). ShowsFit (event_word e) s.shows) (sym says) tt) other done
 
--- if an Add event without bytes is completed, a Credit event with these bits is completed
+-- if the event `Add` with no bytes and with `bits` is completed, the event `Credit` with `bits` is completed
 pub as_credit : {steps bits : ℕ} {m n : Site} → Completes steps (Add [] bits) Done no_data m n →
     Completes steps (Credit bits) Done no_data m n
 as_credit done = record {
@@ -92,7 +93,7 @@ as_credit done = record {
   };
 }
 
--- events that make no call of the core
+-- an event that makes no call of the core (`IsQuiet`) has the answer Ok, no data and no effects
 
 quiet_fulfil : (set : calls.Setting) (event : Event) → IsQuiet event → IsOutcomeOf set event Done no_data []
 quiet_fulfil set (At moment) is = record { form = refl; answers = refl; shows = refl }

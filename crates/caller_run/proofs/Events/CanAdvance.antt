@@ -26,7 +26,7 @@ use Rattle.caller_run.specs.Standing.{read_inside, CanAdvanceWith, CanAdvance}
 use Rattle.caller_run.proofs.Law.Seeing.{seen_after}
 use Rattle.caller_run.proofs.Planning.LogFills.{Fills}
 
--- the setting's CPU is in the table, and its moment is below 2^40
+-- the setting has a CPU of the table, and a moment below 2^40
 record Fits (cpus : ℕ) (set : calls.Setting) : Type 0 where
   cpu : set.cpu < cpus
   moment : set.now < 2 ^ 40
@@ -38,7 +38,8 @@ fits_after version cpus set (On cpu) range f = record { cpu = range; moment = f.
 fits_after version cpus set (Hw bytes) range f = record { cpu = f.cpu; moment = f.moment }
 fits_after version cpus set event range f = f
 
--- `e` is the caller when it goes on after the event, as `go_on` ensures; `d` is the caller just after the event's call
+-- `d` is the caller just after the event's call, and `e` is the caller after `go_on` has counted the event and changed
+-- the setting and the states
 abbrev pub GoesOn : Event → Caller → Caller → Type 0
 GoesOn event d e = record {
   conform : conform e ≡ caller_after (conform d) event;
@@ -72,8 +73,8 @@ first_can {event = event} {rest = rest} can = let g = can.goes in record {
   act_room = can.act_room;
 }
 
--- the caller made an event, and its lines grew. The caller is c before the event, d after the event's call, and e when
--- it goes on
+-- suppose that the caller made an event, and that its lines grew. The caller is c before the event, d after the event's
+-- call, and e when it goes on
 module _ {t : Lanes} {event : Event} {c e : Caller} {before after : Gathered} {acts left : List Bound}
     {served inside : ℕ}
     {rest : List Event} (d : Caller) where

@@ -30,7 +30,7 @@ use Rattle.caller_run.proofs.Events.KeyCuts.{key_cut, plain_cut, key_call}
 use Rattle.caller_run.proofs.Orders.OwnSteps.{Spot, view_at, spot, Quiet, BeginsUnmarked, at, line_of, items_at, goes_published, goes_answered, goes_passed, OwnSteps, own_nothing, own_then, own_emitted, own_look, next_items, quietly, Reached, reached_not, reached_first}
 use Rattle.caller_run.proofs.Orders.PartItems.{Part}
 
--- the lists that a pass has seen at w extend those that it had seen at v
+-- if the view w follows the view v, the lists that the pass has seen at w extend those that it had seen at v
 known_continues : (v w : View) → Onward v w → 1 < length v.lanes → Consistent w →
     Continues (length w.lanes) v (known_of w)
 known_continues v w onward two consistent =
@@ -52,7 +52,7 @@ module _ (set : Setting) (asks : List Ask) where
   point_onward attempt s t point wiped k =
       acts_onward set point asks (view_at s) (view_at t) s.outcomes t.outcomes k.ran
 
-  -- the caller's own steps after the end of a first attempt
+  -- from s to t, after the end of a first attempt, the caller made the steps `items` of its own line
   record Tail (s t : Spot) : Type 0 where
     pub items : List Item
     pub own : OwnSteps set asks s t items
@@ -75,7 +75,7 @@ module _ (set : Setting) (asks : List Ask) where
         unmarked = rest.begins next.looks;
       }
 
-  -- the points Serve and End, and the caller's own steps after them
+  -- from s to t the call passed the points Serve and End, and then the caller made the steps `items` of its own line
   record Copied (s t : Spot) : Type 0 where
     pub served : Spot
     pub ended : Spot
@@ -117,7 +117,7 @@ module _ (set : Setting) (asks : List Ask) where
         consistent = look.1.consistent;
       }
 
-  -- two looks, which found a generation, and then the point Start
+  -- from s to `started` the caller made two looks, which found a generation, and then the call passed the point Start
   record Looked (s looked started : Spot) : Type 0 where
     pub first : Item
     pub second : Item
@@ -128,7 +128,8 @@ module _ (set : Setting) (asks : List Ask) where
 
   module _ (s looked started t : Spot) (last : Attempt) (new : (p : Point) → Untouched p asks s.outcomes)
       (k : Looked s looked started) where
-    -- a call that takes no new key has a path
+    -- if `steps` follow the point Start in a call that takes no new key (`Copies`), the call from s to t has a path
+    -- (`Path`)
     by_copy : (steps : List HostStep) → Copies steps →
         DoesAll acting (at set asks First started) steps (at set asks last t) →
         Path set asks s t
@@ -155,7 +156,8 @@ module _ (set : Setting) (asks : List Ask) where
 
     module _ (written : Spot) (write : Reached set asks Written started written)
         (onward : Onward (view_at started) (view_at written)) where
-      -- a call that takes a new key has a path
+      -- if `steps` follow the point Written and begin with the read of a new key (`Rekeys`), the call from s to t has a
+      -- path
       by_key : (steps : List HostStep) → Rekeys steps →
           DoesAll acting (at set asks First written) steps (at set asks last t) →
           Path set asks s t
@@ -192,7 +194,8 @@ module _ (set : Setting) (asks : List Ask) where
                 d.unmarked);
           }
 
-      -- a call that failed to read a new key has a path
+      -- if `steps` follow the point Written and begin with a failed read of a new key (`Fails`), the call from s to t
+      -- has a path
       by_failure : (steps : List HostStep) → Fails steps →
           DoesAll acting (at set asks First written) steps (at set asks last t) →
           Path set asks s t

@@ -28,16 +28,16 @@ use Rattle.rng_core.specs.Hosted.{SystemCall}
 use Rattle.caller_run.specs.Items.{Item, items_from, cut_items, cut_rekey}
 use Rattle.caller_run.proofs.Orders.OwnSteps.{BeginsUnmarked}
 
--- The cut
+-- The cut of a vread's steps after the system call for a new key
 
--- two steps, and then at least one visit and nothing but visits
+-- `steps` may be those of a system call for a new key: two steps, and then visits only, at least one
 abbrev pub IsKeySteps : List Step → Type 0
 IsKeySteps [] = ⊥
 IsKeySteps (a ∷ []) = ⊥
 IsKeySteps (a ∷ b ∷ []) = ⊥
 IsKeySteps (a ∷ b ∷ c ∷ more) = (is_mark c ≡ true) × AllByRecursion (λ step. is_mark step ≡ true) more
 
--- the cut has these two parts
+-- `cut` has the parts `front` and `rest`
 abbrev pub AreParts : List Item × List Item → List Item → List Item → Type 0
 AreParts cut front rest = let parts : List Item × List Item = (front, rest) in cut ≡ parts
 
@@ -64,7 +64,8 @@ marks_cut event n (step ∷ steps) rest all begins =
     go item true marks e parts = ap (λ (cut : List Item × List Item). (item ∷ cut.0, cut.1)) parts
     go item false marks e parts = absurd (cc e)
 
--- if `steps` are the steps for a new key, and `rest` does not begin with a visit, `cut_rekey` cuts between them
+-- if `steps` are the steps for a new key, and `rest` does not begin with a visit, `cut_rekey` cuts between `steps` and
+-- `rest`
 pub key_cut : (event n : ℕ) (steps : List Step) (rest : List Item) → IsKeySteps steps → BeginsUnmarked rest →
     AreParts (cut_rekey (items_from event n steps ++ rest)) (items_from event n steps) rest
 key_cut event n [] rest k begins = absurd k
@@ -81,7 +82,7 @@ key_cut event n (a ∷ b ∷ c ∷ more) rest k begins =
     go front marks true e parts = ap (λ (cut : List Item × List Item). (front ++ cut.0, cut.1)) parts
     go front marks false e parts = absurd (cc e)
 
--- if the third item is not a visit, there are no steps for a new key, and the cut is at the front
+-- if the third of `items` is not a visit, they contain no steps for a new key, and the cut is at the front
 pub plain_cut : (items : List Item) → BeginsUnmarked (drop 2 items) → AreParts (cut_rekey items) [] items
 plain_cut [] begins = refl
 plain_cut (a ∷ []) begins = refl
@@ -115,7 +116,7 @@ module _ (lists : Lists) where
   visit_at (CpuLane c) place = visit_or (λ e. at_cpu (cpu_visit lists c place e)) (slice_get (cpu_list lists c) place)
       (λ e. refl)
 
-  -- the steps with a mark are exactly those with a visit
+  -- a step has a mark exactly if its effect is a visit
   marks_are : (steps : List Step) → map is_mark steps ≡ map is_visit (effects_of lists steps)
   marks_are [] = refl
   marks_are (Look g ∷ steps) = ap (λ (l : List Bool). false ∷ l) (marks_are steps)
@@ -135,7 +136,7 @@ module _ (lists : Lists) where
       let rest : map is_mark steps ≡ more = cc e in
       (cc e, all_marks steps (subst (AllByRecursion (λ b. b ≡ true)) (sym rest) all))
 
-  -- a look and then a read from a CPU have the form of the steps for a new key
+  -- if the effects of `steps` are a look and then a user's read of 32 bytes from a CPU, `IsKeySteps` holds for `steps`
   read_steps : (set : CallSetting) (steps : List Step) (g : ℕ) (rest : List Effect) →
       effects_of lists steps ≡ look_effect g ∷ rest → CpuReadForm set (User 32) rest → IsKeySteps steps
   read_steps set steps g rest e (inl f) =
@@ -157,8 +158,8 @@ module _ (lists : Lists) where
       let no : true ≡ false = sym (visit_at mark.lane mark.place)
       ∙ ap (λ (l : List Effect). elim l as (λ _. Bool) [ [] ↦ true | d ∷ ds ↦ is_visit d ]) e in absurd (cc no)
 
--- if a generation was found before a system call for a new key, the call reads from the CPU, so it has the steps for a
--- new key
+-- if a generation was found before a system call for a new key, the call reads from the CPU, so its steps are those for
+-- a new key (`IsKeySteps`)
 pub key_call : (set : Setting) (answer : SystemAnswer) (l m : Moment)
     (k : Makes (SystemCall (setting_of set) 32 0 answer) set l m)
     (lanes : ℕ) (visits : ℕ → List Visit) → Continues lanes m.view visits → 1 ≤ floor l.view →

@@ -1,4 +1,5 @@
--- A caller makes its calls at a site that borrows its pass. What holds for the site after a call holds for the caller.
+-- A caller calls the core at a site, which borrows the caller's pass. Facts about the site after a call hold for the
+-- caller.
 use Rattle.std.proofs.Common.{◌≡◌, ◌≤◌, ℕ, List, [], refl, sym, subst}
 use Rattle.key_names.specs.declared.entries.BaseEntry.TheVariants.{End, Stall, Unstall}
 use Rattle.key_names.specs.declared.names.Step.{Step}
@@ -19,7 +20,7 @@ use Rattle.std.specs.Global.{Box}
 use Rattle.caller_run.specs.Calling.{HasLeft}
 use Rattle.caller_run.specs.RunningCallers.{AtFork, RanHere}
 
--- if the site holds no lane after the call, the caller's pass holds no lane
+-- if a caller's site holds no lane after the call, the caller's pass holds no lane
 pub own_hands : {m n : Site} → Same m n → HasInHands [] n → HoldsLanes m.lanes.now m.set.caller [] n.pass.now
 own_hands {m = m} {n = n} same has =
     subst (λ (set : Setting). HoldsLanes m.lanes.now set.caller [] n.pass.now) same.set
@@ -32,7 +33,7 @@ pub given_hands : {m n : Site} {caller : ℕ} {p : Pass} → Same m n → HoldsL
     HoldsLanes m.lanes.now caller [] p
 given_hands {caller = caller} {p = p} same has = subst (λ (t : Lanes). HoldsLanes t caller [] p) same.lanes has
 
--- if the last visit was made at a site, the caller that made the site has made its last visit (`HasLeft`)
+-- if a caller's last visit was made at a site of this caller, `HasLeft` holds for the caller
 pub has_left : {m n : Site} {states : Box States} {p : Pass} {steps : List Step} → p ≡ n.pass.now → steps ≡ n.trace.now →
     m.trace.now ≡ [] → Does 1 (BaseOnly End) m n → seen_by n ≤ (lane_of n base_lane).base.generation →
     HasLeft m.lanes.now (record { pass = m.pass.now; set = m.set; states = states })
@@ -45,7 +46,7 @@ has_left {m = m} {n = n} pass trace new done reached = rw pass (rw trace (record
       done.did;
 }))
 
--- if the visit of a fork was made at a site, the caller that made the site has made this visit (`AtFork`)
+-- if the visit of a fork was made at a site of the parent, `AtFork` holds for the parent
 pub at_fork : (m n : Site) {states : Box States} {p theirs : Pass} {steps : List Step} {child : ℕ} → p ≡ n.pass.now →
     steps ≡ n.trace.now → m.trace.now ≡ [] → Forked m.set (at m) n.trace.now child n.pass.now theirs →
     AtFork (record { pass = m.pass.now; set = m.set; states = states })
@@ -56,8 +57,8 @@ at_fork m n {theirs = theirs} {child = child} pass trace new forked = rw pass (r
   forked = subst (λ (l : List Step). Forked m.set (moment m.pass.now l) n.trace.now child n.pass.now theirs) new forked;
 }))
 
--- if a site made the two visits around a child that runs in its parent's thread, the caller that made the site made
--- them (`RanHere`)
+-- if the two visits around a child's run in its parent's thread were made at a site of the parent, `RanHere` holds for
+-- the parent
 pub ran_here : {l m n : Site} {v : View} {steps : List Step} → v ≡ view n.pass.now → steps ≡ n.trace.now →
     Does 1 (BaseOnly Stall) l m → Does 1 (BaseOnly Unstall) m n →
     RanHere l.set (at l) (knowing v steps)

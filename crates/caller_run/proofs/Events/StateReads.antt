@@ -43,7 +43,8 @@ use Rattle.rng_core.specs.declared.setting.Setting.{Setting}
 use Rattle.caller_run.proofs.Events.InsideDone.{inside_done}
 use Rattle.caller_run.proofs.Events.VreadDone.{vread_done}
 
--- `StateRead` still holds if the values that were lent and came back are replaced by equal ones
+-- `StateRead` still holds if the pass, the steps and the outcomes, which were lent to the read and came back, are
+-- replaced by equal values
 pub lent_read : {t : Lanes} {n flags : ℕ} {c : Caller} {set : Setting} {states : Box States} {said : Reply} {served : List ℕ}
     {asks : List Ask} {p q : Pass} {steps recorded : List Step} {zs left : List ActOutcome} → p ≡ q → steps ≡ recorded →
     zs ≡ left →
@@ -51,7 +52,7 @@ pub lent_read : {t : Lanes} {n flags : ℕ} {c : Caller} {set : Setting} {states
     StateRead t n flags c (record { pass = p; set = set; states = states }) said served steps asks zs
 lent_read pass trace outcomes read = rw pass (rw trace (rw outcomes read))
 
--- two ways to look up the current state give the same state
+-- if i is below the number of states, both ways of looking up the current state, number i, give the same state
 pub current_is : (states : List VgetrandomState) (i : ℕ) (other : VgetrandomState) → i < length states →
     get_or states i other ≡ unwrap_or (slice_get states i) wiped_state
 current_is states i other low = sym (ap (λ (o : Option VgetrandomState). unwrap_or o wiped_state)
@@ -73,7 +74,7 @@ pub record IsAfter (t : Lanes) (c d : Caller) (said : Reply) (served : List ℕ)
 
 module _ {t : Lanes} {c d : Caller} {said : Reply} {served : List ℕ} {before : List Step} {st left : VgetrandomState}
     {ended : Result (Unit {0}) Errno} (b : IsAfter t c d said served before st left ended) where
-  -- if a fact holds for `st` and the read's result, it holds for the caller's current state and the reply
+  -- if P holds for `st` and the result of the read, it holds for the caller's current state and the reply `said`
   emitted_by : (P : VgetrandomState → Answer → Shown → List Step → Type 0) →
       P st (result_answer ended) (bytes_or_none (given ended served)) before →
       P (current_state (conform c)) said.answer (shown_by served said.shows) []

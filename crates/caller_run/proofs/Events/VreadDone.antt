@@ -51,7 +51,7 @@ ran_glanced caller v w k =
       stood = tt;
     }
 
--- no step of a read dumps a fast pool or makes a dump due
+-- no step of a vread dumps a fast pool, or makes a dump due
 module _ (fast : ℕ → ℕ → FastPool) where
   abbrev Quiet : List Effect → Type 0
   Quiet effects = AllByRecursion (IsQuiet fast) effects
@@ -89,7 +89,7 @@ module _ (fast : ℕ → ℕ → FastPool) where
         go true h = after_look h.0 h.1 h.2 h.3
         go false h = by_call_quiet h
 
--- the read changed the pass's view from v to w, and its line has these steps
+-- suppose that the read took the pass's view from v to w, and that its line has the steps `steps`
 module _ (set : Setting) (v w : View) (s : CallerState) (n flags : ℕ) (t : VgetrandomState) (answer : Answer)
     (shown : Shown)
     (word : Word) (steps : List Step) (same : s.setting ≡ setting_of set)

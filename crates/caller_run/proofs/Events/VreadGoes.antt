@@ -28,8 +28,9 @@ use Rattle.caller_run.proofs.Events.CanAdvance.{GoesOn, can_next}
 use Rattle.caller_run.proofs.Orders.EmittedAnew.{anew_long, fit_anew, lines_long, bound_same}
 use Rattle.caller_run.proofs.Forks.HasAdvanced.{gone_by, fit_more, own_line}
 
--- for this event a caller read out of its current state, with its waiting acts inside. The caller is c before the read,
--- d after it, and e when it goes on. `before` and `after` are the caller's lines, `acts` and `left` its waiting acts
+-- for `event` a caller read out of its current vgetrandom state, with its waiting acts inside. The caller is c before
+-- the read, d after it, and e when it goes on. `before` and `after` are the caller's lines, `acts` and `left` its
+-- waiting acts
 pub record HasRead (t : Lanes) (event : Event) (c d e : Caller) (before after : Gathered)
     (acts left : List Bound) : Type 0 where
   pub len : ℕ

@@ -110,7 +110,7 @@ module _ {t : Lanes} {script : Script} {p : Pass} {a : Layout} {q : Pass} {b : L
   all_low = low_of (length script.callers) runs
       (subst (AllByRecursion (λ x. x < length script.callers)) (sym same) (below script can.well f are))
 
-  -- there is a slot for each caller's lines
+  -- each caller of the script has a slot for its lines
   pub slots_there : (n : ℕ) → n ≡ length script.callers → HaveSlots n (emitted_by b)
   slots_there n is = subst (HaveSlots n) (sym back.recorded)
       (have_slots n runs (subst (λ (m : ℕ). AllByRecursion (λ r. number r < m) runs) (sym is) all_low))
@@ -121,7 +121,7 @@ module _ {t : Lanes} {script : Script} {p : Pass} {a : Layout} {q : Pass} {b : L
         t' ≡ lines_of_all (in_order (length script.callers) 0 runs o)
     lines_are o = put ∙ ap (put_in slots) back.recorded ∙ put_all (length script.callers) runs o slots long
 
-    -- the last caller has a line
+    -- the last caller of the script has at least one line
     pub last_there : LastHasLines t'
     last_there = subst LastHasLines (sym (lines_are each_once))
         (last_has (in_order (length script.callers) 0 runs each_once)
@@ -148,7 +148,7 @@ module _ {t : Lanes} {script : Script} {p : Pass} {a : Layout} {q : Pass} {b : L
               (lawful_runs script _ (view q) can.well all);
         })
 
--- a new table's pass has made no visit, and has the whole share
+-- the pass of a new table has made no visit, and has the whole share of the table
 pub new_first : (plan : TablePlan) → IsFirst (first_view plan)
 new_first plan = record {
   places = λ lane. ap (λ (a : LaneView). a.places) (blank_at plan.count lane);

@@ -48,7 +48,7 @@ use Rattle.caller_run.proofs.Orders.OwnPlaces.{MadeNothing}
 use Rattle.caller_run.proofs.Planning.LogFills.{fills_call}
 use Rattle.caller_run.proofs.Planning.Slots.{put_all}
 
--- ---- an event
+-- ---- the run of a script's only caller, after one more event ----
 
 module _ {t : Lanes} {m : ℕ} {begun : Start} {events rest : List Event} {c d e : Caller} {lines : List SeenLine}
     {said : Reply} {served : List ℕ} {steps : List Step} where
@@ -104,7 +104,7 @@ event_goes (Inside point act) d said served steps k on g = absurd g.once.0
 event_goes (Fork child) d said served steps k on g = absurd g.once.0
 event_goes event d said served steps k on g = call_goes tt k on g
 
--- the steps and the data of the call fit a line
+-- the event's call left the caller's setting as it was, and its steps and its data fit a line
 pub record HasCalled (event : Event) (c d : Caller) (said : Reply) (steps : List Step) : Type 0 where
   pub set : d.set ≡ c.set
   pub steps_fit : AllByRecursion StepFits steps
@@ -123,7 +123,7 @@ pub once_called : (t : Lanes) {c d : Caller} (served : List ℕ) {said : Reply} 
 once_called t served (Vread len flags) k = record { set = k.set; steps_fit = k.steps_fit; shows = (read_kept k).shows }
 once_called t served event k = call_called k
 
--- the line of a call of the core is not replaced later
+-- the line of an event that is a call of the core is final: no later event replaces it
 pub emitted_once : (event : Event) → IsCall event → IsEmittedOnce event
 emitted_once (Inside point act) is = is
 emitted_once (Fork child) is = is
@@ -134,7 +134,7 @@ pub called_once : {t : Lanes} {c d : Caller} {said : Reply} {served : List ℕ} 
 called_once (Vread len flags) is k = absurd is
 called_once event is k = k
 
--- ---- the start
+-- ---- the start of the only caller's run ----
 
 -- if the events contain no act and no fork, they fork no caller
 pub forks_nobody : (events : List Event) → AllByRecursion IsEmittedOnce events → forks events ≡ []
@@ -181,7 +181,7 @@ module _ (t : Lanes) (script : Script) (p : Pass) (events : List Event) (m : ℕ
         (ap (caller_at (setting_of (first_setting 0))) wiped) refl;
   }
 
--- ---- the end
+-- ---- the end of the only caller's run ----
 
 pub alone_ends : {t : Lanes} {m : ℕ} {begun : Start} {events : List Event} {c d : Caller} {lines : List SeenLine}
     {said : Reply} {steps : List Step} → said ≡ record { answer = Done; shows = Nothing } → HasLeft t c d steps →
@@ -234,9 +234,9 @@ module _ (script : Script) (well : WellFormed script) (one : length script.calle
       (lawful_runs script _ (view q) well
       (whole script well (first_start p) (view q) own [] ran none (refl, refl) tree_of are refl wide ends))
 
--- ---- the run of the only caller
+-- ---- the line that the run of the only caller makes for one event ----
 
--- the line that was made last is the line of this event; d is the caller after the event's call
+-- the line that the run `y` made last is the line of `event`; d is the caller after the event's call
 pub record MadeLine (y : LoneRun) (event : Event) (d : Caller) (said : Reply) (served : List ℕ) (steps : List Step)
     : Type 0 where
   pub on : GoesOn event d y.caller
@@ -257,7 +257,7 @@ line_is m = (λ i. record {
   shown = shown_by (m.shown i) (m.reply i).shows;
 })
 
--- the run goes on after an event: it was x before the event, and is y now
+-- the run goes on after an event: it was x before `event`, and is y now
 pub goes_on : {script : Script} {lines : List SeenLine} (x y : LoneRun) (event : Event) (rest : List Event) (d : Caller)
     (said : Reply) (served : List ℕ) (steps : List Step) → IsGoing script (event ∷ rest) x lines →
     CalledOnce x.lanes event x.caller d said served steps → MadeLine y event d said served steps → y.lanes ≡ x.lanes →
@@ -281,8 +281,8 @@ goes_on {lines = lines} x y event rest d said served steps g k m same long = rec
       (event_goes event d said served steps k m.on g.goes)));
 }
 
--- suppose that for each script, if x can go on with `event`, y can go on after it. If x has made the events `done`, y
--- has made `done` and then `event`
+-- suppose that in each script y can go on after `event` whenever x can go on with `event`. If x has made the events
+-- `done`, y has made `done` and then `event`
 pub made_one : {cpus : ℕ} {x y : LoneRun} {lines after : List SeenLine} (done : List Event) (event : Event) →
     ((script : Script) (rest : List Event) → IsGoing script (event ∷ rest) x lines → IsGoing script rest y after) →
     HasMade cpus done x lines → HasMade cpus (done ++ event ∷ []) y after
@@ -290,7 +290,7 @@ made_one done event goes made script rest well one same whole =
     goes script rest (made script (event ∷ rest) well one same
     (whole ∙ ap (λ (events : List Event). events ∷ []) (append_assoc done (event ∷ []) rest)))
 
--- ---- before the first event of a script that is still being written
+-- ---- the run before the first event of a script that is still being written ----
 
 few_shown : (version cpus : ℕ) (event : Event) → InRange version cpus event → most_shown event ≤ 2 ^ 20
 few_shown version cpus (Read len flags) range = range.0

@@ -100,7 +100,7 @@ tells_then set a b l m n xs ys p q =
           ∙ sym (items_append set.event (length l.steps) xs ys);
     }
 
--- the visit of the fork took the pass from the view v to u
+-- suppose that the visit of the fork took the pass from the view v to u
 module _ (set : Setting) (child : ℕ) (v u : View) (mark : Mark)
     (did : Makes (BaseOnly (Forks child)) set (knowing v []) (knowing u (Marked mark ∷ []))) where
   first_tells : Tells set 0 (knowing v []) (knowing u (Marked mark ∷ [])) (Marked mark ∷ [])
@@ -114,7 +114,7 @@ module _ (set : Setting) (child : ℕ) (v u : View) (mark : Mark)
       subst (λ (l : List Step). BaseOnly (Forks child) (effects_of (book_lists lanes visits callers) l))
       (sym did.recorded.trace) (did.conforms lanes visits callers c)
 
-  -- `Took` holds if the child has its own thread: the fork's visit is the line's only step
+  -- if the child has its own thread, the fork's visit is the only step of the fork's line, and `Took` holds
   pub took_thread : Took set child v u (halved u) (Marked mark ∷ [])
   took_thread = record {
     mark = mark;
@@ -126,7 +126,7 @@ module _ (set : Setting) (child : ℕ) (v u : View) (mark : Mark)
         inl (first_form lanes visits callers (record { long = c.long; begins = c.begins; closed = c.closed }));
   }
 
-  -- the child ran here, between two more visits of its parent
+  -- suppose that the child ran in its parent's thread, between two more visits of the parent
   module _ (x w : View) (before steps : List Step)
       (stall : Makes (BaseOnly Stall) set (knowing (halved u) (Marked mark ∷ [])) (knowing x before))
       (unstall : Makes (BaseOnly Unstall) set (knowing x before) (knowing w steps)) where
@@ -183,7 +183,7 @@ module _ (set : Setting) (child : ℕ) (v u : View) (mark : Mark)
           (stall.conforms lanes visits callers at_x) (unstall.conforms lanes visits callers c));
     }
 
--- the call of a fork is one of the caller's calls: `CallDoneBy` holds for it, with one split
+-- the call of a fork is one of the caller's calls: `CallDoneBy` holds for it, with one split of the pass
 module _ (set : Setting) (v u w : View) (s : CallerState) (child : ℕ) (line : SeenLine)
     (event : line.event ≡ set.event) (answer : line.answer ≡ Done) (shown : line.shown ≡ no_data)
     (t : Took set child v u w line.steps) where
@@ -231,8 +231,8 @@ module _ (set : Setting) (v u w : View) (s : CallerState) (child : ℕ) (line : 
     );
   }
 
--- a caller goes on after a fork: d is the caller after the fork's visits, and e when it goes on. The child starts with
--- the caller's setting, and its pass was split off after the first visit
+-- suppose that a caller goes on after a fork. The caller is c before the fork, d after the fork's visits, and e when it
+-- goes on. The child starts with the caller's setting, and its pass was split off after the first visit
 module _ {begun : Start} {events rest : List Event} {child : ℕ} {c : Caller} {lines : List SeenLine}
     {asks : List Ask} {kids : List Start} (d e : Caller) (u : View) (steps : List Step)
     (g : HasAdvanced begun events (Fork child ∷ rest) c lines asks kids) (set : d.set ≡ c.set)

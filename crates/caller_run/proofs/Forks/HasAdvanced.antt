@@ -45,7 +45,7 @@ call_alone (Vread len flags) is = absurd is
 call_alone (Inside point act) is = absurd is
 call_alone event is = tt
 
--- if the lines so far fit, and one more line is that of the next event, all these lines fit
+-- if `lines` fit the events so far, and `line` is the line of the next event, `lines` and `line` together fit
 pub fit_more : (caller n : ℕ) (events : List Event) (event : Event) (rest : List Event) (lines : List SeenLine)
     (line : SeenLine) →
     LineIs caller n (event_word event) line →
@@ -54,11 +54,11 @@ pub fit_more : (caller n : ℕ) (events : List Event) (event : Event) (rest : Li
 fit_more caller n events event rest lines line is fit more f =
     subst (LinesFit caller 0 events) (sym (append_assoc lines (line ∷ []) more)) (fit (line ∷ more) (is, f))
 
--- the line of an event's call; c is the caller before the call, and d after it
+-- suppose that the caller is c before the call of `event`, and d after it
 module _ {begun : Start} {events rest : List Event} {event : Event} {c : Caller} {lines : List SeenLine}
     {asks : List Ask} {kids : List Start}
     (d : Caller) (g : HasAdvanced begun events (event ∷ rest) c lines asks kids) (set : d.set ≡ c.set) where
-  -- the line of the call is the line of the event
+  -- the line of the call is a line of `event` (`LineIs`)
   pub own_line : (said : Reply) (served : List ℕ) (steps : List Step) →
       LineIs begun.caller c.set.event (event_word event) (line_of d.set (event_word event) served said steps)
   own_line said served steps =
@@ -68,7 +68,7 @@ module _ {begun : Start} {events rest : List Event} {event : Event} {c : Caller}
         word_is = refl;
       }
 
--- the caller made an event. The caller is c before the event, d after the event's call, and e when it goes on
+-- suppose that the caller made an event. It is c before the event, d after the event's call, and e when it goes on
 module _ {begun : Start} {events rest : List Event} {event : Event} {c e : Caller} {lines : List SeenLine}
     {asks : List Ask} {kids : List Start}
     (d : Caller) (g : HasAdvanced begun events (event ∷ rest) c lines asks kids) (set : d.set ≡ c.set)
@@ -197,7 +197,7 @@ gone_all {begun = begun} {events = events} {c = c} {lines = lines} {kids = kids}
           ends.ran.grows g.forked);
     }
 
--- at its start, a caller has made no event and no call
+-- at a caller's start, `HasAdvanced` holds with no event made, no line and no call
 pub gone_nothing : (begun : Start) (events : List Event) (c : Caller) → c.set.caller ≡ begun.caller →
     c.set.event ≡ 0 → conform c ≡ caller_start begun.set → view c.pass ≡ begun.view →
     HasAdvanced begun events events c [] [] []

@@ -71,14 +71,16 @@ joined_nothing v = record {
   made = λ lane low. omega arith;
 }
 
--- at its end, the visits in a caller's pass are exactly the visits in its lines
+-- at the end of the run `r`, a sum over the places of the pass's own visits in a lane equals the sum over those of the
+-- marks in the lines of `r`
 pub record OwnPlaces (r : Run) : Type 0 where
   pub placed : (f : ℕ → ℕ) (lane : LaneId) → index_of lane < length r.end.lanes →
       sum_by f (at (index_of lane) r.end).places ≡ marked_by f lane r
   pub made : (lane : LaneId) → index_of lane < length r.end.lanes →
       (at (index_of lane) r.end).made ≡ marked_by (λ p. 1) lane r
 
--- one more pass is joined: that of caller r, which had joined the passes of the callers ys
+-- suppose that a pass, which had joined the passes of the runs `xs`, joins the pass of run `r`, which had joined those
+-- of the runs `ys`
 module _ (v w d : View) (r : Run) (xs ys : List Run) (mine : Joined v w xs) (theirs : Joined r.end d ys)
     (own : OwnPlaces r) (alike : length r.end.lanes ≡ length v.lanes) where
   long : length w.lanes ≡ length d.lanes
@@ -110,7 +112,7 @@ module _ (v w d : View) (r : Run) (xs ys : List Run) (mine : Joined v w xs) (the
         let h = sum_by-cons (marked_by (λ p. 1) lane) r ys in omega arith);
   }
 
--- an element of a list is also in the list with `ys` appended
+-- an element x of `xs` is also an element of `xs ++ ys`
 one_more : {X : Type 0} (x : X) (xs ys : List X) → IsOneOf x xs → IsOneOf x (xs ++ ys)
 one_more x [] ys here = absurd here
 one_more x (y ∷ xs) ys (inl same) = inl same
@@ -120,7 +122,7 @@ one_after : {X : Type 0} (x : X) (xs ys : List X) → IsOneOf x ys → IsOneOf x
 one_after x [] ys here = here
 one_after x (y ∷ xs) ys here = inr (one_after x xs ys here)
 
--- two families together are a family
+-- two families of callers together are a family
 pub family_both : (script : Script) (ss ts : List Start) (xs ys : List Run) → Family script ss xs →
     Family script ts ys → Family script (ss ++ ts) (xs ++ ys)
 family_both script ss ts xs ys a b = record {
@@ -150,7 +152,7 @@ family_own script r runs has f = record {
   );
 }
 
--- Shares: the two parts of a split pass, together again
+-- The share of a pass after it joined the other part of its split
 
 share_join : (s a b A B W D H T : ℕ) → a * (2 * H) ≡ s * W → b * (2 * H) ≡ s * D → A * W ≡ T → B * D ≡ T →
     (a * A + b * B) * H ≡ s * T

@@ -21,12 +21,12 @@ use Rattle.caller_run.proofs.Forks.Joins.{OwnPlaces, joined_nothing, joined_then
 use Rattle.caller_run.proofs.Planning.OnceEach.{times_in, below, once_each}
 use Rattle.caller_run.proofs.Orders.OwnPlaces.{MadeNothing, made_nothing, own_places}
 
--- a part of a run without a split leaves the share unchanged
+-- if the pass was not split from x to u, and u and w have the same share, x and w have the same share
 share_from : (x u w : View) → SameHalves x u → SameShare u w → SameShare x w
 share_from x u w same s =
     ap (λ (h : ℕ). w.share * 2 ^ h) (sym same.halvings) ∙ s ∙ ap (λ (n : ℕ). n * 2 ^ w.halvings) same.share
 
--- a caller that forks no more callers ran on to its end (`RanOn`)
+-- if the pass was not split from x to e, `RanOn` holds for a caller that forks no more callers
 pub ran_end : (script : Script) (x e : View) → SameHalves x e → RanOn script x e e [] []
 ran_end script x e same = record {
   family = record { each = tt; began = tt };
@@ -80,7 +80,8 @@ module _ (script : Script) (ok : WellFormed script) (root : Start) (w : View) (o
   low = numbers_low (own ∷ runs)
       (subst (AllByRecursion (λ x. x < length script.callers)) (sym same) (below script ok f are))
 
-  -- the pass has joined all others
+  -- the pass has joined all other passes, so the lists that w has seen begin with the visits that each joined pass had
+  -- seen
   hears : Hears (known_of w) w
   hears = record {
     known = λ lane near. begins_refl (known_of w lane);

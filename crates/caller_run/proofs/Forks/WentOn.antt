@@ -61,13 +61,13 @@ use Rattle.caller_run.proofs.Forks.Runs.{low, ran_end, ran_fork, ran_so}
 use Rattle.caller_run.proofs.Law.Seeing.{seen_start, seen_up}
 use Rattle.caller_run.proofs.Orders.EmittedAnew.{AreEmitted, emitted_more}
 
--- ---- events up to a fork
+-- ---- a caller's events up to its next fork ----
 
 pub plain_event : (e : Event) → ((x : ℕ) → e ≡ Fork x → ⊥) → ForksNobody e
 plain_event (Fork child) other = other child refl
 plain_event e other = tt
 
--- a fact about the lengths of two buffers holds for the buffers as slices
+-- if P holds for the lengths a and b of two buffers, it holds for the lengths c and d of their slices
 pub as_slices : (P : ℕ → ℕ → Type 0) (a b c d : ℕ) → c ≡ a → d ≡ b → P a b → P c d
 as_slices P a b c d first second here = subst (λ (n : ℕ). P n d) (sym first) (subst (P a) (sym second) here)
 
@@ -120,7 +120,7 @@ module _ (t : Lanes) (script : Script) {events : List Event} {x m : RunningCalle
         };
   }
 
--- ---- the steps of a fork
+-- ---- the steps of a fork's line ----
 
 module _ (m w : Caller) (steps : List Step) (child : ℕ) (theirs : Pass) (at : AtFork m w steps child theirs) where
   abbrev u : View
@@ -151,9 +151,9 @@ module _ (m w : Caller) (steps : List Step) (child : ℕ) (theirs : Pass) (at : 
         (subst (λ (s : Setting). Makes (BaseOnly Unstall) s here.middle (moment p after)) at.set here.unstall);
   }
 
--- ---- the preconditions of a caller's next events
+-- ---- the preconditions of a caller's next events ----
 
--- if a caller can go on, it can still go on after its pass has seen more
+-- if a caller can go on (`CanAdvance`), it can still go on after its pass has seen later generations
 pub can_still : (t : Lanes) (c d : Caller) (log : Log) {served inside : ℕ} {rest : List Event} → d.set ≡ c.set →
     d.states ≡ c.states → HoldsLanes t d.set.caller [] d.pass → floor (view c.pass) ≤ floor (view d.pass) →
     CanAdvance t c log served inside rest → CanAdvance t d log served inside rest
@@ -206,7 +206,7 @@ module _ (set : Setting) (m n : Moment) (here : RanHere set m n) where
       (each_append StepFits m.steps (map step_of here.stall.made_steps) fits here.stall.recorded.fits))
       here.unstall.recorded.fits)
 
--- the line of a fork
+-- suppose that the line of a fork was appended to the lines `before`
 module _ (before after : Gathered) (line : SeenLine) (lines : after.lines ≡ before.lines ++ line ∷ [])
     (line_room : after.line_room + 1 ≡ before.line_room) (step_room : before.step_room ≤ after.step_room + 20)
     (byte_room : before.byte_room ≤ after.byte_room) where
@@ -244,7 +244,7 @@ can_on t script child rest w z steps tell kids can = record {
   ready = subst (λ ks. ArePrepared script.callers (fork_tree_of (map layout ks.items)) (forks rest)) (sym kids) tell.ready;
 }
 
--- the line of the fork was made, and the caller went on to its end
+-- suppose that the line of the fork was made, and that the parent then went on to its end
 module _ (t : Lanes) (script : Script) (child : ℕ) {rest : List Event} (w : RunningCaller) {z y : RunningCaller} (d : Caller) (steps : List Step)
     (gone : (begun : Start) (events : List Event) (kids : List Start) (m : Caller) (u : View) →
     TookFrom m d child u steps → begun.caller < child → GoneIn begun events (Fork child ∷ rest) m w kids →
@@ -262,7 +262,7 @@ module _ (t : Lanes) (script : Script) (child : ℕ) {rest : List Event} (w : Ru
     went = on.goes begun events (kids ++ kid_of m child v ∷ []) above (gone begun events kids m v from low g);
   }
 
--- ---- a fork, and the rest
+-- ---- a fork, and the rest of the parent's run ----
 
 module _ (t : Lanes) (script : Script) (child : ℕ) {events rest : List Event} {x m w y : RunningCaller} {steps : List Step}
     {theirs q : Pass} (kid back : Room) (z : RunningCaller) where
@@ -331,7 +331,7 @@ module _ (t : Lanes) (script : Script) (child : ℕ) {events rest : List Event} 
             };
       }
 
--- ---- from a start to the end
+-- ---- a caller's run from its start to its end ----
 
 pub at_number : (P : List Event → Type 0) (callers : List (List Event)) (c : ℕ) (es : List Event) →
     slice_get callers c ≡ Some es → AllByRecursion P callers → P es
@@ -356,7 +356,7 @@ few_events (x ∷ xs) zero es there = let same : x ≡ es = cc in let long = ap 
 few_events (x ∷ xs) (suc c) es there = let rest = few_events xs c es there in
     omega (arith, sum_by-cons length x xs)
 
--- the states of a caller at its start
+-- the sixteen vgetrandom states of a caller at its start
 abbrev pub all_wiped : States
 all_wiped = record { all = replicate 16 wiped_state; current = 0 }
 

@@ -29,7 +29,7 @@ mark_by caller event number (Marked mark) = record { mark = mark; who = maker ca
 abbrev pub mark_of : ℕ → Item → List MarkBy
 mark_of caller item = mark_by caller item.event item.number item.step
 
--- the lines of one caller
+-- the line is one of this caller's lines
 
 abbrev pub IsOfCaller : ℕ → SeenLine → Type 0
 IsOfCaller caller line = line.caller ≡ caller
@@ -63,7 +63,7 @@ pub marks_are : (caller : ℕ) (lines : List SeenLine) → AllByRecursion (IsOfC
     all_marks (lines ∷ []) ≡ flat_map (mark_of caller) (lines_items lines)
 marks_are caller lines own = append-nil (flat_map line_marks lines) ∙ lines_marks caller lines own
 
--- the numbers of lanes
+-- ---- two lanes are the same exactly if their numbers are equal ----
 
 same_lane_number : (c d : ℕ) → (c == d) ≡ (c + 2 == d + 2)
 same_lane_number c d = grind (arith, nat_tests)
@@ -79,12 +79,12 @@ same_lane (CpuLane c) PoolLane = grind (arith, nat_tests)
 same_lane (CpuLane c) BaseLane = grind (arith, nat_tests)
 same_lane (CpuLane c) (CpuLane d) = same_lane_number c d
 
--- a weight w of each place, in sums over a lane
+-- suppose that place p of a lane has the weight w p
 module _ (w : ℕ → ℕ) where
   abbrev pub place_of : Mark → ℕ
   place_of mark = mark.place
 
-  -- what a mark adds to the sum over a lane
+  -- the weight that the mark `by` adds to the sum over `lane`
   abbrev pub in_lane : LaneId → MarkBy → ℕ
   in_lane lane by = cond (index_of by.mark.lane == index_of lane) (w by.mark.place) 0
 

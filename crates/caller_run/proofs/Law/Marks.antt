@@ -34,7 +34,7 @@ use Rattle.lane_table.proofs.Lists.Places.{conforms_at}
 use Rattle.caller_run.specs.NumberedSteps.{NumberedStep, item_of, items_of}
 use Rattle.caller_run.specs.Ran.{Stood}
 
--- the marks of one lane among some
+-- If each mark is the mark of a visit, each mark of `lane` is the mark of a visit of this lane
 
 pub in_one_lane : (lanes : ℕ) (visits : ℕ → List Visit) (lane : LaneId) (marks : List MarkBy) →
     AllByRecursion (MarksVisit lanes visits) marks →
@@ -69,7 +69,7 @@ none_beyond lanes visits lane (by ∷ marks) beyond all =
         let low = here.1 in absurd (omega arith)
     go false is here rest = rest
 
--- a caller made these steps; w is a view of all final lists
+-- suppose that a caller made these steps, and that the view w has seen all final lists
 module _ (caller : ℕ) (w : View) (numbered_steps : List NumberedStep)
     (stood : AllByRecursion (Stood w caller) numbered_steps) where
   -- each mark of the item is the mark of a visit
@@ -98,7 +98,7 @@ module _ (caller : ℕ) (w : View) (numbered_steps : List NumberedStep)
       all [] stood = tt
       all (d ∷ numbered_steps) stood = (one d d.made_step stood.0, all numbered_steps stood.1)
 
--- Each mark is the mark of a visit
+-- Each mark in the lines of a run is the mark of a visit
 
 run_visits : (w : View) (caller : ℕ) (events : List Event) (r : Run) → HasRun caller events r →
     length w.lanes ≡ length r.end.lanes → Grows r.end w →
@@ -124,7 +124,7 @@ all_visit w k (es ∷ callers) (r ∷ rs) each sized grows =
     each_append (MarksVisit (length w.lanes) (known_of w)) (flat_map line_marks r.lines) (all_marks (lines_of_all rs))
     (run_visits w k es r each.0 sized.0 grows.0) (all_visit w (suc k) callers rs each.1 sized.1 grows.1)
 
--- The number of marks
+-- The number of marks: each lane has as many marks as visits
 
 abbrev lane_of : ℕ → LaneId
 lane_of zero = PoolLane

@@ -28,7 +28,7 @@ use Rattle.caller_run.specs.Says.{ShowsFit}
 use Rattle.caller_run.specs.declared.making.caller.Caller.{Caller}
 use Rattle.caller_run.specs.declared.output.reply.Reply.{Reply}
 
--- `Seen` holds at a caller's start
+-- `Seen`, the bound on the generations of the vgetrandom states, holds at a caller's start
 pub seen_start : (found : ℕ) (set : calls.Setting) → Seen found (caller_start set)
 seen_start found set = let P : VgetrandomState → Type 0 =
     λ (st : VgetrandomState). st.generation ≤ published_by found in record {
@@ -67,9 +67,9 @@ seen_after version cpus found s (State number) range k =
     record { many = k.many; current = range.1; published = k.published }
 seen_after version cpus found s event range k = record { many = k.many; current = k.current; published = k.published }
 
--- the call of any event
+-- The call of any event preserves `Seen`
 
--- the facts that remain after the call; c is the caller before it, and d after it
+-- the facts that still hold after the call of `event`; c is the caller before the call, and d after it
 pub record Kept (t : Lanes) (event : Event) (c d : Caller) (said : Reply) : Type 0 where
   pub has : HoldsLanes t d.set.caller [] d.pass
   pub set : d.set ≡ c.set

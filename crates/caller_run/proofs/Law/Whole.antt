@@ -56,7 +56,7 @@ climbs_rise low high [] c = tt
 climbs_rise low high (a ∷ []) c = tt
 climbs_rise low high (a ∷ b ∷ stamps) c = (c.1.0, climbs_rise a high (b ∷ stamps) c.1)
 
--- the effect at a place does not depend on the callers' own lists
+-- the effect at a place of a lane does not depend on the lists of the callers' vgetrandom states
 
 effect_same : (lanes : ℕ) (w : View) (callers : StateLists) (lane : LaneId) (place : ℕ) →
     effect_at (book_lists lanes (known_of w) []) lane place ≡ effect_at (book_lists lanes (known_of w) callers) lane place
@@ -175,7 +175,7 @@ module _ (script : Script) (runs : List Run) (w : View) (ok : WellFormed script)
   abbrev reseeds : ℕ
   reseeds = (base_after (lists_of book).base).generation
 
-  -- Lines, forms, answers and data, caller by caller
+  -- The lines of each caller fit its events, and have the forms, answers and data of its calls
 
   lines_fit : (k : ℕ) (es : List (List Event)) (rs : List Run) → EachCaller HasRun k es rs →
       EachCaller (λ c events lines. LinesFit c 0 events lines) k es (lines_of_all rs)
@@ -230,7 +230,7 @@ module _ (script : Script) (runs : List Run) (w : View) (ok : WellFormed script)
   data_are k (events ∷ es) (r ∷ rs) each sub =
       ((meant k events r each.0 (sub r (inl refl))).shown, data_are (suc k) es rs each.1 (λ q is. sub q (inr is)))
 
-  -- Orders
+  -- The order of each caller's steps, after those of its ancestors
 
   path_whole : (c : ℕ) (events : List Event) (r : Run) → HasRun c events r → IsOneOf r runs → (before : List Step) →
       Path w r.begun.view before → Path w r.end (before ++ calls_steps (calls_of events r.lines))
@@ -299,7 +299,7 @@ module _ (script : Script) (runs : List Run) (w : View) (ok : WellFormed script)
       (looks_conform w states closed c.made_steps 0 (floor r.end) reseeds [] c.known c.sees (omega arith) most))
       below_reseeds
 
-  -- Marks and samples
+  -- The marks of all lines are the marks of the book's visits, and the samples of each line match their definition
 
   visit : AllByRecursion (MarksVisit lanes (known_of w)) (all_marks t)
   visit = all_visit w 0 script.callers runs ran.each ran.sized ran.known

@@ -1,4 +1,4 @@
--- Calls one after another: the invariant of a loop over a caller's calls holds after one call more.
+-- Calls one after another: the invariant of a loop over a caller's calls (`CallsDone`) holds again after one more call.
 use Rattle.std.proofs.Common.{◌≡◌, ℕ, ◌+◌, subst, arith, List, [], ◌∷◌, ◌++◌, refl, sym, ap, ◌∙◌, append-nil}
 use Rattle.std.proofs.lemmas.List.{map-append}
 use Rattle.std.proofs.lemmas.Grind.{flat_map-append}

@@ -15,11 +15,11 @@ use Rattle.key_names.specs.Transcripts.SeenLine.{SeenLine}
 use Rattle.key_names.proofs.Lists.Each.{each_append, each_left, each_right}
 use Rattle.caller_run.specs.Done.{lines_in_order}
 
--- the steps of some lines
+-- the items (numbered steps) of `lines`, line after line
 abbrev pub lines_items : List SeenLine → List Item
 lines_items lines = flat_map line_items lines
 
--- the two parts of a cut, one after the other, are the whole list
+-- the two parts that `cut_items` gives, one after the other, are the whole list
 cut_whole : (items : List Item) → items ≡ (cut_items items).0 ++ (cut_items items).1
 cut_whole [] = refl
 cut_whole (item ∷ items) = go (is_mark item.step) (cut_whole items)
@@ -44,11 +44,11 @@ rekey_whole (a ∷ b ∷ c ∷ items) = go (is_mark c.step)
     go true = ap (λ (l : List Item). a ∷ b ∷ l) (cut_whole (c ∷ items))
     go false = refl
 
--- two empty lists between others can be left out
+-- if `a` and `b` are empty, they can be left out of this concatenation
 pub no_steps : (xs ys a b front : List Item) → a ≡ [] → b ≡ [] → (((front ++ xs) ++ a) ++ b) ++ ys ≡ front ++ (xs ++ ys)
 no_steps xs ys a b front e f = (λ i. (((front ++ xs) ++ e i) ++ f i) ++ ys) ∙ simp append-nil (append_assoc front xs ys)
 
--- if no act has steps at the points Serve and End, the cut makes no difference
+-- if no act has steps at the points Serve and End, the steps of the vread after its two looks need not be cut
 pub no_late : (items : List Item) (acts : List BoundAct) → items_at_point acts Serve ≡ [] →
     items_at_point acts End ≡ [] →
     vread_items items acts ≡ (take 2 items ++ items_at_point acts Start ++ items_at_point acts Written) ++ drop 2 items
@@ -69,12 +69,12 @@ own_items items acts none =
 abbrev pub act_line : BoundAct → SeenLine
 act_line bound = bound.line
 
--- the weight of each step
+-- suppose that each item has the weight that f gives it
 module _ (f : Item → ℕ) where
   abbrev weight : List Item → ℕ
   weight items = sum_by f items
 
-  -- an act at point p has the weight w; its weight at `point` is w if the two points are the same, and otherwise 0
+  -- the weight at `point` of an act at point p with weight w: w if the two points are the same, and otherwise 0
   abbrev weight_at : Point → ℕ → Point → ℕ
   weight_at p w point = cond (is_same_point p point) w 0
 
@@ -135,7 +135,7 @@ module _ (f : Item → ℕ) where
       let following : weight (drop 2 items) ≡ weight r + weight end =
       ap weight (rekey_whole (drop 2 items)) ∙ sum_by-append f r end in omega arith
 
--- a fact about each step
+-- suppose that P is a fact about one item
 module _ (P : Item → Type 0) where
   abbrev Each : List Item → Type 0
   Each items = AllByRecursion P items
@@ -145,12 +145,12 @@ module _ (P : Item → Type 0) where
   At acts line p point =
       Each (if is_same_point p point then line_items line ++ items_at_point acts point else items_at_point acts point)
 
-  -- if a fact holds for the steps of the acts at each point, it holds for each step of these lines
+  -- if P holds for each step of the acts at each of the four points, it holds for each step of `lines`
   abbrev OfAll : List BoundAct → List SeenLine → Type 0
   OfAll acts lines = Each (items_at_point acts Start) → Each (items_at_point acts Written) →
       Each (items_at_point acts Serve) → Each (items_at_point acts End) → Each (lines_items lines)
 
-  -- `OfAll` holds for acts and their lines: the steps of each act are among those at its point
+  -- `OfAll` holds for acts and their lines: each step of an act is among the steps at the act's point
   of_acts : (acts : List BoundAct) → OfAll acts (map act_line acts)
   of_acts [] a b c d = tt
   of_acts (bound ∷ acts) a b c d = go bound.point a b c d (of_acts acts)

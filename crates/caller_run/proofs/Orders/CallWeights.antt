@@ -14,7 +14,7 @@ use Rattle.caller_run.specs.Done.{lines_in_order}
 use Rattle.caller_run.proofs.Orders.CallLists.{Kept, Keeps, kept}
 use Rattle.caller_run.proofs.Orders.CallSteps.{lines_items, act_line, vread_weight, call_each}
 
--- one more waiting act adds the steps of its own line
+-- one more waiting act adds the items of the act's own line
 waiting_more : (waiting : List BoundAct) (bound : BoundAct) → lines_items (map act_line (waiting ++ bound ∷ []))
     ≡ lines_items (map act_line waiting) ++ line_items bound.line
 waiting_more waiting bound =
@@ -30,8 +30,8 @@ module _ (f : Item → ℕ) where
   Weighs waiting events lines calls =
       weight (calls_items calls) ≡ weight (lines_items (map act_line waiting)) + weight (lines_items lines)
 
-  -- if a call weighs n more than its own line, putting the call and the line in front adds n to the difference of the
-  -- weights
+  -- suppose that `call` weighs n more than `line`, and that `calls` weigh m more than `lines`. Then `call` and `calls`
+  -- together weigh n + m more than `line` and `lines`
   in_front_of : (call : Call) (line : SeenLine) (calls : List Call) (lines : List SeenLine) (n m : ℕ) →
       weight (call_items call) ≡ n + weight (line_items line) →
       weight (calls_items calls) ≡ m + weight (lines_items lines) →
@@ -65,7 +65,7 @@ module _ (f : Item → ℕ) where
         (omega arith) rest in omega arith;
   }
 
-  -- the steps of a caller's calls have in all the same weight as the steps of its lines
+  -- the steps of a caller's calls have the same total weight as the steps of its lines
   pub calls_weight : (c : ℕ) (events : List Event) (lines : List SeenLine) → LinesFit c 0 events lines →
       weight (calls_items (calls_of events lines)) ≡ weight (lines_items lines)
   calls_weight c events lines fit = let e = kept c Weighs (keeps_weight c) events lines fit in omega arith

@@ -17,7 +17,7 @@ use Rattle.caller_run.specs.NumberedSteps.{NumberedStep, numbered_steps_from, ma
 use Rattle.lane_table.specs.Calls.{SameView}
 use Rattle.caller_run.specs.Ran.{Stood, SplitView, RanBy, Ran}
 
--- the steps of one event
+-- ---- the numbered steps of one event ----
 
 pub deals_from : (event n : ℕ) (made_steps : List MadeStep) →
     made_steps_of (numbered_steps_from event n made_steps) ≡ made_steps
@@ -58,7 +58,7 @@ ran_went caller event n v w made_steps went = let same = deals_from event n made
   stood = stood_from w caller event n made_steps went.conform;
 }
 
--- between a view and itself no step was made
+-- between a view and itself the pass made no step
 pub ran_nothing : (caller : ℕ) (v : View) → Ran caller v v []
 ran_nothing caller v = record {
   same = record { first = refl; share = refl; halvings = omega arith; sized = refl };
@@ -71,7 +71,7 @@ ran_nothing caller v = record {
   stood = tt;
 }
 
--- one part after another
+-- ---- two parts of a caller's steps, one after another ----
 
 pub stood_grown : (v w : View) (caller : ℕ) (numbered_steps : List NumberedStep) → length w.lanes ≡ length v.lanes →
     Grows v w → AllByRecursion (Stood v caller) numbered_steps → AllByRecursion (Stood w caller) numbered_steps

@@ -29,7 +29,8 @@ anew_long lines [] acts = refl
 anew_long lines (a ∷ asks) [] = refl
 anew_long lines (a ∷ asks) (l ∷ acts) = anew_long (slice_set lines a.event l) asks acts ∙ length-set lines a.event l
 
--- the replacement leaves the lines `more`, which come after `lines`, unchanged
+-- if each waiting act has a line among `lines`, replacing the lines of these acts leaves the lines `more` unchanged,
+-- which come after `lines`
 pub anew_front : (lines more : List SeenLine) (asks : List Ask) (acts : List SeenLine) → AreEmitted (length lines) asks →
     emitted_anew (lines ++ more) asks acts ≡ emitted_anew lines asks acts ++ more
 anew_front lines more [] acts recorded = refl
@@ -39,7 +40,7 @@ anew_front lines more (a ∷ asks) (l ∷ acts) recorded =
     ∙ anew_front (slice_set lines a.event l) more asks acts
     (subst (λ (n : ℕ). AreEmitted n asks) (sym (length-set lines a.event l)) recorded.1)
 
--- if the last line is that of the last waiting act, the replacement puts the act's new line there
+-- if the last line is that of the last waiting act, `emitted_anew` puts the act's new line there
 pub anew_last : (lines : List SeenLine) (idle line : SeenLine) (asks : List Ask) (x : Ask) (acts : List SeenLine) →
     x.event ≡ length lines →
     AreEmitted (length lines) asks → length acts ≡ length asks →
@@ -54,7 +55,7 @@ anew_last lines idle line (a ∷ asks) x (l ∷ acts) at recorded many =
     ∙ anew_last (slice_set lines a.event l) idle line asks x acts (at ∙ sym (length-set lines a.event l))
     (subst (λ (n : ℕ). AreEmitted n asks) (sym (length-set lines a.event l)) recorded.1) (omega arith)
 
--- if each waiting act has a line among `lines`, it has one after one more line
+-- if each waiting act has a line among `lines`, each has one among `lines` with `line` appended
 pub emitted_more : (lines : List SeenLine) (line : SeenLine) (asks : List Ask) → AreEmitted (length lines) asks →
     AreEmitted (length (lines ++ line ∷ [])) asks
 emitted_more lines line asks recorded =
@@ -80,8 +81,7 @@ module _ (old new : SeenLine) (caller : new.caller ≡ old.caller) (event : new.
       (is_too c n (event_word e) line same fit.0, fit.1)
   fit_set c n (e ∷ events) (line ∷ lines) (suc i) there fit = (fit.0, fit_set c (suc n) events lines i there fit.1)
 
--- if the line at place j is `old` before place i is set to `new`, it is still `old` afterwards, or i is j and it is
--- `new`
+-- if line j is `old` before line i is set to `new`, then afterwards it is still `old`, or i is j and it is `new`
 get_set : (lines : List SeenLine) (i j : ℕ) (old new : SeenLine) → slice_get lines j ≡ Some old →
     ((i ≡ j) × (slice_get (slice_set lines i new) j ≡ Some new)) ⊎ (slice_get (slice_set lines i new) j ≡ Some old)
 get_set [] i j old new there = absurd (cc there)
@@ -126,7 +126,7 @@ module _ (caller : ℕ) where
       each_weaker (HasLine caller lines) (λ (a : Ask). a.event < length lines) asks
       (λ a has. slice_get_within lines a.event has.line has.there) idle
 
-  -- the lines still fit after the acts' lines are replaced
+  -- if lines fit the events, they still fit after the lines of the acts `asks` are replaced
   module _ (set : Setting) (own : set.caller ≡ caller) (events : List Event) where
     pub fit_anew : (asks : List Ask) (zs : List ActOutcome) (lines more : List SeenLine) → Idle lines asks →
         LinesFit caller 0 events (lines ++ more) →

@@ -25,7 +25,7 @@ pub cons_times : (k : ℕ) (r : Run) (rs : List Run) →
     times_in k (numbers_of (r ∷ rs)) ≡ hit (number r == k) + times_in k (numbers_of rs)
 cons_times k r rs = sum_by-cons (λ x. hit (x == k)) (number r) (numbers_of rs)
 
--- if no run is of this caller, the weight is zero
+-- if none of `runs` is a run of caller k, the weights for caller k add up to zero
 nothing_of : (f : Run → ℕ) (k : ℕ) (runs : List Run) → times_in k (numbers_of runs) ≡ 0 →
     sum_by (of_caller f k) runs ≡ 0
 nothing_of f k [] none = refl
@@ -40,7 +40,7 @@ nothing_of f k (r ∷ rs) none = go (number r == k) refl (λ rest. nothing_of f 
         let all = sum_by-cons (of_caller f k) r rs in
         let rest = following (omega arith) in omega arith
 
--- the one run of a caller
+-- `run` is the only one of `runs` that is a run of caller k
 pub record OneOf (k : ℕ) (runs : List Run) : Type 0 where
   pub run : Run
   pub there : IsOneOf run runs
@@ -96,14 +96,14 @@ first_once count k runs once = once k (omega arith) (omega arith)
 pub rest_once : (count k : ℕ) (runs : List Run) → AllOnce k (suc count) runs → AllOnce (suc k) count runs
 rest_once count k runs once c from to = once c (omega arith) (omega arith)
 
--- the runs from caller k on
+-- the runs of the `count` callers from k on, in the order of the callers
 abbrev pub in_order : (count k : ℕ) (runs : List Run) → AllOnce k count runs → List Run
 in_order zero k runs once = []
 in_order (suc count) k runs once =
     (one_of k runs (first_once count k runs once)).run
     ∷ in_order count (suc k) runs (rest_once count k runs once)
 
--- the list in order contains each of `runs` whose caller is among the `count` callers from k on
+-- `in_order` contains each of `runs` whose caller is among the `count` callers from k on
 pub in_order_all : (count k : ℕ) (runs : List Run) (once : AllOnce k count runs) (r : Run) → IsOneOf r runs →
     k ≤ number r → number r < k + count → IsOneOf r (in_order count k runs once)
 in_order_all zero k runs once r here from to = absurd (omega arith)
@@ -114,7 +114,7 @@ in_order_all (suc count) k runs once r here from to =
     (λ ne. inr (in_order_all count (suc k) runs (rest_once count k runs once) r here (omega arith)
     (omega arith)))
 
--- the list in order contains no other runs: if a fact holds for each of `runs`, it holds for each run in order
+-- `in_order` contains no other runs: if P holds for each of `runs`, it holds for each run in `in_order`
 pub in_order_of : (P : Run → Type 0) (count k : ℕ) (runs : List Run) (once : AllOnce k count runs) →
     ((r : Run) → IsOneOf r runs → P r) → AllByRecursion P (in_order count k runs once)
 in_order_of P zero k runs once all = tt
@@ -124,7 +124,7 @@ in_order_of P (suc count) k runs once all =
       in_order_of P count (suc k) runs (rest_once count k runs once) all,
     )
 
--- the runs in order have the same weight as `runs`
+-- the runs in the order of the callers have the same total weight as `runs`
 
 -- a run of a caller below k adds nothing to a sum over the callers from k on
 none_in : (f : Run → ℕ) (r : Run) (k count : ℕ) → number r < k →

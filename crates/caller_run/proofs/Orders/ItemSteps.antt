@@ -1,4 +1,5 @@
--- Without their makers, the items of a caller's calls are the steps of the calls in the same order.
+-- An item is a step with its maker (its event and its number). Without their makers, the items of a caller's calls are
+-- the steps of the calls in the same order.
 use Rattle.std.proofs.Common.{◌≡◌, ℕ, suc, Bool, true, false, List, [], ◌∷◌, ◌++◌, take, drop, refl, ap, ◌∙◌}
 use Rattle.std.specs.Prelude.{if◌then◌else◌}
 use Rattle.std.proofs.lemmas.List.{map-append}
@@ -99,7 +100,8 @@ one_call (vread_call len flags line acts) =
 one_call (unbound bound) = line_steps bound.line
 one_call (ending line) = line_steps line
 
--- the items of a caller's calls, without their makers, are the steps of these calls in the same order
+-- without their makers (events and numbers), the items of a caller's calls are the steps of these calls in the same
+-- order
 pub same_steps : (calls : List Call) → steps_of (calls_items calls) ≡ calls_steps calls
 same_steps [] = refl
 same_steps (call ∷ calls) =

@@ -19,7 +19,7 @@ bound_more (a ∷ asks) [] x line same = absurd (omega arith)
 bound_more (a ∷ asks) (l ∷ acts) x line same =
     ap (λ (bs : List BoundAct). bound_by a l ∷ bs) (bound_more asks acts x line (omega arith))
 
--- `acts` are `n` lines and then a last line
+-- `acts` are `n` lines and then the line `line`
 record Last (n : ℕ) (acts : List SeenLine) : Type 0 where
   front : List SeenLine
   line : SeenLine
@@ -39,7 +39,7 @@ last_of (suc n) (l ∷ acts) many =
       many = (let m = rest.many in omega arith);
     }
 
--- the first call of a list of events, by the kind of the first event
+-- ---- the first call that a list of events makes, by the kind of the first event ----
 
 alone_first : (event : Event) → IsAlone event → (acts : List BoundAct) (es : List Event) (line : SeenLine)
     (lines : List SeenLine) → calls_from acts (event ∷ es) (line ∷ lines) ≡ alone event line ∷ calls_from acts es lines
@@ -81,7 +81,7 @@ module _ (events es : List Event) (lines : List SeenLine) (waiting : List Ask) (
         ∙ one_call calls call (calls_from (all_bound waiting acts) es more);
   }
 
-  -- after an event alone there is one call more
+  -- after an event that is a call by itself, `CallsSoFar` holds with one more line and one more call
   pub so_far_alone : (event : Event) (line : SeenLine) → IsAlone event →
       CallsSoFar events (event ∷ es) lines waiting calls →
       CallsSoFar events es (lines ++ line ∷ []) waiting (calls ++ alone event line ∷ [])
@@ -89,7 +89,7 @@ module _ (events es : List Event) (lines : List SeenLine) (waiting : List Ask) (
       one_more event line (alone event line) s (λ none. s.follows (alone_follows event is es ∙ none))
       (λ acts more. alone_first event is acts es line more)
 
-  -- after an act that no vread follows there is one call more
+  -- after an act that no vread follows, `CallsSoFar` holds with one more line and one more call
   pub so_far_idle : (x : Ask) (line : SeenLine) → has_vread es ≡ false →
       CallsSoFar events (Inside x.point x.act ∷ es) lines waiting calls →
       CallsSoFar events es (lines ++ line ∷ []) waiting (calls ++ unbound (bound_by x line) ∷ [])
@@ -98,7 +98,7 @@ module _ (events es : List Event) (lines : List SeenLine) (waiting : List Ask) (
       (λ acts more. ap (λ b. if b then calls_from (acts ++ bound_by x line ∷ []) es more else
       unbound (bound_by x line) ∷ calls_from acts es more) none)
 
-  -- after an act that waits for a vread there is one waiting act more
+  -- after an act that waits for a vread, `CallsSoFar` holds with one more line and one more waiting act
   pub so_far_waits : (x : Ask) (idle : SeenLine) → has_vread es ≡ true → x.event ≡ length lines →
       CallsSoFar events (Inside x.point x.act ∷ es) lines waiting calls →
       CallsSoFar events es (lines ++ idle ∷ []) (waiting ++ x ∷ []) calls
@@ -127,7 +127,7 @@ module _ (events es : List Event) (lines : List SeenLine) (waiting : List Ask) (
           (sym (bound_more waiting l.front x l.line l.many))
           ∙ ap (λ (ls : List SeenLine). calls ++ calls_from (all_bound (waiting ++ x ∷ []) ls) es more) (sym l.is)
 
-  -- after a vread there is one call more, with the lines of the acts that waited for it
+  -- after a vread, `CallsSoFar` holds with one more call, which has the lines of the acts that waited for the vread
   pub so_far_vread : (len flags : ℕ) (line : SeenLine) (acts : List SeenLine) → length acts ≡ length waiting →
       CallsSoFar events (Vread len flags ∷ es) lines waiting calls →
       CallsSoFar events es (emitted_anew lines waiting acts ++ line ∷ []) []

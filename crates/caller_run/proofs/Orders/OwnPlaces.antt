@@ -23,7 +23,7 @@ use Rattle.caller_run.proofs.Law.LineMarks.{fit_own, lane_weight}
 use Rattle.caller_run.proofs.Forks.Joins.{OwnPlaces}
 use Rattle.caller_run.proofs.Planning.Sums.{sum_ones}
 
--- a pass that has made no visit yet
+-- v is the view of a pass that has made no visit yet
 pub record MadeNothing (v : View) : Type 0 where
   pub places : (lane : ℕ) → (at lane v).places ≡ []
   pub made : (lane : ℕ) → (at lane v).made ≡ 0

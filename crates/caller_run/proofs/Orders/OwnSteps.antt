@@ -22,7 +22,7 @@ use Rattle.caller_run.specs.Items.{Item, items_from}
 use Rattle.caller_run.proofs.Orders.PartItems.{Part, part_nothing, part_then, part_went, items_append}
 use Rattle.caller_run.proofs.Events.ActSteps.{Apart, Untouched, act_items, untouched_items, acts_part, acts_elsewhere}
 
--- a pass's view, the steps so far, and the outcomes of the acts
+-- a spot in a vgetrandom call: the pass's view, the steps so far, and the outcomes of the acts
 pub record Spot : Type 0 where
   pub moment : Moment
   pub outcomes : List ActOutcome
@@ -33,7 +33,7 @@ view_at s = s.moment.view
 abbrev pub spot : ActConform → Spot
 spot t = record { moment = t.core.moment; outcomes = t.outcomes }
 
--- no act can run: no attempt has begun, or only a later attempt will reach points
+-- in these steps no act runs: each point in them belongs to a later attempt than the first
 abbrev pub Quiet : Attempt → List HostStep → Type 0
 Quiet attempt [] = ⊤
 Quiet attempt (publishes g ∷ steps) = Quiet attempt steps
@@ -47,7 +47,7 @@ later_quiet (publishes g ∷ steps) = later_quiet steps
 later_quiet (system_call n flags answer ∷ steps) = later_quiet steps
 later_quiet (at_point point wiped ∷ steps) = (refl, later_quiet steps)
 
--- the first step of the caller itself, if it has one, is a look
+-- if the caller itself makes one of these steps, the first one that it makes is a look
 abbrev pub LooksFirst : List HostStep → Type 0
 LooksFirst [] = ⊤
 LooksFirst (publishes g ∷ steps) = ⊤
@@ -62,14 +62,14 @@ module _ (set : Setting) (asks : List Ask) where
   abbrev pub at : Attempt → Spot → ActConform
   at attempt s = act_conform (record { set = set; moment = s.moment }) attempt asks s.outcomes
 
-  -- the items of the caller's own line so far
+  -- the items of the caller's own line up to the spot s
   abbrev pub line_of : Spot → List Item
   line_of s = items_from set.event 0 s.moment.steps
 
   abbrev pub items_at : Spot → Point → List Item
   items_at s p = act_items set asks s.outcomes p
 
-  -- One step of the host
+  -- One step of the caller as the host of its call
 
   is_at : (t : ActConform) (attempt : Attempt) → t.core.set ≡ set → t.attempt ≡ attempt → t.asks ≡ asks →
       t ≡ at attempt (spot t)
@@ -108,9 +108,10 @@ module _ (set : Setting) (asks : List Ask) where
         goes (λ t. ActPassed (at attempt s) point wiped t) (attempt_at attempt point) steps does.0 last
         does.1.set does.1.attempt does.1.asks does.1 does.2
 
-  -- Own steps
+  -- Steps of the caller's own line
 
-  -- from s to t the caller appended these items to its own line, and the outcomes of the acts did not change
+  -- from the spot s to the spot t the caller appended `items` to its own line, and the outcomes of the acts did not
+  -- change
   pub record OwnSteps (s t : Spot) (items : List Item) : Type 0 where
     pub line : line_of t ≡ line_of s ++ items
     pub part : Part set.caller (view_at s) (view_at t) items
@@ -130,7 +131,7 @@ module _ (set : Setting) (asks : List Ask) where
     outcomes = b.outcomes ∙ a.outcomes;
   }
 
-  -- the items of steps that follow those so far
+  -- the items of `steps`, which follow the steps up to the spot s
   abbrev pub next_items : Spot → List Step → List Item
   next_items s steps = items_from set.event (length s.moment.steps) steps
 
@@ -203,7 +204,7 @@ module _ (set : Setting) (asks : List Ask) where
         outcomes = k.0;
       }
 
-  -- Points
+  -- Steps that the acts make at a point
 
   -- from s to t the acts at the point made their steps, if they made any; the caller's own line and all other acts stay
   -- as they were

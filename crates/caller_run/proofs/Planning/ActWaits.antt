@@ -32,7 +32,7 @@ use Rattle.caller_run.proofs.Events.CanAdvance.{GoesOn}
 use Rattle.caller_run.proofs.Orders.EmittedAnew.{idle_more}
 use Rattle.caller_run.proofs.Forks.HasAdvanced.{gone_by, fit_more}
 
--- the line of c for an act that is not done
+-- the line that caller c makes for an act, which shows the act as not done
 abbrev pub idle_line : Caller → SeenLine
 idle_line c = record {
   caller = c.set.caller;

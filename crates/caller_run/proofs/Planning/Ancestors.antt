@@ -30,7 +30,7 @@ use Rattle.caller_run.specs.Ran.{RanBy}
 use Rattle.caller_run.proofs.Orders.Chains.{stood_known}
 use Rattle.caller_run.proofs.Planning.Parents.{ParentIs, parent_is, no_parent, each_of}
 
--- Steps in an order
+-- The steps of a caller and its ancestors, in order
 
 -- a caller and its ancestors made these steps, in this order, up to the view v of the caller's pass; w has all visits
 -- at the end of the run
@@ -163,7 +163,7 @@ module _ (script : Script) (runs : List Run) (w : View) (ok : WellFormed script)
       start_setting callers r.begun.caller ≡ r.begun.set
   starts_so r here low = has_set (length callers) r here low
 
-  -- The steps of its ancestors
+  -- The steps that a caller's ancestors made before its start
 
   abbrev HasPath : ℕ → Type 0
   HasPath n = (r : Run) → IsOneOf r runs → r.begun.caller < n →

@@ -1,4 +1,4 @@
--- Adding a room to a list of rooms, and taking the room of the next child out of the list.
+-- A room is the memory of a caller. Rooms are added to a list, and the room of the next child is taken out of it.
 use Rattle.std.proofs.Common.{◌≡◌, ℕ, ◌<◌, List, [], ◌∷◌, ◌++◌, length, map, refl, ap, ◌∙◌, subst}
 use Rattle.std.proofs.lemmas.List.{map-append}
 use Rattle.key_names.specs.declared.events.Event.{Event}
@@ -21,7 +21,7 @@ pub fork_tree_pushed : (ys xs : List Room) (x : Room) → ys ≡ xs ++ x ∷ [] 
     fork_tree_of (map layout ys) ≡ plant (layout x) (fork_tree_of (map layout xs))
 fork_tree_pushed ys xs x is = ap (λ (l : List Room). fork_tree_of (map layout l)) is ∙ fork_tree_push xs x
 
--- the room that is taken is the next child's
+-- `a` is the room of the next child c, and was taken out of the list; g has the rooms of the children `cs` after c
 pub record TookRoom (callers : List (List Event)) (a : Layout) (c : ℕ) (g : ForkTree) (cs : List ℕ) : Type 0 where
   pub is : a.caller ≡ c
   pub there : a.caller < length callers

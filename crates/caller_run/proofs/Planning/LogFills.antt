@@ -1,4 +1,4 @@
--- How an event of each kind changes a caller's lines, the room for more, and the waiting acts (`Fills`).
+-- How an event of each kind changes a caller's lines, the memory left for more lines, and the waiting acts (`Fills`).
 use Rattle.std.proofs.Common.{◌≡◌, ℕ, nat_cmp, false, Ok, ◌+◌, ◌*◌, ◌<◌, ◌≤◌, List, [], ◌∷◌, ◌++◌, length, take, drop, refl, sym, ap, ◌∙◌, subst, arith, length-append}
 use Rattle.std.specs.List.{AllByRecursion}
 use Rattle.std.specs.Ordering.{ord_max}
@@ -36,7 +36,7 @@ above n most more max is le = grind (arith, nat_tests)
 pub above_more : (most more max n : ℕ) → max ≡ ord_max nat_cmp most more → more ≡ n → n ≤ max
 above_more most more max n is at = grind (arith, nat_tests)
 
--- the change of the lines and of the waiting acts by an event
+-- how `event` changes the lines from `before` to `after`, and the waiting acts from `acts` to `left`
 pub record Fills (event : Event) (before after : Gathered) (acts left : List Bound) : Type 0 where
   pub lines : length after.lines ≡ length before.lines + 1
   pub line_room : after.line_room + 1 ≡ before.line_room
@@ -63,7 +63,7 @@ waits_same n (Vread len flags) is = absurd is
 waits_same n (Inside point act) is = absurd is
 waits_same n event is = refl
 
--- an act as a caller binds it
+-- an act that waits for a vread, and is not done yet; `event` is the number of the act's event
 abbrev pub new_bound : Point → InsideAct → ℕ → Bound
 new_bound point act event = record { point = point; act = act; event = event; done = false; answer = Ok tt; trace = [] }
 
@@ -72,7 +72,7 @@ short Wipe range = omega arith
 short (ReadAct len) range = range
 short Reseed range = omega arith
 
--- acts that are not done yet want at most 2^20 bytes each
+-- acts that are not done yet want to read at most 2^20 bytes each
 pub wanted_few : (bounds : List Bound) → AllByRecursion IsWaitingAct bounds →
     all_wanted (asks_of bounds) ≤ 1048576 * length bounds
 wanted_few [] all = omega arith

@@ -13,7 +13,7 @@ use Rattle.key_names.specs.Texts.ScriptGrammar.{Script, WellFormed, is_fork_of, 
 use Rattle.caller_run.proofs.Planning.Sums.{hit, hit_same, hit_other, sum_none, sum_same, sum_both, sum_range}
 use Rattle.caller_run.specs.Forest.{Forest, no_more, more, forked_by, forks, numbers, AreForked}
 
--- how often a number is in a list
+-- how often the number k is in the list `xs`
 abbrev pub times_in : ℕ → List ℕ → ℕ
 times_in k xs = sum_by (λ x. hit (x == k)) xs
 
@@ -61,7 +61,7 @@ none_of g x first (suc count) low =
     let here : hit (x == first) * g first ≡ 0 = ap (λ (n : ℕ). n * g first) none ∙ omega arith in
     let rest = none_of g x (first + 1) count (omega arith) in omega arith
 
--- a sum over a range that counts only the number x is g of x
+-- a sum of g over a range that counts only the number x is g of x
 pick : (g : ℕ → ℕ) (x first count : ℕ) → first ≤ x → x < first + count →
     sum_by (λ j. hit (x == j) * g j) (range_with_len first count) ≡ g x
 pick g x first zero low high = absurd (omega arith)
@@ -105,7 +105,7 @@ all_below n (x ∷ xs) none =
       all_below n xs (λ k from. let no = none k from in let c = cons k in omega arith),
     )
 
--- the edges of a well-formed script
+-- ---- how often all callers of a well-formed script together fork a caller k ----
 
 shifted : (g : ℕ → ℕ) (first count : ℕ) →
     sum_by (λ j. g (suc j)) (range_with_len first count) ≡ sum_by g (range_with_len (first + 1) count)

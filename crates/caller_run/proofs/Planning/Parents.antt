@@ -1,4 +1,4 @@
--- The definition of a caller's parent finds the caller that forked it, and the call of this fork.
+-- The definition of a caller's parent (`parent_from`) finds the caller that forked it, and the call of this fork.
 use Rattle.std.proofs.Common.{◌≡◌, inl, inr, ℕ, suc, ◌+◌, ◌≤◌, Bool, true, false, Some, None, List, [], ◌∷◌, ◌++◌, refl, sym, ap, ◌∙◌, subst, arith}
 use Rattle.std.specs.Prelude.{count_by, ◌==◌, if◌then◌else◌}
 use Rattle.std.specs.List.{AllByRecursion, sum_by}
@@ -88,7 +88,7 @@ forks_append c [] ys = omega arith
 forks_append c (alone (Fork child) line ∷ xs) ys = let rest = forks_append c xs ys in omega arith
 forks_append c (call ∷ xs) ys = forks_append c xs ys
 
--- these calls fork caller c, at this fork
+-- `calls` fork caller c: the call that does so comes after `fork.before`, and has the line `fork.line`
 pub record ForksAt (c : ℕ) (calls : List Call) (fork : ForkPoint) : Type 0 where
   pub after : List Call
   pub is : calls ≡ fork.before ++ alone (Fork c) fork.line ∷ after
@@ -126,7 +126,7 @@ some_forked c k (es ∷ callers) (r ∷ rs) p kid each (inr rest) there =
     let more = some_forked c (suc k) callers rs p kid each.1 rest there in
     let all = sum_by-cons (count_by (is_fork_of kid.caller)) es callers in omega arith
 
--- the definition finds p as the parent of the child `kid`, which p forked; k is the number of the first of `callers`
+-- `parent_from` finds p as the parent of the child `kid`, which p forked; k is the number of the first of `callers`
 pub record ParentIs (k : ℕ) (callers : List (List Event)) (runs : List Run) (p : Run) (kid : Start) : Type 0 where
   pub calls : List Call
   pub forked : Forked p.begun p.end calls kid
@@ -172,7 +172,7 @@ parent_is k (es ∷ callers) (r ∷ rs) p kid each (inr rest) there most =
           ∙ more.is;
     }
 
--- if no event forks caller c, the definition finds no parent for c
+-- if no event forks caller c, `parent_from` finds no parent for c
 pub no_parent : (c k : ℕ) (callers : List (List Event)) (runs : List Run) → EachCaller HasRun k callers runs →
     sum_by (count_by (is_fork_of c)) callers ≡ 0 →
     parent_from c k (all_calls callers (lines_of_all runs)) ≡ None

@@ -1,4 +1,4 @@
--- The rooms of callers, made before a run, and emptied after it.
+-- The rooms (the memory) of callers are made before a run, and emptied after it.
 use Rattle.std.proofs.Common.{◌≡◌, ℕ, ◌+◌, ◌<◌, ◌≤◌, Some, List, [], ◌∷◌, ◌++◌, map, length, refl, sym, ap, ◌∙◌, subst, arith, append_assoc, append-nil, length-append, take, drop}
 use mathlib.Core.Logic.{dite}
 use native.Mathlib.Decide.{dec_lt}
@@ -27,21 +27,22 @@ use Rattle.caller_run.proofs.Planning.Sums.{hit, hit_same}
 use Rattle.caller_run.proofs.Planning.Slots.{put_long, put_append}
 use Rattle.caller_run.proofs.Forks.WentOn.{above_number, few_events}
 
--- the rooms in g are those of the callers that the events `done` of caller c fork; the events `rest` before these are
--- still to be prepared
+-- the rooms in g are those of the callers that the events `done` of caller c fork. The events `rest` come before
+-- `done`, and the rooms of the callers that they fork are still to be made
 pub record PreparedSoFar (callers : List (List Event)) (c : ℕ) (rest : List Event) (g : ForkTree) : Type 0 where
   pub done : List Event
   pub all : list_at callers c ≡ rest ++ done
   pub ready : ArePrepared callers g (forks done)
 
--- the lines of the rooms in g are still in these rooms, and the other lines are in their slots
+-- of the lines `all`, those of the rooms in g are still in these rooms, and the others are in the slots of their
+-- callers
 pub record GatheredSoFar (before now : List Gathered) (all : List (ℕ × List SeenLine)) (g : ForkTree) : Type 0 where
   pub many : length now ≡ length before
   pub left : put_in (lines_in now) (emitted_in g) ≡ put_in (lines_in before) all
   pub have : HaveSlots (length now) (emitted_in g)
   pub fewer : length (emitted_in g) < length all
 
--- ---- before a run
+-- ---- the rooms of callers before a run ----
 
 pub prepared_none_yet : (callers : List (List Event)) (c : ℕ) (es : List Event) (kids : List Room) →
     slice_get callers c ≡ Some es → kids ≡ [] → PreparedSoFar callers c es (fork_tree_of (map layout kids))
@@ -135,7 +136,7 @@ prepared callers c es buffers kids a there low new p is =
       ready = subst (λ (l : List Event). ArePrepared callers (fork_tree_of (map layout kids)) (forks l)) (sym p.all) p.ready;
     })
 
--- ---- after it
+-- ---- the lines of callers, put into their slots after a run ----
 
 have_first : (n : ℕ) (xs ys : List (ℕ × List SeenLine)) → HaveSlots n (xs ++ ys) → HaveSlots n xs
 have_first n [] ys have = tt

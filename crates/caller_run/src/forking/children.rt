@@ -64,7 +64,7 @@ impl Children {
     }
 }
 
-/// The promise of a child's thread about the pass and the room that it returns.
+/// The promise of a child's thread: which facts hold for the pass and the room that the thread returns.
 #[derive(Drop)]
 pub(crate) struct Child<'a> {
     pub(crate) lanes: &'a Lanes,

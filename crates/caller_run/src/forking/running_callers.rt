@@ -1,4 +1,4 @@
-//! Running callers, from fork to fork.
+//! A running caller, from one of its forks to the next.
 ghost use Rattle.std.specs.Prelude.{◌≡◌, ℕ, ◌+◌, ◌<◌, ◌≤◌, ◌++◌, [], ◌∷◌, List, length, map, replicate, MatchOption, vec_len, vec_capacity};
 ghost use Rattle.std.specs.List.{AllByRecursion};
 ghost use Rattle.key_names.specs.declared.events.Event.{Event};
@@ -28,7 +28,7 @@ use lane_table::{Lanes, Pass};
 use rng_core::Setting;
 use std::sync::Wait;
 
-/// A running caller, with the memory that it fills.
+/// A running caller, with the memory (the buffers) that it fills.
 #[derive(Drop)]
 pub(crate) struct RunningCaller {
     pub(crate) caller: Caller,

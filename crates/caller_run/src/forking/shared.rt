@@ -1,4 +1,4 @@
-//! The shared values of a run's callers.
+//! The values that all callers of a run share.
 
 use crate::forking::children::Children;
 use event_script::Script;

@@ -16,7 +16,7 @@ use key_names::{Answer, Event, InsideAct, Point, Trace, Word};
 use rng_core::Bound;
 use transcript_text::{CallerLines, LineView, Shown};
 
-/// How many bytes the acts read.
+/// How many bytes the acts read in all.
 pub(crate) fn all_wanted(acts: &[Bound]) -> usize
     requires { all_wanted (asks_of acts.now) < 2 ^ 32 }
     ensures { result ≡ all_wanted (asks_of acts.now) }

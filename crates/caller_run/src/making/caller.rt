@@ -1,4 +1,4 @@
-//! A running caller through its events.
+//! A caller between two events, and how it makes its events.
 ghost use Rattle.std.specs.Prelude.{◌≡◌, ◌≤◌, ℕ, [], ◌∷◌, List, length};
 ghost use Rattle.key_names.specs.declared.events.Event.{Event};
 ghost use Rattle.lane_table.specs.Calls.{view};

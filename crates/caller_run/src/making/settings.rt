@@ -25,7 +25,7 @@ fn set_by(set: &mut Setting, event: &Event)
 }
 
 impl Caller {
-    /// Moves the caller on after an event.
+    /// Changes the setting, the states and the event's number of the caller to those after an event.
     pub(crate) fn go_on(&mut self, event: &Event)
         requires number { self.old.set.event < 2 ^ 32 - 1 }
         requires current { self.old.states.value.current < 16 }

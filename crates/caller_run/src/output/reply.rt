@@ -46,7 +46,7 @@ impl Reply {
         }
     }
 
-    /// The reply after a call that returns nothing.
+    /// The reply of a call that is done and has no data.
     #[inline(always)]
     pub(crate) fn after(_called: ()) -> Reply
         ensures { result ≡ record { answer = Answer.Ok; shows = LineData.Nothing } }
@@ -54,7 +54,7 @@ impl Reply {
         Reply::only(Answer::Ok)
     }
 
-    /// The reply after a call that fills its buffer.
+    /// The reply of a call that is done and has filled its buffer.
     #[inline(always)]
     pub(crate) fn served(_called: ()) -> Reply
         ensures { result ≡ record { answer = Answer.Ok; shows = LineData.Served } }

@@ -8,7 +8,7 @@ use Rattle.audit_keys.specs.Fills.{rekeys_of}
 use Rattle.audit_keys.proofs.Marks.{marked_more, marked_all, or_false}
 use Rattle.audit_keys.proofs.listed.mark_callers.Goals as goal
 
--- whether an entry of one of a caller's states takes the read at place `k` of the CPU
+-- whether an entry of one of the caller's states takes the read at place `k` of CPU `cpu` as its key
 abbrev caller_takes : ℕ → ℕ → Vec (Vec VEntry) → Bool
 caller_takes cpu k states = list_any (λ es. list_any (rekeys_place cpu k) es.items) states.items
 

@@ -3,7 +3,7 @@ use Rattle.judge_lines.specs.Called.{seen_call}
 use Rattle.audit_keys.specs.Stamped.{first_states, states_from}
 use Rattle.audit_keys.proofs.lists.caller_lists.Given as goal
 
--- the remaining calls, from the present states on, give the same states as all calls from the first states on
+-- the remaining calls lead from the present states to the same states as all calls from the first states
 abbrev pub invariant-loop-number : goal.invariant-loop-number
 invariant-loop-number l =
     states_from l.number l.caller (map seen_call (drop l.number l.calls))

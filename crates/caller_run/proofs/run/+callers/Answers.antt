@@ -10,7 +10,7 @@ use Rattle.caller_run.specs.RunningCallers.{load, kids_of, SameKids, WentBeside}
 use Rattle.caller_run.proofs.Forks.WentOn.{can_still, here_floor, here_fits, can_on, thread_took, here_took, past, went_end, went_fork, can_start, returned}
 use Rattle.caller_run.proofs.run.+callers.Goals as goal
 
--- ---- in the scope
+-- ---- a fork, in the scope of the child's thread ----
 
 pub run_from-scope-run_from-running-requires-after_bounds : goal.run_from-scope-run_from-running-requires-after_bounds
 run_from-scope-run_from-running-requires-after_bounds g t c κs within =
@@ -74,7 +74,7 @@ run_from-scope-returns-in-Err g t c =
           (here_took m k.running.caller k.trace k.child k.theirs at q after c.run_here-theirs.ensures.here) low above gone;
     }
 
--- ---- a caller from its start
+-- ---- a caller's run from its start ----
 
 pub run_family-run_from-running-requires : goal.run_family-run_from-running-requires
 run_family-run_from-running-requires g t c κs within =
@@ -117,7 +117,7 @@ run_family-returns g t c =
     (c.with.ensures ∙ ap (λ (n : ℕ). layout_by n y.buffers (map layout y.kids.items)) (sym (ap (λ (p : Layout). p.caller) opened)))
     c.run_from-running.ensures
 
--- ---- from a running caller to its end
+-- ---- the run of a running caller to its end ----
 
 pub run_from-returns-in_default : goal.run_from-returns-in_default
 run_from-returns-in_default g t c =

@@ -10,7 +10,8 @@ use Rattle.audit_keys.proofs.Along.{IsListed}
 use Rattle.audit_keys.proofs.Conforms.{ConformsAt}
 use Rattle.audit_keys.proofs.lives.Lives.base.Given as goal
 
--- the results of the entries before `place` were added, and `key` is the base's key before the entry at `place`
+-- `now` is `old` with the births and endings of keys by the entries before `place` added, and `key` is the base's key
+-- before the entry at `place`
 pub record BaseSoFar (es : List BaseEntry) (place : ℕ) (old now : Lives) (key : Option KeyName) : Type 0 where
   pub births : IsListed base_births_at base_step base_start es place old.births.items now.births.items
   pub endings : IsListed base_endings_at base_step base_start es place old.endings.items now.endings.items

@@ -12,8 +12,8 @@ use Rattle.audit_keys.proofs.Along.{IsListed}
 use Rattle.audit_keys.proofs.Conforms.{ConformsAt}
 use Rattle.audit_keys.proofs.lives.Lives.cpu.Given as goal
 
--- the results of the entries before `place` were added, and `keys` has the CPU's key and fills before the entry at
--- `place`
+-- `now` is `old` with the births, endings and given-up rests of the entries before `place` added, and `keys` has the
+-- CPU's key and fills before the entry at `place`
 pub record CpuSoFar (base : List BaseEntry) (c : ℕ) (es : List CpuEntry) (place : ℕ) (old now : Lives) (keys : CpuKeys) :
     Type 0 where
   pub births : IsListed (cpu_births_at c) (cpu_step base c) cpu_start es place old.births.items now.births.items

@@ -10,8 +10,8 @@ use Rattle.audit_keys.proofs.Along.{IsListed}
 use Rattle.audit_keys.proofs.Conforms.{ConformsAt}
 use Rattle.audit_keys.proofs.lives.Lives.state.Given as goal
 
--- the results of the entries before `place` were added, and `batch` has the state's keys and batch before the entry at
--- `place`
+-- `now` is `old` with the births, endings and given-up rests of the entries before `place` added, and `batch` has the
+-- state's keys and batch before the entry at `place`
 pub record StateSoFar (of : StateOf) (es : List VEntry) (place : ℕ) (old now : Lives) (batch : StateBatch) : Type 0 where
   pub births : IsListed (state_births_at of) (state_step of.caller of.state) state_start es place
       old.births.items now.births.items

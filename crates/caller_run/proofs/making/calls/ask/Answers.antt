@@ -14,7 +14,7 @@ use Rattle.caller_run.specs.declared.output.reply.Reply.{Reply}
 use Rattle.caller_run.proofs.Events.Callings.{as_credit, asks_nothing, by_answer, by_does, by_shown, no_count}
 use Rattle.caller_run.proofs.making.calls.ask.Goals as goal
 
--- ---- reads
+-- ---- events that read bytes ----
 
 pub returns-in-Read : goal.returns-in-Read
 returns-in-Read g c =
@@ -49,7 +49,7 @@ returns-in-Uread g c =
     (ap (λ (s : Reply). shown_by c.urandom_file.new.buf s.shows) c.served-in-Uread.ensures)
     (rw c.served-in-Uread.ensures (λ same. cc)) tt c.urandom_file.ensures
 
--- ---- integers
+-- ---- events that read an integer ----
 
 -- if an event reads an integer with `width` bytes, it is the integer event of this width
 by_width : (event : Event) (width : ℕ) → IsInteger event → width ≡ most_shown event → event ≡ int_event width
@@ -82,7 +82,7 @@ returns-in-Int8 g c =
     (rw c.served-in-Int8.ensures (subst (λ (e : Event). event_word e ≡ Bits → ⊥) is (no_bits _ kind)))
     (subst IsNoInterrupt is (no_interrupt _ kind)) c.int.ensures
 
--- ---- samples
+-- ---- events that add samples or credit bits, and the query `bits` ----
 
 pub returns-in-Write : goal.returns-in-Write
 returns-in-Write g c = by_answer (c.in-Write.is ∙ ap Write (sym c.bytes.ensures)) c.after.ensures tt c.mix.ensures
@@ -114,7 +114,7 @@ returns-in-Bits g c =
     by_shown c.in-Bits.is (count c.bits.result) (ap (λ (s : Reply). s.answer) c.done.ensures)
     (ap (λ (s : Reply). shown_by c.args.served.now s.shows) c.done.ensures) (rw c.done.ensures refl) tt c.bits.ensures
 
--- ---- reseeds, and CPUs that come online
+-- ---- events that reseed or tick, and that prepare CPUs or bring them online ----
 
 pub returns-in-Reseed : goal.returns-in-Reseed
 returns-in-Reseed g c = by_answer c.in-Reseed.is c.tried.ensures tt c.reseed.ensures.does
@@ -133,7 +133,7 @@ returns-in-Prepare g c = by_answer c.in-Prepare.is c.after-in-Prepare.ensures tt
 pub returns-in-Online : goal.returns-in-Online
 returns-in-Online g c = by_answer c.in-Online.is c.after-in-Online.ensures tt c.online.ensures
 
--- ---- events that only set something
+-- ---- events that only set something for later events ----
 
 pub returns-in_default : goal.returns-in_default
 returns-in_default g c = asks_nothing c.requires.can (search rules) c.only.ensures

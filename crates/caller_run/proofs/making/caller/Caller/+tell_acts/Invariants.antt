@@ -1,4 +1,4 @@
--- The recursion ends, since the list gets shorter.
+-- The recursion of `tell_acts` ends, since its list of acts gets shorter.
 use Rattle.std.proofs.Common.{length}
 use Rattle.caller_run.proofs.making.caller.Caller.+tell_acts.Given as goal
 

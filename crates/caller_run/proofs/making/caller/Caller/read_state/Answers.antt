@@ -49,7 +49,7 @@ tell-requires-clause-step_room g c =
 pub tell-requires-clause-steps : goal.tell-requires-clause-steps
 tell-requires-clause-steps g c = c.vread-said.ensures.read.steps_fit
 
--- at its event the caller read out of its current state (`HasRead`)
+-- at the event `c.args.event` the caller read out of its current state (`HasRead`)
 has_read : (g : _) (c : After-go_on g) → HasRead c.args.shared.now.lanes.now c.args.event.now c.args.self.now
     c.vread-said.new.self c.go_on.new.self
     c.args.log.now.lines c.tell.new.lines c.args.log.now.acts.items c.clear-2.new.self.items

@@ -6,7 +6,7 @@ use Rattle.caller_run.proofs.Planning.ActWaits.{Keeps, can_keep, gone_keep}
 use Rattle.caller_run.proofs.making.caller.Caller.wait.Goals as goal
 use Rattle.caller_run.proofs.making.caller.Caller.wait.Goals.{After-go_on}
 
--- at its event the caller keeps the act (`Keeps`)
+-- the caller keeps the act of the event `c.args.event` for its next vread (`Keeps`)
 kept : (c : After-go_on) → Keeps c.args.event.now c.args.self.now c.go_on.new.self c.args.log.now.lines
     c.tell.new.lines
     c.args.log.now.acts.items c.push_reserved.new.self.items
