@@ -10,7 +10,7 @@ use Rattle.transcript_text.specs.declared.parsing.so_far.SoFar.{SoFar}
 use Rattle.transcript_text.specs.declared.parsing.so_far.TranscriptStage.{TranscriptStage}
 use Rattle.transcript_text.specs.declared.parsing.so_far.TranscriptStage.TheVariants.{Head, Lines, Ended, Faulty}
 
--- ---- The lines of a text that was read in part ----
+-- ---- the lines of a text that was read in part
 
 -- the callers' numbers of the lines never fall; each is at least `least` and below 64, and each line fits
 abbrev pub Rising : ℕ → List SeenLine → Type 0
@@ -51,7 +51,7 @@ pub record CountedSoFar (text : List ℕ) (least : ℕ) (rest : List ℕ) (numbe
   pub read : ReadSoFar text done current rest number
   pub many : length done ≡ least
 
--- ---- The state of a reader ----
+-- ---- the state of a reader
 
 -- the state `s` before any line was read
 pub record IsUnread (s : SoFar) : Type 0 where

@@ -10,7 +10,7 @@ pub enum Shown<'a> {
     None,
     /// The bytes. A line without bytes has [`Shown::None`], or an empty slice here.
     Bytes(&'a [u8]),
-    /// The number of credited bits that the pool had at the visit of a `bits` line.
+    /// The number of credited bits that the visit of a `bits` line found in the pool.
     Count(u32),
 }
 
