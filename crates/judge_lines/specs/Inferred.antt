@@ -37,7 +37,7 @@ use Rattle.judge_lines.specs.declared.inferred.BaseInferred.TheVariants.{Is as b
 use Rattle.judge_lines.specs.declared.inferred.CpuInferred.{CpuInferred}
 use Rattle.judge_lines.specs.declared.inferred.CpuInferred.TheVariants.{Is as cpu_is, Batch as batch}
 
--- the visible part of a step
+-- the sign of an effect: the generation that a look found, or the lane and place of a visit
 abbrev pub sign_of : Effect → Sign
 sign_of (looked g) = saw g
 sign_of (at_pool v) = in_pool v.place
@@ -45,19 +45,20 @@ sign_of (at_base v) = in_base v.place
 sign_of (at_cpu v) = in_cpu v.cpu v.place
 sign_of nothing_there = nowhere
 
--- the base's entry after a credit and an extraction
+-- the base's entry after an extraction for a credit that crossed a threshold: a reseed if the credit made the core
+-- ready, else an early key
 abbrev pub crossed_entry : Crossing → ℕ → ℕ → BaseEntry
 crossed_entry ready root now = Reseeded root now
 crossed_entry early root now = Early (Some root)
 crossed_entry none root now = Early (Some root)
 
--- the visit of the base has the inferred entry
+-- the visit `v` of the base has the inferred entry
 abbrev pub FillsBase : LaneFacts → BaseInferred → BaseVisit → Type 0
 FillsBase c (base_is e) v = v.entry ≡ e
 FillsBase c (crossed root now p) v = v.entry ≡ crossed_entry (c.crossed_at p) root now
 FillsBase c woken v = v.entry ≡ (if nat_le 1 v.before.generation then Resume else Interrupt)
 
--- the visit of a CPU has the inferred entry
+-- the visit `v` of a CPU has the inferred entry
 abbrev pub FillsCpu : CpuInferred → CpuVisit → Type 0
 FillsCpu (cpu_is e) v = v.entry ≡ e
 FillsCpu (batch look width) v = v.entry ≡ Int look None width (must_fill look width (v.before.fills width))
@@ -79,7 +80,7 @@ pub data Telling : Type 0 where
   ends : Telling
   silent : Telling
 
--- the kind of an event's line
+-- by which rule the entries of an event's line are inferred
 abbrev pub telling : Setting → Event → Telling
 telling set (Write text) = mixes (Mix text 0)
 telling set (Device word text) = mixes (device_entry word text)
@@ -104,12 +105,13 @@ telling set (Vmfork word text) = vmforks (device_entry word text)
 telling set (Irq v1 v2) = samples v1 v2
 telling set _ = silent
 
--- if the preceding step is a visit of the pool, it is an extraction, and its place names the root; otherwise none
+-- if the step before is a visit of the pool, it is an extraction, and the root is named by its place; otherwise None
 abbrev pub root_before : Sign → Option ℕ
 root_before (in_pool p) = Some p
 root_before _ = None
 
--- the place of the pool, the generation of a look, and the place of the base; each is 0 for a step of another kind
+-- the place of a visit of the pool, the generation of a look, and the place of a visit of the base; each is 0 for
+-- another step
 abbrev pub pool_place_in : Sign → ℕ
 pool_place_in (in_pool p) = p
 pool_place_in _ = 0
@@ -122,7 +124,8 @@ abbrev pub base_place_in : Sign → ℕ
 base_place_in (in_base i) = i
 base_place_in _ = 0
 
--- ---- the pool
+-- the first step of a line, if it is a visit of the pool, has the entry of the line's event; a later visit of the pool
+-- is an extraction for the entry of the base at the place of the next step
 
 -- a visit of the pool has the event's own entry if it is the line's first step; otherwise it extracts
 abbrev pub own_or_extracted : Sign → Sign → PoolInferred
@@ -155,7 +158,7 @@ FillsPool c set t own v = v.entry ≡ own_entry t
 FillsPool c set t (extracted i) v = v.entry ≡ Extract set.hw i
 FillsPool c set t (dumped cpu k) v = v.entry ≡ Mix (dump_bytes (c.fast cpu k)) (dump_bits (c.fast cpu k))
 
--- ---- the base
+-- if the step before a visit of the base is a visit of the base too, the visit ended a wait; otherwise it is a draw
 
 -- if a visit of the base follows another, it ended a wait; otherwise it is a draw
 abbrev pub drawn_or_woken : Taken → Sign → BaseInferred
@@ -194,7 +197,7 @@ base_inferred set ticks neighbours = base_is (Ticked set.now (root_before neighb
 base_inferred set (forks child) neighbours = forked_inferred child neighbours.second_before neighbours.before
 base_inferred set _ neighbours = base_is End
 
--- ---- a CPU
+-- the inferred entry of a visit of a CPU, in a read that takes `taken`
 
 -- the inferred entry of a visit of a CPU in a read
 abbrev pub cpu_read_inferred : Taken → Sign → Sign → CpuInferred
@@ -224,7 +227,7 @@ cpu_inferred set (samples v1 v2) first neighbours = sample_inferred set v1 v2 ne
 cpu_inferred set (prepares e) first neighbours = cpu_is e
 cpu_inferred set _ first neighbours = cpu_is Prepared
 
--- ---- a line
+-- if the step is a visit, it has the entry that is inferred from the steps around it
 
 -- the visit has the entry that is inferred from the steps around it
 abbrev pub Fills : LaneFacts → Setting → Telling → Sign → Neighbours → Effect → Type 0
