@@ -124,20 +124,21 @@ abbrev pub base_place_in : Sign → ℕ
 base_place_in (in_base i) = i
 base_place_in _ = 0
 
+-- ---- the inferred entry of a visit of the pool
+
 -- the first step of a line, if it is a visit of the pool, has the entry of the line's event; a later visit of the pool
 -- is an extraction for the entry of the base at the place of the next step
-
--- a visit of the pool has the event's own entry if it is the line's first step; otherwise it extracts
 abbrev pub own_or_extracted : Sign → Sign → PoolInferred
 own_or_extracted following nowhere = own
 own_or_extracted following _ = extracted (base_place_in following)
 
--- if a visit of the pool follows a visit of a CPU, it mixes the CPU's dump; otherwise it extracts
+-- if a visit of the pool comes after a visit of a CPU, it mixes the dump that this CPU's visit made; otherwise it is an
+-- extraction
 abbrev pub dumped_or_extracted : Sign → Sign → PoolInferred
 dumped_or_extracted following (in_cpu cpu k) = dumped cpu k
 dumped_or_extracted following _ = extracted (base_place_in following)
 
--- the inferred entry of a visit of the pool
+-- the inferred entry of a visit of the pool, by the kind of its line
 abbrev pub pool_inferred : Telling → Neighbours → PoolInferred
 pool_inferred (mixes e) neighbours = own_or_extracted neighbours.following neighbours.before
 pool_inferred (credits e) neighbours = own_or_extracted neighbours.following neighbours.before
@@ -145,27 +146,27 @@ pool_inferred (vmforks e) neighbours = own_or_extracted neighbours.following nei
 pool_inferred (samples v1 v2) neighbours = dumped_or_extracted neighbours.following neighbours.before
 pool_inferred _ neighbours = extracted (base_place_in neighbours.following)
 
--- the event's own entry
+-- the entry that the event of a line makes itself in the pool
 abbrev pub own_entry : Telling → PoolEntry
 own_entry (mixes e) = e
 own_entry (credits e) = e
 own_entry (vmforks e) = e
 own_entry _ = ReadBits
 
--- the visit of the pool has the inferred entry
+-- the visit `v` of the pool has the inferred entry
 abbrev pub FillsPool : LaneFacts → Setting → Telling → PoolInferred → PoolVisit → Type 0
 FillsPool c set t own v = v.entry ≡ own_entry t
 FillsPool c set t (extracted i) v = v.entry ≡ Extract set.hw i
 FillsPool c set t (dumped cpu k) v = v.entry ≡ Mix (dump_bytes (c.fast cpu k)) (dump_bits (c.fast cpu k))
 
--- if the step before a visit of the base is a visit of the base too, the visit ended a wait; otherwise it is a draw
+-- ---- the inferred entry of a visit of the base
 
--- if a visit of the base follows another, it ended a wait; otherwise it is a draw
+-- if the step before a visit of the base is a visit of the base too, the visit ended a wait; otherwise it is a draw
 abbrev pub drawn_or_woken : Taken → Sign → BaseInferred
 drawn_or_woken taken (in_base i) = woken
 drawn_or_woken taken before = base_is (Draw (root_before before) taken)
 
--- the inferred entry of a visit of the base in a read
+-- the inferred entry of a visit of the base, in a read that takes `taken`
 abbrev pub read_inferred : Setting → Taken → Neighbours → BaseInferred
 read_inferred set taken neighbours = by neighbours.following
   where
@@ -174,18 +175,19 @@ read_inferred set taken neighbours = by neighbours.following
     by (in_base i) = base_is Wait
     by _ = drawn_or_woken taken neighbours.before
 
--- if a visit of the base follows a credit and an extraction, its entry has the extracted root; otherwise it has no root
+-- if the two steps before a visit of the base are a credit and an extraction, its entry has the extracted root;
+-- otherwise it has no root
 abbrev pub crossed_inferred : Setting → Sign → Sign → BaseInferred
 crossed_inferred set (in_pool p) before = crossed (pool_place_in before) set.now p
 crossed_inferred set _ before = base_is (Early None)
 
--- a fork's first visit of the base is the fork, its second a stall, and its third the end of the stall
+-- of a fork's visits of the base the first is the fork, the second a stall, and the third the end of the stall
 abbrev pub forked_inferred : ℕ → Sign → Sign → BaseInferred
 forked_inferred child second_before nowhere = base_is (Forked child)
 forked_inferred child nowhere before = base_is Stall
 forked_inferred child second_before before = base_is Unstall
 
--- the inferred entry of a visit of the base
+-- the inferred entry of a visit of the base, by the kind of its line
 abbrev pub base_inferred : Setting → Telling → Neighbours → BaseInferred
 base_inferred set (reads taken) neighbours = read_inferred set taken neighbours
 base_inferred set (ints width) neighbours = read_inferred set (Kernel width) neighbours
@@ -197,29 +199,30 @@ base_inferred set ticks neighbours = base_is (Ticked set.now (root_before neighb
 base_inferred set (forks child) neighbours = forked_inferred child neighbours.second_before neighbours.before
 base_inferred set _ neighbours = base_is End
 
--- the inferred entry of a visit of a CPU, in a read that takes `taken`
+-- ---- the inferred entry of a visit of a CPU
 
--- the inferred entry of a visit of a CPU in a read
+-- the inferred entry of a visit of a CPU, in a read that takes `taken`
 abbrev pub cpu_read_inferred : Taken → Sign → Sign → CpuInferred
 cpu_read_inferred taken second_before (in_base b) = cpu_is (CpuRead (look_in second_before) (Some b) taken)
 cpu_read_inferred taken second_before before = cpu_is (CpuRead (look_in before) None taken)
 
--- an integer after a refill fills its batch; without a refill, the CPU's state determines whether the integer fills it
+-- a random integer that comes after a refill of the CPU's key fills its batch; without a refill, the CPU's state
+-- determines whether it does
 abbrev pub cpu_int_inferred : ℕ → Sign → Sign → CpuInferred
 cpu_int_inferred width second_before (in_base b) = cpu_is (Int (look_in second_before) (Some b) width true)
 cpu_int_inferred width second_before before = batch (look_in before) width
 
--- if the line's first look found 0, an integer has the inferred entry of a read
+-- if the line's first look found generation 0, a random integer has the inferred entry of a read
 abbrev pub int_inferred : ℕ → ℕ → Sign → Sign → CpuInferred
 int_inferred width zero second_before before = cpu_read_inferred (Kernel width) second_before before
 int_inferred width (suc g) second_before before = cpu_int_inferred width second_before before
 
--- an interrupt's first step is its sample; its second visit of the CPU is the dump
+-- of an interrupt's visits of its CPU, the line's first step is the sample, and the second visit is the dump
 abbrev pub sample_inferred : Setting → ℕ → ℕ → Sign → CpuInferred
 sample_inferred set v1 v2 nowhere = cpu_is (IrqSample v1 v2 set.now)
 sample_inferred set v1 v2 before = cpu_is (Dump set.now)
 
--- the inferred entry of a visit of a CPU
+-- the inferred entry of a visit of a CPU, by the kind of its line
 abbrev pub cpu_inferred : Setting → Telling → Sign → Neighbours → CpuInferred
 cpu_inferred set (reads taken) first neighbours = cpu_read_inferred taken neighbours.second_before neighbours.before
 cpu_inferred set (ints width) first neighbours = int_inferred width (look_in first) neighbours.second_before neighbours.before
@@ -227,9 +230,9 @@ cpu_inferred set (samples v1 v2) first neighbours = sample_inferred set v1 v2 ne
 cpu_inferred set (prepares e) first neighbours = cpu_is e
 cpu_inferred set _ first neighbours = cpu_is Prepared
 
--- if the step is a visit, it has the entry that is inferred from the steps around it
+-- ---- a line whose visits have the inferred entries
 
--- the visit has the entry that is inferred from the steps around it
+-- if the step is a visit, it has the entry that is inferred from the steps around it
 abbrev pub Fills : LaneFacts → Setting → Telling → Sign → Neighbours → Effect → Type 0
 Fills c set t first neighbours (looked g) = ⊤
 Fills c set t first neighbours (at_pool v) = FillsPool c set t (pool_inferred t neighbours) v
@@ -237,12 +240,13 @@ Fills c set t first neighbours (at_base v) = FillsBase c (base_inferred set t ne
 Fills c set t first neighbours (at_cpu v) = FillsCpu (cpu_inferred set t first neighbours) v
 Fills c set t first neighbours nothing_there = ⊤
 
--- the visible part of the first step, if there is one
+-- the sign of the first of some steps, or `nowhere` if there are no steps
 abbrev pub first_sign : List Effect → Sign
 first_sign [] = nowhere
 first_sign (d ∷ ds) = sign_of d
 
--- `F` holds of each step with the steps around it; `a` and `b` are the signs of the two steps before the first
+-- `F` holds for each step together with the two steps before it and the one after it; `a` and `b` are the signs of the
+-- two steps before the first step
 abbrev pub AllFill : (Neighbours → Effect → Type 0) → Sign → Sign → List Effect → Type 0
 AllFill F a b [] = ⊤
 AllFill F a b (d ∷ ds) =
@@ -252,7 +256,8 @@ AllFill F a b (d ∷ ds) =
 abbrev pub LineFills : LaneFacts → Setting → Telling → List Effect → Type 0
 LineFills c set t effects = AllFill (Fills c set t (first_sign effects)) nowhere nowhere effects
 
--- in a line of several reads, the last step is inferred with `taken`, and each earlier step with `sooner`
+-- in a line of several reads, the line's last step is inferred as a step of a read that takes `taken`, and each earlier
+-- step as one of a read that takes `sooner`
 abbrev pub taken_by : Taken → Taken → Sign → Taken
 taken_by sooner taken nowhere = taken
 taken_by sooner taken _ = sooner
@@ -260,7 +265,7 @@ taken_by sooner taken _ = sooner
 abbrev pub FillsPart : LaneFacts → Setting → Taken → Taken → Sign → Neighbours → Effect → Type 0
 FillsPart c set sooner taken first neighbours d = Fills c set (reads (taken_by sooner taken neighbours.following)) first neighbours d
 
--- the step is a look, or a visit that the lists have
+-- the step is a look, or a visit whose entry is in the lists
 abbrev pub IsThere : Effect → Type 0
 IsThere nothing_there = ⊥
 IsThere _ = ⊤
@@ -269,7 +274,7 @@ abbrev pub AllThere : List Effect → Type 0
 AllThere [] = ⊤
 AllThere (d ∷ ds) = IsThere d × AllThere ds
 
--- ---- acts inside a vread
+-- ---- acts inside a `vread`
 
 abbrev pub act_telling : InsideAct → Telling
 act_telling WipeAct = silent

@@ -71,7 +71,7 @@ pub fn lawful_lists_fit()
     ensures { LawfulListsFit }
 {}
 
-/// The effects of an act inside a `vread` are a form of the act's event.
+/// The effects of an act inside a `vread` are a form of the act.
 #[tactic(auto, using(crate::proofs::ActLines::act_form))]
 pub fn act_has_form()
     ensures { ActHasForm }
@@ -96,8 +96,8 @@ pub fn act_form_is_row()
     ensures { ActFormIsRow }
 {}
 
-/// If the entries of the system call by which an attempt of a `vread` reads a key fit their lanes, they are the
-/// inferred ones.
+/// Take the system call by which an attempt of a `vread` reads a key. If the entries of the call fit their lanes, and
+/// the steps after the call have the inferred entries, the call's entries are the inferred ones too.
 #[tactic(auto, using(crate::proofs::InferredReads::key_inferred))]
 pub fn key_call_is_inferred()
     ensures { KeyCallIsInferred }

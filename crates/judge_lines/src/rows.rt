@@ -141,8 +141,8 @@ fn is_credit(crossed: Crossing, kinds: &[Kind]) -> bool
     }
 }
 
-/// Whether `kinds` are those of an interrupt: its sample and, if a dump is due, the mix of the dump into the pool, with
-/// the steps after the mix.
+/// Whether `kinds` are those of an interrupt: its sample and perhaps a dump of the fast pool, the mix of this dump into
+/// the pool, and the steps after the mix.
 fn is_interrupt(crossed: Crossing, kinds: &[Kind]) -> bool
     ensures { IsTrue result ↔ IsInterrupt crossed kinds.now }
 {
