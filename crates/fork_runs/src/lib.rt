@@ -2,7 +2,8 @@
 //! the child. [`fork_on_new_table`] runs the call to a point of an attempt and splits off the child there. Then the
 //! parent and the child each run the call to its end, the child with its own pass.
 //!
-//! The call comes from `vcall_fork`, with the caller itself as its host (`rng_core`), and the book from `lane_table`.
+//! The vgetrandom call that can be stopped comes from `vcall_fork`, and its host is the caller itself (`rng_core`). The
+//! book comes from `lane_table`.
 //!
 //! # Example
 //!
