@@ -25,8 +25,8 @@ pub record KeepsBook (kept : KeptBook) (t : List (List SeenLine)) (callers : Lis
   pub lanes : Keeps kept.lanes (lists_of book)
   -- `states` has the entries of each vgetrandom state
   pub states : all_lists_in kept.states.items ≡ book.callers
-  -- for any cuts of the callers' calls, the entries kept of each caller's vgetrandom states are those that its first
-  -- calls left, as many calls as the cut keeps
+  -- whatever `cuts` cut each caller's calls, the entries that they keep of its vgetrandom states are those that its
+  -- calls before the cut left
   pub cut : (cuts : ℕ → Cut) →
       all_lists_by cuts 0 kept.states.items ≡ map state_lists (first_calls (calls_cut cuts callers) 0 ms)
   -- each entry is listed with the end of the call that left the entry

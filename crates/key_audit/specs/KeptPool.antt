@@ -10,12 +10,12 @@ abbrev pub is_kept_sample : Script → KeptPool → Moment → Bool
 is_kept_sample script kept moment =
     not (is_some kept.root) && hands_sample (event_at script moment.line.caller moment.line.event)
 
--- 1 if the pool's visit `kept` mixed a sample, and 0 otherwise or if it has no moment
+-- 1 if the pool's visit `kept` was made for a sample, and 0 otherwise or if it has no moment
 abbrev pub sample_count : Script → KeptPool → Option Moment → ℕ
 sample_count script kept None = 0
 sample_count script kept (Some moment) = if is_kept_sample script kept moment then 1 else 0
 
--- how many of `kept`, the pool's visits from place `i` on, mixed a sample
+-- how many of `kept`, the pool's visits from place `i` on, were made for a sample
 abbrev pub kept_samples : Script → ℕ → List KeptPool → List Moment → ℕ
 kept_samples script i [] moments = 0
 kept_samples script i (k ∷ kept) moments =

@@ -62,11 +62,11 @@ is_extraction (Input word kind code value now) = false
 is_extraction Bits = false
 is_extraction (Extract hw base_place) = true
 
--- whether the visit `v` of the pool mixed a sample
+-- whether the visit `v` of the pool was made for a sample
 abbrev pub is_sample : Script → Visit PoolEntry → Bool
 is_sample script v = not (is_extraction v.entry) && hands_sample (event_at script v.who.caller v.who.event)
 
--- how many visits of the pool before `place` mixed a sample
+-- how many visits of the pool before `place` were made for a sample
 abbrev pub samples_before : Script → Book → ℕ → ℕ
 samples_before script book place = length (filter (is_sample script) (take place book.pool))
 

@@ -110,7 +110,7 @@ fn hands_sample(script: &Script, line: LineOf) -> bool
     }
 }
 
-// Whether the pool's visit `kept`, which was made at `moment`, mixed a sample.
+// Whether the pool's visit `kept`, which was made at `moment`, was made for a sample (bytes that an event hands over).
 fn is_sample(script: &Script, kept: &KeptPool, moment: &Moment) -> bool
     ensures { result ≡ is_kept_sample script.now kept.now moment.now }
 {
@@ -124,7 +124,7 @@ fn first_visits(pool: &[KeptPool], count: u64) -> &[KeptPool]
     pool.get(..count as usize).unwrap_or(pool)
 }
 
-// 1 if the pool's visit at `place` mixed a sample, and 0 otherwise.
+// 1 if the pool's visit at `place` was made for a sample, and 0 otherwise.
 fn sample_count(script: &Script, kept: &KeptPool, moments: &[Moment], place: usize) -> u64
     ensures count { result ≡ sample_count script.now kept.now (slice_get moments.now place) }
     ensures small { result ≤ 1 }
@@ -135,7 +135,7 @@ fn sample_count(script: &Script, kept: &KeptPool, moments: &[Moment], place: usi
     }
 }
 
-// How many of the pool's visits mixed a sample.
+// How many of the pool's visits were made for a sample.
 fn samples_in(script: &Script, pool: &[KeptPool], moments: &[Moment]) -> u64
     ensures { result ≡ kept_samples script.now 0 pool.now moments.now }
 {

@@ -63,7 +63,7 @@ pub record FailsAsText (input : List ℕ) (number : ℕ) : Type 0 where
   pub is_script : IsScript script (front input)
   pub clause : (number ≡ 1) × IsNoTranscript (following input) ⊎ (number ≡ 2) × LacksLines script (following input)
 
--- the reason is right: for it, `text` is not read as a transcript
+-- `text` is not read as a transcript, for this reason
 abbrev pub IsNoText : List ℕ → NotRead → Type 0
 IsNoText text ReadFault = ⊥
 IsNoText text (Refused fault) = ⊥
@@ -71,7 +71,7 @@ IsNoText text NoTranscript = IsNoTranscript text
 IsNoText text TooManyLines = HasMoreLines most_script_lines text
 IsNoText text NoMemory = ⊤
 
--- the reason is right: for it, `input` is not read as a script
+-- `input` is not read as a script, for this reason
 abbrev pub IsNoScript : List ℕ → NotRead → Type 0
 IsNoScript input ReadFault = ⊥
 IsNoScript input (Refused fault) = first_fault input ≡ Some fault
@@ -79,7 +79,7 @@ IsNoScript input NoTranscript = ⊥
 IsNoScript input TooManyLines = ⊥
 IsNoScript input NoMemory = ⊤
 
--- the reason is right: for it, `input` is not read as a script with a transcript after it
+-- `input` is not read as a script with a transcript after it, for this reason
 abbrev pub IsNoPair : List ℕ → NotRead → Type 0
 IsNoPair input ReadFault = ⊥
 IsNoPair input (Refused fault) = pair_fault input ≡ Some fault

@@ -107,7 +107,7 @@ impl SoFar {
         Ok(TranscriptStage::Lines)
     }
 
-    // The stage after `line` was read, in whatever stage the reader was.
+    // The stage after `line` was read, whatever the stage before.
     fn following(&mut self, alloc: Global, line: &[u8]) -> Result<TranscriptStage, AllocError>
         requires short { length line.now < 2 ^ 31 }
         requires few { self.old.lines < 2 ^ 31 }

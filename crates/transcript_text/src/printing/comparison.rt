@@ -118,7 +118,7 @@ impl Comparison {
         self.place.is_end() && self.from == self.piece.text().len()
     }
 
-    /// A reader as if all bytes found equal so far, at most 2^31, had been fed to it. It reads a transcript of at most
+    /// A new reader to which the text compared so far, at most 2^31 bytes, was fed. It reads a transcript of at most
     /// `most` lines, not counting the first and the last.
     ///
     /// # Errors
