@@ -252,14 +252,14 @@ fn fork_at<R: Wait>(
 
 /// Makes a core with one CPU, and adds a first sample that makes the core ready: 32 bytes that count up from 0, with a
 /// credit of 256 bits. Then caller 0, with a wiped state, calls vgetrandom for `len` bytes, 1 to 2^20, without flags.
-/// The call stops at this point of this attempt, and forks caller 1 there. For a second attempt, the core is reseeded
-/// while the first attempt is stopped at Serve. The parent ends its call first. Then the child's pass takes in the
-/// parent's pass, and the child ends its call. So the child's visits come after the parent's. All of this runs on CPU
-/// 0, at moment 0, with zeros as hardware words.
+/// The call is stopped at `point` of the attempt `attempt`, and forks caller 1 there. For a second attempt, the core is
+/// reseeded while the first attempt is stopped at Serve. The parent ends its call first. Then the child's pass takes in
+/// the parent's pass, and the child ends its call. So the child's visits come after the parent's. All of this runs on
+/// CPU 0, at moment 0, with zeros as hardware words.
 ///
 /// Both results are the bytes of named spans of keystream, and no byte of a key is in both.
 ///
-/// The call reaches each of the eight stops, and gives bytes in both callers.
+/// The call reaches each of the four points of either attempt, and gives bytes in both callers.
 ///
 /// # Errors
 ///

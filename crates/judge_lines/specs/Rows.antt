@@ -16,15 +16,15 @@ use Rattle.input_pool.specs.declared.pool.Crossing.TheVariants.{Ready as Crossed
 use Rattle.judge_lines.specs.declared.kind.Kind.{Kind}
 use Rattle.judge_lines.specs.declared.kind.Kind.TheVariants.{Unready, Ready, Pool, Base, Resumed, Cpu}
 
--- the kinds of a draw: a read of bytes from the base while the core is not ready
+-- the step kinds of a draw: a read of bytes from the base while the core is not ready
 abbrev pub IsDraw : List Kind → Type 0
 IsDraw kinds = (kinds ≡ Pool ∷ Base ∷ []) ⊎ (kinds ≡ Base ∷ [])
 
--- the kinds of a read from a CPU, which first takes a new key from the base if the CPU needs one
+-- the step kinds of a read from a CPU, which first takes a new key from the base if the CPU needs one
 abbrev pub IsCpuRead : List Kind → Type 0
 IsCpuRead kinds = (kinds ≡ Ready ∷ Cpu ∷ []) ⊎ (kinds ≡ Ready ∷ Base ∷ Cpu ∷ [])
 
--- the kinds of a read after its first look; `ready` is whether that look found the core ready
+-- the step kinds of a read after its first look; `ready` is whether that look found the core ready
 abbrev pub IsRead : Bool → List Kind → Type 0
 IsRead ready kinds = ((ready ≡ false) × IsDraw kinds) ⊎ IsCpuRead kinds
 
@@ -32,38 +32,39 @@ IsRead ready kinds = ((ready ≡ false) × IsDraw kinds) ⊎ IsCpuRead kinds
 abbrev pub GoesOn : ℕ → List Kind → Type 0
 GoesOn len kinds = MatchBool (len == 0) (kinds ≡ []) (IsCpuRead kinds)
 
--- the kinds of a wait that was interrupted, or of a wait that ended because the core was ready and the read after it
+-- the step kinds of a wait that was interrupted, or of a wait that ended because the core was ready and the read after
+-- it
 abbrev pub IsWait : ℕ → List Kind → Type 0
 IsWait len kinds = (kinds ≡ Base ∷ Base ∷ []) ⊎ ((rest : List Kind) × (kinds ≡ Base ∷ Resumed ∷ rest) × GoesOn len rest)
 
--- the kinds of a system call after its first look; the third argument is whether that look found the core ready
+-- the step kinds of a system call after its first look; the third argument is whether that look found the core ready
 abbrev pub IsAfterLook : ℕ → ℕ → Bool → List Kind → Type 0
 IsAfterLook len flags ready kinds =
     MatchBool (not ready && not (is_insecure flags))
     (MatchBool (is_nonblock flags) (kinds ≡ []) (IsWait len kinds))
     (MatchBool (len == 0) (kinds ≡ []) (IsRead ready kinds))
 
--- the kinds of a system call of `len` bytes with these flags (getrandom(2))
+-- the step kinds of a system call of `len` bytes with these flags (getrandom(2))
 abbrev pub IsSystemCall : ℕ → ℕ → List Kind → Type 0
 IsSystemCall len flags kinds = MatchBool (is_bad flags) (kinds ≡ [])
     (((rest : List Kind) × (kinds ≡ Unready ∷ rest) × IsAfterLook len flags false rest)
     ⊎ ((rest : List Kind) × (kinds ≡ Ready ∷ rest) × IsAfterLook len flags true rest))
 
--- the kinds of a read that begins with a look
+-- the step kinds of a read that begins with a look
 abbrev pub IsLookedRead : List Kind → Type 0
 IsLookedRead kinds = ((rest : List Kind) × (kinds ≡ Unready ∷ rest) × IsRead false rest)
     ⊎ ((rest : List Kind) × (kinds ≡ Ready ∷ rest) × IsRead true rest)
 
--- the kinds of a read of `len` bytes into the kernel's or a user's memory; a read of no bytes has no steps
+-- the step kinds of a read of `len` bytes into the kernel's or a user's memory; a read of no bytes has no steps
 abbrev pub IsPlainRead : ℕ → List Kind → Type 0
 IsPlainRead len kinds = MatchBool (len == 0) (kinds ≡ []) (IsLookedRead kinds)
 
--- the kinds of a random integer
+-- the step kinds of a random integer
 abbrev pub IsInt : List Kind → Type 0
 IsInt kinds = ((rest : List Kind) × (kinds ≡ Unready ∷ rest) × (IsDraw rest ⊎ IsCpuRead rest))
     ⊎ ((rest : List Kind) × (kinds ≡ Ready ∷ rest) × IsCpuRead rest)
 
--- the kinds of a forced reseed, which is refused while the core is not ready
+-- the step kinds of a forced reseed, which is refused while the core is not ready
 abbrev pub IsReseed : List Kind → Type 0
 IsReseed kinds = (kinds ≡ Unready ∷ []) ⊎ (kinds ≡ Ready ∷ Pool ∷ Base ∷ [])
 
@@ -73,29 +74,30 @@ IsAfterCredit Nothing kinds = kinds ≡ []
 IsAfterCredit CrossedEarly kinds = (kinds ≡ Pool ∷ Base ∷ []) ⊎ (kinds ≡ Base ∷ [])
 IsAfterCredit CrossedReady kinds = kinds ≡ Pool ∷ Base ∷ []
 
--- the kinds of a credit of the pool and of the steps after it
+-- the step kinds of a credit of the pool and of the steps after it
 abbrev pub IsCredit : Crossed → List Kind → Type 0
 IsCredit crossed kinds = (rest : List Kind) × (kinds ≡ Pool ∷ rest) × IsAfterCredit crossed rest
 
--- the kinds of an interrupt: its sample alone; or its sample, a dump, the mix of the dump, and the steps after the mix
+-- the step kinds of an interrupt: its sample alone; or its sample, a dump, the mix of the dump, and the steps after the
+-- mix
 abbrev pub IsInterrupt : Crossed → List Kind → Type 0
 IsInterrupt crossed kinds = (kinds ≡ Cpu ∷ [])
     ⊎ ((rest : List Kind) × (kinds ≡ Cpu ∷ Cpu ∷ Pool ∷ rest) × IsAfterCredit crossed rest)
 
--- the kinds of a tick of the reseed timer that did not fire, or of one that fired
+-- the step kinds of a tick of the reseed timer that did not fire, or of one that fired
 abbrev pub IsTick : List Kind → Type 0
 IsTick kinds = (kinds ≡ Base ∷ []) ⊎ (kinds ≡ Pool ∷ Base ∷ [])
 
--- the kinds of a fork; it has three visits of the base if the child ran in its parent's thread
+-- the step kinds of a fork; it has three visits of the base if the child ran in its parent's thread
 abbrev pub IsFork : List Kind → Type 0
 IsFork kinds = (kinds ≡ Base ∷ []) ⊎ (kinds ≡ Base ∷ Base ∷ Base ∷ [])
 
--- the kinds of a fork of the virtual machine: the mix of its sample, and a reseed, which is refused while the core is
--- not ready
+-- the step kinds of a fork of the virtual machine: the mix of its sample, and a reseed, which is refused while the core
+-- is not ready
 abbrev pub IsVmfork : List Kind → Type 0
 IsVmfork kinds = (kinds ≡ Pool ∷ Unready ∷ []) ⊎ (kinds ≡ Pool ∷ Ready ∷ Pool ∷ Base ∷ [])
 
--- the kinds of a caller's last line
+-- the step kinds of a caller's last line
 abbrev pub IsEnd : List Kind → Type 0
 IsEnd kinds = kinds ≡ Base ∷ []
 

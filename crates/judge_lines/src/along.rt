@@ -57,7 +57,7 @@ impl OrderWalk {
         self.carried = carry.after(self.carried, step);
     }
 
-    // Advances the walk by some steps.
+    // Advances the walk by the steps `steps`, one after the other.
     fn go<C: Carry>(&mut self, carry: &C, steps: &[Step])
         ensures { HasGone (C.after carry.now) (C.MayFollow carry.now) self.old steps.now self.new }
     {

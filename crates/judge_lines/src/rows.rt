@@ -8,14 +8,15 @@ use crate::kind::Kind;
 use input_pool::Crossing;
 use key_names::{Event, InsideAct, flags};
 
-/// Whether `kinds` are those of a draw: a read of bytes from the base while the core is not ready.
+/// Whether `kinds` are the step kinds of a draw: a read of bytes from the base while the core is not ready.
 fn is_draw(kinds: &[Kind]) -> bool
     ensures { IsTrue result ↔ IsDraw kinds.now }
 {
     matches!(kinds, [Kind::Pool, Kind::Base] | [Kind::Base])
 }
 
-/// Whether `kinds` are those of a read from a CPU, which first takes a new key from the base if the CPU needs one.
+/// Whether `kinds` are the step kinds of a read from a CPU, which first takes a new key from the base if the CPU needs
+/// one.
 fn is_cpu_read(kinds: &[Kind]) -> bool
     ensures { IsTrue result ↔ IsCpuRead kinds.now }
 {
@@ -25,15 +26,16 @@ fn is_cpu_read(kinds: &[Kind]) -> bool
     )
 }
 
-/// Whether `kinds` are those of a read after its first look. `ready` is whether that look found the core ready.
+/// Whether `kinds` are the step kinds of a read after its first look. `ready` is whether that look found the core
+/// ready.
 fn is_read(ready: bool, kinds: &[Kind]) -> bool
     ensures { IsTrue result ↔ IsRead ready kinds.now }
 {
     (!ready && is_draw(kinds)) || is_cpu_read(kinds)
 }
 
-/// Whether `kinds` are those of a system call of `len` bytes (getrandom(2)) after its first look. `ready` is whether
-/// that look found the core ready.
+/// Whether `kinds` are the step kinds of a system call of `len` bytes (getrandom(2)) after its first look. `ready` is
+/// whether that look found the core ready.
 fn is_after_look(len: u32, flags: u32, ready: bool, kinds: &[Kind]) -> bool
     ensures { IsTrue result ↔ IsAfterLook len flags ready kinds.now }
 {
@@ -60,7 +62,7 @@ fn is_after_look(len: u32, flags: u32, ready: bool, kinds: &[Kind]) -> bool
     }
 }
 
-/// Whether `kinds` are those of a system call of `len` bytes with these flags (getrandom(2)).
+/// Whether `kinds` are the step kinds of a system call of `len` bytes with these flags (getrandom(2)).
 fn is_system_call(len: u32, flags: u32, kinds: &[Kind]) -> bool
     ensures { IsTrue result ↔ IsSystemCall len flags kinds.now }
 {
@@ -74,7 +76,7 @@ fn is_system_call(len: u32, flags: u32, kinds: &[Kind]) -> bool
     }
 }
 
-/// Whether `kinds` are those of a read that begins with a look.
+/// Whether `kinds` are the step kinds of a read that begins with a look.
 fn is_looked_read(kinds: &[Kind]) -> bool
     ensures { IsTrue result ↔ IsLookedRead kinds.now }
 {
@@ -85,8 +87,8 @@ fn is_looked_read(kinds: &[Kind]) -> bool
     }
 }
 
-/// Whether `kinds` are those of a read of `len` bytes by the kernel or into user memory. A read of no bytes has no
-/// steps.
+/// Whether `kinds` are the step kinds of a read of `len` bytes by the kernel or into user memory. A read of no bytes
+/// has no steps.
 fn is_plain_read(len: u32, kinds: &[Kind]) -> bool
     ensures { IsTrue result ↔ IsPlainRead len kinds.now }
 {
@@ -97,7 +99,7 @@ fn is_plain_read(len: u32, kinds: &[Kind]) -> bool
     }
 }
 
-/// Whether `kinds` are those of a random integer (`get_random_u8` to `get_random_u64`).
+/// Whether `kinds` are the step kinds of a random integer (`get_random_u8` to `get_random_u64`).
 fn is_int(kinds: &[Kind]) -> bool
     ensures { IsTrue result ↔ IsInt kinds.now }
 {
@@ -108,7 +110,7 @@ fn is_int(kinds: &[Kind]) -> bool
     }
 }
 
-/// Whether `kinds` are those of a forced reseed, which is refused while the core is not ready.
+/// Whether `kinds` are the step kinds of a forced reseed, which is refused while the core is not ready.
 fn is_reseed(kinds: &[Kind]) -> bool
     ensures { IsTrue result ↔ IsReseed kinds.now }
 {
@@ -130,8 +132,8 @@ fn is_after_credit(crossed: Crossing, kinds: &[Kind]) -> bool
     }
 }
 
-/// Whether `kinds` are those of a credit of the pool and the steps after it. `crossed` is the threshold that the credit
-/// crossed, if any.
+/// Whether `kinds` are the step kinds of a credit of the pool and the steps after it. `crossed` is the threshold that
+/// the credit crossed, if any.
 fn is_credit(crossed: Crossing, kinds: &[Kind]) -> bool
     ensures { IsTrue result ↔ IsCredit crossed kinds.now }
 {
@@ -141,8 +143,8 @@ fn is_credit(crossed: Crossing, kinds: &[Kind]) -> bool
     }
 }
 
-/// Whether `kinds` are those of an interrupt: its sample and perhaps a dump of the fast pool, the mix of this dump into
-/// the pool, and the steps after the mix.
+/// Whether `kinds` are the step kinds of an interrupt: its sample and perhaps a dump of the fast pool, the mix of this
+/// dump into the pool, and the steps after the mix.
 fn is_interrupt(crossed: Crossing, kinds: &[Kind]) -> bool
     ensures { IsTrue result ↔ IsInterrupt crossed kinds.now }
 {
@@ -153,22 +155,22 @@ fn is_interrupt(crossed: Crossing, kinds: &[Kind]) -> bool
     }
 }
 
-/// Whether `kinds` are those of a tick of the reseed timer, which may fire.
+/// Whether `kinds` are the step kinds of a tick of the reseed timer, which may fire.
 fn is_tick(kinds: &[Kind]) -> bool
     ensures { IsTrue result ↔ IsTick kinds.now }
 {
     matches!(kinds, [Kind::Base] | [Kind::Pool, Kind::Base])
 }
 
-/// Whether `kinds` are those of a fork. If the child ran in its parent's thread, the line has two more visits of the
-/// base.
+/// Whether `kinds` are the step kinds of a fork. If the child ran in its parent's thread, the line has two more visits
+/// of the base.
 fn is_fork(kinds: &[Kind]) -> bool
     ensures { IsTrue result ↔ IsFork kinds.now }
 {
     matches!(kinds, [Kind::Base] | [Kind::Base, Kind::Base, Kind::Base])
 }
 
-/// Whether `kinds` are those of a fork of the virtual machine (`add_vmfork_randomness`).
+/// Whether `kinds` are the step kinds of a fork of the virtual machine (`add_vmfork_randomness`).
 fn is_vmfork(kinds: &[Kind]) -> bool
     ensures { IsTrue result ↔ IsVmfork kinds.now }
 {

@@ -52,7 +52,8 @@ fn append_bytes(alloc: Global, kept: &mut Vec<u8>, text: &[u8]) -> Result<bool, 
     Ok(true)
 }
 
-/// Appends the bytes that a text of hex digits spells, and returns the data of a line with these bytes.
+/// Appends the bytes that `text`, in hex digits, spells, and returns the data of a line with these bytes. `None` if
+/// `text` spells no bytes.
 fn keep_bytes(alloc: Global, kept: &mut Vec<u8>, text: &[u8]) -> Result<Option<Data>, AllocError>
     requires { length text.now < 2 ^ 32 }
     ensures data { IfOk result (KeepsSpelt text.now kept.old.items kept.new.items) }

@@ -63,8 +63,8 @@ impl Comparison {
         }
     }
 
-    // Compares the first of `bytes`, as many as one piece of the transcript's text has left. Returns their number, or 0
-    // if one of them differs.
+    // Compares the first of `bytes` with what is left of one piece of the transcript's text. Returns how many bytes
+    // were compared, or 0 if one of them differs.
     fn compare_front(&mut self, bytes: &[u8]) -> usize
         requires some { 0 < length bytes.now }
         requires short { length self.old.text + length bytes.now ≤ 2 ^ 31 }

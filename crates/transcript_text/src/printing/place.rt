@@ -17,7 +17,7 @@ use crate::view::Shown;
 pub(crate) enum TextAfter {
     /// The first line of the text.
     Head,
-    /// The rest of a caller's lines, and the lines of later callers.
+    /// The rest of a caller's lines, the lines of later callers, and the last line, `end`.
     Lines,
     Nothing,
 }
