@@ -208,7 +208,7 @@ module _ (lists : Lists) (named : VisitsServeNamed lists) (caller : ℕ) (es : L
         let k = line_prints ending gives served asked free in
         record { origins = k.0; by = k.1.by; shown = sym (bytes_of_some out) ∙ k.1.shown }
 
--- No byte of a key is in both lines
+-- No byte of a key's keystream is in both lines
 
 -- a call's meaning as it is in a transcript
 abbrev meaning_of : List VEntry → CallMeaning

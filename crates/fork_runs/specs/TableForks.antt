@@ -95,7 +95,7 @@ stamps_of marks = map (λ by. by.mark.stamp) marks
 -- these calls: one `add`, which makes the core ready; the parent's vgetrandom call until it is stopped, with a reseed
 -- for a second attempt; the fork; the rest of the parent's call; and the rest of the child's call. The book's
 -- vgetrandom states are the parent's and the child's. `parent` and `child` are the bytes with which their calls end.
--- They are bytes of named spans, and no byte of a key is in both
+-- They are bytes of named spans, and no byte of a key's keystream is in both
 pub record AreForkedBytes (turn : Turn) (point : Point) (n : ℕ) (parent child : List ℕ) : Type 0 where
   pub book : Book
   pub cpus : length book.cpus ≡ 1
@@ -123,7 +123,7 @@ pub record AreForkedBytes (turn : Turn) (point : Point) (n : ℕ) (parent child 
   pub child_keyed : (bytes : List ℕ) → child_end.outcome.ending ≡ by_batch bytes →
       takes_key false child_end.steps ≡ true
   -- the data of the parent's line and of the child's line are named bytes, each from entries of the line's own call. No
-  -- two of these entries use the same byte of a key, so no byte is given twice, in one line or in both
+  -- two of these entries use the same byte of a key's keystream, so no byte is given twice, in one line or in both
   pub parent_line : ShowsNamed (lists_of book) (call_entries 0 (stop.entries ++ parent_end.outcome.entries))
       parent_end.own parent
   pub child_line : ShowsNamed (lists_of book) (call_entries 1 child_end.outcome.entries) child_end.own child

@@ -257,7 +257,7 @@ fn fork_at<R: Wait>(
 /// the parent's pass, and the child ends its call. So the child's visits come after the parent's. All of this runs on
 /// CPU 0, at moment 0, with zeros as hardware words.
 ///
-/// Both results are the bytes of named spans of keystream, and no byte of a key is in both.
+/// Both results are the bytes of named spans of keystream, and no byte of a key's keystream is in both.
 ///
 /// The call reaches each of the four points of either attempt, and gives bytes in both callers.
 ///

@@ -67,7 +67,7 @@ pub record TellsHeld (lists : Lists) (callers : List (List Call)) (book : Book) 
   pub reached : TellsReached moments rows (map (λ held. held.key) (live_keys lists)) (live_rests lists) more
   pub text : output ≡ held_lines moments rows numbers ++ flat_map rest_line (live_rests lists) ++ more
 
--- the output is that of `TellsHeld`, and no byte of a held key or of a rest was used in `lists`
+-- the output is that of `TellsHeld`, and no byte of a held key's keystream or of a rest was used in `lists`
 pub record TellsLive (lists : Lists) (callers : List (List Call)) (book : Book) (ms : List (List CallMeaning))
     (output : List ℕ) : Type 0 where
   pub listed : TellsHeld lists callers book ms output

@@ -40,7 +40,8 @@ serves moments line row = list_any (λ piece. is_served_for moments line piece.f
 abbrev pub serving : Moments → LineOf → List KeyRow → List KeyName
 serving moments line rows = map (λ row. row.key) (filter (serves moments line) rows)
 
--- the edges turned round: if bytes of one key became another key, an edge leads from the second key to the first
+-- the edges turned round: if bytes of one key's keystream became another key, an edge leads from the second key to the
+-- first
 abbrev pub edges_back : List KeyRow → List Edge
 edges_back rows = map turned (reverse (edges_of rows))
 

@@ -54,8 +54,8 @@ fn turned(edge: Edge) -> Edge
     }
 }
 
-/// The edges turned round, the last edge first. If bytes of one key became another key, a turned edge leads from the
-/// second key to the first.
+/// The edges turned round, the last edge first. If bytes of one key's keystream became another key, a turned edge leads
+/// from the second key to the first.
 ///
 /// # Errors
 ///
