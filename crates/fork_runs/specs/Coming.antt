@@ -40,7 +40,7 @@ SecondAttemptComes = (n : ℕ) (point : Point) (stop : Stop (IsCall n 0 wiped_st
     AfterPlace n 0 stop.place stop.held stop.state steps outcome → OnReadyCore next high steps →
     ComesTo Second point 1 steps
 
--- the call that ended so gave bytes
+-- a call with this ending gave bytes
 abbrev pub IsGiven : Ending → Type 0
 IsGiven no_bytes = ⊥
 IsGiven (by_batch bytes) = ⊤

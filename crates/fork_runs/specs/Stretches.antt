@@ -75,7 +75,7 @@ pub record MissedOver (n flags : ℕ) (stage : Stage) (held : List ℕ) (s : Vge
   pub served : AreServed steps
   pub climbs : Climbs (published_by (floor v)) (published_by (floor w)) steps
 
--- a call that ended so gave the bytes `out`
+-- a call with this ending gave the bytes `out`
 abbrev pub GivesBytes : Ending → List ℕ → Type 0
 GivesBytes no_bytes out = ⊥
 GivesBytes (by_batch bytes) out = out ≡ bytes

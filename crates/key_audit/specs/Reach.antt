@@ -50,7 +50,7 @@ next_lines moments is_held is_known rows =
 
 -- ---- served bytes that can be computed
 
--- the bytes of `piece`, if an entry served them, with the line that this entry is of
+-- the bytes of `piece`, if an entry served them, with the line that left this entry
 abbrev pub copied_at : Moments → KeyPiece → Fate → List Copied
 copied_at moments piece (Served by) = record { line = (moment_at moments by).line; span = piece.span } ∷ []
 copied_at moments piece (Became key) = []
