@@ -86,7 +86,8 @@ module _ (lanes : ℕ) (visits : ℕ → List Visit) (callers : StateLists) wher
     rises = subst (λ (l : List ℕ). Risen (floor v) l (floor w)) (sym (same_looks book did.made_steps))
         (sees_risen w (floor v) (floor w) did.made_steps did.recorded.went.sees)
 
-    -- if the caller had seen the core ready before, `Good` holds for the steps
+    -- if the caller had seen the core ready before, the generations published in the steps are at least 1, and each key
+    -- read in them was handed over by a CPU (`Good`)
     pub good_here : 1 ≤ floor v → Good book steps
     good_here some =
         let g = published_by (floor v) in
@@ -94,7 +95,7 @@ module _ (lanes : ℕ) (visits : ℕ → List Visit) (callers : StateLists) wher
         (never_fall (floor v) (floor v ∷ looks_of effects) (floor w) (omega arith, rises))
         (floor v, effects, refl, (refl, shows)) g steps refl (publishes_some (floor v) some)
 
-    -- `GoodAfter` holds for the steps: they are good if the first look of the call itself found the core ready
+    -- `GoodAfter` holds for the steps: the steps after the first are `Good` if the first publishes a generation above 0
     pub good_first : (caller k : ℕ) → GoodAfter book caller k steps
     good_first caller k = good_after book (setting_of set) steps effects there
         (never_fall (floor v) (looks_of effects) (floor w) rises) shows
