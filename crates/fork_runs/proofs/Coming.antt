@@ -1,5 +1,5 @@
--- If a call on a ready core is run to a point of its first attempt, it stops there: it cannot end without reaching the
--- point. After a reseed, the same is true of each point of a second attempt.
+-- If a call on a ready core is run to a point of its first attempt, it is stopped there: it cannot end without reaching
+-- the point. After a reseed, the same holds for each point of its second attempt.
 use Rattle.std.proofs.Common.{◌≡◌, ℕ, zero, suc, ◌<◌, ◌≤◌, false, List, [], ◌∷◌, ◌++◌, Some, None, refl, sym, subst, ap, ◌∙◌, arith}
 use Rattle.std.proofs.lemmas.Bool.{ne_eqb}
 use Rattle.key_names.specs.declared.names.Step.{Step}
@@ -31,7 +31,7 @@ use Rattle.fork_runs.proofs.TwoStops.{parents_call}
 never : (b : ℕ) → None ≡ Some b → ⊥
 never b is = cc
 
--- the first attempt has each of its points
+-- the steps of a first attempt that takes a key reach each of its points
 in_first : (point : Point) (looked published found : ℕ) (answer : SystemAnswer) (more : List HostStep) →
     ComesTo First point 0 (publishes looked ∷ attempt_steps published answer found more)
 in_first Start looked published found answer more = refl
@@ -39,7 +39,7 @@ in_first Written looked published found answer more = refl
 in_first Serve looked published found answer more = refl
 in_first End looked published found answer more = refl
 
--- after the point Serve of the first attempt, a second attempt has each of its points
+-- after the point Serve of the first attempt, the steps of a second attempt that takes a key reach each of its points
 in_second : (point : Point) (look published found : ℕ) (answer : SystemAnswer) (more : List HostStep) →
     ComesTo Second point 1 (at_point End false ∷ publishes look ∷ attempt_steps published answer found more)
 in_second Start look published found answer more = refl
@@ -60,7 +60,7 @@ first_attempt_comes n point steps outcome low high some ready call core =
     (path.looks ∙ ap (λ (l : List HostStep). publishes path.looked ∷ l) path.tried.steps_are)
     (in_first point path.looked path.tried.published path.tried.found path.tried.answer path.tried.more)
 
--- Steps that end at the first point Serve
+-- The steps of a call that is stopped at the point Serve of its first attempt
 
 record Cut (looked published : ℕ) (answer : SystemAnswer) (before later more : List HostStep) : Type 0 where
   front : before ≡ publishes looked ∷ publishes published ∷ at_point Start false ∷ at_point Written false
@@ -108,8 +108,8 @@ module _ (law : ForksAreRecorded) (n : ℕ) (point : Point) (stop : Stop (IsCall
       (at_point End false ∷ publishes path.tried.found ∷ path.tried.more) stop.before misses.following misses.passes
       (path.looks ∙ ap (λ (l : List HostStep). publishes path.looked ∷ l) path.tried.steps_are)
 
-  -- at its start the first attempt found at most `mid`, like each look before the stop; at its end it finds at least
-  -- `next`
+  -- at its start the first attempt found a generation of at most `mid`, as each look before the point did; at its end
+  -- it finds one of at least `next`
   known : path.tried.published ≤ mid
   known = (subst (Climbs low mid) parts.front before.climbs).1.1
 
@@ -136,9 +136,9 @@ pub second_attempt_comes : ForksAreRecorded → SecondAttemptComes
 second_attempt_comes law n point stop steps outcome low mid next high some ready misses before rises rest after =
     second_comes law n point stop steps outcome low mid next high some ready misses before rises rest after
 
--- Over the lanes
+-- The laws for a call whose host is a caller over the lanes
 
--- a higher generation is published as a higher number
+-- if generation b is above generation a, it is published as a higher number
 published_above : (a b : ℕ) → a < b → published_by a < published_by b
 published_above zero zero h = absurd (omega arith)
 published_above zero (suc b) h = omega arith

@@ -1,5 +1,5 @@
--- The facts of `AreForkedBytes`, about the table's book and the bytes of parent and child, follow from what the code
--- did on a new table.
+-- What the code did on a new table implies the facts of `AreForkedBytes` about the table's book and the bytes of parent
+-- and child.
 use Rattle.std.proofs.Common.{◌≡◌, ℕ, ◌+◌, ◌-◌, ◌^◌, ◌<◌, ◌≤◌, false, true, List, [], ◌∷◌, ◌++◌, length, refl, sym, ap, ◌∙◌, subst, arith}
 use Rattle.std.proofs.lemmas.List.{length-map, map-append}
 use Rattle.std.proofs.lemmas.List.FromFn.{length-range_with_len}
@@ -79,7 +79,7 @@ stamps_up : (low high : ℕ) (stamps : List ℕ) → Climbs low stamps high → 
 stamps_up low high [] h = omega arith
 stamps_up low high (stamp ∷ stamps) h = let a = h.0 in let b = stamps_up stamp high stamps h.1 in omega arith
 
--- the visits of a book do not depend on its lists of states
+-- the visits in a book do not depend on its lists of vgetrandom states
 module _ (book : Book) (callers : StateLists) where
   same_at : (lane : LaneId) (place : ℕ) → stamped_at book lane place ≡
       stamped_at (record book { callers = callers }) lane place
@@ -94,7 +94,7 @@ module _ (book : Book) (callers : StateLists) where
     no_others = k.no_others;
   }
 
--- The calls to the stop
+-- The calls of the parent before the fork
 
 ran_path : (n : ℕ) (s : VgetrandomState) (turn : Turn) (point : Point) (before : List HostStep) (v w : View)
     (calls : List (List Step)) → RanBy (first_setting 0) n 0 s turn point before v calls w →
@@ -112,7 +112,7 @@ module _ (lanes : ℕ) (visits : ℕ → List Visit) (callers : StateLists) wher
   abbrev book : Lists
   book = book_lists lanes visits callers
 
-  -- if P holds for what a call did, P holds for the effects of the call's steps in the final book
+  -- if `P` holds for what a call did, it holds for the effects of the call's steps in the final book
   shown_in : {P : List Effect → Type 0} (set : Setting) (v w : View) (own : List Step) → DidAll P set v own w →
       Continues lanes w visits → P (effects_of book own)
   shown_in {P} set v w own k c = subst (λ (l : List Step). P (effects_of book l)) (sym k.recorded.trace)
@@ -174,7 +174,7 @@ module _ (lanes : ℕ) (visits : ℕ → List Visit) (callers : StateLists) wher
     shown = shown_in (first_setting caller) v w own k.did c;
   }
 
--- The reads that the steps before the stop took as keys
+-- The reads that the call took as keys before the fork
 
 module _ (lists : Lists) (n : ℕ) where
   abbrev shown_by : List HostStep → List Step → Type 0
@@ -220,7 +220,7 @@ module _ (lists : Lists) (n : ℕ) where
           own_takes k.later.before k.more k.shown_more,
         )
 
--- caller 0 made a call on a new table after a sample, and forked
+-- suppose that caller 0 added a sample to a new table, ran a vgetrandom call until it was stopped, and forked there
 module _ (turn : Turn) (point : Point) (n : ℕ) (p q w x : View) (left : Stage) (out : List ℕ) (t : VgetrandomState)
     (parent child : List ℕ) (new : p ≡ start)
     (sampled : (own : List Step)
@@ -257,7 +257,7 @@ module _ (turn : Turn) (point : Point) (n : ℕ) (p q w x : View) (left : Stage)
   abbrev half : View
   half = steps.child mid
 
-  -- the view of the child's pass after this pass took in the parent's pass
+  -- the view of the child's pass (what it knows of the lanes) after it took in the parent's pass
   abbrev pub both : View
   both = both_of half over.parent_end
 
@@ -331,7 +331,7 @@ module _ (turn : Turn) (point : Point) (n : ℕ) (p q w x : View) (left : Stage)
     sample_goes : Continues (length x.lanes) q (known_of x)
     sample_goes = continues_before (length x.lanes) q w (known_of x) to_stop.same.sized to_stop.grows stop_goes
 
-    -- The visits
+    -- The visits of the final book
 
     abbrev marks : List MarkBy
     marks = parents_marks ++ rest_marks ++ child_marks
@@ -357,7 +357,7 @@ module _ (turn : Turn) (point : Point) (n : ℕ) (p q w x : View) (left : Stage)
         let f = marks_both lane parents_marks rest_marks in
         omega arith
 
-    -- The stamps climb from each part to the next
+    -- The stamps climb in each part of the run, and from each part to the next
 
     later : both.stamp ≡ over.parent_end.stamp
     later = let up = stamps_up mid.stamp over.parent_end.stamp (stamps_of rest_marks) parent_path.climbs in omega arith
@@ -376,7 +376,7 @@ module _ (turn : Turn) (point : Point) (n : ℕ) (p q w x : View) (left : Stage)
         ∙ ap (λ (l : List ℕ). l ++ stamps_of child_marks)
         (map-append (λ (by : MarkBy). by.mark.stamp) parents_marks rest_marks))) two
 
-    -- The states
+    -- The lists of the two vgetrandom states
 
     abbrev parents_entries : List VEntry
     parents_entries = reached.stop.entries ++ over.parent_ends.outcome.entries
@@ -400,7 +400,7 @@ module _ (turn : Turn) (point : Point) (n : ℕ) (p q w x : View) (left : Stage)
     lanes : LawfulLanes lists
     lanes = ended_lawful x callers low ended
 
-    -- Both ends
+    -- The end of the call in the parent, and its end in the child
 
     abbrev parent_is : IsEnd lists 0 n reached.stop.place reached.stop.held reached.stop.state parent
     parent_is = end_in (length x.lanes) (known_of x) callers 0 n reached.stop.place left out reached.stop.held t
@@ -438,7 +438,7 @@ module _ (turn : Turn) (point : Point) (n : ℕ) (p q w x : View) (left : Stage)
     child_climbs = host_climbs_append reached.stop.place.published (published_by (floor both)) (published_by (floor x)) []
         over.child_ends.steps both_knows over.child_ends.climbs
 
-    -- The parts of the call
+    -- The parts of the forked call, in the final book
 
     abbrev the_calls : CallsUpTo lists n turn point reached.stop.before reached.calls
     the_calls = way_in (length x.lanes) (known_of x) callers n turn point reached.stop.before q w reached.calls reached.ran
@@ -478,7 +478,7 @@ module _ (turn : Turn) (point : Point) (n : ℕ) (p q w x : View) (left : Stage)
         (reads_both (cpu_list lists) reached.stop.before (at_point point true ∷ child_is.steps) way_reads
         (own_reads lists n child_is.steps child_is.own child_is.shown)) child_call)).1
 
-    -- Each place of a lane is visited at most once
+    -- No place of a lane is visited twice
 
     marked_once : (lane : LaneId) (p : ℕ) →
         calls_have lane p reached.calls + mark_takes lane p over.parents + mark_takes lane p over.childs ≤ 1
@@ -494,7 +494,7 @@ module _ (turn : Turn) (point : Point) (n : ℕ) (p q w x : View) (left : Stage)
           calls_append lane p reached.calls (over.forked ∷ []),
         )
 
-    -- each read is taken as a key or given out at most once
+    -- each read at place p of CPU c is at most once taken as a key or given out
     taken_once : (c p : ℕ) → takes c p parents_entries + ending_takes c p parent_is.outcome.ending
         + (takes c p childs_entries + ending_takes c p child_is.outcome.ending) ≤ 1
     taken_once c p =
@@ -518,7 +518,7 @@ module _ (turn : Turn) (point : Point) (n : ℕ) (p q w x : View) (left : Stage)
     free_of c p e rekeyed le =
         let one = rekeyed_counts lists parents_entries childs_entries refl c p rekeyed in omega arith
 
-    -- The book is lawful
+    -- The final book is lawful
 
     ordered : (steps : List HostStep) (outcome : Outcome) → IsCall n 0 wiped_state steps outcome →
         OrderedStateList 0 0 outcome.entries
@@ -537,7 +537,7 @@ module _ (turn : Turn) (point : Point) (n : ℕ) (p q w x : View) (left : Stage)
         (prefix_outcome reached.stop.entries (prefix_outcome (Wipe ∷ []) child_is.outcome)) child_call))
         parents_reads childs_reads
 
-    -- The lines
+    -- The lines of the parent and of the child
 
     serves : VisitsServeNamed lists
     serves = lawful_serves_named lists lanes
@@ -601,7 +601,7 @@ module _ (turn : Turn) (point : Point) (n : ℕ) (p q w x : View) (left : Stage)
       childs_rest = child_later;
     }
 
--- the code's arguments equal those of the facts above, so the facts hold for what the code did
+-- suppose that the arguments which the code passed equal those above; then the facts hold for what the code did
 module _ (set : Setting) (n m k f g : ℕ) (s : VgetrandomState) (plain : set ≡ first_setting 0) (same : m ≡ n)
     (again : k ≡ m) (none : f ≡ 0) (none_again : g ≡ f) (wiped : s ≡ wiped_state) where
   pub plain_sample : (p q : View) → ((own : List Step)

@@ -1,4 +1,4 @@
--- The visits that successive calls of a caller make.
+-- The visits that a caller's calls make, one call after the other.
 use Rattle.std.proofs.Common.{ℕ, List, [], ◌∷◌, ◌++◌, sym, subst}
 use Rattle.std.proofs.lemmas.Grind.{flat_map-append}
 use Rattle.key_names.specs.declared.names.Step.{Step}
@@ -10,13 +10,13 @@ use Rattle.fork_runs.specs.Runs.{DidAll}
 use Rattle.rng_core.specs.Settings.{first_setting}
 use Rattle.fork_runs.specs.TableForks.{marks_of}
 
--- one call makes exactly the visits of its steps
+-- if a caller made one call with the steps `steps`, it made exactly the visits of these steps
 pub path_did : {P : List Effect → Type 0} (caller : ℕ) (v w : View) (steps : List Step) →
     DidAll P (first_setting caller) v steps w → Path v w (marks_of caller (steps ∷ []))
 path_did caller v w steps k = path_then v w w (marks_from caller 0 0 steps) []
     (path_recorded (first_setting caller) v w steps k.made_steps k.recorded) (path_none w)
 
--- two runs of calls, one after the other, make the visits of both
+-- if a caller made the calls `xs`, and then the calls `ys`, it made the visits of both
 pub path_calls : (caller : ℕ) (u v w : View) (xs ys : List (List Step)) → Path u v (marks_of caller xs) →
     Path v w (marks_of caller ys) → Path u w (marks_of caller (xs ++ ys))
 path_calls caller u v w xs ys a b = subst (Path u w) (sym (flat_map-append (marks_from caller 0 0) xs ys))

@@ -1,4 +1,4 @@
--- What a child's pass knows after it took in its parent's pass.
+-- What a child's pass knows of the lanes after it took in its parent's pass.
 use Rattle.std.proofs.Common.{◌≡◌, ℕ, ◌+◌, ◌*◌, ◌-◌, ◌^◌, ◌≤◌, ◌⊎◌, inl, inr, Bool, true, false, max, List, length, refl, sym, ap, ◌∙◌, arith}
 use Rattle.std.specs.Prelude.{if◌then◌else◌, nat_lt}
 use Rattle.std.proofs.Math.ListN.{get_or-map}
@@ -14,7 +14,7 @@ use Rattle.lane_table.specs.WorldRule.{at, blank, known_of}
 use Rattle.lane_table.proofs.Rule.Shares.{merged_at}
 use Rattle.rng_core.proofs.Hosting.{published_more}
 
--- two halves of the share make the whole share
+-- if two passes each have a half of the share, they have the whole share together
 pub whole_again : (a b c d : ℕ) → a ≡ 1 → b ≡ 1 → c ≡ 1 → d ≡ 1 →
     a * 2 ^ (max c d - c) + b * 2 ^ (max c d - d) ≡ 2 ^ max c d
 whole_again a b c d p q r s =
@@ -33,7 +33,8 @@ one_of_them xs ys = go (nat_lt (length xs) (length ys))
     go true = inr refl
     go false = inl refl
 
--- if both views have seen a published generation of at least `low`, so has the joined view
+-- if each of the two views `v` and `w` has seen a generation that is published as `low` or a higher number, so has the
+-- joined view
 pub joined_floor : (low : ℕ) (v w : View) → length v.lanes ≡ length w.lanes → low ≤ published_by (floor v) →
     low ≤ published_by (floor w) → low ≤ published_by (floor (both_of v w))
 joined_floor low v w long first second =

@@ -1,4 +1,4 @@
--- The lines of parent and child show named bytes, in a book that has the states of both.
+-- The lines of the parent and of the child have named bytes as data, in a book that has the vgetrandom states of both.
 use Rattle.std.proofs.Common.{◌≡◌, ℕ, zero, suc, ◌+◌, ◌≤◌, ◌⊎◌, inl, inr, Bool, true, false, List, [], ◌∷◌, ◌++◌, Some, refl, sym, subst, ap, ◌∙◌, arith, append-nil, length}
 use Rattle.std.specs.Prelude.{◌||◌}
 use Rattle.std.specs.List.{AllByRecursion, list_any}
@@ -47,7 +47,8 @@ module _ (lists : Lists) (ps cs : List VEntry) (callers_are : lists.callers ≡ 
   or_false true is = refl
   or_false false is = is
 
-  -- a read that is taken as a key is taken by one of the two states
+  -- if read p of CPU c is taken as a key in the book, an entry in `ps` or in `cs`, the lists of the two states, takes
+  -- it
   pub rekeyed_counts : (c p : ℕ) → is_rekeyed lists c p ≡ true → 1 ≤ takes c p ps + takes c p cs
   rekeyed_counts c p is =
       let any : List VEntry → Bool = λ es. list_any (rekeys_place c p) es in
@@ -60,7 +61,8 @@ module _ (lists : Lists) (ps cs : List VEntry) (callers_are : lists.callers ≡ 
             let one = any_entry c p cs (or_false (any cs) (or_false (any cs || false) second)) in omega arith
       ]
 
-  -- `es` is the list of state 0 of caller `number`, and its entry at `place` takes the read at place `p` of CPU `c`
+  -- `caller` is `number`, `state` is 0, and the entry at `place` of `es`, the list of this state, takes the read at
+  -- place `p` of CPU `c` as a key
   record TakenIn (caller state place c p : ℕ) (number : ℕ) (es : List VEntry) : Type 0 where
     caller_is : caller ≡ number
     state_is : state ≡ 0
@@ -138,9 +140,9 @@ module _ (lists : Lists) (ps cs : List VEntry) (callers_are : lists.callers ≡ 
         };
       }
 
--- The lines
+-- The data of the lines of the parent and of the child
 
--- a line in the form of a transcript
+-- a line as it is in a transcript
 abbrev line_of : ℕ → List Step → List ℕ → SeenLine
 line_of caller own out = record {
   caller = caller;
@@ -206,9 +208,9 @@ module _ (lists : Lists) (named : VisitsServeNamed lists) (caller : ℕ) (es : L
         let k = line_prints ending gives served asked free in
         record { origins = k.0; by = k.1.by; shown = sym (bytes_of_some out) ∙ k.1.shown }
 
--- No byte is in both
+-- No byte of a key's keystream is in both lines
 
--- a call in the form of a transcript
+-- a call's meaning as it is in a transcript
 abbrev meaning_of : List VEntry → CallMeaning
 meaning_of es = record {
   own = unused_line;

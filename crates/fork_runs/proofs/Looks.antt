@@ -1,5 +1,5 @@
--- After a look that found the core ready, each generation that a call publishes is at least 1. Each key that the call
--- reads is one that a CPU handed over.
+-- After a look that found the core ready, each generation that a call's host publishes is at least 1. Each key that the
+-- call reads is one that a CPU handed over.
 use Rattle.std.proofs.Common.{◌≡◌, ℕ, zero, suc, ◌≤◌, Bool, true, List, [], ◌∷◌, ◌++◌, map, refl, sym, subst, ap, arith}
 use Rattle.key_names.specs.declared.names.Step.{Step}
 use Rattle.key_names.specs.declared.point.Point.{Point}
@@ -26,7 +26,7 @@ use Rattle.rng_core.proofs.ActRuns.{Risen, sees_risen}
 use Rattle.rng_core.proofs.Readings.{never_fall, same_looks}
 use Rattle.fork_runs.specs.Runs.{DidAll}
 
--- if a published generation is not 0, the look that it came from found at least 1
+-- if the published generation of g is not 0, then g, which a look found, is at least 1
 pub found_some : (g : ℕ) → 1 ≤ published_by g → 1 ≤ g
 found_some zero h = absurd (omega arith)
 found_some (suc g) h = omega arith
@@ -35,7 +35,7 @@ pub publishes_some : (g : ℕ) → 1 ≤ g → 1 ≤ published_by g
 publishes_some zero h = absurd (omega arith)
 publishes_some (suc g) h = omega arith
 
--- a caller that has seen the generation of a stopped call has seen the core ready
+-- if a caller has seen the generation that a stopped call had published, it has seen the core ready
 pub seen_ready : (seen : ℕ) (stage : Stage) → 1 ≤ published_or 1 stage → is_stopped stage ≡ true →
     published_or 0 stage ≤ published_by seen → 1 ≤ seen
 seen_ready seen New ready conforms known = absurd (cc conforms)
@@ -56,7 +56,8 @@ reads_both cpus (system_call n flags answer ∷ xs) ys a b = (a.0, reads_both cp
 reads_both cpus (at_point point wiped ∷ xs) ys a b = reads_both cpus xs ys a b
 
 module _ (lists : Lists) (caller k : ℕ) where
-  -- if `GoodAfter` holds of the steps before a point, and `Good` of those after it, `GoodAfter` holds of them all
+  -- if `GoodAfter` holds for the steps before a point, and `Good` for the steps after it, `GoodAfter` holds for all
+  -- these steps
   pub good_parts : (before after : List HostStep) (point : Point) (wiped : Bool) → GoodAfter lists caller k before →
       Good lists after → GoodAfter lists caller k (before ++ at_point point wiped ∷ after)
   good_parts [] after point wiped good rest g steps is some = cc
@@ -85,7 +86,8 @@ module _ (lanes : ℕ) (visits : ℕ → List Visit) (callers : StateLists) wher
     rises = subst (λ (l : List ℕ). Risen (floor v) l (floor w)) (sym (same_looks book did.made_steps))
         (sees_risen w (floor v) (floor w) did.made_steps did.recorded.went.sees)
 
-    -- `Good` holds of the steps if the core was found ready before
+    -- if the caller had seen the core ready before, the generations published in the steps are at least 1, and each key
+    -- read in them was handed over by a CPU (`Good`)
     pub good_here : 1 ≤ floor v → Good book steps
     good_here some =
         let g = published_by (floor v) in
@@ -93,7 +95,7 @@ module _ (lanes : ℕ) (visits : ℕ → List Visit) (callers : StateLists) wher
         (never_fall (floor v) (floor v ∷ looks_of effects) (floor w) (omega arith, rises))
         (floor v, effects, refl, (refl, shows)) g steps refl (publishes_some (floor v) some)
 
-    -- `GoodAfter` holds of the steps: they are good if the call's own first look found the core ready
+    -- `GoodAfter` holds for the steps: the steps after the first are `Good` if the first publishes a generation above 0
     pub good_first : (caller k : ℕ) → GoodAfter book caller k steps
     good_first caller k = good_after book (setting_of set) steps effects there
         (never_fall (floor v) (looks_of effects) (floor w) rises) shows

@@ -1,4 +1,4 @@
--- If the stamps of some marks climb, the marks contain each place of a lane at most once.
+-- If the stamps of some marks climb, no two of these marks are of the same place of a lane.
 use Rattle.std.proofs.Common.{◌≡◌, ℕ, suc, ◌+◌, ◌<◌, ◌≤◌, ◌⊎◌, inl, inr, Bool, true, false, List, [], ◌∷◌, ◌++◌, Some, Option, refl, sym, ap, ◌∙◌, arith, eqb-true}
 use Rattle.std.specs.Prelude.{◌==◌, if◌then◌else◌}
 use Rattle.std.specs.List.{AllByRecursion}
@@ -14,13 +14,14 @@ use Rattle.key_names.proofs.Transcripts.TakenMarks.{hit, lane_takes, mark_takes}
 use Rattle.lane_table.specs.Advances.{Climbs}
 use Rattle.fork_runs.specs.TableForks.{marks_of, stamps_of}
 
--- the book has a visit at the mark's lane and place, with the mark's stamp and maker
+-- the book has a visit at the lane and place of the mark `by`, with the same stamp, made by the same caller, line and
+-- step
 abbrev pub IsAt : Book → MarkBy → Type 0
 IsAt book by = stamped_at book by.mark.lane by.mark.place ≡ Some (by.mark.stamp, by.who)
 
--- `p` is a place of the lane `lane`
+-- for a place `p` of the lane `lane`
 module _ (lane : LaneId) (p : ℕ) where
-  -- how many marks have this place
+  -- how many of the marks are of place `p` of `lane`
   abbrev pub hits : List MarkBy → ℕ
   hits [] = 0
   hits (by ∷ marks) = lane_takes lane p by.mark.lane by.mark.place + hits marks
@@ -35,7 +36,7 @@ module _ (lane : LaneId) (p : ℕ) where
   hits_steps caller event i (Marked mark ∷ steps) =
       ap (λ n. lane_takes lane p mark.lane mark.place + n) (hits_steps caller event (suc i) steps)
 
-  -- how many steps of some calls have this place
+  -- how many of the steps of `calls` visit place `p` of `lane`
   abbrev pub calls_have : List (List Step) → ℕ
   calls_have [] = 0
   calls_have (steps ∷ calls) = mark_takes lane p steps + calls_have calls
@@ -72,7 +73,7 @@ module _ (lane : LaneId) (p : ℕ) where
     abbrev stamp_of : Option (ℕ × Who) → ℕ
     stamp_of o = option_map_or (λ (x : ℕ × Who). x.0) o 0
 
-    -- after a mark with this place, no later mark has the place
+    -- if a mark is of place `p` of `lane`, no later mark is
     no_more : (stamp low high : ℕ) (who : Who) (marks : List MarkBy) → stamped_at book lane p ≡ Some (stamp, who) →
         stamp ≤ low → Climbs low (stamps_of marks) high → AllByRecursion (IsAt book) marks → hits marks ≡ 0
     no_more stamp low high who [] is below climbs all = refl

@@ -1,5 +1,5 @@
--- Take a call without flags whose state is never wiped, and whose system calls do not fail. If an attempt finds a
--- generation other than the state's, the call reaches each point of this attempt.
+-- Take a vgetrandom call without flags whose state is never wiped, and whose system calls do not fail. If an attempt
+-- finds a generation other than the state's, the call reaches each point of this attempt.
 use Rattle.std.proofs.Common.{◌≡◌, ℕ, ◌<◌, ◌≤◌, Bool, true, false, List, [], ◌∷◌, ◌++◌, refl, subst, ap, ◌∙◌, arith, eqb-true}
 use Rattle.std.specs.Bool.{⊤}
 use Rattle.std.proofs.lemmas.Bool.{ne_eqb}
@@ -19,7 +19,7 @@ use Rattle.vdso_state.specs.Places.{Climbs}
 use Rattle.rng_core.specs.Hosted.{IsRead}
 use Rattle.fork_runs.specs.Stretches.{AreServed, AreUnwiped}
 
--- the state is never wiped, and each system call with good flags reads its bytes
+-- in the steps the state is never wiped, and each system call with good flags reads its bytes
 abbrev pub Smooth : List HostStep → Type 0
 Smooth [] = ⊤
 Smooth (publishes g ∷ steps) = Smooth steps
@@ -44,7 +44,7 @@ smooth_then (publishes g ∷ xs) ys a b = smooth_then xs ys a b
 smooth_then (system_call n flags answer ∷ xs) ys a b = (a.0, smooth_then xs ys a.1 b)
 smooth_then (at_point point wiped ∷ xs) ys a b = (a.0, smooth_then xs ys a.1 b)
 
--- the point did not wipe the state, so the steps `rest` after the point go on from the same state
+-- the first of `steps` is the point `point`, which did not wipe the state `s`; the steps `rest` after it go on from `s`
 record Passed (point : Point) (GoesOn : VgetrandomState → List HostStep → Attempt → Type 0) (s : VgetrandomState)
     (steps : List HostStep) (attempt : Attempt) : Type 0 where
   rest : List HostStep
@@ -69,11 +69,11 @@ passed point GoesOn s steps attempt k smooth =
       end_is = ap (λ (a : Attempt). a.end) k.attempt_is;
     }
 
--- the end of an attempt on a state of `generation`, if the attempt's last look found `found`
+-- how an attempt on a state of `generation` ends, if its last look found `found`
 abbrev end_by : ℕ → ℕ → AttemptEnd
 end_by generation found = if generation == found then holds else outdated
 
--- the rest of an attempt from some point on: the steps `front`, and then a last look
+-- from some point of an attempt on, its steps are `front`, and then its last look
 record Left (front : List HostStep) (s : VgetrandomState) (steps : List HostStep) (attempt : Attempt) : Type 0 where
   found : ℕ
   steps_are : steps ≡ front ++ publishes found ∷ []
@@ -111,7 +111,7 @@ keying n c (read key visit) s steps attempt ok k smooth =
     }
 keying n c (failed errno) s steps attempt ok k smooth = absurd ok
 
--- the steps of an attempt that takes a new key, and the steps `more` after the attempt
+-- the host's steps in an attempt that takes a new key, and then the steps `more` after the attempt
 abbrev pub attempt_steps : ℕ → SystemAnswer → ℕ → List HostStep → List HostStep
 attempt_steps published answer found more =
     publishes published ∷ at_point Start false ∷ at_point Written false ∷ system_call 32 0 answer
@@ -153,7 +153,7 @@ whole_attempt n c s steps attempt k other smooth =
       end_is = start.end_is ∙ p.end_is ∙ last.end_is;
     }
 
--- an attempt that takes a new key; if the attempt found another generation at its end, further steps follow
+-- an attempt that takes a new key. If it found another generation at its end, further steps follow
 pub record Tried (Outdated : ℕ → VgetrandomState → List HostStep → Outcome → Type 0) (steps : List HostStep)
     : Type 0 where
   pub published : ℕ
@@ -189,8 +189,8 @@ tries n c s Outdated steps outcome low high below climbs smooth k =
           );
     }
 
--- a call for one byte or more on a wiped state, on a ready core, begins with a look and a first attempt that takes a
--- new key
+-- the host's steps in a call for one byte or more on a wiped state and a ready core: a look, and then a first attempt,
+-- which takes a new key
 pub record FirstTried (n : ℕ) (steps : List HostStep) : Type 0 where
   pub looked : ℕ
   pub rest : List HostStep

@@ -1,4 +1,5 @@
--- If the code ran a new call to a stop, in the first or the second attempt, the record `ReachedStop` holds.
+-- If the code ran a new call to a point of its first or second attempt, and it is stopped there, the record
+-- `ReachedStop` holds.
 use Rattle.std.proofs.Common.{◌≡◌, ℕ, ◌≤◌, List, [], ◌∷◌, refl, sym, subst, ap, ◌∙◌, arith, length}
 use Rattle.key_names.specs.declared.events.Answer.TheVariants.{Ok as Done}
 use Rattle.key_names.specs.declared.events.Event.TheVariants.{Reseed}
@@ -29,14 +30,15 @@ use Rattle.fork_runs.specs.Runs.{DidAll, ReachedStop}
 use Rattle.fork_runs.proofs.Joining.{floor_child, joined_floor}
 use Rattle.fork_runs.proofs.TwoStops.{stop_then}
 
--- if a caller has seen a generation as published, the same is true after a call
+-- if a caller has seen the generation that its stopped call had published, it still has after another call
 pub known_on : {P : List Effect → Type 0} (set : Setting) (left : Stage) (v w : View) (own : List Step) →
     published_or 0 left ≤ published_by (floor v) → DidAll P set v own w →
     published_or 0 left ≤ published_by (floor w)
 known_on set left v w own low did =
     let a = published_more (floor v) (floor w) (did_floor set (knowing v []) (knowing w own) did) in omega arith
 
--- if a caller has seen a generation as published before a fork, both passes have seen it as published after the fork
+-- if a caller has seen the generation that its stopped call had published, both the parent's and the child's pass have
+-- after a fork
 pub parent_known : (stage : Stage) (v before w : View) → published_or 0 stage ≤ published_by (floor v) →
     floor v ≤ floor before → w ≡ halved before → published_or 0 stage ≤ published_by (floor w)
 parent_known stage v before w low up is =
@@ -56,7 +58,7 @@ child_known stage again v before half parents both low up half_is same long pare
     (subst (λ (x : Stage). published_or 0 x ≤ published_by (floor (both_of half parents))) (sym same)
     (joined_floor (published_or 0 stage) half parents long own parents_low))
 
--- from `v` to `w` a caller ran a call to a stop, and the call has its own trace
+-- from `v` to `w` a caller ran a vgetrandom call until it was stopped, as a call with a trace of its own
 abbrev pub Stopping : Setting → ℕ → ℕ → Stage → List ℕ → VgetrandomState → Turn → Point → Stage → List ℕ →
     VgetrandomState → View → View → Type 0
 Stopping set n flags stage held s turn point left out t v w =

@@ -50,7 +50,7 @@ use Rattle.rng_core.proofs.Paths.{none_made, start}
 use Rattle.rng_core.proofs.Rising.{reseeded_at}
 use Rattle.fork_runs.specs.Runs.{DidAll}
 
--- The threshold that a credit of 256 bits crosses
+-- The threshold that a credit of 256 bits crosses in the pool
 
 all_credited : (bits : ℕ) → min 256 (bits + min 256 256) ≡ 256
 all_credited bits = omega arith
@@ -72,7 +72,7 @@ crosses_ready bits open_yet = go (nat_lt bits 256) refl
     go true low = refl
     go false low = let above = ltb-false bits 256 low in absurd (omega arith)
 
--- The effect at a mark
+-- The effect of a step at a mark's lane and place
 
 module _ (lists : Lists) where
   record PoolMark (lane : LaneId) (place : ℕ) (x : PoolVisit) : Type 0 where
@@ -124,7 +124,7 @@ module _ (lists : Lists) where
       go None is = cc
       go (Some e) is = cc
 
--- The table
+-- The lists of a new table after its first sample
 
 module _ (q : View) (wide : length q.lanes ≡ 3) (at_end : Ended 3 q) where
   abbrev lists : Lists
@@ -140,7 +140,8 @@ module _ (q : View) (wide : length q.lanes ≡ 3) (at_end : Ended 3 q) where
     closed = ended_lanes q [] (let e = wide in omega arith) ended;
   }
 
-  -- if the effects of some steps are an extraction and then a reseed, the generation seen after the steps is at least 1
+  -- if the effects of some steps are an extraction and then a reseed, a caller has seen a generation of at least 1
+  -- after the steps
   rooted_seen : (caller event step low high root now : ℕ) (pool : PoolVisit) (base : BaseVisit)
       (made_steps : List MadeStep) → AllConform q caller event step made_steps → Sees q low made_steps high →
       base.entry ≡ Reseed root now → effects_of lists (map step_of made_steps) ≡ at_pool pool ∷ at_base base ∷ [] →
@@ -218,7 +219,7 @@ module _ (q : View) (wide : length q.lanes ≡ 3) (at_end : Ended 3 q) where
       rooted_seen caller event (suc step) sees.0 high root.pool.place set.now root.pool root.base more conform.1 sees.3
       root.names (rest ∙ root.effects_are))
 
-  -- a sample on a new table makes the core ready
+  -- if the first sample was added to a new table, the caller has seen the core ready
   pub sample_readies : (own : List Step)
       × DidAll (IsOutcomeOf (setting_of (first_setting 0)) (Add (range_with_len 0 32) 256) Done no_data) (first_setting 0)
       start own q → 1 ≤ floor q
@@ -230,7 +231,7 @@ module _ (q : View) (wide : length q.lanes ≡ 3) (at_end : Ended 3 q) where
       credit_seen 0 0 0 (floor start) (floor q) (setting_of (first_setting 0)) (range_with_len 0 32) k.made_steps
       k.recorded.went.conform k.recorded.went.sees (omega arith) (k.conforms (length q.lanes) (known_of q) [] goes_on).form
 
--- `sample_readies` with the arguments of the code
+-- `sample_readies` for the arguments that the code passes
 pub readied : (set : Setting) (p q : View) (lanes : ℕ) → set ≡ first_setting 0 → p ≡ start → lanes ≡ 3 →
     length q.lanes ≡ lanes → (q.share ≡ 2 ^ q.halvings → Ended lanes q) → ((own : List Step)
     × DidAll (IsOutcomeOf (setting_of set) (Add (range_with_len 0 32) 256) Done no_data) set p own q) → 1 ≤ floor q

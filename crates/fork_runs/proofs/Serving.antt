@@ -21,7 +21,7 @@ use Rattle.rng_core.proofs.Acting.{acted_onward}
 use Rattle.fork_runs.specs.Coming.{EndsGiveBytes, IsGiven}
 use Rattle.fork_runs.specs.Stretches.{AreServed, IsServed}
 
--- a core that was seen to be ready stays ready
+-- if a caller has seen the core ready before a step, it still has after the step
 stays_ready : (s t : ActConform) (step : HostStep) → 1 ≤ floor s.core.moment.view → Does acting s step t →
     1 ≤ floor t.core.moment.view
 stays_ready s t step ready does = let a = (acted_onward (step ∷ []) s t (t, does, refl)).floors in omega arith
@@ -38,7 +38,7 @@ all_served (system_call n flags answer ∷ steps) s t ready does = (
 all_served (at_point point wiped ∷ steps) s t ready does =
     (tt, all_served steps does.0 t (stays_ready s does.0 (at_point point wiped) ready does.1) does.2)
 
--- The ends of a call
+-- The bytes that each end of a call gives
 
 module _ (n flags : ℕ) (good : is_bad flags ≡ false) where
   system_gives : (s : VgetrandomState) (steps : List HostStep) (outcome : Outcome) → AreServed steps →

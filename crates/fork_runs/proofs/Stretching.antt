@@ -1,4 +1,4 @@
--- In a part of a call whose host is a caller over the lanes, the host's steps are the caller's own steps.
+-- If the host of a part of a vgetrandom call is a caller over the lanes, the host's steps are those of the caller.
 use Rattle.std.proofs.Common.{◌≡◌, ℕ, ◌<◌, ◌≤◌, arith, Bool, true, false, List, [], ◌∷◌, length, refl, ap, ◌∙◌, subst}
 use Rattle.std.specs.Prelude.{◌&&◌, Result}
 use Rattle.key_names.specs.declared.errno.Errno.{Errno}
@@ -43,7 +43,7 @@ never_both : (b : Bool) → (b && false) ≡ false
 never_both true = refl
 never_both false = refl
 
--- if a call has no acts, none of its points wipes the state
+-- if a `vread` has no acts, none of its points wipes the state
 unwiped : (steps : List HostStep) (s t : ActConform) → s.asks ≡ [] → DoesAll acting s steps t → AreUnwiped steps
 unwiped [] s t none does = tt
 unwiped (publishes g ∷ steps) s t none does = unwiped steps does.0 t (does.1.acts.asks ∙ none) does.2
@@ -82,7 +82,7 @@ module _ {R : Type 0} (h last : LaneHost R) (steps : List HostStep) (does : Does
     pub stays_unwiped : AreUnwiped steps
     stays_unwiped = unwiped steps (standing h) (standing last) none acted
 
-  -- if the core was seen to be ready, each system call with good flags reads its bytes
+  -- if the caller has seen the core ready, each system call with good flags reads its bytes
   pub serves : 1 ≤ floor (view h.site.pass.now) → AreServed steps
   serves ready = all_served steps (standing h) (standing last) ready acted
 

@@ -1,5 +1,6 @@
--- A stop in the second attempt, after a stop in the first, is a stop of the whole call. If a call forks at a stop, the
--- state was not wiped there in the parent's call, and was wiped there in the child's call.
+-- If a call is stopped in its first attempt, goes on, and is stopped in its second attempt, the second stop is one of
+-- the whole call. If a stopped call forks, the state was not wiped there in the parent's call, and was wiped there in
+-- the child's.
 use Rattle.std.proofs.Common.{◌≡◌, ℕ, false, true, List, [], ◌∷◌, ◌++◌, refl, sym, subst, append_assoc}
 use Rattle.std.specs.List.{AllByRecursion}
 use Rattle.key_names.specs.declared.entries.VEntry.{VEntry}

@@ -1,4 +1,4 @@
--- What a caller does over the lanes up to a stop, and after the fork there.
+-- What a caller does over the lanes until its vgetrandom call is stopped, and after the call forks there.
 use Rattle.std.specs.Prelude.{ℕ, ◌≡◌, ◌≤◌, false, List, [], ◌∷◌, ◌++◌}
 use Rattle.key_names.specs.declared.entries.BaseEntry.TheVariants.{Fork}
 use Rattle.key_names.specs.declared.events.Answer.TheVariants.{Ok as Done}
@@ -27,7 +27,8 @@ use Rattle.rng_core.specs.Makes.{Makes, IsOutcomeOf, setting_of}
 use Rattle.rng_core.specs.Settings.{first_setting}
 use Rattle.fork_runs.specs.Stretches.{Stop, FinishedOver}
 
--- the caller made one call, with its own trace, and P holds for the call's effects
+-- from the view `v` to the view `w` the caller made one call, whose trace is `steps`, and `P` holds for the effects of
+-- this call
 abbrev pub DidAll : (List Effect → Type 0) → Setting → View → List Step → View → Type 0
 DidAll P set v steps w = Makes P set (knowing v []) (knowing w steps)
 
@@ -53,7 +54,8 @@ RanBy set n flags s First point before v calls w =
     (own : List Step) × (calls ≡ own ∷ []) × DidAll (Shows (setting_of set) before) set v own w
 RanBy set n flags s Second point before v calls w = RanBySecond set n flags s point before v calls w
 
--- from `v` to `w` a caller ran a new call to a stop, with this result
+-- from `v` to `w` a caller ran a new vgetrandom call to a point of an attempt, where it is stopped with this stage,
+-- buffer and state
 pub record ReachedStop (set : Setting) (n flags : ℕ) (s : VgetrandomState) (turn : Turn) (point : Point)
     (left : Stage) (out : List ℕ) (t : VgetrandomState) (v w : View) : Type 0 where
   pub stop : Stop (IsCall n flags s) n flags turn point
@@ -64,8 +66,8 @@ pub record ReachedStop (set : Setting) (n flags : ℕ) (s : VgetrandomState) (tu
   pub calls : List (List Step)
   pub ran : RanBy set n flags s turn point stop.before v calls w
 
--- from `v` to `w` a caller forked caller 1 in a stopped call, and ended its own call; then the child's pass took in the
--- caller's pass, and the child ended its call
+-- from `v` to `w` a stopped call forked: the caller forked caller 1, and ended its own call. Then the child's pass took
+-- in the caller's pass, and the child ended its call
 pub record ForkedOver (set : Setting) (n flags : ℕ) (stage : Stage) (held : List ℕ) (s : VgetrandomState)
     (parent child : List ℕ) (v w : View) : Type 0 where
   pub forked : List Step

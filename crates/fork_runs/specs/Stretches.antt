@@ -1,4 +1,5 @@
--- A vgetrandom call whose host is a caller over the lanes: the part up to a stop, and the part from there to the end.
+-- A vgetrandom call whose host is a caller over the lanes: the part of it up to where it is stopped, and the part from
+-- there to its end.
 use Rattle.std.specs.Prelude.{ℕ, ◌≡◌, ◌≤◌, ⊤, false, List, ◌++◌}
 use Rattle.std.specs.List.{AllByRecursion}
 use Rattle.key_names.specs.declared.entries.VEntry.{VEntry}
@@ -21,11 +22,11 @@ use Rattle.rng_core.specs.Hosted.{IsRead}
 use Rattle.rng_core.specs.Traces.{Moment}
 use Rattle.rng_core.specs.Makes.{Makes, setting_of}
 
--- the state was not wiped at any point
+-- no point of the host's steps wiped the state
 abbrev pub AreUnwiped : List HostStep → Type 0
 AreUnwiped steps = AllByRecursion (λ reached. reached.wiped ≡ false) (points_of steps)
 
--- each system call with good flags read its bytes
+-- if the step is a system call with good flags, it read its bytes
 abbrev pub IsServed : HostStep → Type 0
 IsServed (publishes g) = ⊤
 IsServed (system_call n flags answer) = is_bad flags ≡ false → IsRead answer
@@ -34,8 +35,8 @@ IsServed (at_point point wiped) = ⊤
 abbrev pub AreServed : List HostStep → Type 0
 AreServed steps = AllByRecursion IsServed steps
 
--- a call for `n` bytes reached a point of an attempt: the steps before the point, and the call's buffer and state
--- there. `From` relates the call's steps, before the point and after it, to the call's outcome
+-- a call for `n` bytes is stopped at a point of an attempt: the steps before the point, and the call's buffer and state
+-- there. `From` relates all steps of the call, before the point and after it, to the call's outcome
 pub record Stop (From : List HostStep → Outcome → Type 0) (n flags : ℕ) (turn : Turn) (point : Point) : Type 0 where
   pub place : Place
   pub turn_is : place.turn ≡ turn
@@ -49,8 +50,8 @@ pub record Stop (From : List HostStep → Outcome → Type 0) (n flags : ℕ) (t
   pub leads : (rest : List HostStep) (outcome : Outcome) → AtPlace n flags place held state rest outcome →
       From (before ++ rest) (prefix_outcome entries outcome)
 
--- from `l` to `m` a caller ran a call to a stop; the call's stage, buffer and state changed from `stage`, `held` and
--- `s` to `left`, `out` and `t`
+-- from `l` to `m` a caller ran a call until it was stopped; the call's stage, buffer and state changed from `stage`,
+-- `held` and `s` to `left`, `out` and `t`
 pub record StoppedOver (set : Setting) (n flags : ℕ) (stage : Stage) (held : List ℕ) (s : VgetrandomState)
     (turn : Turn) (point : Point) (left : Stage) (out : List ℕ) (t : VgetrandomState) (l m : Moment) : Type 0 where
   pub stop : Stop (RestOfCall stage n flags held s) n flags turn point
@@ -63,7 +64,7 @@ pub record StoppedOver (set : Setting) (n flags : ℕ) (stage : Stage) (held : L
   pub climbs : Climbs (published_by (floor l.view)) (published_by (floor m.view)) stop.before
   pub did : Makes (Shows (setting_of set) stop.before) set l m
 
--- from `v` to `w` a caller ran a call to its end, and the call never reached this point of this attempt
+-- from `v` to `w` a caller ran a call to its end, and the call never reached the point `point` of the attempt `turn`
 pub record MissedOver (n flags : ℕ) (stage : Stage) (held : List ℕ) (s : VgetrandomState) (turn : Turn) (point : Point)
     (v w : View) : Type 0 where
   pub steps : List HostStep
@@ -74,14 +75,14 @@ pub record MissedOver (n flags : ℕ) (stage : Stage) (held : List ℕ) (s : Vge
   pub served : AreServed steps
   pub climbs : Climbs (published_by (floor v)) (published_by (floor w)) steps
 
--- a call with this ending gave these bytes
+-- a call with this ending gave the bytes `out`
 abbrev pub GivesBytes : Ending → List ℕ → Type 0
 GivesBytes no_bytes out = ⊥
 GivesBytes (by_batch bytes) out = out ≡ bytes
 GivesBytes (by_system (read bytes visit)) out = out ≡ bytes
 GivesBytes (by_system (failed errno)) out = ⊥
 
--- from `l` to `m` a caller ran the rest of a call to its end, and the call gave these bytes
+-- from `l` to `m` a caller ran the rest of a call to its end, and the call gave the bytes `out`
 pub record FinishedOver (set : Setting) (n flags : ℕ) (stage : Stage) (held : List ℕ) (s : VgetrandomState)
     (out : List ℕ) (l m : Moment) : Type 0 where
   pub steps : List HostStep

@@ -1,5 +1,5 @@
-//! The laws by which a fork on a new table always reaches its stop and gives bytes. Each law is the contract of a
-//! function without code.
+//! The laws by which a vgetrandom call on a new table reaches each point at which it can fork, and gives bytes after
+//! it. Each law is the contract of a function without code.
 ghost use Rattle.fork_runs.specs.Coming.{FirstAttemptComes, SecondAttemptComes, EndsGiveBytes};
 
 use vcall_fork::laws::forks_are_recorded;
@@ -11,14 +11,15 @@ pub fn first_attempt_comes()
 {}
 
 /// Suppose that a call as in `first_attempt_comes` was stopped at the point Serve of its first attempt. If each
-/// generation published from then on is higher than those before, the call reaches each point of a second attempt.
+/// generation published from then on is higher than those before, the call reaches each point of its second attempt.
 pub fn second_attempt_comes()
     ensures { SecondAttemptComes }
 {
     forks_are_recorded();
 }
 
-/// The rest of a stopped call ends with bytes if its flags are good and each system call reads its bytes.
+/// If a stopped call has good flags, and each system call from then on reads its bytes, the rest of the call ends with
+/// bytes.
 pub fn ends_give_bytes()
     ensures { EndsGiveBytes }
 {}

@@ -2,7 +2,8 @@
 //! the child. [`fork_on_new_table`] runs the call to a point of an attempt and splits off the child there. Then the
 //! parent and the child each run the call to its end, the child with its own pass.
 //!
-//! The call comes from `vcall_fork`, with the caller itself as its host (`rng_core`), and the book from `lane_table`.
+//! The vgetrandom call that can be stopped comes from `vcall_fork`, and its host is the caller itself (`rng_core`). The
+//! book comes from `lane_table`.
 //!
 //! # Example
 //!
@@ -19,9 +20,10 @@
 //!
 //! # Proved
 //!
-//! - [`fork_on_new_table`]: the call reaches the stop, and the bytes are those with which the two calls end. One lawful
-//!   book has exactly the visits of the sample, of the calls and of the fork, and the child's visits come after the
-//!   parent's. Both results are bytes of named spans, and no byte of a key is in both.
+//! - [`fork_on_new_table`]: the call reaches the given point, and the bytes are those with which it ends in the parent
+//!   and in the child. One lawful book has exactly the visits of the sample, of the calls and of the fork, and the
+//!   child's visits come after the parent's. Both results are bytes of named spans, and no byte of a key's keystream is
+//!   in both.
 //! - [`laws::first_attempt_comes`] and [`laws::second_attempt_comes`]: conditions for a call to reach each point of an
 //!   attempt.
 //! - [`laws::ends_give_bytes`]: conditions for the rest of a stopped call to end with bytes.

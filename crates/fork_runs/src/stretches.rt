@@ -1,4 +1,4 @@
-//! Runs a vgetrandom call over the lanes in parts: up to a point, and from there to its end.
+//! Runs a vgetrandom call over the lanes in two parts: up to one of its points, and from there to its end.
 ghost use Rattle.std.specs.Prelude.{◌≡◌, ◌<◌, ◌≤◌, true, false, [], List, length};
 ghost use Rattle.key_names.specs.declared.names.Step.{Step};
 ghost use Rattle.key_names.specs.Callers.VreadSteps.{published_by};
@@ -17,28 +17,28 @@ use std::sync::Wait;
 use vcall_fork::{Point, Progress, Turn, VCall};
 use vdso_state::VState;
 
-/// A caller on a table, and its setting.
+/// A caller that uses the lanes of a table, and its setting (CPU, moment and hardware words).
 #[derive(Drop)]
 pub(crate) struct TableCaller<'a> {
     pub(crate) lanes: &'a Lanes,
     pub(crate) set: Setting,
 }
 
-/// A call in progress, and the vgetrandom state of its caller.
+/// A vgetrandom call in progress, and the vgetrandom state that it uses.
 #[derive(Drop)]
 pub(crate) struct HeldCall {
     pub(crate) call: VCall,
     pub(crate) st: VState,
 }
 
-/// The place where a call is to stop: a point of an attempt.
+/// Where a vgetrandom call is to be stopped: a point of its first or second attempt.
 #[derive(Clone, Copy)]
 pub(crate) struct StopAt {
     pub(crate) attempt: Turn,
     pub(crate) point: Point,
 }
 
-// Runs the call on its host up to a point of an attempt.
+// Runs `call` on its host up to the point `point` of its attempt `attempt`. Returns whether it is stopped there.
 fn run_on_host<R: Wait>(
     host: &mut LaneHost<'_, R>,
     call: &mut VCall,
@@ -71,7 +71,7 @@ fn run_on_host<R: Wait>(
 }
 
 /// Runs a call to a point of an attempt, on a core that its caller has seen to be ready. Returns whether the call is
-/// stopped there; if not, the call is over and never reached the point.
+/// stopped at this point. If not, the call is over, and never reached the point.
 pub(crate) fn run_to<'x, R: Wait>(
     rt: &'x R,
     caller: &TableCaller<'x>,
@@ -113,7 +113,7 @@ pub(crate) fn run_to<'x, R: Wait>(
     )
 }
 
-// Runs the stopped call on its host to its end.
+// Runs the stopped call `call` on its host to the call's end.
 fn finish_on_host<R: Wait>(host: &mut LaneHost<'_, R>, call: VCall, st: &mut VState, buf: &mut [u8])
     requires looks { 5 ≤ host.old.looks }
     requires calls { 3 ≤ host.old.calls }
@@ -131,7 +131,7 @@ fn finish_on_host<R: Wait>(host: &mut LaneHost<'_, R>, call: VCall, st: &mut VSt
     let _ended = call.finish(host, st, buf);
 }
 
-/// Runs a stopped call without flags to its end. The call then has given bytes.
+/// Runs a stopped call without flags to its end, at which it has given bytes.
 pub(crate) fn finish<'x, R: Wait>(
     rt: &'x R,
     caller: &TableCaller<'x>,

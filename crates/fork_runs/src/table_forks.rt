@@ -1,4 +1,4 @@
-//! A fork inside a call, on a new table.
+//! A vgetrandom call that forks, on a new table of lanes.
 ghost use Rattle.std.specs.Prelude.{◌≡◌, ◌<◌, ◌≤◌, ◌^◌, true, [], List, IfOk, length};
 ghost use Rattle.std.specs.List.{range_with_len};
 ghost use Rattle.key_names.specs.declared.events.Event.TheVariants.{Add, Reseed};
@@ -30,14 +30,15 @@ use vcall_fork::laws::{child_takes_key, forks_are_recorded};
 use vcall_fork::{Point, Turn, VCall};
 use vdso_state::VState;
 
-/// The bytes with which a forked call ended in the parent, and those with which it ended in the child.
+/// The bytes that a forked vgetrandom call gave in the parent, and those that it gave in the child.
 #[derive(Drop)]
 pub struct ForkedBytes {
     pub parent: Vec<u8>,
     pub child: Vec<u8>,
 }
 
-// Adds the first sample to a new table of one CPU. No other caller visits the lanes, so the core is ready after that.
+// Adds the first sample to a new table of one CPU. No other caller visits the lanes, so the sample makes the core
+// ready.
 fn make_ready<R: Wait>(rt: &R, lanes: &Lanes, pass: &mut Pass, set: Setting)
     requires has { HoldsLanes lanes.now set.caller [] pass.old }
     requires first { set ≡ first_setting 0 }
@@ -52,8 +53,8 @@ fn make_ready<R: Wait>(rt: &R, lanes: &Lanes, pass: &mut Pass, set: Setting)
     lanes.settle(pass);
 }
 
-// Reseeds the core, which the caller has seen to be ready. This raises the generation above each generation that the
-// caller had seen.
+// Reseeds the core, which the caller has seen to be ready. The generation is then above each one that the caller had
+// seen.
 fn reseed_once<R: Wait>(rt: &R, caller: &TableCaller, pass: &mut Pass)
     requires has { HoldsLanes caller.now.lanes.now caller.now.set.caller [] pass.old }
     requires moment { caller.now.set.now < 2 ^ 40 }
@@ -76,7 +77,8 @@ fn reseed_once<R: Wait>(rt: &R, caller: &TableCaller, pass: &mut Pass)
     }
 }
 
-// Runs a new call to a stop in its first attempt. The call's state is wiped, so the attempt reaches each of its points.
+// Runs a new call to the point `point` of its first attempt. The call's state is wiped, so the attempt reaches each of
+// its points.
 fn reach_first<R: Wait>(
     rt: &R,
     caller: &TableCaller,
@@ -109,8 +111,8 @@ fn reach_first<R: Wait>(
     }
 }
 
-// Runs a new call to a stop in its second attempt. The call first stops at the point Serve of its first attempt, and
-// the core is reseeded there.
+// Runs a new call to the point `point` of its second attempt. It is stopped before at the point Serve of its first
+// attempt, and the core is reseeded there.
 fn reach_second<R: Wait>(
     rt: &R,
     caller: &TableCaller,
@@ -146,7 +148,7 @@ fn reach_second<R: Wait>(
     }
 }
 
-// Runs a new call on a wiped state to a stop in either attempt.
+// Runs a new call on a wiped state to a point of its first or second attempt.
 fn reach_stop<R: Wait>(
     rt: &R,
     caller: &TableCaller,
@@ -176,8 +178,8 @@ fn reach_stop<R: Wait>(
     }
 }
 
-// Forks the call at its stop. The parent ends its call; then the child's pass takes in the parent's pass, and the child
-// ends its own call. Returns the child's pass.
+// Forks the call where it is stopped. The parent ends its call. Then the child's pass takes in the parent's pass, and
+// the child ends its own call. Returns the child's pass.
 fn fork_at_stop<R: Wait>(
     rt: &R,
     caller: &TableCaller,
@@ -217,7 +219,7 @@ fn fork_at_stop<R: Wait>(
     child_pass
 }
 
-// Makes a table, and a fork on it, for `fork_on_new_table`.
+// Makes a new table for `fork_on_new_table`, and runs and forks the call on it.
 fn fork_at<R: Wait>(
     rt: &R,
     alloc: Global,
@@ -250,14 +252,14 @@ fn fork_at<R: Wait>(
 
 /// Makes a core with one CPU, and adds a first sample that makes the core ready: 32 bytes that count up from 0, with a
 /// credit of 256 bits. Then caller 0, with a wiped state, calls vgetrandom for `len` bytes, 1 to 2^20, without flags.
-/// The call stops at this point of this attempt, and forks caller 1 there. For a second attempt, the core is reseeded
-/// while the first attempt is stopped at Serve. The parent ends its call first. Then the child's pass takes in the
-/// parent's pass, and the child ends its call. So the child's visits come after the parent's. All of this runs on CPU
-/// 0, at moment 0, with zeros as hardware words.
+/// The call is stopped at `point` of the attempt `attempt`, and forks caller 1 there. For a second attempt, the core is
+/// reseeded while the first attempt is stopped at Serve. The parent ends its call first. Then the child's pass takes in
+/// the parent's pass, and the child ends its call. So the child's visits come after the parent's. All of this runs on
+/// CPU 0, at moment 0, with zeros as hardware words.
 ///
-/// Both results are the bytes of named spans of keystream, and no byte of a key is in both.
+/// Both results are the bytes of named spans of keystream, and no byte of a key's keystream is in both.
 ///
-/// The call reaches each of the eight stops, and gives bytes in both callers.
+/// The call reaches each of the four points of either attempt, and gives bytes in both callers.
 ///
 /// # Errors
 ///

@@ -1,4 +1,5 @@
--- The laws of forms, rows and inferred entries hold for acts. In lawful lists, the entries of any steps fit.
+-- The laws of forms, rows and inferred entries hold for the acts inside a `vread`. If lists are lawful, the effects of
+-- any steps fit them.
 use Rattle.std.proofs.Common.{◌≡◌, ℕ, [], ◌∷◌, refl, ap, Option, Some, None, take, slice_get}
 use Rattle.key_names.specs.declared.names.LaneId.{LaneId}
 use Rattle.key_names.specs.declared.names.LaneId.TheVariants.{Pool as PoolLane, Base as BaseLane, Cpu as CpuLane}

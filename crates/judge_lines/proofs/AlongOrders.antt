@@ -1,4 +1,4 @@
--- Callers are checked in turn, each from the value kept at the fork that made the caller. Together these checks cover
+-- Each caller's own steps are checked from the value kept at the fork that made the caller. Together these checks cover
 -- the orders of all callers.
 use Rattle.std.proofs.Common.{◌≡◌, ℕ, Bool, true, false, suc, ◌+◌, ◌<◌, ◌≤◌, Option, Some, None, List, [], ◌∷◌, ◌++◌, length, take, drop, min, get_or, map, eq-eqb, refl, sym, subst, ap, ◌∙◌, arith, append_assoc}
 use Rattle.std.specs.Prelude.{slice_get}
@@ -28,7 +28,7 @@ use Rattle.judge_lines.proofs.Carried.{get_front, along_parts, along_both}
 use Rattle.judge_lines.proofs.SettingsFound.{list_found}
 use Rattle.judge_lines.proofs.Forks.{AtParent, at_parent, rises, steps_before}
 
--- if `fork` makes caller c, then the fork's parent is a caller that forks
+-- if `fork` is the first fork that makes caller c, then `fork.parent` is a caller that forks
 parent_forks : (c : ℕ) (forks : List Fork) (fork : Fork) → front_in c forks ≡ Some fork →
     is_parent_in fork.parent forks ≡ true
 parent_forks c [] fork is = cc
@@ -58,8 +58,8 @@ module _ (after : Option ℕ → Step → Option ℕ) (May : Option ℕ → Step
     abbrev begun : ℕ → Option ℕ
     begun c = fold after None (start_of callers c)
 
-    -- each step of caller c's order may follow the value carried to it; if c forks another caller, the values along c's
-    -- own steps are kept
+    -- each step of caller c's order is allowed after the value carried to it; if c forks another caller, `kept` has the
+    -- values along c's own steps
     pub record KeptOf (c : ℕ) (kept : List (Vec (Option ℕ))) : Type 0 where
       pub conforms : Along after May None (start_of callers c ++ calls_steps (list_at callers c))
       pub values : Vec (Option ℕ)
@@ -67,7 +67,8 @@ module _ (after : Option ℕ → Step → Option ℕ) (May : Option ℕ → Step
       pub along : is_parent_in c (all_forks 0 callers) ≡ true →
           AreAlong after (fold after None (start_of callers c)) (calls_steps (list_at callers c)) values.items
 
-    -- caller c begins with the value carried along the steps before its own, and each of these steps may follow
+    -- caller c begins with the value carried along its ancestors' steps before the forks, and each of these steps is
+    -- allowed
     pub record Begins (c : ℕ) (kept : List (Vec (Option ℕ))) (forks : List Fork) : Type 0 where
       pub value : begin_in kept (front_in c forks) ≡ fold after None (start_of callers c)
       pub conforms : Along after May None (start_of callers c)
@@ -77,8 +78,8 @@ module _ (after : Option ℕ → Step → Option ℕ) (May : Option ℕ → Step
       abbrev started : Option Parent → List Step
       started o = inherited_steps (ancestors_steps callers c) o
 
-      -- suppose caller c begins after the first n own steps of its parent p. Then the start value of c is p's value
-      -- after these steps, and each step before c's own steps may follow
+      -- suppose that caller c was forked after the first n own steps of its parent p. Then c begins with p's value
+      -- after these n steps, and each step of c's order before c's own steps is allowed
       following : (p n : ℕ) → p < c → is_parent_in p (all_forks 0 callers) ≡ true →
           start_of callers c ≡ start_of callers p ++ take n (own p) → n ≤ length (own p) →
           (kept_at (slice_get kept p) n ≡ begun c) × Along after May None (start_of callers c)
@@ -130,7 +131,7 @@ module _ (after : Option ℕ → Step → Option ℕ) (May : Option ℕ → Step
       pub begins : Begins c kept (all_forks 0 callers)
       begins = begins_at (parent_from c 0 callers) refl (at_parent c 0 callers)
 
-    -- if KeptOf holds of each caller, each step of each order may follow
+    -- if `KeptOf` holds for each caller, each step of each caller's order is allowed after the value carried to it
     pub all_follow : (kept : List (Vec (Option ℕ))) → ((p : ℕ) → p < length callers → KeptOf p kept) →
         AllByRecursion (Along after May None) (caller_orders callers)
     all_follow kept each = each_list (Along after May None) (caller_orders callers) (λ c low.
@@ -139,7 +140,8 @@ module _ (after : Option ℕ → Step → Option ℕ) (May : Option ℕ → Step
         orders_long (ancestors_steps callers (length callers)) callers in omega arith) in
         subst (λ (s : List Step). Along after May None s) (sym (order_is_start_and_own callers c low')) (each c low').conforms)
 
-    -- if all steps of all orders may follow, then all own steps of caller c may follow, from the start value of c on
+    -- if all steps of all orders are allowed, then all own steps of caller c are allowed after the value with which c
+    -- begins
     pub own_follow : (c : ℕ) → c < length callers → AllByRecursion (Along after May None) (caller_orders callers) →
         Along after May (fold after None (start_of callers c)) (calls_steps (list_at callers c))
     own_follow c low all =
@@ -154,7 +156,7 @@ module _ (after : Option ℕ → Step → Option ℕ) (May : Option ℕ → Step
 pub seen_long : (callers : List (Vec CalledLines)) → length (seen_calls callers) ≡ length callers
 seen_long callers = length-map callers (λ (calls : Vec CalledLines). map seen_call calls.items)
 
--- if KeptOf holds of each caller before c, KeptOf holds of c
+-- if `KeptOf` holds for each caller before c, it holds for c
 module _ (after : Option ℕ → Step → Option ℕ) (May : Option ℕ → Step → Type 0) (called : List (Vec CalledLines)) where
   abbrev callers : List (List Call)
   callers = seen_calls called

@@ -1,4 +1,4 @@
--- The clauses on lines and marks hold for a transcript exactly if they hold for its bare lines.
+-- The clauses on lines and marks hold for a transcript exactly if they hold for its lines without answers and data.
 use Rattle.std.proofs.Common.{◌≡◌, ℕ, suc, List, [], ◌∷◌, map, refl, sym, subst, ap, ◌∙◌}
 use Rattle.std.specs.Prelude.{◌↔◌}
 use Rattle.std.specs.List.{AllByRecursion}
@@ -74,7 +74,7 @@ marks_both script t = (
   }),
 )
 
--- the bare form of a bare line is the line itself
+-- a line from which the answer and the data are removed does not change if they are removed again
 bare_twice : (ls : List SeenLine) → map bare (map bare ls) ≡ map bare ls
 bare_twice [] = refl
 bare_twice (l ∷ ls) = ap (λ ks. bare l ∷ ks) (bare_twice ls)

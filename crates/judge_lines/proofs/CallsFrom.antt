@@ -1,4 +1,5 @@
--- Calls are made event by event. Each event adds a call to those so far, or waits as an act for the next vread.
+-- Calls are made event by event. Each event adds a call to the calls so far, or is an act that waits for the next
+-- `vread`.
 use Rattle.std.proofs.Common.{◌≡◌, ℕ, zero, suc, ◌+◌, ◌<◌, Bool, true, false, List, [], ◌∷◌, ◌++◌, length, get_or, take, drop, refl, sym, ap, ◌∙◌, arith, map, subst, append_assoc}
 use Rattle.std.specs.Prelude.{nat_lt, ◌||◌, if◌then◌else◌}
 use Rattle.std.proofs.lemmas.Bool.Decides.{nat_tests}
@@ -34,7 +35,7 @@ or_false : (b : Bool) → (b || false) ≡ b
 or_false true = refl
 or_false false = refl
 
--- if the last event is a vread, each non-empty tail of the events has a vread
+-- if the last event `e` is a `vread`, each non-empty tail of the events contains a `vread`
 vread_last : (es : List Event) (e : Event) → is_vread e ≡ true → (k : ℕ) →
     has_vread (drop k (es ++ e ∷ [])) ≡ nat_lt k (length es + 1)
 vread_last es e is zero =
@@ -47,7 +48,7 @@ vread_last (x ∷ es) e is (suc k) =
     vread_last es e is k
     ∙ (let n : nat_lt k (length es + 1) ≡ nat_lt (suc k) (suc (length es) + 1) = grind (arith, nat_tests) in n)
 
--- if an event that is not a vread is appended, the same tails of the events have a vread
+-- if `e` is not a `vread`, then with `e` appended a tail of the events contains a `vread` exactly if it did before
 other_last : (es : List Event) (e : Event) → is_vread e ≡ false → (k : ℕ) →
     has_vread (drop k (es ++ e ∷ [])) ≡ has_vread (drop k es)
 other_last es e is zero = has_more es e ∙ ap (λ b. has_vread es || b) is ∙ or_false (has_vread es)
@@ -58,7 +59,7 @@ module _ (es : List Event) (i : ℕ) (e : Event) (low : i < length es) (at : e �
   one_more : (k : ℕ) → drop k (take (i + 1) es) ≡ drop k (take i es ++ e ∷ [])
   one_more k = ap (drop k) (take_more es i e low ∙ ap (λ x. take i es ++ x ∷ []) (sym at))
 
-  -- if event i is a vread, each non-empty tail of the first i + 1 events has a vread
+  -- if event i is a `vread`, each non-empty tail of the first i + 1 events contains a `vread`
   pub ends_at_vread : is_vread e ≡ true → (k : ℕ) → has_vread (drop k (take (i + 1) es)) ≡ nat_lt k (i + 1)
   ends_at_vread is k =
       ap has_vread (one_more k) ∙ vread_last (take i es) e is k
@@ -67,7 +68,7 @@ module _ (es : List Event) (i : ℕ) (e : Event) (low : i < length es) (at : e �
   pub ends_before : is_vread e ≡ false → (k : ℕ) → has_vread (drop k (take (i + 1) es)) ≡ has_vread (drop k (take i es))
   ends_before is k = ap has_vread (one_more k) ∙ other_last (take i es) e is k
 
--- an event that is neither a vread nor an act makes a call by itself
+-- an event that is neither a `vread` nor an act makes a call of its own
 pub alone_first : (w : List BoundAct) (e : Event) (es : List Event) (l : SeenLine) (ls : List SeenLine) →
     ((n f : ℕ) → e ≡ Vread n f → ⊥) → ((p : Point) (a : InsideAct) → e ≡ Inside p a → ⊥) →
     calls_from w (e ∷ es) (l ∷ ls) ≡ alone e l ∷ calls_from w es ls
@@ -75,7 +76,8 @@ alone_first w (Vread n f) es l ls not_vread not_inside = absurd (not_vread n f r
 alone_first w (Inside p a) es l ls not_vread not_inside = absurd (not_inside p a refl)
 alone_first w e es l ls not_vread not_inside = refl
 
--- the first n events made `calls`, and their acts in `waiting` have no vread yet; `e` is the next event, `l` its line
+-- suppose that the first n events made `calls`, and that the acts in `waiting` have no `vread` yet; `e` is the next
+-- event, and `l` its line
 module _ (events : List Event) (lines : List BareLine) (n : ℕ) (e : Event) (l : BareLine) (low : n < length events)
     (low' : n < length lines) (is : e ≡ get_or events n e) (is' : l ≡ get_or lines n l) (calls : List CalledLines)
     (waiting : List ActLine) (whole : List Call)
@@ -91,7 +93,7 @@ module _ (events : List Event) (lines : List BareLine) (n : ℕ) (e : Event) (l 
   here = sym (λ i. map seen_call calls
       ++ calls_from (map seen_act waiting) (dropped events n e low is i) (map seen_bare (dropped lines n l low' is' i))) ∙ so_far
 
-  -- if event e makes a call, this call comes after the calls so far
+  -- if the next event makes `call`, this call comes after `calls`
   makes : (call : CalledLines) (left : List BoundAct) →
       calls_from (map seen_act waiting) (e ∷ es) (seen_bare l ∷ ls) ≡ seen_call call ∷ calls_from left es ls →
       map seen_call (calls ++ call ∷ []) ++ calls_from left es ls ≡ whole
@@ -137,7 +139,7 @@ module _ (events : List Event) (lines : List BareLine) (n : ℕ) (e : Event) (l 
       else unbound (bound_of p a) ∷ calls_from (map seen_act waiting) es ls) some))
       ∙ here
 
--- the last line, which is that of the caller's end, makes the last call
+-- the last line, which is that of the caller's end, makes the caller's last call
 pub calls_end : (events : List Event) (lines : List BareLine) (n : ℕ) (l : BareLine) (calls : List CalledLines)
     (waiting : List BoundAct) (whole : List Call) (call : CalledLines) → n ≡ length events → length lines ≡ length events + 1 →
     l ≡ get_or lines (length events) l → seen_call call ≡ ending (seen_bare l) →

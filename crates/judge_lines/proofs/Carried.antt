@@ -1,4 +1,4 @@
--- A value is carried along a list of steps, one step at a time.
+-- A value that is carried along a list of steps, one step at a time.
 use Rattle.std.proofs.Common.{◌≡◌, ℕ, zero, suc, ◌+◌, ◌<◌, ◌≤◌, Option, Some, List, [], ◌∷◌, ◌++◌, length, get_or, take, drop, refl, sym, subst, ap, ◌∙◌, arith}
 use Rattle.std.specs.Prelude.{◌↔◌, slice_get}
 use Rattle.std.specs.List.{fold}
@@ -19,8 +19,8 @@ pub get_last : {X : Type 0} (xs : List X) (x : X) → slice_get (xs ++ x ∷ [])
 get_last [] x = refl
 get_last (y ∷ xs) x = get_last xs x
 
--- if P holds of each element of `xs` at its place, and of `y` at the next place, then P holds of each element of the
--- longer list
+-- if P holds for each element of `xs` with its place, and for `y` with the next place, then P holds for each element of
+-- xs ++ y ∷ []
 pub each_found : {X : Type 0} (P : ℕ → X → Type 0) (xs : List X) (y : X) →
     ((p : ℕ) (x : X) → slice_get xs p ≡ Some x → P p x) → P (length xs) y →
     (p : ℕ) (x : X) → slice_get (xs ++ y ∷ []) p ≡ Some x → P p x

@@ -1,5 +1,5 @@
--- The code and the definitions find the same fork for a caller: the parent is the same, and so are the steps before the
--- child's steps.
+-- For each caller the code finds the fork that the definitions find: with the same parent, and with the same steps of
+-- the parent before the child's.
 use Rattle.std.proofs.Common.{◌≡◌, ℕ, suc, ◌+◌, ◌<◌, Bool, true, false, Option, Some, None, List, [], ◌∷◌, ◌++◌, length, take, refl, sym, subst, ap, ◌∙◌, arith, append_assoc, length-append}
 use Rattle.std.specs.Prelude.{◌==◌, if◌then◌else◌}
 use Rattle.std.specs.List.{AllByRecursion}
@@ -24,11 +24,12 @@ take_past (x ∷ a) r k =
     let e : length (x ∷ a) + k ≡ suc (length a + k) = omega arith in
     ap (λ n. take n (x ∷ (a ++ r))) e ∙ ap (λ s. x ∷ s) (take_past a r k)
 
--- the parent's own steps up to and including the fork's first visit
+-- the own steps of the parent before the fork's child: up to and including the first visit of the fork's line
 abbrev pub steps_before : ForkPoint → List Step
 steps_before f = calls_steps f.before ++ through_visit f.line.steps
 
--- `f` is the point in `calls` at which caller c is forked first. Before `calls`, caller p made k calls and n steps
+-- `f` is the point in `calls`, which are calls of caller p, at which caller c is first forked. Before `calls`, p made k
+-- calls and n steps
 record Found (c p k n : ℕ) (calls : List Call) (more : List Fork) (f : ForkPoint) : Type 0 where
   fork : Fork
   here : front_in c (forks_in p k n calls ++ more) ≡ Some fork
@@ -93,7 +94,7 @@ at_point c p k n (alone (ForkEvent child) line ∷ calls) more = by (child == c)
 at_point c p k n (call ∷ calls) more = one_more c p k n call calls more (fork_point c calls) refl
     (at_point c p (suc k) (n + length (call_steps call)) calls more)
 
--- `callers` are numbered from p on; caller p + k makes the first fork among `callers` that makes caller c
+-- the callers in `callers` have the numbers from p on, and caller p + k makes the first fork that makes caller c
 pub record FoundIn (c p : ℕ) (callers : List (List Call)) (parent : Parent) : Type 0 where
   pub fork : Fork
   pub here : front_in c (all_forks p callers) ≡ Some fork

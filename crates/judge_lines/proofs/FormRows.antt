@@ -45,7 +45,7 @@ unready g p = look_kind_is 0 g true (is_zero g p)
 is_ready : (g : ℕ) → 1 ≤ g → look_kind g ≡ Ready
 is_ready g p = look_kind_is 0 g false (not_zero g p)
 
--- if the entry of a read from a CPU fits, its look found a generation above 0
+-- if a read's entry in a CPU's list fits the CPU's state, the look before it found a generation above 0
 read_known : (s : CpuState) (e : CpuEntry) (look : ℕ) (refill : Option ℕ) (taken : Taken) →
     e ≡ CpuRead look refill taken →
     CpuFits s e → 1 ≤ look
@@ -82,7 +82,7 @@ module _ (c : LaneFacts) (set : Setting) where
   base_row : (e : BaseEntry) → base_kind e ≡ Base → (ds : List Effect) → BaseOnly e ds → K ds ≡ Base ∷ []
   base_row e h ds f = row_of set.cpu (Base ∷ []) ((f.base, ap base_kind f.is ∙ h), tt) f.effects_are
 
-  -- ---- reads
+  -- ---- the step kinds of reads
 
   draw : (taken : Taken) (ds : List Effect) → DrawForm set taken ds → IsDraw (K ds)
   draw taken ds (inl f) = inl (rooted_row (λ r. Draw (Some r) taken) (λ r. refl) ds f)
@@ -135,7 +135,7 @@ module _ (c : LaneFacts) (set : Setting) where
       go true p = none_row ds p
       go false f = looked_read taken ds f fit
 
-  -- ---- system calls
+  -- ---- the step kinds of system calls
 
   two : (x y : Kind) (ks : List Kind) → x ≡ Base → y ≡ Resumed → x ∷ y ∷ ks ≡ Base ∷ Resumed ∷ ks
   two x y ks p q = cc
@@ -202,7 +202,7 @@ module _ (c : LaneFacts) (set : Setting) where
       go true p = none_row ds p
       go false (g, rest, is, f) = by g rest is f (g == 0) refl
 
-  -- ---- integers
+  -- ---- the step kinds of random integers
 
   int : (w : ℕ) (ds : List Effect) → Looked (IntForm set w) ds → AllFit c ds → IsInt (K ds)
   int w ds (g, rest, is, form) fit = go form
@@ -232,7 +232,7 @@ module _ (c : LaneFacts) (set : Setting) where
                 ((f.look, known), ((f.base, ap base_kind f.refills), ((f.cpu, f.on), tt))) f.effects_are),
           )
 
-  -- ---- credits
+  -- ---- the step kinds of credits of the pool
 
   cross : (crossed : Crossed) (x : Crossing) (ds : List Effect) → crossing_of crossed ≡ x → Cross set x ds →
       IsAfterCredit crossed (K ds)
@@ -278,7 +278,7 @@ module _ (c : LaneFacts) (set : Setting) where
           tops rest s t v p q = three (kind_of set.cpu (at_cpu s)) (kind_of set.cpu (at_cpu t)) Pool (K rest)
               (effect_kind set.cpu Cpu (s, p)) (effect_kind set.cpu Cpu (t, q)) refl
 
-  -- ---- the other events
+  -- ---- the step kinds of the other events
 
   pool : (e : PoolEntry) (ds : List Effect) → PoolOnly e ds → K ds ≡ Pool ∷ []
   pool e ds f = row_of set.cpu (Pool ∷ []) (f.pool, tt) f.effects_are

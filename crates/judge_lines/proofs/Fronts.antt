@@ -1,11 +1,12 @@
--- A loop goes through a list from its front. The output for the finished part, then the output for the rest, is the
--- whole output.
+-- A loop that goes through a list from its front. The output for the elements done, and then the output for the rest,
+-- is the whole output.
 use Rattle.std.specs.Prelude.{slice_get}
 use Rattle.std.proofs.Common.{Some, zero, suc, ◌≡◌, ℕ, ◌+◌, ◌<◌, ◌≤◌, List, [], ◌∷◌, ◌++◌, length, get_or, take, drop, map, sym, ap, ◌∙◌, append_assoc}
 use Rattle.std.proofs.lemmas.List.{map-append, take_more, drop_more, at_drop_all, append-nil}
 use Rattle.std.proofs.lemmas.Option.{same_Some}
 
--- two equal mapped lists stay equal if each gets one more element, and both new elements are mapped to the same value
+-- suppose that `done` and the first i elements of `bs` have the same image under `f` and `g`. If the images of `a` and
+-- of the next element of `bs` are equal too, `a` can be added to `done`
 pub map_more : {A B C : Type 0} (f : A → C) (g : B → C) (done : List A) (bs : List B) (i : ℕ) (a : A) (d : B) →
     map f done ≡ map g (take i bs) → i < length bs → f a ≡ g (get_or bs i d) →
     map f (done ++ a ∷ []) ≡ map g (take (i + 1) bs)
@@ -22,7 +23,8 @@ found_or [] i x is = cc
 found_or (y ∷ xs) zero x is = same_Some y x is
 found_or (y ∷ xs) (suc i) x is = found_or xs i x is
 
--- the output `piece` for the next element moves from the output for the rest to the finished output `done`
+-- `piece` is the output for element i. If it is added to `done`, the output for the elements before, the whole output
+-- is `done` and then the output for the elements after i
 pub goes_on : {X Y : Type 0} (F G : List X → List Y) (xs : List X) (i : ℕ) (x : X) (done piece whole : List Y) →
     i < length xs → x ≡ get_or xs i x → F (x ∷ drop (i + 1) xs) ≡ piece ++ G (drop (i + 1) xs) →
     done ++ F (drop i xs) ≡ whole → (done ++ piece) ++ G (drop (i + 1) xs) ≡ whole
@@ -30,7 +32,7 @@ goes_on F G xs i x done piece whole low is splits so_far =
     append_assoc done piece (G (drop (i + 1) xs))
     ∙ ap (λ r. done ++ r) (sym splits ∙ ap F (sym (dropped xs i x low is))) ∙ so_far
 
--- at the end of the list, the finished output `done` is the whole output
+-- if no element is left, `done`, the output for all elements, is the whole output
 pub all_done : {X Y : Type 0} (F : List X → List Y) (xs : List X) (i : ℕ) (done whole : List Y) → length xs ≤ i →
     F [] ≡ [] → done ++ F (drop i xs) ≡ whole → done ≡ whole
 all_done F xs i done whole high none so_far =

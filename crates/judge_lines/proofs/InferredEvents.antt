@@ -1,5 +1,5 @@
--- If the entries of an event's line fit and its samples are correct, each visit has the entry that is inferred from the
--- steps around it.
+-- If the entries of an event's line fit their lanes and its samples are correct, each visit has the entry that is
+-- inferred from the steps around it.
 use Rattle.std.proofs.Common.{◌≡◌, ℕ, zero, suc, ◌≤◌, Bool, true, false, List, [], ◌∷◌, ◌⊎◌, inl, inr, refl, sym, subst}
 use Rattle.std.proofs.Common.{ap, ◌∙◌, arith, None}
 use Rattle.std.specs.Prelude.{◌==◌, MatchBool}
@@ -39,7 +39,7 @@ module _ (c : LaneFacts) (set : Setting) where
   pub none_inferred : (t : Telling) (ds : List Effect) → ds ≡ [] → LineFills c set t ds
   none_inferred t ds p = line_at t p tt
 
-  -- ---- reads
+  -- ---- the inferred entries of reads
 
   looked_read_inferred : (e : Event) (ds : List Effect) →
       (n : ℕ) → MatchBool (n == 0) (ds ≡ []) (Looked (ReadForm set (Kernel n)) ds) →
@@ -60,9 +60,10 @@ module _ (c : LaneFacts) (set : Setting) where
       go true p = none_inferred (reads (User n)) ds p
       go false f = line_at (reads (User n)) f.2 (tt, read_inferred c set (User n) (saw f.0) nowhere f.0 f.1 f.3)
 
-  -- ---- integers
+  -- ---- the inferred entries of random integers
 
-  -- if the first look found 0, the entries inferred for an integer are those inferred for a read by the kernel
+  -- if the line's first look found generation 0, the entries inferred for a random integer are those inferred for a
+  -- read by the kernel
   as_int : (w : ℕ) (first : Sign) (a b : Sign) (ds : List Effect) →
       AllFill (Fills c set (reads (Kernel w)) first) a b ds →
       AllFill (Fills c set (ints w) (saw 0)) a b ds
@@ -73,7 +74,8 @@ module _ (c : LaneFacts) (set : Setting) where
   as_int w first a b (at_cpu v ∷ ds) h = (h.0, as_int w first b (in_cpu v.cpu v.place) ds h.1)
   as_int w first a b (nothing_there ∷ ds) h = (tt, as_int w first b nowhere ds h.1)
 
-  -- if the entry of an integer without a refill fits, the integer fills its batch exactly if `must_fill` is true
+  -- if the entry of a random integer without a refill fits the CPU's state, it fills its batch exactly if `must_fill`
+  -- is true
   batch_fills : (s : CpuState) (e : CpuEntry) (look w : ℕ) (filled : Bool) → e ≡ Int look None w filled → CpuFits s e →
       e ≡ Int look None w (must_fill look w (s.fills w))
   batch_fills s e look w filled is fits =
@@ -98,9 +100,9 @@ module _ (c : LaneFacts) (set : Setting) where
   int_line : (w : ℕ) (ds : List Effect) → Looked (IntForm set w) ds → AllFit c ds → LineFills c set (ints w) ds
   int_line w ds f fit = line_at (ints w) f.2 (tt, int_after w f.0 f.1 f.3 (fit_at c f.2 fit).1)
 
-  -- ---- credits
+  -- ---- the inferred entries of credits of the pool
 
-  -- equal crossings give the base the same entry
+  -- if the crossings x and y are equal, they give the base the same entry
   crossed_as : (x y : Crossing) (root : ℕ) (e : BaseEntry) → x ≡ y → e ≡ crossed_entry y root set.now →
       e ≡ crossed_entry x root set.now
   crossed_as x y root e p is = is ∙ ap (λ k. crossed_entry k root set.now) (sym p)
@@ -131,9 +133,9 @@ module _ (c : LaneFacts) (set : Setting) where
       go early is (inr r) =
           line_at (credits e) (f.effects_are ∙ ap (λ x. at_pool f.pool ∷ x) r.effects_are) (f.credits, (r.is, tt))
 
-  -- ---- interrupts
+  -- ---- the inferred entries of interrupts
 
-  -- the mix of an interrupt's line has the bytes and bits of the line's dump
+  -- the mix in an interrupt's line has the bytes and the bits of the dump in this line
   mixed : (sample dump : CpuVisit) (mix : PoolVisit) (rest : List Effect) → dump.entry ≡ Dump set.now →
       SamplesConform c.fast (at_cpu sample ∷ at_cpu dump ∷ at_pool mix ∷ rest) →
       mix.entry ≡ Mix (dump_bytes (c.fast dump.cpu dump.place)) (dump_bits (c.fast dump.cpu dump.place))
@@ -214,7 +216,7 @@ module _ (c : LaneFacts) (set : Setting) where
       go (inl p) = line_at (samples v1 v2) (f.effects_are ∙ ap (λ r. at_cpu f.sample ∷ r) p) (f.samples, tt)
       go (inr d) = dumped d (crossing d.mixes.pool.before.bits d.mixes.pool.after.bits) refl d.mixes.crosses
 
-  -- ---- the other events
+  -- ---- the inferred entries of the other events
 
   pool_line : (e : PoolEntry) (ds : List Effect) → PoolOnly e ds → LineFills c set (mixes e) ds
   pool_line e ds f = line_at (mixes e) f.effects_are (f.is, tt)

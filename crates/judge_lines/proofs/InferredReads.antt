@@ -1,4 +1,5 @@
--- If the entries of a read or a system call fit, each visit has the entry that is inferred from the steps around it.
+-- If the entries of a read or a system call fit their lanes, each visit has the entry that is inferred from the steps
+-- around it.
 use Rattle.std.proofs.Common.{◌≡◌, ℕ, ◌≤◌, Bool, true, false, List, [], ◌∷◌, ◌⊎◌, inl, inr, refl, ◌++◌, sym, subst, ap}
 use Rattle.std.proofs.Common.{◌∙◌, arith}
 use Rattle.std.specs.Prelude.{◌==◌, ◌&&◌, not, nat_le, if◌then◌else◌, MatchBool}
@@ -46,7 +47,8 @@ module _ (c : LaneFacts) (set : Setting) (early taken : Taken) (first : Sign) wh
   read_by a g ds (inl f) = draw_by a g ds f.1
   read_by a g ds (inr f) = cpu_read_by a (saw g) ds f
 
--- if a resume fits, the base had a generation of at least 1, so the inferred entry is a resume too
+-- if the entry `Resume`, by which a waiter goes on, fits the base's state `s`, the generation was at least 1, so
+-- `Resume` is also the inferred entry
 went_on : (s : BaseState) (e : BaseEntry) → e ≡ Resume → BaseFits s e →
     e ≡ (if nat_le 1 s.generation then Resume else Interrupt)
 went_on s e p fits =
@@ -74,7 +76,8 @@ module _ (c : LaneFacts) (set : Setting) (early : Taken) (n : ℕ) (first : Sign
       fill_at c set early (User n) first a (saw g) f.effects_are
       (f.waits, (stopped f.interrupt.before f.interrupt.entry f.interrupts fits.1.0, tt))
 
-  -- the steps of a wait that went on have the inferred entries, since a look or nothing follows the resume
+  -- if a wait ended because the core was ready, its steps have the inferred entries, since the next step is a look or
+  -- there is none
   resumed : (a : Sign) (g : ℕ) (ds : List Effect) → Waited set n ds → AllFit c ds → FillU a (saw g) ds
   resumed a g ds f fit = go (n == 0) f.rest f.reads f.effects_are
     where
@@ -136,7 +139,7 @@ module _ (c : LaneFacts) (set : Setting) (taken : Taken) (first : Sign) where
   same_taken nowhere = refl
   same_taken _ = refl
 
-  -- if all reads of a line take the same bytes, the line's entries are inferred as for one read
+  -- if all reads of a line take the same bytes, the entries of the line are inferred as for one read
   pub alike : (a b : Sign) (ds : List Effect) → AllFill (FillsPart c set taken taken first) a b ds →
       AllFill (Fills c set (reads taken) first) a b ds
   alike a b [] h = tt
@@ -163,7 +166,8 @@ system_inferred c set n flags effects form fit =
     alike c set (User n) (first_sign effects) nowhere nowhere effects
     (system_by c set (User n) n flags (first_sign effects) nowhere nowhere effects form fit)
 
--- a look follows the system call for a key, so the entries of the call are inferred as if nothing followed
+-- the entries of the system call that reads a key are inferred as if no step came after it, since the next step is a
+-- look
 module _ (c : LaneFacts) (set : Setting) (early taken : Taken) (first : Sign) where
   abbrev One : Taken → Sign → Sign → Sign → Effect → Type 0
   One t a b following d = Fills c set (reads t) first (record { second_before = a; before = b; following = following }) d
@@ -192,8 +196,8 @@ module _ (c : LaneFacts) (set : Setting) (early taken : Taken) (first : Sign) wh
       (fill.0, in_front (at_cpu v ∷ xs) h ys b (sign_of d) there.1 fill.1 more)
   in_front (d ∷ nothing_there ∷ xs) h ys a b there fill more = absurd there.1.0
 
--- suppose that the entries of a system call for a key fit. If the look after the call and the later steps have the
--- inferred entries, the steps of the call have them too
+-- suppose that the entries of the system call that reads a key fit their lanes. If the look after the call and the
+-- later steps have the inferred entries, the steps of the call have them too
 pub key_inferred : KeyCallIsInferred
 key_inferred c set n first xs h ys a b there form fit more =
     in_front c set (User 32) (User n) first xs h ys a b there

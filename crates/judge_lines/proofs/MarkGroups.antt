@@ -16,7 +16,8 @@ of group xs = filter (is_by group) xs
 moved : (x : MarkBy) (ys zs : List MarkBy) → IsPermutation (x ∷ (ys ++ zs)) (ys ++ x ∷ zs)
 moved x ys zs = IsPermutation-sym (ys ++ x ∷ zs) (x ∷ (ys ++ zs)) (IsPermutation-middle ys x zs)
 
--- if mark x is added both to all marks and to its group, the groups together still have all marks
+-- if mark x is added to all marks `xs` and to the marks of its own group, the three groups together are still all
+-- marks, in some order
 module _ (x : MarkBy) (xs pool base cpus : List MarkBy) (all : IsPermutation xs (pool ++ (base ++ cpus))) where
   to_pool : IsPermutation (x ∷ xs) (x ∷ (pool ++ (base ++ cpus)))
   to_pool = IsPermutation-cons x xs (pool ++ (base ++ cpus)) all

@@ -1,4 +1,4 @@
--- If the marks of a lane are lawful, they stay lawful when all marks are put in another order.
+-- If the marks of a lane are lawful, they stay lawful when the list of all marks is put in another order.
 use Rattle.std.proofs.Common.{◌≡◌, ℕ, ◌+◌, Bool, true, false, cond, List, [], ◌∷◌, length, refl, sym, subst, ap, ◌∙◌, arith}
 use Rattle.std.specs.Prelude.{count_by, ◌==◌, ◌&&◌, IsPermutation}
 use Rattle.std.specs.List.{AllByRecursion, range_with_len}

@@ -1,4 +1,4 @@
--- A caller's own steps, and its forks, are collected call by call.
+-- The own steps of a caller, and its forks, are collected call by call.
 use Rattle.std.specs.Prelude.{◌||◌}
 use Rattle.std.specs.List.{list_any}
 use Rattle.std.proofs.Common.{◌≡◌, ℕ, Bool, suc, ◌+◌, ◌<◌, false, List, [], ◌∷◌, ◌++◌, length, get_or, drop, map, refl, length-append, add-one}
@@ -50,7 +50,7 @@ no_forks_here : (p k n : ℕ) (c : Call) (calls : List Call) (later : Bool) → 
 no_forks_here p k n (alone (ForkEvent child) line) calls later none rest = cc
 no_forks_here p k n c calls later none rest = rest none
 
--- a caller without fork events has no forks
+-- a caller whose calls have no fork event makes no forks
 pub no_forks : (p k n : ℕ) (calls : List CalledLines) → list_any (λ call. is_fork (seen_call call)) calls ≡ false →
     forks_in p k n (map seen_call calls) ≡ []
 no_forks p k n [] none = refl

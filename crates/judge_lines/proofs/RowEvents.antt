@@ -1,4 +1,5 @@
--- Steps of an event's line are a form if the steps have the inferred entries and their kinds are a row.
+-- If the steps of an event's line have the inferred entries, and their kinds are a row of the event, they are a form of
+-- the event.
 use Rattle.std.proofs.Common.{◌≡◌, ℕ, zero, suc, ◌≤◌, Bool, true, false, List, [], ◌∷◌, ◌⊎◌, inl, inr, refl, sym, subst}
 use Rattle.std.proofs.Common.{ap, ◌∙◌, arith, None}
 use Rattle.std.specs.Prelude.{◌==◌, MatchBool}
@@ -45,7 +46,7 @@ module _ (c : LaneFacts) (set : Setting) where
   close_at : {ds xs : List Effect} → ds ≡ xs → CrossingsKnown c ds → CrossingsKnown c xs
   close_at {ds = ds} {xs = xs} p close = let P : List Effect → Type 0 = λ x. CrossingsKnown c x in subst P p close
 
-  -- ---- reads
+  -- ---- rows of reads
 
   looked_read : (taken : Taken) (ds : List Effect) → LineFills c set (reads taken) ds →
       IsLookedRead (kinds_of set.cpu ds) →
@@ -84,7 +85,7 @@ module _ (c : LaneFacts) (set : Setting) where
       go true p = no_more set.cpu ds p
       go false row = looked_read taken ds fill row
 
-  -- ---- integers
+  -- ---- rows of random integers
 
   as_read : (w : ℕ) (first : Sign) (a b : Sign) (ds : List Effect) → AllFill (Fills c set (ints w) (saw 0)) a b ds →
       AllFill (Fills c set (reads (Kernel w)) first) a b ds
@@ -171,10 +172,10 @@ module _ (c : LaneFacts) (set : Setting) where
             (subst (λ ks. IsCpuRead ks) (sym (kinds_in set.cpu rest s.0.1)) row),
       )
 
-  -- ---- credits
+  -- ---- rows of credits of the pool
 
   -- suppose that the steps after a credit have the inferred entries, and that their kinds are a row. Then they are the
-  -- steps of the credit's crossing
+  -- steps that the threshold crossed by the credit requires
   cross_row : (v : PoolVisit) (crossed : Crossed) (r : List Effect) →
       crossing_of crossed ≡ crossing v.before.bits v.after.bits →
       c.crossed_at v.place ≡ crossing v.before.bits v.after.bits → IsAfterCredit crossed (kinds_of set.cpu r) →
@@ -278,7 +279,7 @@ module _ (c : LaneFacts) (set : Setting) where
         });
       }
 
-  -- ---- the other events
+  -- ---- rows of the other events
 
   pool_row : (e : PoolEntry) (ds : List Effect) → LineFills c set (mixes e) ds → kinds_of set.cpu ds ≡ Pool ∷ [] →
       PoolOnly e ds

@@ -1,4 +1,4 @@
--- Steps of a read or a system call are a form if the steps have the inferred entries and their kinds are a row.
+-- If the steps of a read or a system call have the inferred entries, and their kinds are a row, they are a form.
 use Rattle.std.proofs.Common.{◌≡◌, ℕ, Bool, true, false, List, [], ◌∷◌, ◌⊎◌, inl, inr, refl, ◌++◌, sym, subst, ap, ◌∙◌}
 use Rattle.std.proofs.Common.{arith}
 use Rattle.std.specs.Prelude.{◌==◌, ◌&&◌, not, nat_le, if◌then◌else◌, MatchBool}
@@ -80,7 +80,7 @@ module _ (c : LaneFacts) (set : Setting) (sooner : Taken) (n : ℕ) (first : Sig
   abbrev FillU : Sign → Sign → List Effect → Type 0
   FillU = AllFill (FillsPart c set sooner (User n) first)
 
-  -- a visit that ends a wait is an interrupt if its kind is `Base` and not `Resumed`
+  -- if the visit `v` ended a wait and its kind is `Base`, not `Resumed`, its entry is `Interrupt`
   not_resumed : (v : BaseVisit) → FillsBase c woken v → base_kind v.entry ≡ Base → v.entry ≡ Interrupt
   not_resumed v fills kind = go (nat_le 1 v.before.generation) fills
     where
@@ -95,7 +95,8 @@ module _ (c : LaneFacts) (set : Setting) (sooner : Taken) (n : ℕ) (first : Sig
       go true is = is
       go false is = (let k : Base ≡ Resumed = sym (ap base_kind is) ∙ kind in cc)
 
-  -- if a wait's entry and a resume are followed by the steps of a read, these steps together are a wait that went on
+  -- if the entries `Wait` and `Resume` come first, and then the steps of a read, all these steps are a wait that ended
+  -- because the core was ready
   goes_on : (ds : List Effect) (v w : BaseVisit) (rest : List Effect) → ds ≡ at_base v ∷ at_base w ∷ rest →
       v.entry ≡ Wait → w.entry ≡ Resume → MatchBool (n == 0) (rest ≡ []) (CpuReadForm set (User n) rest) →
       Waited set n ds
@@ -243,7 +244,7 @@ system_rows c set n flags effects fill row =
     system_by c set (User n) n flags (first_sign effects) nowhere nowhere effects
     (unlike c set (User n) (first_sign effects) nowhere nowhere effects fill) row
 
--- a step before a look has the same inferred entry as if the line ended with that step
+-- the entry of a step before a look is inferred as if the line ended with that step
 module _ (c : LaneFacts) (set : Setting) (sooner taken : Taken) (first : Sign) where
   abbrev OneOf : Taken → Sign → Sign → Sign → Effect → Type 0
   OneOf t a b following d = Fills c set (reads t) first (record { second_before = a; before = b; following = following }) d

@@ -14,7 +14,7 @@ pub is_zero : (g : ℕ) → g ≡ 0 → (g == 0) ≡ true
 is_zero g p = grind (arith, nat_tests)
 
 module _ (cpu : ℕ) where
-  -- what a step of this kind contains
+  -- what a step has if it is of this kind: the generation of a look, or the visit
   abbrev pub One : Kind → Type 0
   One Unready = (g : ℕ) × (g ≡ 0)
   One Ready = (g : ℕ) × (1 ≤ g)
@@ -41,7 +41,7 @@ module _ (cpu : ℕ) where
   effects_in [] s = []
   effects_in (k ∷ ks) s = effect k s.0 ∷ effects_in ks s.1
 
-  -- ---- from kinds to visits
+  -- ---- steps of given kinds are looks and visits of these kinds
 
   abbrev IsOne : Effect → Kind → Type 0
   IsOne d k = (x : One k) × (d ≡ effect k x)
@@ -87,7 +87,7 @@ module _ (cpu : ℕ) where
       let r = shaped ks ds (other_kinds (kind_of cpu d) k (kinds_of cpu ds) ks p) in
       ((x.0, r.0), both d (effect k x.0) ds (effects_in ks r.0) x.1 r.1)
 
-  -- ---- from visits to kinds
+  -- ---- looks and visits of given kinds have these kinds
 
   pub look_kind_is : (g : ℕ) (b : Bool) → (g == 0) ≡ b → look_kind g ≡ (if b then Unready else Ready)
   look_kind_is g b p = ap (λ b. if b then Unready else Ready) p
@@ -107,6 +107,6 @@ module _ (cpu : ℕ) where
   kinds_in (k ∷ ks) s =
       both (kind_of cpu (effect k s.0)) k (kinds_of cpu (effects_in ks s.1)) ks (effect_kind k s.0) (kinds_in ks s.1)
 
-  -- effects that are looks and visits of the kinds `ks` have the kinds `ks`
+  -- if `ds` are looks and visits of the kinds `ks`, their kinds are `ks`
   pub row_of : (ks : List Kind) (s : Shape ks) {ds : List Effect} → ds ≡ effects_in ks s → kinds_of cpu ds ≡ ks
   row_of ks s {ds = ds} is = ap (kinds_of cpu) is ∙ kinds_in ks s

@@ -1,5 +1,5 @@
--- In marks sorted by lane and stamp, each lane's marks are one run. So the places of each lane count up exactly if the
--- places of each run do.
+-- In marks sorted by lane and stamp, the marks of each lane come one after the other, as a run. So the places of each
+-- lane count up exactly if the places of each run do.
 use Rattle.std.proofs.Common.{◌≡◌, ℕ, suc, ◌+◌, ◌<◌, ◌≤◌, Bool, true, false, cond, Option, Some, None, List, [], ◌∷◌, length, get_or, drop, map, inl, inr, refl, sym, subst, ap, ◌∙◌, arith}
 use Rattle.std.specs.Prelude.{◌↔◌, ◌⊎◌, ◌==◌, MatchBool, nat_lt, IsSortedByKey}
 use Rattle.std.specs.Ordering.{is_lt, ordering_then, nat_cmp}
@@ -69,7 +69,7 @@ left : (lane : LaneId) (m : MarkOf) (marks : List MarkOf) → is_same_lane m.mar
     of_lane lane (m ∷ marks) ≡ of_lane lane marks
 left lane m marks e = rw e refl
 
--- if P holds of each mark in `marks` that is on the lane, P holds of all elements of `of_lane lane marks`
+-- if P holds for each mark in `marks` whose lane is `lane`, it holds for each mark in `of_lane lane marks`
 in_lane : (P : Mark → Type 0) (lane : LaneId) (marks : List MarkOf) →
     AllByRecursion (λ (m : MarkOf). is_same_lane m.mark.lane lane ≡ true → P m.mark) marks → AllByRecursion P (of_lane lane marks)
 in_lane P lane [] all = tt
@@ -80,7 +80,7 @@ in_lane P lane (m ∷ marks) all = go (is_same_lane m.mark.lane lane) refl (in_l
     go true e rest = subst (λ (ms : List Mark). AllByRecursion P ms) (sym (taken lane m marks e)) (all.0 e, rest)
     go false e rest = subst (λ (ms : List Mark). AllByRecursion P ms) (sym (left lane m marks e)) rest
 
--- if no mark in `marks` is on the lane, `of_lane lane marks` is empty
+-- if no mark in `marks` has the lane `lane`, `of_lane lane marks` is empty
 none_left : (lane : LaneId) (marks : List MarkOf) →
     AllByRecursion (λ (m : MarkOf). is_same_lane m.mark.lane lane ≡ false) marks → of_lane lane marks ≡ []
 none_left lane [] none = refl
@@ -109,13 +109,14 @@ lane_sorted lane (m ∷ marks) sorted =
     )
     go false e rest = subst ByStamp (sym (left lane m marks e)) rest
 
--- after mark `a`, a's lane goes on with the next places and higher stamps; each other lane begins at place 0
+-- of `marks`, which come after mark `a`, those in the lane of `a` go on with the next places and higher stamps; those
+-- of each other lane count from place 0
 record GoesOn (a : Mark) (marks : List MarkOf) : Type 0 where
   run : InOrder (suc a.place) (of_lane a.lane marks)
   above : AllByRecursion (λ n. a.stamp < n.stamp) (of_lane a.lane marks)
   others : (lane : LaneId) → is_same_lane a.lane lane ≡ false → InOrder 0 (of_lane lane marks)
 
--- if m has place i and the marks after it go on from m, then m's lane is in order from place i
+-- if mark m has place i, and `marks` go on after m (`GoesOn`), the places in m's lane count up from i
 first_of : (m : MarkOf) (marks : List MarkOf) (i : ℕ) → m.mark.place ≡ i → GoesOn m.mark marks →
     InOrder i (of_lane m.mark.lane (m ∷ marks))
 first_of m marks i here on = subst (InOrder i) (sym (taken m.mark.lane m marks (lane_itself m.mark.lane)))
@@ -130,7 +131,7 @@ of_first m marks i order =
     subst (InOrder i) (taken m.mark.lane m marks (lane_itself m.mark.lane)) order in
     (h.0, h.1, subst (λ j. InOrder (suc j) (of_lane m.mark.lane marks)) (sym h.0) h.2)
 
--- if m and the marks after it are in order, the marks of other lanes are in order without m
+-- if in each lane the places of m and `marks` count up from 0, then without m they still do in each other lane than m's
 others_of : (m : MarkOf) (marks : List MarkOf) (order : (lane : LaneId) → InOrder 0 (of_lane lane (m ∷ marks))) →
     (lane : LaneId) → is_same_lane m.mark.lane lane ≡ false → InOrder 0 (of_lane lane marks)
 others_of m marks order lane e = subst (InOrder 0) (left lane m marks e) (order lane)
@@ -144,7 +145,7 @@ begins m marks here on lane = go (is_same_lane m.mark.lane lane) refl
     go false e = subst (InOrder 0) (sym (left lane m marks e)) (on.others lane e)
 
 module _ (a m : MarkOf) (marks : List MarkOf) (sorted : IsSortedByLane (a ∷ m ∷ marks)) where
-  -- the next mark is of the same lane
+  -- suppose that the next mark m is in the same lane as mark a
   module _ (e : is_same_lane a.mark.lane m.mark.lane ≡ true) where
     one : a.mark.lane ≡ m.mark.lane
     one = same_lane a.mark.lane m.mark.lane e
@@ -187,7 +188,7 @@ module _ (a m : MarkOf) (marks : List MarkOf) (sorted : IsSortedByLane (a ∷ m 
           },
         )
 
-  -- the next mark is of another lane
+  -- suppose that the next mark m is in another lane than mark a
   module _ (e : is_same_lane a.mark.lane m.mark.lane ≡ false) where
     below : lane_rank a.mark.lane < lane_rank m.mark.lane
     below = go sorted.0
@@ -283,7 +284,8 @@ counted (m ∷ marks) sorted =
           (run.0, both.1 (record { run = run.2; above = run.1; others = others_of m marks order }))),
     )
 
--- the runs from mark i on count up exactly if mark i follows `last` and the runs after mark i count up
+-- the places of the runs in the marks from mark i on count up exactly if mark i follows `last` (`Follows`) and the
+-- places of the runs after mark i count up
 pub runs_more : (last : Option Mark) (marks : List MarkOf) (i : ℕ) (d : MarkOf) → i < length marks →
     RunsCount last (drop i marks)
     ↔ Follows last (get_or marks i d).mark × RunsCount (Some (get_or marks i d).mark) (drop (i + 1) marks)
@@ -301,7 +303,7 @@ runs_conform marks sorted = (
       (λ lane. (places_count_up (of_lane lane marks)).1 (lane_sorted lane marks sorted) (conform lane))),
 )
 
--- ---- sorting
+-- ---- sorting marks by rank and stamp
 
 abbrev pub sort_key : MarkOf → ℕ × ℕ
 sort_key of = (lane_rank of.mark.lane, of.mark.stamp)
@@ -309,7 +311,8 @@ sort_key of = (lane_rank of.mark.lane, of.mark.stamp)
 abbrev pub by_both : ℕ × ℕ → ℕ × ℕ → Ordering
 by_both x y = ordering_then (nat_cmp x.0 y.0) (nat_cmp x.1 y.1)
 
--- if mark b does not come before mark a, then b's rank is higher, or the ranks are equal and b's stamp is not lower
+-- if mark b does not sort before mark a, then b's rank `rb` is higher, or the ranks are equal and b's stamp `sb` is not
+-- lower
 not_before : (ra rb sa sb : ℕ) → is_lt (by_both (rb, sb) (ra, sa)) ≡ false → (ra < rb) ⊎ ((ra ≡ rb) × (sa ≤ sb))
 not_before ra rb sa sb e = go (nat_lt rb ra) refl (rb == ra) refl (nat_lt sb sa) refl (sb == sa) e
   where

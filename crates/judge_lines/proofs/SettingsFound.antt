@@ -1,4 +1,4 @@
--- The code finds the setting before each call. It starts each child with the setting found at the child's fork.
+-- The code finds the setting before each call. A child starts with the setting found for its parent at the fork.
 use Rattle.std.proofs.Common.{◌≡◌, inl, inr, ℕ, zero, suc, ◌+◌, ◌<◌, Option, Some, None, List, [], ◌∷◌, ◌++◌, length, get_or, take, drop, map, refl, sym, subst, ap, ◌∙◌, arith}
 use Rattle.std.specs.Prelude.{slice_get, unwrap_or}
 use Rattle.std.specs.List.{fold, AllByRecursion}
@@ -16,7 +16,8 @@ use Rattle.judge_lines.specs.Settings.{settings_from, found_by, first_found}
 use Rattle.judge_lines.proofs.Forks.{AtParent, at_parent, rises}
 use Rattle.judge_lines.proofs.Fronts.{goes_on}
 
--- the setting before the next call is added to the found settings
+-- if `set`, the setting before call n, is added to the settings found so far, only the settings before the later calls
+-- are missing
 pub found_next : (calls : List CalledLines) (n : ℕ) (call : CalledLines) (set : Setting) (found whole : List Setting) →
     n < length calls → call ≡ get_or calls n call → found ++ settings_from set (map seen_call (drop n calls)) ≡ whole →
     (found ++ set ∷ []) ++ settings_from (setting_after_call set (seen_call call)) (map seen_call (drop (n + 1) calls))
@@ -32,7 +33,7 @@ at_settings set [] k low = absurd (omega arith)
 at_settings set (call ∷ calls) zero low = refl
 at_settings set (call ∷ calls) (suc k) low = at_settings (setting_after_call set call) calls k (omega arith)
 
--- the start settings of callers
+-- the settings with which callers start
 
 abbrev begun : List (List Call) → ℕ → Setting
 begun callers c = inherited_setting (first_settings callers c) (parent_from c 0 callers)
@@ -53,7 +54,7 @@ get_some [] p low = absurd (omega arith)
 get_some (x ∷ xs) zero low = (x, refl)
 get_some (x ∷ xs) (suc p) low = get_some xs p (omega arith)
 
--- for each caller reached so far, `found` has the setting before each call of that caller
+-- for each caller reached so far, `settings` has the setting before each of its calls
 abbrev pub EachFound : List (List Call) → List (Vec Setting) → Type 0
 EachFound callers settings = (c : ℕ) (found : Vec Setting) → slice_get settings c ≡ Some found →
     found.items ≡ settings_from (start_setting callers c) (list_at callers c)
@@ -87,7 +88,7 @@ module _ (callers : List (List Call)) (settings : List (Vec Setting)) (c : ℕ) 
       ∙ ap (λ s. fold setting_after_call s parent.fork.before)
       (begins_at callers (length callers) p (omega arith) ∙ sym (begins_at callers c p lower))
 
-  -- the setting found at the fork that makes caller c is the start setting of c
+  -- the setting found for the fork that makes caller c is the setting with which c starts
   pub first_is : first_found settings (front_in c (all_forks 0 callers)) ≡ start_setting callers c
   first_is = at_front (parent_from c 0 callers) (at_parent c 0 callers) ∙ sym starts
 

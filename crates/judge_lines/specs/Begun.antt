@@ -1,4 +1,4 @@
--- The result of judging lines and marks.
+-- The result of judging a transcript's lines and marks.
 use Rattle.std.specs.Prelude.{◌≡◌, List, map, IsPermutation}
 use Rattle.key_names.specs.Texts.ScriptGrammar.{Script}
 use Rattle.key_names.specs.Transcripts.SeenLine.{SeenLine}
@@ -22,7 +22,7 @@ pub record PartsConform (script : Script) (t : List (List SeenLine)) (parts : Tr
   pub sorted : IsSortedByLane parts.marks.items
   pub forks : parts.forks.items ≡ all_forks 0 (script_calls script t)
 
--- this clause is the first that fails, and it is about lines or marks
+-- the clause is the first that fails, and it is the one on lines or the one on marks
 abbrev pub IsEarlyFault : Script → List (List SeenLine) → Clause → Type 0
 IsEarlyFault script t Lines = FirstFails script t lines_clause
 IsEarlyFault script t Marks = FirstFails script t marks_clause

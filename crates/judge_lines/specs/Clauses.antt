@@ -1,4 +1,4 @@
--- The clauses of the code, as clauses of the definitions.
+-- The clauses that the code names, as clauses of the definitions in `key_names`.
 use Rattle.key_names.specs.Transcripts.IsTranscript as laws
 use Rattle.judge_lines.specs.declared.clause.Clause.{Clause}
 use Rattle.judge_lines.specs.declared.clause.Clause.TheVariants.{Lines, Marks, Forms, Answers, Data, Looks}

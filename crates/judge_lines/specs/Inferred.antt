@@ -37,7 +37,7 @@ use Rattle.judge_lines.specs.declared.inferred.BaseInferred.TheVariants.{Is as b
 use Rattle.judge_lines.specs.declared.inferred.CpuInferred.{CpuInferred}
 use Rattle.judge_lines.specs.declared.inferred.CpuInferred.TheVariants.{Is as cpu_is, Batch as batch}
 
--- the visible part of a step
+-- the sign of an effect: the generation that a look found, or the lane and place of a visit
 abbrev pub sign_of : Effect → Sign
 sign_of (looked g) = saw g
 sign_of (at_pool v) = in_pool v.place
@@ -45,19 +45,20 @@ sign_of (at_base v) = in_base v.place
 sign_of (at_cpu v) = in_cpu v.cpu v.place
 sign_of nothing_there = nowhere
 
--- the base's entry after a credit and an extraction
+-- the base's entry after an extraction for a credit that crossed a threshold: a reseed if the credit made the core
+-- ready, else an early key
 abbrev pub crossed_entry : Crossing → ℕ → ℕ → BaseEntry
 crossed_entry ready root now = Reseeded root now
 crossed_entry early root now = Early (Some root)
 crossed_entry none root now = Early (Some root)
 
--- the visit of the base has the inferred entry
+-- the visit `v` of the base has the inferred entry
 abbrev pub FillsBase : LaneFacts → BaseInferred → BaseVisit → Type 0
 FillsBase c (base_is e) v = v.entry ≡ e
 FillsBase c (crossed root now p) v = v.entry ≡ crossed_entry (c.crossed_at p) root now
 FillsBase c woken v = v.entry ≡ (if nat_le 1 v.before.generation then Resume else Interrupt)
 
--- the visit of a CPU has the inferred entry
+-- the visit `v` of a CPU has the inferred entry
 abbrev pub FillsCpu : CpuInferred → CpuVisit → Type 0
 FillsCpu (cpu_is e) v = v.entry ≡ e
 FillsCpu (batch look width) v = v.entry ≡ Int look None width (must_fill look width (v.before.fills width))
@@ -79,7 +80,7 @@ pub data Telling : Type 0 where
   ends : Telling
   silent : Telling
 
--- the kind of an event's line
+-- by which rule the entries of an event's line are inferred
 abbrev pub telling : Setting → Event → Telling
 telling set (Write text) = mixes (Mix text 0)
 telling set (Device word text) = mixes (device_entry word text)
@@ -104,12 +105,13 @@ telling set (Vmfork word text) = vmforks (device_entry word text)
 telling set (Irq v1 v2) = samples v1 v2
 telling set _ = silent
 
--- if the preceding step is a visit of the pool, it is an extraction, and its place names the root; otherwise none
+-- if the step before is a visit of the pool, it is an extraction, and the root is named by its place; otherwise None
 abbrev pub root_before : Sign → Option ℕ
 root_before (in_pool p) = Some p
 root_before _ = None
 
--- the place of the pool, the generation of a look, and the place of the base; each is 0 for a step of another kind
+-- the place of a visit of the pool, the generation of a look, and the place of a visit of the base; each is 0 for
+-- another step
 abbrev pub pool_place_in : Sign → ℕ
 pool_place_in (in_pool p) = p
 pool_place_in _ = 0
@@ -122,19 +124,21 @@ abbrev pub base_place_in : Sign → ℕ
 base_place_in (in_base i) = i
 base_place_in _ = 0
 
--- ---- the pool
+-- ---- the inferred entry of a visit of the pool
 
--- a visit of the pool has the event's own entry if it is the line's first step; otherwise it extracts
+-- the first step of a line, if it is a visit of the pool, has the entry of the line's event; a later visit of the pool
+-- is an extraction for the entry of the base at the place of the next step
 abbrev pub own_or_extracted : Sign → Sign → PoolInferred
 own_or_extracted following nowhere = own
 own_or_extracted following _ = extracted (base_place_in following)
 
--- if a visit of the pool follows a visit of a CPU, it mixes the CPU's dump; otherwise it extracts
+-- if a visit of the pool comes after a visit of a CPU, it mixes the dump that this CPU's visit made; otherwise it is an
+-- extraction
 abbrev pub dumped_or_extracted : Sign → Sign → PoolInferred
 dumped_or_extracted following (in_cpu cpu k) = dumped cpu k
 dumped_or_extracted following _ = extracted (base_place_in following)
 
--- the inferred entry of a visit of the pool
+-- the inferred entry of a visit of the pool, by the kind of its line
 abbrev pub pool_inferred : Telling → Neighbours → PoolInferred
 pool_inferred (mixes e) neighbours = own_or_extracted neighbours.following neighbours.before
 pool_inferred (credits e) neighbours = own_or_extracted neighbours.following neighbours.before
@@ -142,27 +146,27 @@ pool_inferred (vmforks e) neighbours = own_or_extracted neighbours.following nei
 pool_inferred (samples v1 v2) neighbours = dumped_or_extracted neighbours.following neighbours.before
 pool_inferred _ neighbours = extracted (base_place_in neighbours.following)
 
--- the event's own entry
+-- the entry that the event of a line makes itself in the pool
 abbrev pub own_entry : Telling → PoolEntry
 own_entry (mixes e) = e
 own_entry (credits e) = e
 own_entry (vmforks e) = e
 own_entry _ = ReadBits
 
--- the visit of the pool has the inferred entry
+-- the visit `v` of the pool has the inferred entry
 abbrev pub FillsPool : LaneFacts → Setting → Telling → PoolInferred → PoolVisit → Type 0
 FillsPool c set t own v = v.entry ≡ own_entry t
 FillsPool c set t (extracted i) v = v.entry ≡ Extract set.hw i
 FillsPool c set t (dumped cpu k) v = v.entry ≡ Mix (dump_bytes (c.fast cpu k)) (dump_bits (c.fast cpu k))
 
--- ---- the base
+-- ---- the inferred entry of a visit of the base
 
--- if a visit of the base follows another, it ended a wait; otherwise it is a draw
+-- if the step before a visit of the base is a visit of the base too, the visit ended a wait; otherwise it is a draw
 abbrev pub drawn_or_woken : Taken → Sign → BaseInferred
 drawn_or_woken taken (in_base i) = woken
 drawn_or_woken taken before = base_is (Draw (root_before before) taken)
 
--- the inferred entry of a visit of the base in a read
+-- the inferred entry of a visit of the base, in a read that takes `taken`
 abbrev pub read_inferred : Setting → Taken → Neighbours → BaseInferred
 read_inferred set taken neighbours = by neighbours.following
   where
@@ -171,18 +175,19 @@ read_inferred set taken neighbours = by neighbours.following
     by (in_base i) = base_is Wait
     by _ = drawn_or_woken taken neighbours.before
 
--- if a visit of the base follows a credit and an extraction, its entry has the extracted root; otherwise it has no root
+-- if the two steps before a visit of the base are a credit and an extraction, its entry has the extracted root;
+-- otherwise it has no root
 abbrev pub crossed_inferred : Setting → Sign → Sign → BaseInferred
 crossed_inferred set (in_pool p) before = crossed (pool_place_in before) set.now p
 crossed_inferred set _ before = base_is (Early None)
 
--- a fork's first visit of the base is the fork, its second a stall, and its third the end of the stall
+-- of a fork's visits of the base the first is the fork, the second a stall, and the third the end of the stall
 abbrev pub forked_inferred : ℕ → Sign → Sign → BaseInferred
 forked_inferred child second_before nowhere = base_is (Forked child)
 forked_inferred child nowhere before = base_is Stall
 forked_inferred child second_before before = base_is Unstall
 
--- the inferred entry of a visit of the base
+-- the inferred entry of a visit of the base, by the kind of its line
 abbrev pub base_inferred : Setting → Telling → Neighbours → BaseInferred
 base_inferred set (reads taken) neighbours = read_inferred set taken neighbours
 base_inferred set (ints width) neighbours = read_inferred set (Kernel width) neighbours
@@ -194,29 +199,30 @@ base_inferred set ticks neighbours = base_is (Ticked set.now (root_before neighb
 base_inferred set (forks child) neighbours = forked_inferred child neighbours.second_before neighbours.before
 base_inferred set _ neighbours = base_is End
 
--- ---- a CPU
+-- ---- the inferred entry of a visit of a CPU
 
--- the inferred entry of a visit of a CPU in a read
+-- the inferred entry of a visit of a CPU, in a read that takes `taken`
 abbrev pub cpu_read_inferred : Taken → Sign → Sign → CpuInferred
 cpu_read_inferred taken second_before (in_base b) = cpu_is (CpuRead (look_in second_before) (Some b) taken)
 cpu_read_inferred taken second_before before = cpu_is (CpuRead (look_in before) None taken)
 
--- an integer after a refill fills its batch; without a refill, the CPU's state determines whether the integer fills it
+-- a random integer that comes after a refill of the CPU's key fills its batch; without a refill, the CPU's state
+-- determines whether it does
 abbrev pub cpu_int_inferred : ℕ → Sign → Sign → CpuInferred
 cpu_int_inferred width second_before (in_base b) = cpu_is (Int (look_in second_before) (Some b) width true)
 cpu_int_inferred width second_before before = batch (look_in before) width
 
--- if the line's first look found 0, an integer has the inferred entry of a read
+-- if the line's first look found generation 0, a random integer has the inferred entry of a read
 abbrev pub int_inferred : ℕ → ℕ → Sign → Sign → CpuInferred
 int_inferred width zero second_before before = cpu_read_inferred (Kernel width) second_before before
 int_inferred width (suc g) second_before before = cpu_int_inferred width second_before before
 
--- an interrupt's first step is its sample; its second visit of the CPU is the dump
+-- of an interrupt's visits of its CPU, the line's first step is the sample, and the second visit is the dump
 abbrev pub sample_inferred : Setting → ℕ → ℕ → Sign → CpuInferred
 sample_inferred set v1 v2 nowhere = cpu_is (IrqSample v1 v2 set.now)
 sample_inferred set v1 v2 before = cpu_is (Dump set.now)
 
--- the inferred entry of a visit of a CPU
+-- the inferred entry of a visit of a CPU, by the kind of its line
 abbrev pub cpu_inferred : Setting → Telling → Sign → Neighbours → CpuInferred
 cpu_inferred set (reads taken) first neighbours = cpu_read_inferred taken neighbours.second_before neighbours.before
 cpu_inferred set (ints width) first neighbours = int_inferred width (look_in first) neighbours.second_before neighbours.before
@@ -224,9 +230,9 @@ cpu_inferred set (samples v1 v2) first neighbours = sample_inferred set v1 v2 ne
 cpu_inferred set (prepares e) first neighbours = cpu_is e
 cpu_inferred set _ first neighbours = cpu_is Prepared
 
--- ---- a line
+-- ---- a line whose visits have the inferred entries
 
--- the visit has the entry that is inferred from the steps around it
+-- if the step is a visit, it has the entry that is inferred from the steps around it
 abbrev pub Fills : LaneFacts → Setting → Telling → Sign → Neighbours → Effect → Type 0
 Fills c set t first neighbours (looked g) = ⊤
 Fills c set t first neighbours (at_pool v) = FillsPool c set t (pool_inferred t neighbours) v
@@ -234,12 +240,13 @@ Fills c set t first neighbours (at_base v) = FillsBase c (base_inferred set t ne
 Fills c set t first neighbours (at_cpu v) = FillsCpu (cpu_inferred set t first neighbours) v
 Fills c set t first neighbours nothing_there = ⊤
 
--- the visible part of the first step, if there is one
+-- the sign of the first of some steps, or `nowhere` if there are no steps
 abbrev pub first_sign : List Effect → Sign
 first_sign [] = nowhere
 first_sign (d ∷ ds) = sign_of d
 
--- `F` holds of each step with the steps around it; `a` and `b` are the signs of the two steps before the first
+-- `F` holds for each step together with the two steps before it and the one after it; `a` and `b` are the signs of the
+-- two steps before the first step
 abbrev pub AllFill : (Neighbours → Effect → Type 0) → Sign → Sign → List Effect → Type 0
 AllFill F a b [] = ⊤
 AllFill F a b (d ∷ ds) =
@@ -249,7 +256,8 @@ AllFill F a b (d ∷ ds) =
 abbrev pub LineFills : LaneFacts → Setting → Telling → List Effect → Type 0
 LineFills c set t effects = AllFill (Fills c set t (first_sign effects)) nowhere nowhere effects
 
--- in a line of several reads, the last step is inferred with `taken`, and each earlier step with `sooner`
+-- in a line of several reads, the line's last step is inferred as a step of a read that takes `taken`, and each earlier
+-- step as one of a read that takes `sooner`
 abbrev pub taken_by : Taken → Taken → Sign → Taken
 taken_by sooner taken nowhere = taken
 taken_by sooner taken _ = sooner
@@ -257,7 +265,7 @@ taken_by sooner taken _ = sooner
 abbrev pub FillsPart : LaneFacts → Setting → Taken → Taken → Sign → Neighbours → Effect → Type 0
 FillsPart c set sooner taken first neighbours d = Fills c set (reads (taken_by sooner taken neighbours.following)) first neighbours d
 
--- the step is a look, or a visit that the lists have
+-- the step is a look, or a visit whose entry is in the lists
 abbrev pub IsThere : Effect → Type 0
 IsThere nothing_there = ⊥
 IsThere _ = ⊤
@@ -266,7 +274,7 @@ abbrev pub AllThere : List Effect → Type 0
 AllThere [] = ⊤
 AllThere (d ∷ ds) = IsThere d × AllThere ds
 
--- ---- acts inside a vread
+-- ---- acts inside a `vread`
 
 abbrev pub act_telling : InsideAct → Telling
 act_telling WipeAct = silent

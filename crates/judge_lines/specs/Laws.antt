@@ -25,7 +25,8 @@ use Rattle.key_names.specs.Callers.LineSamples.{SamplesConform}
 use Rattle.judge_lines.specs.Inferred.{LineFills, telling, reads, ends}
 use Rattle.input_pool.specs.declared.pool.Crossing.{Crossing as Crossed}
 
--- if the entries fit and the samples are correct, each visit of a form has the entry inferred from the steps around it
+-- if the entries of an event's form fit their lanes and its samples are correct, each visit has the entry inferred from
+-- the steps around it
 abbrev pub FormIsInferred : Type 0
 FormIsInferred = (c : LaneFacts) (set : Setting) (event : Event) (effects : List Effect) → Form set event effects →
     AllFit c effects → SamplesConform c.fast effects → LineFills c set (telling set event) effects
@@ -33,19 +34,19 @@ FormIsInferred = (c : LaneFacts) (set : Setting) (event : Event) (effects : List
 abbrev pub EndIsInferred : Type 0
 EndIsInferred = (c : LaneFacts) (set : Setting) (effects : List Effect) → EndForm effects → LineFills c set ends effects
 
--- if the entries of a system call fit, its visits have the inferred entries. Such a call can be a line, an act, or the
--- end of a vread
+-- if the entries of a system call fit their lanes, its visits have the inferred entries. Such a call can be a line, an
+-- act, or the end of a `vread`
 abbrev pub SystemCallIsInferred : Type 0
 SystemCallIsInferred = (c : LaneFacts) (set : Setting) (n flags : ℕ) (effects : List Effect) → SysForm set n flags effects →
     AllFit c effects → LineFills c set (reads (User n)) effects
 
--- steps are a system call if they have the inferred entries and their kinds are a row
+-- if steps have the inferred entries, and their kinds are a row of a system call, they are a system call
 abbrev pub SystemRowIsForm : Type 0
 SystemRowIsForm = (c : LaneFacts) (set : Setting) (n flags : ℕ) (effects : List Effect) →
     LineFills c set (reads (User n)) effects → IsSystemCall n flags (kinds_of set.cpu effects) → SysForm set n flags effects
 
--- steps are a form of an event if they have the inferred entries and their kinds are a row of the event; `crossed` is
--- the crossing of the first visit of the pool
+-- if steps have the inferred entries, and their kinds are a row of `event`, they are a form of `event`. `crossed` is
+-- the threshold that the first visit of the pool crossed, if any
 abbrev pub RowIsForm : Type 0
 RowIsForm = (c : LaneFacts) (set : Setting) (event : Event) (crossed : Crossed) (effects : List Effect) →
     crossing_of crossed ≡ first_crossing effects → CrossingsKnown c effects → LineFills c set (telling set event) effects →
@@ -55,7 +56,7 @@ abbrev pub EndRowIsForm : Type 0
 EndRowIsForm = (c : LaneFacts) (set : Setting) (effects : List Effect) → LineFills c set ends effects →
     IsEnd (kinds_of set.cpu effects) → EndForm effects
 
--- if the entries of a form fit, the kinds of its effects are a row of the event
+-- if the entries of a form of `event` fit their lanes, the kinds of its steps are a row of `event`
 abbrev pub FormIsRow : Type 0
 FormIsRow = (c : LaneFacts) (set : Setting) (event : Event) (crossed : Crossed) (effects : List Effect) →
     crossing_of crossed ≡ first_crossing effects → Form set event effects → AllFit c effects →
@@ -68,14 +69,14 @@ abbrev pub SystemFormIsRow : Type 0
 SystemFormIsRow = (c : LaneFacts) (set : Setting) (n flags : ℕ) (effects : List Effect) → SysForm set n flags effects →
     AllFit c effects → IsSystemCall n flags (kinds_of set.cpu effects)
 
--- ---- lanes and acts
+-- ---- lawful lists, and acts inside a `vread`
 
 abbrev pub ActForm : Setting → InsideAct → List Effect → Type 0
 ActForm set WipeAct effects = effects ≡ []
 ActForm set (VreadAct n) effects = SysForm set n 0 effects
 ActForm set ReseedAct effects = Form set Reseed effects
 
--- if the lists are lawful, the entries of any steps fit
+-- if the lists of all lanes are lawful, the effects of any steps fit these lanes
 abbrev pub LawfulListsFit : Type 0
 LawfulListsFit = (lists : Lists) → ForwardLawful lists → (steps : List Step) →
     AllFit (facts_of lists) (effects_of lists steps)
@@ -95,20 +96,21 @@ abbrev pub ActFormIsRow : Type 0
 ActFormIsRow = (c : LaneFacts) (set : Setting) (act : InsideAct) (effects : List Effect) → ActForm set act effects →
     AllFit c effects → IsActRow act (kinds_of set.cpu effects)
 
--- suppose the entries of an attempt's system call for a key fit. If the steps after the call have the inferred entries,
--- the steps of the call have them too
+-- suppose that the entries of `call`, by which an attempt of a `vread` reads a key, fit their lanes. If the steps after
+-- the call have the inferred entries, the steps of the call have them too
 abbrev pub KeyCallIsInferred : Type 0
 KeyCallIsInferred = (c : LaneFacts) (set : Setting) (n : ℕ) (first : Sign) (call : List Effect) (h : ℕ) (rest : List Effect)
     (a b : Sign) → AllThere call → SysForm set 32 0 call → AllFit c call →
     ((a b : Sign) → AllFill (FillsPart c set (User 32) (User n) first) a b (looked h ∷ rest)) →
     AllFill (FillsPart c set (User 32) (User n) first) a b (call ++ looked h ∷ rest)
 
--- if the entries of the system call at the end of a vread fit, the visits of this call have the inferred entries
+-- if the entries of the system call that ends a `vread` fit their lanes, its visits have the inferred entries
 abbrev pub LastCallIsInferred : Type 0
 LastCallIsInferred = (c : LaneFacts) (set : Setting) (n flags : ℕ) (first : Sign) (call : List Effect) (a b : Sign) →
     SysForm set n flags call → AllFit c call → AllFill (FillsPart c set (User 32) (User n) first) a b call
 
--- a vread's steps before a look are the system call for a key if they have this call's kinds and the inferred entries
+-- if the steps of a `vread` before a look have the kinds and the inferred entries of the system call that reads a key,
+-- they are this call
 abbrev pub KeyRowIsCall : Type 0
 KeyRowIsCall = (c : LaneFacts) (set : Setting) (n : ℕ) (first : Sign) (call : List Effect) (h : ℕ) (rest : List Effect)
     (a b : Sign) → AllThere call → AllFill (FillsPart c set (User 32) (User n) first) a b (call ++ looked h ∷ rest) →

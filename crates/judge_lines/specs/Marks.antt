@@ -1,4 +1,4 @@
--- Marks are sorted by lane and stamp. The marks of one lane are then a run.
+-- Sorting marks by lane and stamp: the marks of one lane then come one after the other.
 use Rattle.std.specs.Prelude.{ℕ, suc, ◌+◌, ◌≡◌, ◌<◌, ◌≤◌, ◌⊎◌, ⊤, Bool, true, false, MatchBool, Option, Some, None, List, [], ◌∷◌}
 use Rattle.key_names.specs.declared.names.LaneId.{LaneId}
 use Rattle.key_names.specs.declared.names.LaneId.TheVariants.{Pool as PoolLane, Base as BaseLane, Cpu as CpuLane}
@@ -11,7 +11,7 @@ use Rattle.judge_lines.specs.declared.marks.MarkOf.{MarkOf}
 abbrev pub seen_mark : MarkOf → MarkBy
 seen_mark of = record { mark = of.mark; who = of.who }
 
--- the lane belongs to this group
+-- whether the lane belongs to this group
 abbrev pub is_in : Group → LaneId → Bool
 is_in Pool PoolLane = true
 is_in Base BaseLane = true
@@ -21,24 +21,25 @@ is_in _ _ = false
 abbrev pub is_by : Group → MarkBy → Bool
 is_by group by = is_in group by.mark.lane
 
--- the rank of a lane: the pool, the base, and then the CPUs by their numbers
+-- the number by which marks are sorted: 0 for the pool, 1 for the base, and 2 + c for CPU c
 abbrev pub lane_rank : LaneId → ℕ
 lane_rank PoolLane = 0
 lane_rank BaseLane = 1
 lane_rank (CpuLane c) = 2 + c
 
--- the lane of mark `a` comes before that of mark `b`, or the lanes are the same and a's stamp is not higher
+-- mark `a` may come before mark `b`: its lane has a lower rank, or the lanes have the same rank and the stamp of `a` is
+-- not higher
 abbrev pub NotAfter : Mark → Mark → Type 0
 NotAfter a b = (lane_rank a.lane < lane_rank b.lane) ⊎ ((lane_rank a.lane ≡ lane_rank b.lane) × (a.stamp ≤ b.stamp))
 
--- each mark and the mark after it are in order
+-- each two marks that are next to each other are in order
 abbrev pub IsSortedByLane : List MarkOf → Type 0
 IsSortedByLane [] = ⊤
 IsSortedByLane (a ∷ []) = ⊤
 IsSortedByLane (a ∷ b ∷ marks) = NotAfter a.mark b.mark × IsSortedByLane (b ∷ marks)
 
--- a mark in the last mark's lane has the next place and a higher stamp; the first mark, and a mark in another lane, has
--- place 0
+-- the first mark has place 0. A mark in the lane of the mark before it, `last`, has the next place and a higher stamp.
+-- A mark in another lane than `last` has place 0
 abbrev pub Follows : Option Mark → Mark → Type 0
 Follows None mark = mark.place ≡ 0
 Follows (Some last) mark =

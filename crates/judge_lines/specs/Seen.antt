@@ -1,4 +1,4 @@
--- The bare lines of the code, as lines of the definitions without data and with an arbitrary answer.
+-- Lines without answers and data (`BareLine`), as lines of the definitions that have no data and an arbitrary answer.
 use Rattle.std.specs.Prelude.{List, map}
 use Rattle.std.specs.Global.{Vec}
 use Rattle.key_names.specs.declared.events.Answer.TheVariants.{Ok as Done}

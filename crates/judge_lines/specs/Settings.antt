@@ -1,4 +1,4 @@
--- The setting before each call of a caller.
+-- The setting (CPU, moment and hardware words) that a caller has before each of its calls.
 use Rattle.std.specs.Prelude.{ℕ, ◌≡◌, Option, Some, None, List, [], ◌∷◌, length, slice_get, unwrap_or}
 use Rattle.std.specs.Global.{Vec}
 use Rattle.key_names.specs.Lanes.Book.{list_at}
@@ -10,18 +10,18 @@ abbrev pub settings_from : Setting → List Call → List Setting
 settings_from set [] = []
 settings_from set (call ∷ calls) = set ∷ settings_from (setting_after_call set call) calls
 
--- the setting before a call of a caller, or the first setting if none is kept
+-- the setting kept for the caller's call k, or the first setting if none is kept
 abbrev pub found_by : Option (Vec Setting) → ℕ → Setting
 found_by None k = first_setting
 found_by (Some settings) k = unwrap_or (slice_get settings.items k) first_setting
 
--- the start setting of the child of this fork: the setting before the call that forks, or the first setting if there is
--- no fork
+-- the setting with which a fork's child starts: that of its parent before the call that forks, or the first setting if
+-- there is no fork
 abbrev pub first_found : List (Vec Setting) → Option Fork → Setting
 first_found settings None = first_setting
 first_found settings (Some fork) = found_by (slice_get settings fork.parent) fork.calls
 
--- `settings` has the setting before each call of each caller
+-- `settings` has, for each of `callers`, the setting before each of its calls
 pub record AreSettings (callers : List (List Call)) (settings : List (Vec Setting)) : Type 0 where
   pub long : length settings ≡ length callers
   pub each : (c : ℕ) (found : Vec Setting) → slice_get settings c ≡ Some found →

@@ -1,4 +1,5 @@
--- `stamp_after` is the stamp of the last visit, after one more step. By `IsAbove`, a further visit has a higher stamp.
+-- The rule that stamps rise: `stamp_after` is the stamp of the last visit after one more step, and by `IsAbove` a step
+-- that is a visit must have a higher stamp than the last visit.
 use Rattle.std.specs.Prelude.{ℕ, ◌<◌, ⊤, Option, Some, None}
 use Rattle.key_names.specs.declared.names.Step.{Step}
 use Rattle.key_names.specs.declared.names.Step.TheVariants.{Look, Visit as Marked}

@@ -1,5 +1,5 @@
-//! A value is carried along each caller's steps. It is `None` at first, and each step may change it. A child begins
-//! with its parent's value at the fork.
+//! A value, a number or `None`, that is carried along the steps of each caller's order. It is `None` at first, and each
+//! step may change it. A child begins with its parent's value at the fork.
 ghost use Rattle.std.specs.Prelude.{◌≡◌, ◌↔◌, ◌<◌, ℕ, [], ◌∷◌, true, IsTrue, IfOk, Option, None, map};
 ghost use Rattle.std.specs.Bool.{OnTrue};
 ghost use Rattle.std.specs.List.{AllByRecursion};
@@ -14,13 +14,13 @@ use crate::order::{Fork, cut, front_of, is_parent, own_steps};
 use key_names::{Point, Step};
 use std::alloc::{AllocError, Global};
 
-/// A rule for a value carried along steps: how each step changes the value, and which steps may follow it. The value is
-/// a number or `None`.
+/// A rule for a value that is carried along steps: how each step changes the value, and which steps are allowed after a
+/// value. The value is a number or `None`.
 pub trait Carry {
-    /// The value after a step.
+    /// The value after a step, from the value before the step.
     ghost after: { Self → Option ℕ → Step → Option ℕ };
 
-    /// The step may follow this value.
+    /// The step is allowed after this value.
     ghost MayFollow: { Self → Option ℕ → Step → Type 0 };
 
     fn may_follow(&self, carried: Option<u64>, step: Step) -> bool
@@ -30,7 +30,8 @@ pub trait Carry {
         ensures { result ≡ after self.now carried step };
 }
 
-/// A position in an order: the value there, and whether each step before the position was allowed to follow.
+/// A walk along some steps: the value carried so far, and whether each step so far was allowed after the value before
+/// it.
 #[derive(Clone, Copy)]
 pub(crate) struct OrderWalk {
     pub(crate) carried: Option<u64>,
@@ -56,7 +57,7 @@ impl OrderWalk {
         self.carried = carry.after(self.carried, step);
     }
 
-    // Advances the walk by some steps.
+    // Advances the walk by the steps `steps`, one after the other.
     fn go<C: Carry>(&mut self, carry: &C, steps: &[Step])
         ensures { HasGone (C.after carry.now) (C.MayFollow carry.now) self.old steps.now self.new }
     {
@@ -108,7 +109,8 @@ impl OrderWalk {
     }
 }
 
-// Whether each step of these calls may follow the value carried to it.
+// Whether each step of these calls is allowed after the value carried to it. The value before the first step is
+// `start`.
 fn may_go<C: Carry>(carry: &C, start: Option<u64>, calls: &[CalledLines<'_>]) -> bool
     ensures { IsTrue result ↔ Along (C.after carry.now) (C.MayFollow carry.now) start
         (calls_steps (map seen_call calls.now)) }
@@ -120,7 +122,8 @@ fn may_go<C: Carry>(carry: &C, start: Option<u64>, calls: &[CalledLines<'_>]) ->
     walk.follows
 }
 
-// The value after each prefix of these steps. The first is that of the empty prefix.
+// The value after each prefix of these steps, beginning with the empty prefix. The value before the first step is
+// `start`.
 fn along<C: Carry>(
     alloc: Global,
     carry: &C,
@@ -139,7 +142,7 @@ fn along<C: Carry>(
     Ok(kept)
 }
 
-// The values along a caller's own steps if it forks another caller, and otherwise no values.
+// The values after each prefix of a caller's own steps, if it forks another caller. Otherwise no values.
 fn kept_of<C: Carry>(
     alloc: Global,
     carry: &C,
@@ -166,7 +169,7 @@ fn start_of(forks: &[Fork], kept: &[Vec<Option<u64>>], caller: usize) -> Option<
     *parent.get(fork.steps)?
 }
 
-/// Whether each step of each caller's order may follow the value carried to it.
+/// Whether each step of each caller is allowed after the value that is carried to it along the caller's order.
 ///
 /// # Errors
 ///

@@ -1,4 +1,5 @@
-//! Judges the clauses on lines and marks, before any lane's list is made.
+//! Judges the clauses on a transcript's lines and marks (visits as the lines print them), before any lane's list is
+//! made.
 ghost use Rattle.std.specs.Prelude.{◌≡◌, ◌≤◌, length, IfOk};
 ghost use Rattle.key_names.specs.Texts.ScriptGrammar.{WellFormed};
 ghost use Rattle.key_names.specs.Transcripts.IsTranscript.{HasLines, script_calls};
@@ -17,7 +18,7 @@ use crate::stamps::Stamps;
 use event_script::Script;
 use std::alloc::{AllocError, Global};
 
-/// The calls, marks and forks of a transcript whose lines and marks are lawful.
+/// What judging makes of a transcript whose lines and marks are lawful: its calls, its marks and its forks.
 #[derive(Drop)]
 pub struct TranscriptParts<'a> {
     pub calls: Vec<Vec<CalledLines<'a>>>,
@@ -25,7 +26,7 @@ pub struct TranscriptParts<'a> {
     pub forks: Vec<Fork>,
 }
 
-/// The judgement of lines and marks.
+/// The result of judging a transcript's lines and marks.
 #[derive(Drop)]
 pub enum Begun<'a> {
     Conforms(TranscriptParts<'a>),
@@ -33,7 +34,7 @@ pub enum Begun<'a> {
     No(Clause),
 }
 
-// The calls of each caller.
+// The calls of each caller, with their lines.
 fn all_calls<'a>(
     alloc: Global,
     script: &'a Script,

@@ -9,7 +9,7 @@ use key_names::{Event, InsideAct, Point};
 use std::alloc::{AllocError, Global};
 use std::mem;
 
-/// An act for a point of a `vread`, with its line.
+/// An act (an event inside a `vread`, at one of its points), with its line.
 #[derive(Clone, Copy)]
 pub struct ActLine<'a> {
     pub point: Point,
@@ -17,8 +17,8 @@ pub struct ActLine<'a> {
     pub line: BareLine<'a>,
 }
 
-/// One call of a caller with its lines: a single event, a `vread` with the acts inside it, an act that no `vread`
-/// follows, or the end.
+/// One call of a caller, with its lines: a single event, a `vread` with the acts inside it, an act that no `vread`
+/// follows, or the caller's end.
 #[derive(Drop)]
 pub enum CalledLines<'a> {
     Alone {

@@ -3,13 +3,13 @@ ghost use Rattle.std.specs.Prelude.{◌≡◌};
 ghost use Rattle.key_names.specs.Transcripts.IsTranscript.{clause_number};
 ghost use Rattle.judge_lines.specs.Clauses.{clause_of};
 
-/// The clauses of a lawful transcript, in the order in which they are judged. Clause 1 comes before these: the text is
-/// that of a transcript.
+/// The clauses of a lawful transcript from clause 2 on, in the order in which they are judged. Clause 1, which is
+/// judged before, requires that the text is that of a transcript.
 #[derive(Clone, Copy, Debug, PartialEq, Eq)]
 pub enum Clause {
-    /// Each caller has its lines.
+    /// Each caller has exactly the lines that its part of the script requires.
     Lines,
-    /// In each lane places count up from 0, and stamps rise in each lane and along each caller's order.
+    /// In each lane the visits' places count up from 0. Stamps rise in each lane and along each caller's order.
     Marks,
     /// The steps of each line are a form of its event. One book contains the steps of all lines.
     Forms,

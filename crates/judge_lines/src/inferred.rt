@@ -1,12 +1,13 @@
-//! Infers the entry of a visit from the steps around it. The functions are total: they return an arbitrary entry for a
-//! visit that is in no form of its line.
+//! Infers the entry of a visit from the steps before and after it. The functions are total: if a visit cannot occur in
+//! its line, they return an arbitrary entry.
 ghost use Rattle.std.specs.Prelude.{◌≡◌};
 ghost use Rattle.judge_lines.specs.Inferred as inferred;
 
 use crate::setting::LineSetting;
 use key_names::{BaseEntry, CpuEntry, Event, Taken};
 
-/// The visible part of a step: the generation that a look found, or the lane and place of a visit.
+/// The part of a step that is used to infer entries: the generation that a look found, or the lane and place of a
+/// visit.
 #[derive(Clone, Copy, Debug, PartialEq, Eq)]
 pub enum Sign {
     /// A look that found this generation.
@@ -17,11 +18,12 @@ pub enum Sign {
     InBase(u64),
     /// A visit of a CPU, by its number and its place.
     InCpu(u32, u64),
-    /// No step: the sign beyond an end of the line.
+    /// No step, since the line has none before its first step or after its last.
     Nowhere,
 }
 
-/// The two steps before a step, and the one after it. A step that the line does not have is `Sign::Nowhere`.
+/// The signs of the two steps before a visit, and of the step after it. A step that the line does not have is
+/// `Sign::Nowhere`.
 #[derive(Clone, Copy, Debug, PartialEq, Eq)]
 pub struct Neighbours {
     pub second_before: Sign,
@@ -32,11 +34,11 @@ pub struct Neighbours {
 /// The inferred entry of a visit of the pool.
 #[derive(Clone, Copy, Debug, PartialEq, Eq)]
 pub enum PoolInferred {
-    /// The event's own entry.
+    /// The entry that the line's event makes itself, such as a mix.
     Own,
-    /// An extraction for this place of the base.
+    /// An extraction for the entry of the base at this place.
     Extracted(u64),
-    /// The mix of the dump at this place of a CPU.
+    /// The mix of a fast pool's dump, which is at this place of this CPU's list.
     Dumped(u32, u64),
 }
 
@@ -45,10 +47,10 @@ pub enum PoolInferred {
 pub enum BaseInferred {
     /// This entry.
     Is(BaseEntry),
-    /// The entry after a crossing. If the credit at this place of the pool made the core ready, the entry is a reseed
-    /// with this root at this moment. Otherwise the entry is an early key from the root.
+    /// The base's entry after a credit crossed a threshold. If the credit at place `credit` of the pool made the core
+    /// ready, this is a reseed with this root at the moment `now`. Otherwise it is an early key from the root.
     Crossed { root: u64, now: u64, credit: u64 },
-    /// The end of a wait: the caller went on if the base had a generation, and was interrupted otherwise.
+    /// The end of a wait. The caller resumed if the base had a generation above 0, and was interrupted otherwise.
     Woken,
 }
 
@@ -57,8 +59,8 @@ pub enum BaseInferred {
 pub enum CpuInferred {
     /// This entry.
     Is(CpuEntry),
-    /// An integer of this many bytes, after a look that found this generation. The CPU's state determines whether the
-    /// integer fills its batch.
+    /// A random integer of `width` bytes, after a look that found the generation `look`. The CPU's state determines
+    /// whether the integer fills its batch.
     Batch { look: u64, width: u8 },
 }
 
@@ -80,7 +82,7 @@ fn pool_place_in(sign: Sign) -> u64
     }
 }
 
-/// The place of a visit of the base; 0 for any other step.
+/// The place of a step that visits the base, or 0 for any other step.
 pub fn base_place_in(sign: Sign) -> u64
     ensures { result ≡ inferred.base_place_in sign }
 {
@@ -117,7 +119,7 @@ fn dumped_or_extracted(following: Sign, before: Sign) -> PoolInferred
     }
 }
 
-/// The inferred entry of a visit of the pool, in a line of an event.
+/// The inferred entry of a visit of the pool in the line of `event`.
 pub fn pool_inferred(set: &LineSetting, event: &Event, neighbours: Neighbours) -> PoolInferred
     ensures { result ≡ inferred.pool_inferred (inferred.telling set.now event.now) neighbours }
 {
@@ -146,7 +148,7 @@ fn drawn_or_woken(taken: Taken, before: Sign) -> BaseInferred
     }
 }
 
-/// The inferred entry of a visit of the base, in a read or a system call that takes these bytes.
+/// The inferred entry of a visit of the base, during a read or a system call that takes the bytes `taken`.
 pub fn read_inferred(set: &LineSetting, taken: Taken, neighbours: Neighbours) -> BaseInferred
     ensures { result ≡ inferred.read_inferred set.now taken neighbours }
 {
@@ -183,8 +185,8 @@ fn forked_inferred(child: u32, second_before: Sign, before: Sign) -> BaseInferre
     }
 }
 
-/// The inferred entry of a visit of the base, in a line of an event. The entry in a caller's last line is inferred as
-/// for an event without visits of the base.
+/// The inferred entry of a visit of the base in the line of `event`. For the line of a caller's end, the entry is
+/// inferred as for an event that never visits the base.
 pub fn base_inferred(set: &LineSetting, event: &Event, neighbours: Neighbours) -> BaseInferred
     ensures { result ≡ inferred.base_inferred set.now (inferred.telling set.now event.now) neighbours }
 {
@@ -219,8 +221,8 @@ pub fn base_inferred(set: &LineSetting, event: &Event, neighbours: Neighbours) -
     }
 }
 
-/// The inferred entry of a visit of a CPU, from the two steps before it, in a read or a system call that takes these
-/// bytes.
+/// The inferred entry of a visit of a CPU, during a read or a system call that takes the bytes `taken`. It is inferred
+/// from the two steps before the visit.
 pub fn cpu_read_inferred(taken: Taken, second_before: Sign, before: Sign) -> CpuInferred
     ensures { result ≡ inferred.cpu_read_inferred taken second_before before }
 {
@@ -267,7 +269,7 @@ fn int_inferred(width: u8, found: u64, second_before: Sign, before: Sign) -> Cpu
     }
 }
 
-/// The inferred entry of a visit of a CPU, in a line of an event whose first step is `first`.
+/// The inferred entry of a visit of a CPU in the line of `event`, whose first step is `first`.
 pub fn cpu_inferred(
     set: &LineSetting,
     event: &Event,

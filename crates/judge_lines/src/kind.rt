@@ -1,11 +1,12 @@
-//! The kinds of a line's steps.
+//! The kinds of the steps in a line.
 
-/// The kind of a step. A row is a list of kinds, one for each step of a form.
+/// The kind of a step: a look or a visit, and what is visible of it. A row is a list of kinds, one for each step that a
+/// line can have.
 #[derive(Clone, Copy, Debug, PartialEq, Eq)]
 pub enum Kind {
     /// A look that found generation 0: the core was not ready.
     Unready,
-    /// A look that found a higher generation.
+    /// A look that found a generation above 0: the core was ready.
     Ready,
     /// A visit of the pool.
     Pool,
@@ -13,7 +14,7 @@ pub enum Kind {
     Base,
     /// A visit of the base that ended a wait because the core was ready.
     Resumed,
-    /// A visit of the line's CPU: the one that the event names, or the caller's.
+    /// A visit of the line's CPU: the CPU that the event names, or else the caller's CPU.
     Cpu,
     /// A visit of another CPU, or a visit that is in no list.
     OtherCpu,

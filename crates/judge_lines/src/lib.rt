@@ -1,4 +1,4 @@
-//! A transcript's lines, without answers and data: their calls, marks, forks and forms.
+//! Judges a transcript's lines without their answers and data: the lines' calls, marks, forks and forms.
 //!
 //! [`begin::begin`] checks two clauses. Lines: each caller has its lines. Marks: in each lane the places of the visits
 //! count up from 0, with rising stamps. Stamps also rise along each caller's order: its ancestors' steps before the
@@ -25,8 +25,8 @@
 //!   the first clause that fails.
 //! - [`settings::all_settings`]: the setting before each call.
 //! - [`along::all_may_follow`]: whether each step in each caller's order may follow the value carried to it.
-//! - [`rows`] decides the forms that the steps of a line can have, by rows of kinds. [`inferred`] infers the entry of each
-//!   visit from the steps around it.
+//! - [`rows`] decides the forms that the steps of a line can have, by rows (lists of kinds of steps). [`inferred`]
+//!   infers the entry of each visit from the steps around it.
 //! - [`laws`]: suppose that all entries fit, and that the samples of the line are correct. Then steps are a form of
 //!   their event exactly if their kinds are a row of the event and each visit has the inferred entry.
 //!

@@ -1,4 +1,4 @@
-//! Whether each caller has its lines.
+//! Whether each caller has exactly the lines that the script requires of it.
 ghost use Rattle.std.specs.Prelude.{◌↔◌, IsTrue, map, length};
 ghost use Rattle.key_names.specs.Transcripts.IsTranscript.{LineIs, LinesFit, HasLines};
 ghost use Rattle.judge_lines.specs.Seen.{seen_bare, seen_callers};
@@ -13,7 +13,7 @@ fn is_line(line: &BareLine<'_>, caller: u32, event: usize, word: Word) -> bool
     line.caller == caller && line.event as usize == event && line.word == word
 }
 
-// Whether these are the lines of a caller with these events.
+// Whether `lines` are the lines that the caller with these events must have.
 fn caller_fits(caller: u32, events: &[Event], lines: &[BareLine<'_>]) -> bool
     ensures { IsTrue result ↔ LinesFit caller 0 events.now (map seen_bare lines.now) }
 {
@@ -28,7 +28,7 @@ fn caller_fits(caller: u32, events: &[Event], lines: &[BareLine<'_>]) -> bool
     is_line(&lines[events.len()], caller, events.len(), Word::End)
 }
 
-/// Whether each caller of the script has its lines, and no further caller has any.
+/// Whether each caller of the script has exactly its lines, and no further caller has any.
 pub(crate) fn lines_fit(script: &Script, callers: &[Vec<BareLine<'_>>]) -> bool
     ensures { IsTrue result ↔ HasLines script.now (seen_callers callers.now) }
 {

@@ -1,4 +1,5 @@
-//! Collects the marks of all lines, and checks that places count up and stamps rise in each lane.
+//! Collects the marks (visits as lines print them) of all lines. Checks that in each lane places count up and stamps
+//! rise.
 ghost use Rattle.std.specs.Prelude.{◌≡◌, ◌↔◌, ◌+◌, ◌++◌, ◌<◌, ◌≤◌, ℕ, IsTrue, IfOk, OnOk, List, [], map, length, IsPermutation};
 ghost use Rattle.std.specs.List.{filter, flat_map, AllByRecursion};
 ghost use Rattle.key_names.specs.declared.names.LaneId.{LaneId};
@@ -10,14 +11,14 @@ use crate::bare::BareLine;
 use key_names::{LaneId, Mark, Step, Who};
 use std::alloc::{AllocError, Global};
 
-/// A mark, and its step: the caller, the line, and the step's number in the line.
+/// A mark, and where it is printed: the caller, the line, and the number of the step in the line.
 #[derive(Clone, Copy, Debug, PartialEq, Eq)]
 pub struct MarkOf {
     pub mark: Mark,
     pub who: Who,
 }
 
-/// A group of lanes. The marks are collected group by group.
+/// The lanes whose marks are collected in one pass over the lines: the pool, the base, or all CPUs.
 #[derive(Clone, Copy)]
 enum Group {
     Pool,
@@ -99,7 +100,7 @@ fn gathered(alloc: Global, callers: &[Vec<BareLine<'_>>]) -> Result<Vec<MarkOf>,
     Ok(marks)
 }
 
-// The rank of a lane: the pool, the base, and then the CPUs.
+// The number by which marks are sorted: the pool comes first, then the base, and then the CPUs in order.
 fn lane_rank(lane: LaneId) -> u64
     ensures { result ≡ lane_rank lane }
 {

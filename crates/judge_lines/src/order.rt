@@ -1,4 +1,4 @@
-//! Each caller's own steps, and the point in its parent's steps at which it was forked.
+//! Each caller's own steps, and the step of its parent after which it was forked.
 ghost use Rattle.std.specs.Prelude.{◌≡◌, ◌<◌, ◌≤◌, ◌^◌, ◌++◌, IfOk, OnOk, map, length, take, drop};
 ghost use Rattle.std.specs.List.{list_any};
 ghost use Rattle.key_names.specs.Callers.History.{is_mark, through_visit, steps_at_point, cut_after_visits, cut_after_rekey};
@@ -10,8 +10,8 @@ use crate::called::{ActLine, CalledLines};
 use key_names::{Event, Point, Step};
 use std::alloc::{AllocError, Global};
 
-/// The fork that makes a caller. `calls` counts the parent's calls before the fork. `steps` counts the parent's own
-/// steps up to and including the fork's first visit.
+/// The fork that makes the caller `child`. `calls` counts the parent's calls before the fork. `steps` counts the
+/// parent's own steps up to and including the fork's first visit.
 #[derive(Clone, Copy, Debug, PartialEq, Eq)]
 pub struct Fork {
     pub parent: u32,
@@ -26,7 +26,7 @@ fn is_visit(step: Step) -> bool
     matches!(step, Step::Visit(_))
 }
 
-// The number of visits before the first step that is no visit.
+// How many visits `steps` begins with, before the first step that is a look.
 fn visits_in_front(steps: &[Step]) -> usize
     ensures within { result ≤ length steps.now }
     ensures front { take result steps.now ≡ (cut_after_visits steps.now).0 }
@@ -38,8 +38,8 @@ fn visits_in_front(steps: &[Step]) -> usize
     }
 }
 
-// How many of these steps come before the points `Serve` and `End`. These steps are the steps of a `vread` without its
-// first two.
+// How many of `steps` come before the points `Serve` and `End` of a `vread`. `steps` are the steps of the `vread`
+// without its first two.
 fn rekey_end(steps: &[Step]) -> usize
     ensures within { result ≤ length steps.now }
     ensures front { take result steps.now ≡ (cut_after_rekey steps.now).0 }
@@ -52,7 +52,7 @@ fn rekey_end(steps: &[Step]) -> usize
     }
 }
 
-// The number of steps up to and including the first visit.
+// How many steps there are up to and including the first visit.
 fn first_visit_end(steps: &[Step]) -> usize
     ensures within { result ≤ length steps.now }
     ensures front { take result steps.now ≡ through_visit steps.now }
@@ -76,8 +76,8 @@ fn push_at_point(own: &mut Vec<Step>, acts: &[ActLine<'_>], point: Point) -> Res
     push_at_point(own, rest, point)
 }
 
-/// The steps of a `vread` in three parts: those before its points `Start` and `Written`, those from there to its points
-/// `Serve` and `End`, and the rest.
+/// The steps of a `vread` in three parts: those before its points `Start` and `Written`, those after that and before
+/// its points `Serve` and `End`, and those after these points.
 pub(crate) fn cut(steps: &[Step]) -> (&[Step], &[Step], &[Step])
     ensures looks { result.0.now ≡ take 2 steps.now }
     ensures rekey { result.1.now ≡ (cut_after_rekey (drop 2 steps.now)).0 }
@@ -145,7 +145,7 @@ fn push_fork(
     }
 }
 
-/// A caller's own steps, in their order.
+/// A caller's own steps, in the order in which it made them.
 ///
 /// # Errors
 ///
@@ -160,7 +160,7 @@ pub(crate) fn own_steps(alloc: Global, calls: &[CalledLines<'_>]) -> Result<Vec<
     Ok(own)
 }
 
-/// The own steps of each caller.
+/// For each caller, its own steps in the order in which it made them.
 ///
 /// # Errors
 ///
@@ -194,7 +194,7 @@ fn has_fork(calls: &[CalledLines<'_>]) -> bool
     calls.iter().any(|call| is_fork(call))
 }
 
-// Adds the forks of a caller. Steps are counted only for a caller with forks.
+// Adds the forks that a caller makes to `forks`. Steps are counted only for a caller with forks.
 fn push_forks(
     alloc: Global,
     caller: u32,
@@ -233,7 +233,7 @@ pub(crate) fn all_forks(
     Ok(forks)
 }
 
-/// The fork that makes this caller, if there is one.
+/// The fork that makes the caller `child`, if there is one.
 pub fn front_of(forks: &[Fork], child: usize) -> Option<Fork>
     ensures { result ≡ front_in child forks.now }
 {
@@ -245,7 +245,7 @@ pub fn front_of(forks: &[Fork], child: usize) -> Option<Fork>
     None
 }
 
-/// Whether a caller forks another.
+/// Whether the caller forks another one.
 pub(crate) fn is_parent(forks: &[Fork], caller: usize) -> bool
     ensures { result ≡ is_parent_in caller forks.now }
 {

@@ -1,4 +1,4 @@
-//! Whether the kinds of some steps are a row: a list of kinds that the steps of a form can have.
+//! Whether the kinds of some steps are a row: a list of kinds that the steps of a line can have.
 ghost use Rattle.std.specs.Prelude.{◌≡◌, ◌↔◌, IsTrue, ℕ};
 ghost use Rattle.judge_lines.specs.Rows.{IsDraw, IsCpuRead, IsRead, IsAfterLook, IsSystemCall, IsLookedRead};
 ghost use Rattle.judge_lines.specs.Rows.{IsPlainRead, IsInt, IsReseed, IsAfterCredit, IsCredit, IsInterrupt};
@@ -8,14 +8,15 @@ use crate::kind::Kind;
 use input_pool::Crossing;
 use key_names::{Event, InsideAct, flags};
 
-/// A draw: bytes from the base of a core that is not ready.
+/// Whether `kinds` are the step kinds of a draw: a read of bytes from the base while the core is not ready.
 fn is_draw(kinds: &[Kind]) -> bool
     ensures { IsTrue result ↔ IsDraw kinds.now }
 {
     matches!(kinds, [Kind::Pool, Kind::Base] | [Kind::Base])
 }
 
-/// A read from a CPU, which first takes a new key from the base if it needs one.
+/// Whether `kinds` are the step kinds of a read from a CPU, which first takes a new key from the base if the CPU needs
+/// one.
 fn is_cpu_read(kinds: &[Kind]) -> bool
     ensures { IsTrue result ↔ IsCpuRead kinds.now }
 {
@@ -25,14 +26,16 @@ fn is_cpu_read(kinds: &[Kind]) -> bool
     )
 }
 
-/// The steps of a read after its first look. `ready` is whether that look found the core ready.
+/// Whether `kinds` are the step kinds of a read after its first look. `ready` is whether that look found the core
+/// ready.
 fn is_read(ready: bool, kinds: &[Kind]) -> bool
     ensures { IsTrue result ↔ IsRead ready kinds.now }
 {
     (!ready && is_draw(kinds)) || is_cpu_read(kinds)
 }
 
-/// The steps of a system call of `len` bytes after its first look (getrandom(2)).
+/// Whether `kinds` are the step kinds of a system call of `len` bytes (getrandom(2)) after its first look. `ready` is
+/// whether that look found the core ready.
 fn is_after_look(len: u32, flags: u32, ready: bool, kinds: &[Kind]) -> bool
     ensures { IsTrue result ↔ IsAfterLook len flags ready kinds.now }
 {
@@ -59,7 +62,7 @@ fn is_after_look(len: u32, flags: u32, ready: bool, kinds: &[Kind]) -> bool
     }
 }
 
-/// A system call of `len` bytes with these flags (getrandom(2)).
+/// Whether `kinds` are the step kinds of a system call of `len` bytes with these flags (getrandom(2)).
 fn is_system_call(len: u32, flags: u32, kinds: &[Kind]) -> bool
     ensures { IsTrue result ↔ IsSystemCall len flags kinds.now }
 {
@@ -73,7 +76,7 @@ fn is_system_call(len: u32, flags: u32, kinds: &[Kind]) -> bool
     }
 }
 
-/// A read that begins with a look.
+/// Whether `kinds` are the step kinds of a read that begins with a look.
 fn is_looked_read(kinds: &[Kind]) -> bool
     ensures { IsTrue result ↔ IsLookedRead kinds.now }
 {
@@ -84,7 +87,8 @@ fn is_looked_read(kinds: &[Kind]) -> bool
     }
 }
 
-/// A read of `len` bytes by the kernel or into user memory; a read of no bytes has no steps.
+/// Whether `kinds` are the step kinds of a read of `len` bytes by the kernel or into user memory. A read of no bytes
+/// has no steps.
 fn is_plain_read(len: u32, kinds: &[Kind]) -> bool
     ensures { IsTrue result ↔ IsPlainRead len kinds.now }
 {
@@ -95,7 +99,7 @@ fn is_plain_read(len: u32, kinds: &[Kind]) -> bool
     }
 }
 
-/// A random integer (`get_random_u8` to `get_random_u64`).
+/// Whether `kinds` are the step kinds of a random integer (`get_random_u8` to `get_random_u64`).
 fn is_int(kinds: &[Kind]) -> bool
     ensures { IsTrue result ↔ IsInt kinds.now }
 {
@@ -106,7 +110,7 @@ fn is_int(kinds: &[Kind]) -> bool
     }
 }
 
-/// A forced reseed, which a core that is not ready refuses.
+/// Whether `kinds` are the step kinds of a forced reseed, which is refused while the core is not ready.
 fn is_reseed(kinds: &[Kind]) -> bool
     ensures { IsTrue result ↔ IsReseed kinds.now }
 {
@@ -116,7 +120,8 @@ fn is_reseed(kinds: &[Kind]) -> bool
     )
 }
 
-/// The steps after a credit of the pool with this crossing.
+/// Whether `kinds` are those of the steps after a credit of the pool. `crossed` is the threshold that the credit
+/// crossed, if any.
 fn is_after_credit(crossed: Crossing, kinds: &[Kind]) -> bool
     ensures { IsTrue result ↔ IsAfterCredit crossed kinds.now }
 {
@@ -127,7 +132,8 @@ fn is_after_credit(crossed: Crossing, kinds: &[Kind]) -> bool
     }
 }
 
-/// A credit of the pool, and the steps after it.
+/// Whether `kinds` are the step kinds of a credit of the pool and the steps after it. `crossed` is the threshold that
+/// the credit crossed, if any.
 fn is_credit(crossed: Crossing, kinds: &[Kind]) -> bool
     ensures { IsTrue result ↔ IsCredit crossed kinds.now }
 {
@@ -137,7 +143,8 @@ fn is_credit(crossed: Crossing, kinds: &[Kind]) -> bool
     }
 }
 
-/// An interrupt: its sample and, if there is one, a dump of the fast pool into the pool, with the steps after it.
+/// Whether `kinds` are the step kinds of an interrupt: its sample and perhaps a dump of the fast pool, the mix of this
+/// dump into the pool, and the steps after the mix.
 fn is_interrupt(crossed: Crossing, kinds: &[Kind]) -> bool
     ensures { IsTrue result ↔ IsInterrupt crossed kinds.now }
 {
@@ -148,21 +155,22 @@ fn is_interrupt(crossed: Crossing, kinds: &[Kind]) -> bool
     }
 }
 
-/// A tick of the reseed timer, which may fire.
+/// Whether `kinds` are the step kinds of a tick of the reseed timer, which may fire.
 fn is_tick(kinds: &[Kind]) -> bool
     ensures { IsTrue result ↔ IsTick kinds.now }
 {
     matches!(kinds, [Kind::Base] | [Kind::Pool, Kind::Base])
 }
 
-/// A fork. If the child ran in its parent's thread, the line has two more visits of the base.
+/// Whether `kinds` are the step kinds of a fork. If the child ran in its parent's thread, the line has two more visits
+/// of the base.
 fn is_fork(kinds: &[Kind]) -> bool
     ensures { IsTrue result ↔ IsFork kinds.now }
 {
     matches!(kinds, [Kind::Base] | [Kind::Base, Kind::Base, Kind::Base])
 }
 
-/// A fork of the virtual machine (`add_vmfork_randomness`).
+/// Whether `kinds` are the step kinds of a fork of the virtual machine (`add_vmfork_randomness`).
 fn is_vmfork(kinds: &[Kind]) -> bool
     ensures { IsTrue result ↔ IsVmfork kinds.now }
 {
@@ -172,15 +180,15 @@ fn is_vmfork(kinds: &[Kind]) -> bool
     )
 }
 
-/// The line of a caller's end.
+/// Whether `kinds` are those of the line of a caller's end.
 pub fn is_end(kinds: &[Kind]) -> bool
     ensures { IsTrue result ↔ IsEnd kinds.now }
 {
     matches!(kinds, [Kind::Base])
 }
 
-/// Whether these kinds are a row of a single event. `crossed` is the crossing of the line's first visit of the pool. A
-/// `vread` and the acts inside it have forms of their own.
+/// Whether `kinds` are a row of `event` outside a `vread`. `crossed` is the threshold that the line's first visit of
+/// the pool crossed, if any. A `vread` and the acts inside it have forms of their own.
 pub fn is_row(event: &Event, crossed: Crossing, kinds: &[Kind]) -> bool
     ensures { IsTrue result ↔ IsRow event.now crossed kinds.now }
 {
@@ -202,7 +210,7 @@ pub fn is_row(event: &Event, crossed: Crossing, kinds: &[Kind]) -> bool
     }
 }
 
-/// Whether these kinds are a row of an act inside a `vread`.
+/// Whether `kinds` are a row of the act `act` inside a `vread`.
 pub fn is_act_row(act: InsideAct, kinds: &[Kind]) -> bool
     ensures { IsTrue result ↔ IsActRow act kinds.now }
 {

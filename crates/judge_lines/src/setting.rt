@@ -1,8 +1,8 @@
-//! The setting of a caller.
+//! The setting of a caller: its CPU, its moment and its hardware words.
 use key_names::Event;
 use std::marker::Model;
 
-/// A caller's CPU, its moment in milliseconds and its hardware words.
+/// A caller's CPU, its moment (the time that its calls see) in milliseconds, and its 32 bytes of hardware words.
 ///
 /// In contracts, a `LineSetting` is a `Setting` of `key_names` (`specs/Callers/Calls`).
 #[derive(Drop)]
@@ -46,7 +46,7 @@ impl LineSetting {
         }
     }
 
-    /// Applies the event's change to the setting.
+    /// Changes the setting as `event` does.
     pub fn follow(&mut self, event: &Event)
         ensures { self.new ≡ setting_after self.old event.now }
     {

@@ -1,4 +1,4 @@
-//! The setting before each call.
+//! The setting (CPU, moment and hardware words) that a caller has before each of its calls.
 ghost use Rattle.std.specs.Prelude.{◌≡◌, ◌<◌, IfOk, map};
 ghost use Rattle.std.specs.List.{AllByRecursion};
 ghost use Rattle.key_names.specs.Callers.Calls.{setting_after_call};
@@ -11,7 +11,7 @@ use crate::order::{Fork, front_of};
 use crate::setting::LineSetting;
 use std::alloc::{AllocError, Global};
 
-// Applies the changes of a call to the setting.
+// Changes the setting as the events of a call do.
 fn follow(set: &mut LineSetting, call: &CalledLines<'_>)
     ensures { set.new ≡ setting_after_call set.old (seen_call call.now) }
 {

@@ -1,11 +1,12 @@
-//! Whether stamps rise along the order of each caller.
+//! Whether the visits' stamps rise along the order of each caller.
 ghost use Rattle.std.specs.Prelude.{◌≡◌, ◌↔◌, IsTrue};
 ghost use Rattle.judge_lines.specs.Stamps.{stamp_after, IsAbove};
 
 use crate::along::Carry;
 use key_names::Step;
 
-/// Carries the stamp of the last visit along an order. The next visit must have a higher stamp.
+/// A rule for `all_may_follow`: the value carried is the stamp of the last visit, and the next visit must have a higher
+/// stamp.
 pub struct Stamps;
 
 impl Carry for Stamps {

@@ -1,4 +1,5 @@
--- If a mark's moment is appended to the mark's lane, the lanes have the moments of the old marks and of this mark.
+-- If the moment of a mark is appended to the moments of the mark's lane, the lanes have the moments of all marks so
+-- far.
 use Rattle.std.proofs.Common.{◌≡◌, ◌<◌, ◌+◌, ℕ, zero, suc, Bool, true, false, List, [], ◌∷◌, ◌++◌, length, get_or, refl, sym, ap, ◌∙◌, append-nil, length-append, arith}
 use Rattle.std.specs.Prelude.{◌==◌, if◌then◌else◌, slice_set}
 use Rattle.std.specs.Global.{Vec}
@@ -29,7 +30,8 @@ was_here [] k d low = absurd (omega arith)
 was_here (x ∷ cpus) zero d low = refl
 was_here (x ∷ cpus) (suc k) d low = was_here cpus k d (omega arith)
 
--- if a moment is appended to CPU `k`, CPU `k` has one moment more; every other CPU has the same moments as before
+-- if the moment `m` is appended to CPU `k`, this CPU has `m` as its last moment, and every other CPU has the same
+-- moments as before
 pub one_more : (cpus : List (Vec Moment)) (k : ℕ) (old lane : Vec Moment) (m : Moment) → k < length cpus →
     old ≡ get_or cpus k old → lane.items ≡ old.items ++ m ∷ [] → (c : ℕ) →
     list_at (moment_lists (slice_set cpus k lane)) c
@@ -48,7 +50,7 @@ one_more cpus k old lane m low was more c = go (k == c) refl
         set_there cpus k c lane (λ e. (let t : (k == c) ≡ true = eq-eqb k c e in cc))
         ∙ sym (append-nil (list_at (moment_lists cpus) c))
 
--- if no CPU has moments, and a CPU without moments is added, still no CPU has moments
+-- if no CPU in `cpus` has moments, this stays so when a CPU `lane` without moments is added
 no_more : (cpus : List (Vec Moment)) (lane : Vec Moment) → lane.items ≡ [] →
     ((c : ℕ) → c < length cpus → list_at (moment_lists cpus) c ≡ []) → (c : ℕ) →
     list_at (moment_lists (cpus ++ lane ∷ [])) c ≡ []

@@ -1,5 +1,5 @@
--- The kept book of a transcript has the data of the book that the transcript's steps make. The first proof is for bare
--- lines, which have no answers or data. The second proof is for the lines themselves.
+-- The kept book of a transcript has the data of the book that the transcript's steps make. This is proved first for
+-- lines without answers and data (bare lines), and then for the lines themselves.
 use Rattle.std.proofs.Common.{◌≡◌, ℕ, List, map, sym, ap, subst, ◌∙◌}
 use Rattle.std.specs.Prelude.{IsPermutation}
 use Rattle.std.specs.Global.{Vec}
@@ -33,7 +33,8 @@ use Rattle.key_audit.specs.Kept.{KeepsBook}
 use Rattle.key_audit.proofs.CutStates.{cut_bare, cut_states, ends_bare, lines_bare}
 use Rattle.key_audit.proofs.VisitMarks.{marks_visits}
 
--- if `states` and `lines` match the calls, the kept book has the data of the book that the steps make
+-- if `states` and `lines` are those of the transcript's calls, the kept book has the data of the book that the
+-- transcript's steps make
 pub keeps_book : (script : Script) (t : List (List SeenLine)) (basis : Basis) → BasisConforms script t basis →
     (m : MadeBook script t) (states : Vec (Vec (Vec StateEntry))) (lines : Vec (Vec LineEnd)) →
     AreStateLists (seen_calls basis.parts.calls.items) (all_lists_in states.items) →
@@ -91,7 +92,7 @@ module _ (script : Script) (t : List (List SeenLine)) (book : Book) (ms : List (
         visits = of.visits;
       }
 
-  -- a kept book that matches the bare lines also matches the lines themselves
+  -- a kept book that has the data for the bare lines also has the data for the lines themselves
   pub kept_of_bare : (kept : KeptBook) →
       ((made : MadeBook script (map (map bare) t)) → KeepsBare kept made.book made.meanings) →
       KeepsBook kept t (script_calls script t) book ms

@@ -36,10 +36,11 @@ use Rattle.audit_keys.proofs.CallersLeave.{calls_leave, map_same}
 use Rattle.std.specs.Global.{Vec}
 use Rattle.key_audit.specs.Live.{calls_cut}
 
--- ---- the first calls
+-- ---- the entries that the first calls of each caller left
 
 module _ (lists : Lists) (settings : ℕ → Setting) (cuts : ℕ → Cut) (starts made : ℕ → ℕ) where
-  -- the entries that the kept calls left are the entries in the meanings of these calls
+  -- the entries that the calls kept by `cuts` left for the vgetrandom states are the entries in the meanings of these
+  -- calls
   made_mean : (c : ℕ) (callers : List (List Call)) (mss : List (List CallMeaning)) →
       ((j : ℕ) → made (c + j) ≡ calls_by (cuts (c + j)) (starts (c + j)) (list_at callers j)) →
       EachCaller (λ c calls ms. CallerMeans lists (settings c) calls ms) c callers mss →
@@ -72,7 +73,7 @@ cut_states lists settings callers mss states each cut cuts =
     (λ j. ap (λ k. calls_by (cuts (0 + j)) (start_stamp callers (0 + j)) (list_at callers k))
     (let p : 0 + j ≡ j = omega arith in p)) each
 
--- ---- bare lines
+-- ---- cuts of bare lines (without answers and data)
 
 made_alike : (stamp before : ℕ) (cs : List Call) → made_by stamp before (map bare_call cs) ≡ made_by stamp before cs
 made_alike stamp before [] = refl
@@ -110,7 +111,7 @@ start_alike stamp callers c = elim (lt_or_le c (length callers)) [
       ∙ sym (ap (λ (cs : List Call). made_by stamp (start_stamp callers c) cs) (list_beyond callers c le))
 ]
 
--- a cut keeps the same number of calls for the bare lines as for the lines themselves
+-- a cut keeps as many calls of caller `c` for the bare lines as for the lines themselves
 cut_alike : (cut : Cut) (callers : List (List Call)) (c : ℕ) →
     calls_by cut (start_stamp (map (map bare_call) callers) c) (list_at (map (map bare_call) callers) c)
     ≡ calls_by cut (start_stamp callers c) (list_at callers c)
@@ -126,7 +127,7 @@ cut_bare cuts script t =
     ap (λ (callers : List (List Call)). calls_cut cuts callers) (bare_all script.callers t)
     ∙ (λ i c. cut_alike (cuts c) (script_calls script t) c i)
 
--- ---- the ends of bare calls are those of the calls themselves
+-- ---- the ends of calls are the same for bare lines
 
 end_alike : (before : ℕ) (call : Call) → end_of before (bare_call call) ≡ end_of before call
 end_alike before (alone event line) = refl
@@ -175,7 +176,7 @@ ends_bare script t mss =
     ∙ ends_alike (start_stamp (map (map bare_call) callers)) (start_stamp callers) 0 callers mss
     (λ c low high. starts_same callers c (omega arith))
 
--- ---- the line ends of bare calls are those of the calls themselves
+-- ---- the ends of lines are the same for bare lines
 
 acts_alike : (i stamp : ℕ) (acts : List BoundAct) → act_ends i stamp (map bare_act acts) ≡ act_ends i stamp acts
 acts_alike i stamp [] = refl

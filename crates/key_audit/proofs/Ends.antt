@@ -1,5 +1,5 @@
--- An output is right for an input if it is right for the input's script and transcript, or for the reason why the input
--- is not a script with a transcript.
+-- If the input is a script and a transcript, an output that is right for these two is right for the input. If it is
+-- not, an output that is right for the reason why is right for the input.
 use Rattle.std.proofs.Common.{◌≡◌, ℕ, List, refl, sym, subst, ◌∙◌, inl, inr}
 use Rattle.std.specs.Prelude.{Option, Some, None, true, Result, Ok, Err, IfOk}
 use Rattle.std.specs.Option.{is_some}
@@ -24,7 +24,7 @@ use Rattle.key_audit.specs.Asked.{line_end}
 use Rattle.key_audit.specs.Live.{lists_after}
 use Rattle.key_audit.specs.Outcome.{Calls, TellsAfter, TellsHeld, TellsLive, ListedOf}
 
--- an output that is right for a script and a transcript is right for the input that spells these two
+-- if the input spells `script` and `t`, an output that is right for these two is right for the input
 pub of_pair : (ask : Ask) (input : List ℕ) (script : Script) (t : List (List SeenLine)) → IsPair input script t →
     (s : Status) (o : List ℕ) → ListedOf ask script t s o → Calls ask input s o
 of_pair ask input script t pair Done o listed = record { script = script; t = t; pair = pair; listed = listed }
@@ -35,7 +35,7 @@ of_pair ask input script t pair ReadFault o listed = absurd listed
 of_pair ask input script t pair WriteFault o listed = absurd listed
 of_pair ask input script t pair NoMemory o listed = absurd listed
 
--- if the input is not a script with a transcript, the refusal is a right output for this input
+-- if the input is not a script and a transcript, the refusal that names the reason `why` is a right output for it
 pub of_none : (ask : Ask) (input : List ℕ) (why : NotRead) → IsNoPair input why → (s : Status) (o : List ℕ) →
     RefusalOf why s o → Calls ask input s o
 of_none ask input SourceFails is s o said = absurd is
@@ -58,14 +58,15 @@ is_limited ask = record {
   };
 }
 
--- if no held key or rest was used, `TellsHeld` implies `TellsLive`
+-- if no held key or rest was used in `lists`, an output as in `TellsHeld` is also as in `TellsLive`
 pub live_listed : {E : Type 0} (lists : Lists) (callers : List (List Call)) (book : Book) (ms : List (List CallMeaning))
     (r : Result (Vec ℕ) E) → HoldsUnused lists → IfOk r (λ text. TellsHeld lists callers book ms text.items) →
     IfOk r (λ text. TellsLive lists callers book ms text.items)
 live_listed lists callers book ms (Ok text) unused listed = record { listed = listed; unused = unused }
 live_listed lists callers book ms (Err e) unused listed = tt
 
--- if no held key or rest was used in the lists after a line, `TellsHeld` of these lists implies `TellsAfter`
+-- if no held key or rest was used in the lists after `line`, an output as in `TellsHeld` for these lists is also as in
+-- `TellsAfter`
 pub after_listed : {E : Type 0} (line : LineOf) (end : LineEnd) (callers : List (List Call)) (book : Book)
     (ms : List (List CallMeaning)) (r : Result (Vec ℕ) E) → line_end callers line ≡ Some end →
     HoldsUnused (lists_after line end callers book ms) →

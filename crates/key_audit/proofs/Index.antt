@@ -1,5 +1,5 @@
--- If the number of one more row is inserted, the index stays correct. A search for a key in the whole index finds a row
--- of this key.
+-- If the number of one more row is inserted, the index stays correct. If the whole index is searched for a key, it
+-- finds a row of this key.
 use Rattle.std.proofs.Common.{◌≡◌, ◌<◌, ◌+◌, ◌⊎◌, ℕ, true, true≢false, List, inl, inr, refl, sym, ap, subst, ◌∙◌, arith, rules}
 use Rattle.std.specs.Option.{is_some}
 use Rattle.std.specs.Prelude.{Some, None, IsSome, IfSome, Option, ◌≢◌, length, map}
@@ -30,7 +30,8 @@ named_within rows n key there =
 module _ (rows : List KeyRow) (before after : BTreeMap KeyName ℕ) (n : ℕ) (key : KeyName)
     (there : name_at rows n ≡ Some key) (updates : Updates names.cmp before after key (Some n))
     (indexed : IsIndexTo n rows before) where
-  -- after one more key is inserted, this key has the number `n`; any other key has the same number as before
+  -- if `key` is inserted with the number `n`, it has this number afterwards; any other key has the same number as
+  -- before
   known : (k : KeyName) → (get names.cmp after k ≡ Some n) × (key ≡ k) ⊎ (get names.cmp after k ≡ get names.cmp before k)
   known k = elim (cases_Bool (is_at (names.cmp key) k)) [
     | inl same ↦ inl (updates.0 k ∙ rw same refl, found_name key k same)

@@ -1,4 +1,4 @@
--- If the kept lanes have the data of a book's visits, the entries of the kept lanes are those of the book's lists.
+-- If the kept lanes have the data of a book's visits, their entries are the entries of the book's lists.
 use Rattle.std.proofs.Common.{◌≡◌, ℕ, suc, Some, List, [], ◌∷◌, length, map, refl, ◌∙◌, arith}
 use Rattle.std.specs.Prelude.{slice_get}
 use Rattle.std.specs.Global.{Vec}
@@ -11,7 +11,7 @@ use Rattle.judge_log.specs.Kept.{Keeps}
 use Rattle.audit_keys.specs.KeptEntries.{base_entries, cpu_entries}
 use Rattle.audit_keys.specs.Listed.{caller_lists, cpu_lists, HasEntries}
 
--- two lists of entries are equal if they have the same length, and equal entries at each place
+-- `kept` and `list` have the same entries if they have the same length, and equal entries at each place
 same_entries : {K E : Type 0} (entry : K → E) (kept : List K) (list : List E) → length kept ≡ length list →
     ((i : ℕ) (k : K) (e : E) → slice_get kept i ≡ Some k → slice_get list i ≡ Some e → entry k ≡ e) →
     map entry kept ≡ list

@@ -1,4 +1,4 @@
--- The lines of a caller are found at the caller's number, and the kept marks have the stamps of the transcript.
+-- The lines of a caller are found by the caller's number. The kept marks have the stamps of the transcript's visits.
 use Rattle.std.proofs.Common.{◌≡◌, ℕ, zero, suc, ◌<◌, ◌≤◌, List, [], ◌∷◌, length, map, refl, sym, ap, ◌∙◌, arith, get_or}
 use Rattle.std.specs.Prelude.{◌||◌, nat_le, IsPermutation}
 use Rattle.std.specs.Global.{Vec}

@@ -1,4 +1,4 @@
--- The samples and bits that the code counts from the kept visits of the pool are those of the book's pool.
+-- Counting samples and bits in the kept visits of the pool gives the same numbers as counting them in the book's pool.
 use Rattle.std.proofs.Common.{◌≡◌, ℕ, zero, suc, ◌+◌, ◌<◌, Bool, true, false, Option, Some, None, List, [], ◌∷◌, length, take, refl, ap, ◌∙◌, arith}
 use Rattle.std.specs.Prelude.{filter, not, ◌&&◌, if◌then◌else◌, option_map, slice_get}
 use Rattle.std.specs.Option.{is_some}
@@ -16,7 +16,7 @@ use Rattle.key_audit.specs.KeptPool.{kept_bits, kept_samples, sample_count}
 use Rattle.key_audit.specs.Moments.{visit_moment, visit_moments}
 use Rattle.key_audit.specs.Sources.{bits_at, bits_before, event_at, hands_sample, is_extraction, is_sample, samples_before}
 
--- ---- lists
+-- ---- the first items of lists
 
 taken : {A : Type 0} (n : ℕ) (xs : List A) (j : ℕ) (x : A) → slice_get (take n xs) j ≡ Some x → slice_get xs j ≡ Some x
 taken zero xs j x e = cc
@@ -37,7 +37,7 @@ none_within [] n e low = omega (arith, low)
 none_within (x ∷ xs) zero e low = cc
 none_within (x ∷ xs) (suc n) e low = none_within xs n e (omega arith)
 
--- ---- samples
+-- ---- counting samples
 
 root_is : (s : PoolState) (e : PoolEntry) → is_some (root_kept s e) ≡ is_extraction e
 root_is s (Mix text bits) = refl

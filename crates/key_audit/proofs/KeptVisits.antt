@@ -1,5 +1,5 @@
--- The moments made from a book's kept marks are the moments of the book's visits. The kept visits have the stamps of
--- these moments.
+-- The moments that are made from a book's kept marks are those of the book's visits. The kept visits have the same
+-- stamps.
 use Rattle.std.proofs.Common.{◌≡◌, ℕ, suc, ◌<◌, List, [], ◌∷◌, length, map, refl, sym, ap, ◌∙◌, arith}
 use Rattle.std.specs.Global.{Vec}
 use Rattle.std.proofs.lemmas.List.{length-map}
@@ -39,7 +39,7 @@ all_stamps : {E : Type 0} (cpus : List (List (Visit E))) →
 all_stamps [] = refl
 all_stamps (visits ∷ cpus) = λ i. visits_stamps visits i ∷ all_stamps cpus i
 
--- ---- entries of vgetrandom states
+-- ---- the moments of the entries of vgetrandom states
 
 list_ends : (list : List StateEntry) → entry_moments list ≡ map end_moment (ends_in list)
 list_ends [] = refl
@@ -54,11 +54,11 @@ all_ends_are : (callers : List (Vec (Vec StateEntry))) →
 all_ends_are [] = refl
 all_ends_are (lists ∷ callers) = λ i. caller_ends lists.items i ∷ all_ends_are callers i
 
--- ---- the kept book
+-- ---- the moments and stamps of the kept book
 
 module _ (kept : KeptBook) (t : List (List SeenLine)) (callers : List (List Call)) (book : Book)
     (ms : List (List CallMeaning)) (keeps : KeepsBook kept t callers book ms) (moments : Moments) where
-  -- the moments made from a book's kept marks are the moments of the book's visits
+  -- if `moments` are made from the book's kept marks and states, they are the moments of the book's visits and entries
   pub kept_moments : HasMarks (length kept.lanes.cpus.items) (map seen_mark kept.marks.items) moments →
       state_moments_in moments.callers.items ≡ all_moments kept.states.items → AreMoments callers book ms moments
   kept_moments has states =
@@ -76,7 +76,7 @@ module _ (kept : KeptBook) (t : List (List SeenLine)) (callers : List (List Call
         states = states ∙ all_ends_are kept.states.items ∙ ap (map (map (map end_moment))) keeps.ends;
       }
 
-  -- the kept visits have the stamps of the book's visits
+  -- the kept visits of each lane have the stamps of the book's visits
   pub keeps_visits : AreMoments callers book ms moments → KeepsVisits book kept.lanes moments
   keeps_visits are = record {
     base = base_kept kept.lanes (lists_of book) keeps.lanes;

@@ -1,4 +1,5 @@
--- A walk follows each edge that begins at a known key. If a walk finds no new key, all reached keys are known after it.
+-- A pass over the edges follows each edge that begins at a known key. If a pass finds no new key, all reached keys are
+-- known.
 use Rattle.std.proofs.Common.{◌≡◌, ◌<◌, ◌≤◌, ◌+◌, ◌⊎◌, ℕ, zero, suc, Bool, true, false, true≢false, cond, List, [], ◌∷◌, length, take, get_or, inl, inr, refl, sym, ap, subst, ◌∙◌, arith}
 use Rattle.std.specs.Prelude.{Contains, IsTrue, not, ◌↔◌, ◌||◌}
 use Rattle.std.specs.List.{list_any}
@@ -17,7 +18,7 @@ use Rattle.key_audit.specs.Edges.{Follows, Has, HasPassed, IsReached}
 use Rattle.key_audit.specs.Edges.IsReached.{first, along}
 use Rattle.key_audit.proofs.Index.{found_name}
 
--- ---- along one edge
+-- ---- following one edge
 
 module _ (edge : Edge) (old new : BTreeSet KeyName) (known : Has old edge.from)
     (updates : Updates names.cmp old new edge.to true) where
@@ -63,10 +64,9 @@ unfollowed edge old none = record {
   some = λ e. absurd (true≢false (sym e));
 }
 
--- ---- along the first edges
+-- ---- following the first edges of a pass
 
--- a walk along the first `i` edges led from the known keys `old` to the known keys `new`; `more` is whether the walk
--- found a new key
+-- a pass over the first `i` edges changed the known keys from `old` to `new`; `more` is whether it found a new key
 pub record PassedTo (edges : List Edge) (i : ℕ) (old new : BTreeSet KeyName) (more : Bool) : Type 0 where
   pub stays : (key : KeyName) → Has old key → Has new key
   pub reached : (start : List KeyName) → ((key : KeyName) → Has old key → IsReached edges start key) →
@@ -99,7 +99,7 @@ module _ (edges : List Edge) (i : ℕ) (d : Edge) (low : i < length edges) (firs
         (Contains-get_or edges i d low))
   ]
 
-  -- if edge `i` leads to a new key, the walk along the first `i + 1` edges found a new key
+  -- if edge `i` leads to a new key, the pass over the first `i + 1` edges found a new key
   pub one_new : (before : Bool) → PassedTo edges i first old before → Follows (get_or edges i d) old new true →
       PassedTo edges (i + 1) first new true
   one_new before passed follows = record {
@@ -118,8 +118,8 @@ module _ (edges : List Edge) (i : ℕ) (d : Edge) (low : i < length edges) (firs
     );
   }
 
-  -- if edge `i` leads to no new key, the walk along the first `i + 1` edges found a new key exactly if the walk along
-  -- the first `i` edges found one
+  -- if edge `i` leads to no new key, the pass over the first `i + 1` edges found a new key exactly if the pass over the
+  -- first `i` edges did
   pub none_new : (before : Bool) → PassedTo edges i first old before → Follows (get_or edges i d) old new false →
       PassedTo edges (i + 1) first new before
   none_new before passed follows = record {
@@ -145,9 +145,9 @@ passed_all edges n old new more all passed = record {
   some = passed.some;
 }
 
--- ---- until no new key is found
+-- ---- passes until no new key is found
 
--- how many edges lead to keys that are not known yet
+-- how many of the edges lead to keys that are not known yet
 abbrev pub unknown : List Edge → BTreeSet KeyName → ℕ
 unknown [] known = 0
 unknown (edge ∷ edges) known = cond (contains names.cmp known edge.to) 0 1 + unknown edges known
@@ -189,7 +189,7 @@ module _ (old new : BTreeSet KeyName) (stays : (key : KeyName) → Has old key �
       go false true up rest = omega arith
       go false false up rest = omega arith
 
--- each known key is reached. If the last walk found no new key, each reached key is known
+-- each known key is reached from `start`. If the last pass found no new key, each reached key is known
 pub record ClosesUp (edges : List Edge) (start : List KeyName) (known : BTreeSet KeyName) (more : Bool) : Type 0 where
   pub begins : (key : KeyName) → Contains start key → Has known key
   pub reached : (key : KeyName) → Has known key → IsReached edges start key
@@ -233,7 +233,7 @@ module _ (edges : List Edge) (start : List KeyName) where
     pub closed_up : (key : KeyName) → Has known key ↔ IsReached edges start key
     closed_up key = (closed.reached key, all_known)
 
--- ---- the set of some keys
+-- ---- the set that is made of a list of keys
 
 module _ (q : KeyName) where
   in_list : (keys : List KeyName) → IsTrue (list_any (λ k. is_at (names.cmp k) q) keys) → Contains keys q

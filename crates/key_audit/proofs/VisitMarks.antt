@@ -19,11 +19,11 @@ use Rattle.judge_lines.proofs.MarksMoved.{lane_moved, same_long}
 use Rattle.judge_lines.proofs.Runs.{lane_sorted}
 use Rattle.key_audit.specs.Moments.{MarksVisits, marks_on, moment_by, moments_on, visit_moment, visit_moments}
 
--- the visit at the mark's place has the mark's stamp, and the same maker
+-- the visit at the place of the mark `by` has the mark's stamp, and was made by the same caller, line and step
 abbrev ConformsIn : {E : Type 0} → List (Visit E) → MarkBy → Type 0
 ConformsIn visits by = stamped visits by.mark.place ≡ Some (by.mark.stamp, by.who)
 
--- if the places of the marks `bys` count up from `i`, these are the marks of the visits from place `i` on
+-- if the places of the marks `bys` count up from `i`, their moments are those of `rest`, the visits from place `i` on
 counted : {E : Type 0} (i : ℕ) (whole rest : List (Visit E)) (bys : List MarkBy) →
     ((j : ℕ) → stamped rest j ≡ stamped whole (i + j)) → length bys ≡ length rest →
     InOrder i (map (λ by. by.mark) bys) → AllByRecursion (ConformsIn whole) bys → map moment_by bys ≡ visit_moments rest
@@ -57,7 +57,7 @@ module _ (lane : LaneId) where
       go true rest = ap (λ ms. by.mark ∷ ms) rest
       go false rest = rest
 
-  -- if `Q` holds of each mark and that mark's own lane, then `Q` holds of `lane` and each mark of `lane`
+  -- if `Q` holds for each mark with its own lane, it holds for each mark of `lane` with `lane`
   all_on : (Q : LaneId → MarkBy → Type 0) (marks : List MarkBy) → AllByRecursion (λ by. Q by.mark.lane by) marks →
       AllByRecursion (λ by. Q lane by) (marks_on lane marks)
   all_on Q [] all = tt

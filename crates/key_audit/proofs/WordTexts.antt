@@ -1,4 +1,4 @@
--- The words of a command line spell at most one command. If they spell one, it is the command that the code reads.
+-- The words of a command line spell at most one command, and this is the command that the code reads.
 use Rattle.std.proofs.Common.{◌≡◌, ℕ, ◌<◌, ◌≤◌, true, List, [], ◌∷◌, ◌++◌, Option, Some, None, length, get_or, append_assoc, sym, subst, ap, ◌∙◌, arith}
 use Rattle.std.specs.Prelude.{Bool, IfSome, IsSomeAnd, MatchOption, String, codes, decimal, map, slice_index_or, string_bytes}
 use Rattle.std.specs.Str.{bytes_eq}
@@ -27,7 +27,7 @@ halves_are text caller event cut lack line fits e =
     spells_numbers text caller event cut lack (record { caller = line.caller; event = line.event })
     (record { caller = fits.0; event = fits.1 }) e
 
--- if `number_below` finds no number below 2^32 in a text, the text spells no such number
+-- if `number_below` finds no number below 2^32 in `text`, then `text` spells no such number
 pub not_spelt : (text : List ℕ) (n : ℕ) → n < 4294967296 → None ≡ number_below 4294967296 text → text ≡ decimal n → ⊥
 not_spelt text n small none e =
     let again : number_below 4294967296 text ≡ Some n = rw e (number_again 4294967296 n small (omega arith)) in cc
@@ -55,7 +55,7 @@ same_line text caller event c n cut lack first second line fits e =
     let made : ℕ → ℕ → LineOf = λ x y. record { caller = x; event = y } in
     λ i. Some (made (a i) (b i))
 
--- ---- two words
+-- ---- commands of two words
 
 keys_are_one : (word with : List ℕ) → word ∷ with ∷ [] ≡ codes "keys" ∷ [] → ⊥
 keys_are_one word with e = let l = ap length e in absurd (omega (arith, l))
@@ -67,14 +67,14 @@ not_both : (word : List ℕ) → word ≡ codes "live" → word ≡ codes "line"
 not_both word live line =
     let third = ap (λ (xs : List ℕ). get_or xs 2 0) (sym live ∙ line) in absurd (omega (arith, third))
 
--- a text that spells a number has no dot, so this text names no line
+-- if `text` spells a number, it has no dot, so it names no line
 no_dot : (text : List ℕ) (n : ℕ) → n < 18446744073709551616 → text ≡ decimal n → (line : LineOf) → LineFits line →
     text ≡ line_text line → ⊥
 no_dot text n small number line fits e =
     not_cut text (subst (λ (x : List ℕ). lacks 46 x ≡ true) (sym number)
     (lacks-decimal 46 n (no_digit_below 46 (omega arith)) (omega arith))) line fits e
 
--- if the word after `live` names a line, the command is `live` for this line
+-- if `text`, the word after `live`, names `line`, the only command it can spell is `live` for this line
 pub line_only : (text : List ℕ) (line : LineOf) → LineFits line → text ≡ line_text line →
     ((other : LineOf) → LineFits other → text ≡ line_text other → Some line ≡ Some other) → (ask : Ask) →
     LiveText text ask → Some (LiveAfter line) ≡ Some ask
@@ -107,7 +107,7 @@ no_stamp text read (Live n) asks none =
 no_stamp text read (LiveAfter line) asks none = none line asks.0 asks.1
 no_stamp text read (OneLine line) asks none = asks
 
--- if the word after `live` names no line, the word is read as a stamp
+-- if `text`, the word after `live`, names no line, the command is `live` for the stamp that `text` spells
 pub stamp_found : (text : List ℕ) (found : Option ℕ) (result : Option Ask) →
     found ≡ number_below 18446744073709551616 text →
     MatchOption found (result ≡ None) (λ n. IsSomeAnd result (λ ask. ask ≡ Live n)) →
@@ -116,7 +116,7 @@ stamp_found text None result read made none ask asks = absurd (no_stamp text rea
 stamp_found text (Some n) None read made none ask asks = absurd made
 stamp_found text (Some n) (Some one) read made none ask asks = ap Some made ∙ stamp_only text n read ask asks none
 
--- if the first word is `live`, and the second word spells a command's argument, the two words spell this command
+-- if the first word is `live`, and the second is the argument of the command `ask`, the two words spell `ask`
 live_words : (word with : List ℕ) → word ≡ codes "live" → (ask : Ask) → LiveText with ask →
     AskTexts (word ∷ with ∷ []) ask
 live_words word with is Keys asks = absurd asks
@@ -137,11 +137,11 @@ live_word word with is (LiveAfter line) asks = (asks.0, (second word with (codes
 live_word word with is (OneLine line) asks =
     absurd (not_both word is (second word with (codes "line") (line_text line) asks.1).0)
 
--- if the test for the equality of two texts returned true, the texts are equal
+-- if the comparison of `text` and `wanted` returned true, the two are equal
 pub same_text : (text wanted : List ℕ) (b : Bool) → b ≡ bytes_eq text wanted → b ≡ true → text ≡ wanted
 same_text text wanted b test passed = (bytes_eq-Decides text wanted).0 (sym test ∙ passed)
 
--- if a list of words has length 1, the list is its first word alone
+-- if `words` has length 1, its texts are the text of its first word alone
 pub one : {A : Type 0} (words : List (String A)) (word : String A) → 1 ≤ length words → length words < 2 →
     word ≡ slice_index_or words 0 word → map string_bytes words ≡ string_bytes word ∷ []
 one [] word some few is = absurd (omega arith)

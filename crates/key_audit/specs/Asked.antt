@@ -13,20 +13,20 @@ use Rattle.audit_keys.specs.declared.moments.LineOf.{LineOf}
 use Rattle.key_audit.specs.declared.ask.Ask.{Ask}
 use Rattle.key_audit.specs.declared.ask.Ask.TheVariants.{Keys, Live, LiveAfter, Line as OneLine}
 
--- the first of these lines with this event's number
+-- the first of these lines whose event has the number `event`
 abbrev pub line_in : ℕ → List LineEnd → Option LineEnd
 line_in event [] = None
 line_in event (line ∷ lines) = if line.event == event then Some line else line_in event lines
 
--- if the callers have the line: the line's call, and the stamp when this call was over
+-- if the callers have `line`: the number of its call, and the stamp when this call was over
 abbrev pub line_end : List (List Call) → LineOf → Option LineEnd
 line_end callers line = line_in line.event (list_at (listed_lines callers) line.caller)
 
--- whether some visit has this stamp or a higher one
+-- whether some visit of the transcript `t` has the stamp `stamp` or a higher one
 abbrev pub has_stamp : List (List SeenLine) → ℕ → Bool
 has_stamp t stamp = list_any (λ by. nat_le stamp by.mark.stamp) (all_marks t)
 
--- whether some kept mark has this stamp or a higher one
+-- whether one of `marks` has the stamp `stamp` or a higher one
 abbrev pub stamps_reach : ℕ → List MarkOf → Bool
 stamps_reach stamp marks = list_any (λ of. nat_le stamp of.mark.stamp) marks
 

@@ -1,4 +1,4 @@
--- The verdict on a transcript, and the kept book if the transcript is lawful.
+-- The result of judging a transcript: its kept book, or the first clause that it fails.
 use Rattle.std.specs.Prelude.{List}
 use Rattle.key_names.specs.Transcripts.IsTranscript.{FirstFails, script_calls}
 use Rattle.key_names.specs.Transcripts.SeenLine.{SeenLine}

@@ -1,4 +1,4 @@
--- The forms of the command line.
+-- The commands, and the words of the command line that spell them.
 use Rattle.std.specs.Prelude.{ℕ, ◌≡◌, ◌<◌, ◌^◌, List, [], ◌∷◌, String, string_bytes, codes, map}
 use Rattle.std.specs.Fmt.{decimal}
 use Rattle.audit_keys.specs.declared.moments.LineOf.{LineOf}
@@ -6,7 +6,7 @@ use Rattle.key_audit.specs.Texts.{line_text}
 use Rattle.key_audit.specs.declared.ask.Ask.{Ask}
 use Rattle.key_audit.specs.declared.ask.Ask.TheVariants.{Keys, Live, LiveAfter, Line as OneLine}
 
--- the caller's and the event's number of the line are below 2^32; the words of a command can name only such lines
+-- the numbers of the line's caller and event are below 2^32; a command can name only such lines
 abbrev pub LineFits : LineOf → Type 0
 LineFits line = (line.caller < 2 ^ 32) × (line.event < 2 ^ 32)
 
@@ -17,7 +17,7 @@ LiveText text (Live stamp) = (stamp < 2 ^ 64) × (text ≡ decimal stamp)
 LiveText text (LiveAfter line) = LineFits line × (text ≡ line_text line)
 LiveText text (OneLine line) = ⊥
 
--- the texts are the words of the command `ask`
+-- `texts` are the words that spell the command `ask`
 abbrev pub AskTexts : List (List ℕ) → Ask → Type 0
 AskTexts texts Keys = texts ≡ codes "keys" ∷ []
 AskTexts texts (Live stamp) = (stamp < 2 ^ 64) × (texts ≡ codes "live" ∷ decimal stamp ∷ [])

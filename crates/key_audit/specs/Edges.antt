@@ -1,5 +1,5 @@
--- If bytes of a key became another key, an edge leads from the first key to the second. The keys that can be reached
--- from some keys are found by following edges.
+-- Edges between keys: if bytes of a key's keystream became another key, an edge leads from the first key to the second.
+-- Following edges finds all keys that can be reached from given keys.
 use Rattle.std.specs.Prelude.{◌≡◌, ◌⊎◌, Bool, true, false, List, [], ◌∷◌, Contains, IsTrue}
 use Rattle.std.specs.List.{flat_map}
 use Rattle.std.specs.BTreeSet.{BTreeSet, contains}
@@ -10,9 +10,9 @@ use Rattle.audit_keys.specs.declared.rows.Fate.TheVariants.{Became, Served, Give
 use Rattle.audit_keys.specs.declared.rows.KeyRow.{KeyRow}
 use Rattle.key_audit.specs.declared.edges.Edge.{Edge}
 
--- ---- edges
+-- ---- the edges of rows
 
--- if bytes of `key` became a key, the edge from `key` to that key
+-- if the fate of bytes of the keystream of `key` is that they became a key, the edge from `key` to that key
 abbrev pub fate_edges : KeyName → Fate → List Edge
 fate_edges key (Became next) = record { from = key; to = next } ∷ []
 fate_edges key (Served by) = []
@@ -28,19 +28,19 @@ edges_of rows = flat_map row_edges rows
 abbrev pub turned : Edge → Edge
 turned edge = record { from = edge.to; to = edge.from }
 
--- a key is reached if `start` has the key, or if an edge leads to the key from a reached key
+-- a key is reached if it is in `start`, or if an edge leads to it from a reached key
 pub data IsReached (edges : List Edge) (start : List KeyName) : KeyName → Type 0 where
   first : {key : KeyName} → Contains start key → IsReached edges start key
   along : {from to : KeyName} → IsReached edges start from → Contains edges (record { from = from; to = to }) →
       IsReached edges start to
 
--- ---- following edges
+-- ---- finding all reached keys by following edges
 
 abbrev pub Has : BTreeSet KeyName → KeyName → Type 0
 Has known key = IsTrue (contains names.cmp known key)
 
--- `edge` is followed if it begins at a known key. `old` has the known keys before this, and `new` has the known keys
--- after it. `more` is whether the edge led to a new key
+-- following `edge` changes the known keys from `old` to `new`: if `edge` begins at a known key, the key to which it
+-- leads becomes known. `more` is whether that key was not known before
 pub record Follows (edge : Edge) (old new : BTreeSet KeyName) (more : Bool) : Type 0 where
   pub stays : (key : KeyName) → Has old key → Has new key
   pub only : (key : KeyName) → Has new key → Has old key ⊎ ((edge.to ≡ key) × Has old edge.from)
@@ -48,8 +48,8 @@ pub record Follows (edge : Edge) (old new : BTreeSet KeyName) (more : Bool) : Ty
   pub none : more ≡ false → (key : KeyName) → Has new key → Has old key
   pub some : more ≡ true → (contains names.cmp old edge.to ≡ false) × Has new edge.to
 
--- each edge is followed once if it begins at a known key. `new` has the keys of `old`, and otherwise only keys that are
--- reached from these. `more` is whether `new` has a key that `old` lacks
+-- following each edge that begins at a known key changes the known keys from `old` to `new`. `new` has the keys of
+-- `old`, and otherwise only keys that are reached from them. `more` is whether `new` has a key that `old` lacks
 pub record HasPassed (edges : List Edge) (old new : BTreeSet KeyName) (more : Bool) : Type 0 where
   pub stays : (key : KeyName) → Has old key → Has new key
   pub reached : (start : List KeyName) → ((key : KeyName) → Has old key → IsReached edges start key) →

@@ -5,11 +5,12 @@ use Rattle.audit_keys.specs.declared.entry.CallEnd.{CallEnd}
 use Rattle.audit_keys.specs.declared.entry.StateEntry.{StateEntry}
 use Rattle.audit_keys.specs.declared.moments.Moment.{Moment}
 
--- the moment of an entry that a call left: the stamp when this call was over, and the call's line
+-- the moment of an entry of a vgetrandom state, from the end of the call that left it: the stamp when the call was
+-- over, and its line
 abbrev pub end_moment : CallEnd → Moment
 end_moment end = record { stamp = end.stamp; line = record { caller = end.caller; event = end.event } }
 
--- the moments of the entries of a list, of a caller's lists, and of all callers' lists
+-- the moments of the entries of one vgetrandom state, of all states of a caller, and of all callers
 abbrev pub entry_moments : List StateEntry → List Moment
 entry_moments list = map (λ e. end_moment e.end) list
 

@@ -1,4 +1,4 @@
--- The kept book of a transcript.
+-- What the program keeps of a transcript's book.
 use Rattle.std.specs.Prelude.{ℕ, ◌≡◌, List, map, IsPermutation}
 use Rattle.key_names.specs.Lanes.Book.{Book, lists_of}
 use Rattle.key_names.specs.Callers.Calls.{Call}
@@ -18,23 +18,24 @@ use Rattle.key_audit.specs.Live.{calls_cut}
 use Rattle.key_audit.specs.Moments.{MarksVisits}
 use Rattle.key_audit.specs.declared.book.KeptBook.{KeptBook}
 
--- `kept` has the data of this book, in which the callers' calls have these meanings
+-- `kept` has the data of `book`, the book of the transcript `t`, in which the calls of `callers` have the meanings `ms`
 pub record KeepsBook (kept : KeptBook) (t : List (List SeenLine)) (callers : List (List Call)) (book : Book)
     (ms : List (List CallMeaning)) : Type 0 where
-  -- `lanes` has the data of each visit of each lane
+  -- `lanes` has what is kept of each visit of each lane
   pub lanes : Keeps kept.lanes (lists_of book)
   -- `states` has the entries of each vgetrandom state
   pub states : all_lists_in kept.states.items ≡ book.callers
-  -- for any cuts of the callers' lists, the kept entries are those that each caller's first calls left
+  -- whatever `cuts` cut each caller's calls, the entries that they keep of its vgetrandom states are those that its
+  -- calls before the cut left
   pub cut : (cuts : ℕ → Cut) →
       all_lists_by cuts 0 kept.states.items ≡ map state_lists (first_calls (calls_cut cuts callers) 0 ms)
   -- each entry is listed with the end of the call that left the entry
   pub ends : all_ends_in (all_kept kept.states.items) ≡ listed_ends callers ms
   -- `lines` has the lines of each caller, and the call of each line
   pub lines : lines_in kept.lines.items ≡ listed_lines callers
-  -- `marks` has the marks of all visits, and the maker of each mark
+  -- `marks` has the marks of all visits, each with the caller, line and step that made it
   pub marks : IsPermutation (all_marks t) (map seen_mark kept.marks.items)
-  -- the marks are sorted by lane, and the marks of each lane by stamp
+  -- `marks` is sorted by lane, and within each lane by stamp
   pub sorted : IsSortedByLane kept.marks.items
-  -- so the marks of a lane are the marks of the lane's visits, in the order of places
+  -- so within each lane the marks are those of the lane's visits, in the order of their places
   pub visits : MarksVisits book (map seen_mark kept.marks.items)

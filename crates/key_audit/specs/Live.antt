@@ -1,4 +1,4 @@
--- The content of memory after a stamp, or after a line.
+-- The keys, and the unserved rests of batches, that are in memory after a stamp or after a line.
 use Rattle.std.specs.Prelude.{ℕ, ◌≡◌, Bool, true, false, Option, Some, None, List, [], ◌∷◌, ◌++◌, codes, filter, length, map}
 use Rattle.std.specs.Prelude.{option_map, slice_get, if◌then◌else◌, ◌==◌}
 use Rattle.std.specs.List.{flat_map}
@@ -32,9 +32,10 @@ use Rattle.key_audit.specs.declared.until.Until.{Until}
 use Rattle.key_audit.specs.declared.until.Until.TheVariants.{Stamp as ToStamp, Call as ToCall}
 use Rattle.key_audit.specs.Texts.{holder_text, key_text, name_text, piece_text, span_text}
 
--- ---- a book at a moment
+-- ---- a book that is cut at a moment
 
--- the cut of caller `c`'s calls: after call number `call` if `c` is `caller`, and otherwise at the stamp
+-- where the calls of caller `c` are cut: after its call number `call` if `c` is the caller `caller`, and otherwise at
+-- the stamp
 abbrev pub cut_at : Until → ℕ → Cut
 cut_at (ToStamp stamp) c = ByStamp stamp
 cut_at (ToCall stamp caller call) c = if caller == c then ByCall call else ByStamp stamp
@@ -43,20 +44,21 @@ abbrev pub until_stamp : Until → ℕ
 until_stamp (ToStamp stamp) = stamp
 until_stamp (ToCall stamp caller call) = stamp
 
--- how many calls of a caller a cut keeps
+-- how many calls of caller `c` its cut keeps
 abbrev pub calls_cut : (ℕ → Cut) → List (List Call) → ℕ → ℕ
 calls_cut cuts callers c = calls_by (cuts c) (start_stamp callers c) (list_at callers c)
 
--- the entries of each lane's visits up to the stamp, and the entries that the kept calls left for each vgetrandom state
+-- the lists of the book cut at `until`: the entries of each lane's visits up to the stamp, and the entries that the
+-- calls kept by the cut left for each vgetrandom state
 abbrev pub lists_until : Until → List (List Call) → Book → List (List CallMeaning) → Lists
 lists_until until callers book ms = lists_of (book_at (until_stamp until) (calls_cut (cut_at until) callers) book ms)
 
--- the lists after a stamp: each caller's calls that were over by the stamp are kept
+-- the lists of the book cut at `stamp`: of each caller, the calls that were over by `stamp` are kept
 abbrev pub lists_at_stamp : ℕ → List (List Call) → Book → List (List CallMeaning) → Lists
 lists_at_stamp stamp callers book ms = lists_until (ToStamp stamp) callers book ms
 
--- the lists after a line. The calls of the line's caller are kept up to the line's call. The calls of any other caller
--- are kept if they were over by `end.stamp`, the stamp when the line's call was over
+-- the lists of the book cut after `line`. The calls of the line's caller are kept up to the line's call. The calls of
+-- any other caller are kept if they were over by `end.stamp`, the stamp when the line's call was over
 abbrev pub lists_after : LineOf → LineEnd → List (List Call) → Book → List (List CallMeaning) → Lists
 lists_after line end callers book ms = lists_until (ToCall end.stamp line.caller end.call) callers book ms
 
@@ -68,7 +70,8 @@ live_keys lists =
     ++ listed_below (length lists.callers) (λ caller. listed_below (length (list_at lists.callers caller))
     (λ state. held_key (State (record { caller = caller; state = state })) (live_key lists (state_key caller state))))
 
--- the rests in memory that have bytes: those of each CPU's batch for each width, and of each vgetrandom state's batch
+-- the unserved rests in memory that have bytes: those of each CPU's batch for each width, and of each vgetrandom
+-- state's batch
 abbrev pub live_rests : Lists → List HeldRest
 live_rests lists =
     listed_below (length lists.cpus)
@@ -81,7 +84,7 @@ pub record IsHeld (lists : Lists) (held : HeldMaterial) : Type 0 where
   pub keys : held.keys.items ≡ live_keys lists
   pub rests : held.rests.items ≡ live_rests lists
 
--- ---- the text of the keys and rests in memory
+-- ---- the output lines of the keys and rests in memory
 
 abbrev pub became_key : Fate → Bool
 became_key (Became key) = true
@@ -89,13 +92,13 @@ became_key (Served by) = false
 became_key (GivenUp by) = false
 became_key HeldFate = false
 
--- a word, and then a row with only those of its pieces that became keys
+-- an output line: `word`, and then the row of a key, with only those of its pieces that became keys
 abbrev pub kept_line : List ℕ → Moments → KeyRow → List ℕ
 kept_line word moments row =
     word ++ key_text moments row
     ++ flat_map (piece_text moments) (filter (λ piece. became_key piece.fate) row.pieces.items) ++ 10 ∷ []
 
--- the line of a held key's row, if there is such a row
+-- the output line of a held key, from its row, if it has one
 abbrev pub held_line : Moments → Option KeyRow → List ℕ
 held_line moments None = []
 held_line moments (Some row) = kept_line (codes "held ") moments row
@@ -111,10 +114,10 @@ abbrev pub rest_line : HeldRest → List ℕ
 rest_line rest = codes "rest " ++ name_text rest.span.key ++ codes " " ++ batch_holder_text rest.holder ++ codes " "
     ++ span_text rest.span ++ 10 ∷ []
 
--- the name of the key of the row at a number
+-- the name of the key that row number `n` describes
 abbrev pub name_at : List KeyRow → ℕ → Option KeyName
 name_at rows n = option_map (λ row. row.key) (slice_get rows n)
 
--- `numbers` lists, for each held key in order, the number of the key's row
+-- `numbers` lists, for each of the held `keys` in order, the number of the key's row
 abbrev pub AreRowsOf : List KeyRow → List HeldKey → List ℕ → Type 0
 AreRowsOf rows keys numbers = map (name_at rows) numbers ≡ map (λ held. Some held.key) keys

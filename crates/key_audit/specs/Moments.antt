@@ -14,21 +14,21 @@ use Rattle.audit_keys.specs.declared.moments.Moments.{Moments}
 use Rattle.audit_keys.specs.Cut.{moment_lists}
 use Rattle.key_audit.specs.EntryMoments.{end_moment}
 
--- ---- of a book
+-- ---- the moments of a book's visits and entries
 
--- the stamp of a visit, and the line that made it
+-- the moment of the visit `v`: its stamp, and the line that made it
 abbrev pub visit_moment : {E : Type 0} → Visit E → Moment
 visit_moment v = record { stamp = v.stamp; line = record { caller = v.who.caller; event = v.who.event } }
 
 abbrev pub visit_moments : {E : Type 0} → List (Visit E) → List Moment
 visit_moments visits = map visit_moment visits
 
--- the moments of each caller's states
+-- the moments of the entries of each caller's vgetrandom states
 abbrev pub state_moments_in : List (Vec (Vec Moment)) → List (List (List Moment))
 state_moments_in callers = map (λ lists. moment_lists lists.items) callers
 
--- `moments` has for each lane the moments of the lane's visits. For each entry of a vgetrandom state, the moment is the
--- end of the call that left the entry
+-- `moments` has for each lane the moments of the lane's visits in `book`. For each entry of a vgetrandom state, it has
+-- the moment when the call that left the entry was over
 pub record AreMoments (callers : List (List Call)) (book : Book) (ms : List (List CallMeaning))
     (moments : Moments) : Type 0 where
   pub pool : moments.pool.items ≡ visit_moments book.pool
@@ -36,26 +36,26 @@ pub record AreMoments (callers : List (List Call)) (book : Book) (ms : List (Lis
   pub cpus : moment_lists moments.cpus.items ≡ map visit_moments book.cpus
   pub states : state_moments_in moments.callers.items ≡ map (map (map end_moment)) (listed_ends callers ms)
 
--- ---- of marks
+-- ---- the moments of marks
 
 abbrev pub moment_by : MarkBy → Moment
 moment_by by = record { stamp = by.mark.stamp; line = record { caller = by.who.caller; event = by.who.event } }
 
--- the marks of a lane, in order
+-- those of `marks` that are in `lane`, in the same order
 abbrev pub marks_on : LaneId → List MarkBy → List MarkBy
 marks_on lane marks = filter (λ by. is_same_lane by.mark.lane lane) marks
 
 abbrev pub moments_on : LaneId → List MarkBy → List Moment
 moments_on lane marks = map moment_by (marks_on lane marks)
 
--- `moments` has `many` CPUs, and for each lane the moments of the lane's marks
+-- `moments` has the moments of `marks`, lane by lane, and has lists for `many` CPUs
 pub record HasMarks (many : ℕ) (marks : List MarkBy) (moments : Moments) : Type 0 where
   pub pool : moments.pool.items ≡ moments_on PoolLane marks
   pub base : moments.base.items ≡ moments_on BaseLane marks
   pub count : length moments.cpus.items ≡ many
   pub cpus : (c : ℕ) → c < many → list_at (moment_lists moments.cpus.items) c ≡ moments_on (CpuLane c) marks
 
--- `new` has one more moment than `old`: the moment of the mark `by`, at the end of the mark's lane
+-- `new` has one moment more than `old`: the moment of the mark `by`, as the last of the mark's lane
 pub record AddsMark (old : Moments) (by : MarkBy) (new : Moments) : Type 0 where
   pub pool : new.pool.items ≡ old.pool.items ++ moments_on PoolLane (by ∷ [])
   pub base : new.base.items ≡ old.base.items ++ moments_on BaseLane (by ∷ [])
@@ -64,7 +64,7 @@ pub record AddsMark (old : Moments) (by : MarkBy) (new : Moments) : Type 0 where
       list_at (moment_lists new.cpus.items) c
       ≡ list_at (moment_lists old.cpus.items) c ++ moments_on (CpuLane c) (by ∷ [])
 
--- on each lane, the moments of the marks are those of the book's visits, in order
+-- in each lane, the moments of `marks` are the moments of the book's visits, in order
 pub record MarksVisits (book : Book) (marks : List MarkBy) : Type 0 where
   pub pool : moments_on PoolLane marks ≡ visit_moments book.pool
   pub base : moments_on BaseLane marks ≡ visit_moments book.base

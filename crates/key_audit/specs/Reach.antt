@@ -1,5 +1,5 @@
--- The keys and bytes that can be computed from the keys and rests in memory: keys that are made later, and bytes of
--- later lines.
+-- The keys and bytes that can be computed from the keys, and the unserved rests of batches, in memory: keys that are
+-- made later, and bytes of later lines.
 use Rattle.std.specs.Prelude.{ℕ, Bool, false, not, ◌&&◌, ◌||◌, ◌↔◌, ◌≡◌, Option, Some, None, List, [], ◌∷◌, ◌++◌, codes}
 use Rattle.std.specs.Prelude.{filter, nat_le, nat_lt, ◌-◌, if◌then◌else◌, Contains, IsTrue, IsPermutation, IsSortedByKey}
 use Rattle.std.specs.List.{flat_map, list_any}
@@ -20,9 +20,9 @@ use Rattle.key_audit.specs.Live.{kept_line}
 use Rattle.key_audit.specs.Texts.{line_text, moment_at, name_text, span_text}
 use Rattle.key_audit.specs.declared.reach.Copied.{Copied}
 
--- ---- keys
+-- ---- keys that can be computed
 
--- whether the first byte of a piece is in the rest of a batch
+-- whether the first byte of `piece` is among the bytes of `rest`, the unserved rest of a batch
 abbrev pub has_piece : HeldRest → KeyPiece → Bool
 has_piece rest piece = names.eq rest.span.key piece.span.key
     && (nat_le rest.span.from piece.span.from && nat_lt (piece.span.from - rest.span.from) rest.span.len)
@@ -30,7 +30,7 @@ has_piece rest piece = names.eq rest.span.key piece.span.key
 abbrev pub is_in_rest : List HeldRest → KeyPiece → Bool
 is_in_rest rests piece = list_any (λ rest. has_piece rest piece) rests
 
--- if the first byte of a piece is in one of these rests, the key that the piece's bytes became
+-- the key that the bytes of `piece` became, if they became one and if the first of them is in one of `rests`
 abbrev pub rest_key : List HeldRest → KeyPiece → Fate → List KeyName
 rest_key rests piece (Became key) = if is_in_rest rests piece then key ∷ [] else []
 rest_key rests piece (Served by) = []
@@ -43,21 +43,21 @@ row_rest_keys rests row = flat_map (λ piece. rest_key rests piece piece.fate) r
 abbrev pub rest_keys : List HeldRest → List KeyRow → List KeyName
 rest_keys rests rows = flat_map (row_rest_keys rests) rows
 
--- the lines of the keys that can be computed and are not held, in the order of the rows
+-- the output lines of the keys that can be computed and are not held, in the order of the rows
 abbrev pub next_lines : Moments → (KeyName → Bool) → (KeyName → Bool) → List KeyRow → List ℕ
 next_lines moments is_held is_known rows =
     flat_map (kept_line (codes "next ") moments) (filter (λ row. is_known row.key && not (is_held row.key)) rows)
 
--- ---- bytes that were copied out
+-- ---- served bytes that can be computed
 
--- the bytes that an entry served, with the entry's line
+-- the bytes of `piece`, if an entry served them, with the line that left this entry
 abbrev pub copied_at : Moments → KeyPiece → Fate → List Copied
 copied_at moments piece (Served by) = record { line = (moment_at moments by).line; span = piece.span } ∷ []
 copied_at moments piece (Became key) = []
 copied_at moments piece (GivenUp by) = []
 copied_at moments piece Held = []
 
--- the bytes of a piece that was served, if their key can be computed, or if a held rest has their first byte
+-- the bytes of `piece`, if they were served, and if their key can be computed or a held rest has the first of them
 abbrev pub copied_piece : Moments → Bool → List HeldRest → KeyPiece → List Copied
 copied_piece moments is_known rests piece =
     if is_known || is_in_rest rests piece then copied_at moments piece piece.fate else []
@@ -69,12 +69,12 @@ copied_row moments is_known rests row =
 abbrev pub copied_bytes : Moments → (KeyName → Bool) → List HeldRest → List KeyRow → List Copied
 copied_bytes moments is_known rests rows = flat_map (copied_row moments is_known rests) rows
 
--- ---- the lines of copied bytes
+-- ---- the output lines of served bytes
 
 abbrev pub copied_text : Copied → List ℕ
 copied_text one = codes " " ++ span_text one.span ++ codes "<" ++ name_text one.span.key
 
--- the line feed after the output line that was begun last, if there is such a line
+-- the line feed that ends the output line begun last, if one was begun
 abbrev pub line_end : Option LineOf → List ℕ
 line_end None = []
 line_end (Some line) = 10 ∷ []
@@ -83,11 +83,12 @@ abbrev pub is_line : Option LineOf → LineOf → Bool
 is_line None line = false
 is_line (Some last) line = same_lines.eq last line
 
--- if `line` is not the line `last`: the end of the previous output line, and the beginning of the next
+-- if `line` is not the line `last`: the end of the output line for `last`, and the beginning of the output line for
+-- `line`
 abbrev pub line_begin : Option LineOf → LineOf → List ℕ
 line_begin last line = if is_line last line then [] else line_end last ++ codes "line " ++ line_text line
 
--- the text of copied bytes; the bytes before them are of the line `last`
+-- the text of the served bytes, if the bytes before them are of the line `last`
 abbrev pub lines_after : Option LineOf → List Copied → List ℕ
 lines_after last [] = line_end last
 lines_after last (one ∷ more) =
@@ -96,15 +97,17 @@ lines_after last (one ∷ more) =
 abbrev pub copied_lines : List Copied → List ℕ
 copied_lines copied = lines_after None copied
 
--- ---- the output
+-- ---- the output for the keys and bytes that can be computed
 
--- the output has the lines of the keys and bytes that can be computed from these keys and these rests of batches
+-- the output has the lines of the keys and bytes that can be computed from the held keys `keys` and from `rests`, the
+-- unserved rests of batches
 pub record TellsReached (moments : Moments) (rows : List KeyRow) (keys : List KeyName) (rests : List HeldRest)
     (output : List ℕ) : Type 0 where
-  -- `is_held` is whether a key is held
+  -- `is_held` is whether a key is one of `keys`
   pub is_held : KeyName → Bool
   pub held : (key : KeyName) → IsTrue (is_held key) ↔ Contains keys key
-  -- `is_known` is whether a key can be computed: the key is held, or bytes of a rest or of a known key became this key
+  -- `is_known` is whether a key can be computed: the key is held, or bytes of a rest or of a known key's keystream
+  -- became this key
   pub is_known : KeyName → Bool
   pub known : (key : KeyName) → IsTrue (is_known key) ↔ IsReached (edges_of rows) (keys ++ rest_keys rests rows) key
   -- `copied` has the served bytes that can be computed, line by line. Within a line, they are in the order of the rows

@@ -1,4 +1,4 @@
--- The sources of a line's bytes.
+-- The keys and the extractions that a line's bytes come from.
 use Rattle.std.specs.Prelude.{ℕ, ◌≡◌, ◌↔◌, Bool, true, false, not, ◌&&◌, Option, Some, None, List, [], ◌∷◌, ◌++◌, codes, map}
 use Rattle.std.specs.Prelude.{filter, length, option_and_then, reverse, slice_get, take, IsTrue}
 use Rattle.std.specs.Fmt.{decimal}
@@ -24,9 +24,9 @@ use Rattle.key_audit.specs.declared.edges.Edge.{Edge}
 use Rattle.key_audit.specs.Edges.{IsReached, edges_of, turned}
 use Rattle.key_audit.specs.Texts.{entry_text, moment_at, name_text, rows_text}
 
--- ---- keys
+-- ---- the keys that a line's bytes come from
 
--- whether bytes with this fate were served for a line
+-- whether bytes with this fate were served, and served for `line`
 abbrev pub is_served_for : Moments → LineOf → Fate → Bool
 is_served_for moments line (Served by) = same_lines.eq (moment_at moments by).line line
 is_served_for moments line (Became key) = false
@@ -36,15 +36,16 @@ is_served_for moments line Held = false
 abbrev pub serves : Moments → LineOf → KeyRow → Bool
 serves moments line row = list_any (λ piece. is_served_for moments line piece.fate) row.pieces.items
 
--- the keys with bytes that were served for a line
+-- the keys of the rows with bytes that were served for `line`
 abbrev pub serving : Moments → LineOf → List KeyRow → List KeyName
 serving moments line rows = map (λ row. row.key) (filter (serves moments line) rows)
 
--- the edges in reverse: if bytes of one key became another key, an edge leads from the second key to the first
+-- the edges turned round: if bytes of one key's keystream became another key, an edge leads from the second key to the
+-- first
 abbrev pub edges_back : List KeyRow → List Edge
 edges_back rows = map turned (reverse (edges_of rows))
 
--- ---- extractions
+-- ---- the extractions that made the roots
 
 abbrev pub event_at : Script → ℕ → ℕ → Option Event
 event_at script caller event = option_and_then (λ events. slice_get events event) (slice_get script.callers caller)
@@ -62,11 +63,11 @@ is_extraction (Input word kind code value now) = false
 is_extraction Bits = false
 is_extraction (Extract hw base_place) = true
 
--- whether a visit of the pool was made for a sample
+-- whether the visit `v` of the pool was made for a sample
 abbrev pub is_sample : Script → Visit PoolEntry → Bool
 is_sample script v = not (is_extraction v.entry) && hands_sample (event_at script v.who.caller v.who.event)
 
--- how many samples were handed to the pool before a place
+-- how many visits of the pool before `place` were made for a sample
 abbrev pub samples_before : Script → Book → ℕ → ℕ
 samples_before script book place = length (filter (is_sample script) (take place book.pool))
 
@@ -85,7 +86,8 @@ root_text moments place =
 abbrev pub counts_text : ℕ → ℕ → List ℕ
 counts_text samples bits = codes " samples " ++ decimal samples ++ codes " bits " ++ decimal bits ++ 10 ∷ []
 
--- the line of the extraction of a root; the line has the counts of samples and bits before the extraction
+-- the output line of the extraction of a root, with the counts of samples and bits before it; empty for a key of
+-- another kind
 abbrev pub extraction_text : Moments → (ℕ → ℕ) → (ℕ → ℕ) → KeyName → List ℕ
 extraction_text moments samples bits (Root place) =
     root_text moments place ++ counts_text (samples place) (bits place)
@@ -94,13 +96,13 @@ extraction_text moments samples bits (Cpu c place) = []
 extraction_text moments samples bits (Call lane place) = []
 extraction_text moments samples bits (Vdso caller state n) = []
 
--- ---- the output
+-- ---- the output of `line C.E`
 
--- the output has the rows of the keys that a line's bytes come from, newest first. Then it has the extraction of each
--- root among these keys
+-- the output has the rows of the keys that a line's bytes come from, the key made last first. Then it has the
+-- extraction of each root among these keys
 pub record TellsSources (moments : Moments) (rows : List KeyRow) (line : LineOf) (samples bits : ℕ → ℕ)
     (output : List ℕ) : Type 0 where
-  -- `is_source` is whether bytes of a key were served for the line, or became a key that is itself a source
+  -- `is_source` is whether bytes of a key's keystream were served for the line, or became a key that is itself a source
   pub is_source : KeyName → Bool
   pub sources : (key : KeyName) → IsTrue (is_source key) ↔ IsReached (edges_back rows) (serving moments line rows) key
   pub text : output ≡ rows_text moments (filter (λ row. is_source row.key) (reverse rows))

@@ -20,16 +20,16 @@ use Rattle.audit_keys.specs.declared.rows.KeyPiece.{KeyPiece}
 use Rattle.audit_keys.specs.declared.rows.KeyRow.{KeyRow}
 use Rattle.audit_keys.specs.MadeOrder.{moment_at as moment_listed}
 
--- ---- moments
+-- ---- the moments of entries
 
 abbrev pub no_moment : Moment
 no_moment = record { stamp = 0; line = record { caller = 0; event = 0 } }
 
--- the moment of an entry
+-- the moment of the entry `at`, or moment 0 of line 0.0 if `moments` has none for it
 abbrev pub moment_at : Moments → Origin → Moment
 moment_at moments at = unwrap_or (moment_listed moments at) no_moment
 
--- ---- texts
+-- ---- the texts of names, entries and rows
 
 abbrev pub call_text : LaneId → ℕ → List ℕ
 call_text PoolLane place = codes "Call(Pool," ++ decimal place ++ codes ")"
@@ -60,7 +60,7 @@ origin_text (Lane (CpuLane c) place) = codes "c" ++ decimal c ++ codes ":" ++ de
 origin_text (State caller state place) =
     codes "v" ++ decimal caller ++ codes "." ++ decimal state ++ codes ":" ++ decimal place
 
--- an entry with its stamp; `entry_text` also has the line that left the entry
+-- an entry with its stamp. `entry_text` also has the line that left the entry
 abbrev pub at_text : Origin → Moment → List ℕ
 at_text at moment = origin_text at ++ codes "@" ++ decimal moment.stamp
 
@@ -83,7 +83,7 @@ abbrev pub end_text : Moments → Option Origin → List ℕ
 end_text moments None = codes " held"
 end_text moments (Some by) = codes " " ++ entry_text moments by
 
--- a row without its pieces
+-- a row up to its pieces: the key, its holder, and the entries that made and ended the key
 abbrev pub key_text : Moments → KeyRow → List ℕ
 key_text moments row = name_text row.key ++ codes " " ++ holder_text row.holder ++ codes " "
     ++ entry_text moments row.made ++ end_text moments row.ended

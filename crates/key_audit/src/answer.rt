@@ -1,4 +1,4 @@
-//! The text of a command's answer.
+//! The output of each command, as text.
 ghost use Rattle.std.specs.Prelude.{◌≡◌, false, true, IfOk, List, MatchOption};
 ghost use Rattle.key_names.specs.Lanes.Book.{Book};
 ghost use Rattle.key_names.specs.Transcripts.IsTranscript.{IsTranscriptBy, script_calls};
@@ -19,7 +19,7 @@ use audit_keys::use_laws::moments_hold_unused;
 use event_script::Script;
 use std::alloc::{AllocError, Global};
 
-// The output for a book. The book has the stamp, or the line, that the command names.
+// The output of the command `ask` for a book. The book must have the stamp, or the line, that the command names.
 fn listed_text(
     alloc: Global,
     ask: Ask,
@@ -40,8 +40,8 @@ fn listed_text(
     }
 }
 
-/// The output for a lawful transcript's book. `None` if the transcript lacks the stamp, or the line, that the command
-/// names.
+/// The output of the command `ask` for the book of a lawful transcript. `None` if the transcript lacks the stamp, or
+/// the line, that the command names.
 ///
 /// # Errors
 ///

@@ -1,4 +1,4 @@
-//! The commands that the words of a command line name.
+//! Reading a command from the words of the command line.
 ghost use Rattle.std.specs.Prelude.{◌≡◌, ◌∷◌, ◌++◌, [], true, Some, IfSome, MatchOption};
 ghost use Rattle.audit_keys.specs.declared.moments.LineOf.{LineOf as LineName};
 ghost use Rattle.transcript_text.specs.Reading.{lacks};
@@ -9,11 +9,11 @@ use audit_keys::moments::LineOf;
 use event_script::numbers::number_up_to;
 use memchr::memchr;
 
-/// The forms of the command line. This text is printed if the words have none of these forms.
+/// The forms of the command line. This text is printed if the command line has none of these forms.
 pub(crate) const USAGE: &str =
     "usage: key_audit keys | key_audit live T | key_audit live C.E | key_audit line C.E";
 
-/// The largest number of a caller or an event.
+/// The largest number that a caller or an event can have.
 const MOST_NUMBER: u64 = 4_294_967_295;
 
 /// A command about a script and a transcript.
@@ -38,7 +38,7 @@ fn split_at_dot(text: &[u8]) -> Option<(&[u8], &[u8])>
     Some((&text[..place], &text[place + 1..]))
 }
 
-/// The line that a text names, such as `0.4`.
+/// The line that `text` names by the numbers of its caller and its event, such as `0.4`.
 fn line_of(text: &[u8]) -> Option<LineOf>
     ensures found { IfSome result (λ line. LineFits line × (text.now ≡ line_text line)) }
     ensures only { (line : LineName) → LineFits line → text.now ≡ line_text line → result ≡ Some line }
@@ -52,8 +52,8 @@ fn line_of(text: &[u8]) -> Option<LineOf>
     })
 }
 
-/// The command that `live` and this word spell: `live C.E` if the word names a line, and `live T` if the word is a
-/// stamp.
+/// The command whose first word is `live` and whose second is `text`: `live C.E` if `text` names a line, and `live T`
+/// if it is a stamp.
 fn live_of(text: &[u8]) -> Option<Ask>
     ensures found { IfSome result (LiveText text.now) }
     ensures only { (ask : Ask) → LiveText text.now ask → result ≡ Some ask }
@@ -78,7 +78,7 @@ fn ask_by(word: &str, argument: &str) -> Option<Ask>
     None
 }
 
-/// The command that the words spell. None if the words have none of the forms of the command line.
+/// The command that these words spell. None if they have none of the forms of the command line.
 pub(crate) fn ask_of(words: &[String]) -> Option<Ask>
     ensures found { IfSome result (Asks words.now) }
     ensures only { (ask : Ask) → Asks words.now ask → result ≡ Some ask }

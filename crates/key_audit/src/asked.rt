@@ -17,7 +17,7 @@ use audit_keys::line_ends::LineEnd;
 use audit_keys::moments::LineOf;
 use judge_lines::marks::MarkOf;
 
-// The first of these lines with this event's number.
+// The first of `lines` whose event has this number.
 fn line_in(lines: &[LineEnd], event: u32) -> Option<LineEnd>
     ensures { result ≡ line_in event lines.now }
 {
@@ -29,7 +29,7 @@ fn line_in(lines: &[LineEnd], event: u32) -> Option<LineEnd>
     None
 }
 
-/// If a line exists, the line's call and the stamp when this call was over.
+/// If the transcript has `line`: the number of its call, and the stamp when this call was over.
 pub(crate) fn line_end(lines: &[Vec<LineEnd>], line: LineOf) -> Option<LineEnd>
     ensures { result ≡ line_in line.event (list_at (lines_in lines.now) line.caller) }
 {
@@ -46,7 +46,7 @@ fn has_stamp(marks: &[MarkOf], stamp: u64) -> bool
     marks.iter().any(|of| stamp <= of.mark.stamp)
 }
 
-// Whether a line exists.
+// Whether the transcript has the line.
 fn has_line(line: LineOf, book: &KeptBook) -> bool
     ensures { (t : List (List SeenLine)) (callers : List (List Call)) (of : Book) (ms : List (List CallMeaning)) →
         KeepsBook book.now t callers of ms → result ≡ is_some (listed_end callers line) }

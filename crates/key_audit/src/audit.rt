@@ -1,4 +1,4 @@
-//! The top call. It takes the words of a command line, and writes the answer.
+//! The program's call: it takes the words of a command line, reads the input, and writes the answer.
 ghost use Rattle.std.specs.Prelude.{◌≡◌, ◌↔◌, ◌⊎◌, []};
 ghost use Rattle.io_edges.specs.Faults.{Rose};
 ghost use Rattle.tool_ends.specs.Ends.{CountsReadFault, CountsWriteFault};
@@ -18,7 +18,7 @@ use tool_ends::short_lines::no_line;
 use tool_ends::{Status, end_output, put_answer, put_line, put_refusal};
 use transcript_text::Transcript;
 
-// The answer for a transcript. The transcript's memory is freed before the answer is made.
+// Writes the answer to the command for a transcript. The transcript's memory is freed before the answer is made.
 fn tell<K: Sink>(alloc: Global, ask: Ask, script: &Script, t: Transcript, sink: &mut K) -> Status
     ensures ends { WritesEnds (ListedOf ask script.now t) result (K.held sink.old) (K.held sink.new) }
     ensures counted { CountsWriteFault result (K.faults sink.old) (K.faults sink.new) }
@@ -35,7 +35,7 @@ fn tell<K: Sink>(alloc: Global, ask: Ask, script: &Script, t: Transcript, sink: 
     }
 }
 
-// Writes the answer for the script and the transcript that the source gives.
+// Reads a script and a transcript from the source, and writes the answer to the command.
 fn audit_input<S: Source, K: Sink>(alloc: Global, ask: Ask, source: &mut S, sink: &mut K) -> Status
     ensures ends { AuditEnds ask result (S.left source.old) (S.left source.new) (K.held sink.old) (K.held sink.new) }
     ensures silent { (result ≡ Status.ReadFault) ⊎ (result ≡ Status.NoMemory) → sink.new ≡ sink.old }

@@ -1,4 +1,4 @@
-//! The book of a transcript, made from the lists that the check of the transcript returns.
+//! The book of a transcript, made from the lanes' lists that the check of the transcript returns.
 ghost use Rattle.std.specs.Prelude.{List, IfOk};
 ghost use Rattle.key_names.specs.Transcripts.IsTranscript.{MadeBook, script_calls};
 ghost use Rattle.key_names.specs.Transcripts.SeenLine.{SeenLine};
@@ -19,29 +19,29 @@ use std::alloc::{AllocError, Global};
 use transcript_check::check::{Judged, check_lists};
 use transcript_text::Transcript;
 
-/// The kept book of a transcript.
+/// What is kept of a transcript's book (the lists of its lanes and of its vgetrandom states).
 #[derive(Drop)]
 pub struct KeptBook {
-    /// The kept visits of each lane.
+    /// The visits of each lane, each with what is kept of it.
     pub lanes: Lists,
     /// For each caller and each of its sixteen vgetrandom states, the state's entries. Each entry has the call that
     /// left it.
     pub states: Vec<Vec<Vec<StateEntry>>>,
     /// The lines of each caller, and the call of each line.
     pub lines: Vec<Vec<LineEnd>>,
-    /// The marks of all visits, sorted by lane, and the marks of each lane by stamp.
+    /// The marks of all visits (lane, place and stamp), sorted by lane, and in each lane by stamp.
     pub marks: Vec<MarkOf>,
 }
 
-/// The book of a lawful transcript, or the reason why the transcript is not lawful.
+/// The kept book of a lawful transcript, or the clause that an unlawful one fails.
 #[derive(Drop)]
 pub enum AuditedBook {
     Lawful(KeptBook),
-    /// This clause is the first that fails.
+    /// The first clause that the transcript fails.
     Unlawful(Clause),
 }
 
-// The kept book. `basis` has the lists that the check of a transcript made from the transcript's steps.
+// Makes the kept book from `basis`, the lists that the check made from the transcript's steps.
 fn book_of(alloc: Global, basis: Basis<'_>) -> Result<KeptBook, AllocError>
     ensures { (script : ScriptLines) (t : List (List SeenLine)) → BasisConforms script t basis.entry →
         (made : MadeBook script t) →

@@ -1,5 +1,5 @@
-//! If bytes of a key became another key, an edge leads from the first key to the second. The keys that can be reached
-//! from some keys are found by following edges.
+//! Edges between keys: if bytes of a key's keystream became another key, an edge leads from the first key to the
+//! second. Following edges finds all keys that can be reached from given keys.
 ghost use Rattle.std.specs.Prelude.{◌≡◌, ◌++◌, ◌↔◌, IfOk, OnOk, IsTrue, Contains, map, reverse};
 ghost use Rattle.std.specs.BTreeSet.{contains};
 ghost use Rattle.key_names.specs.declared.names.KeyName.{KeyName as BookName};
@@ -11,14 +11,14 @@ use key_names::KeyName;
 use std::alloc::{AllocError, Global};
 use std::collections::BTreeSet;
 
-/// Bytes of the key `from` became the key `to`.
+/// Bytes of the keystream of the key `from` became the key `to`.
 #[derive(Clone, Copy)]
 pub(crate) struct Edge {
     pub(crate) from: KeyName,
     pub(crate) to: KeyName,
 }
 
-// Adds an edge for each key that bytes of a row became.
+// Adds the edges that begin at the key of `row`: one for each key that bytes of its keystream became.
 fn push_edges(edges: &mut Vec<Edge>, row: &KeyRow) -> Result<(), AllocError>
     ensures { OnOk result (edges.new.items ≡ edges.old.items ++ row_edges row.now) }
 {
@@ -54,8 +54,8 @@ fn turned(edge: Edge) -> Edge
     }
 }
 
-/// The edges in reverse: if bytes of one key became another key, an edge leads from the second key to the first. The
-/// last edge comes first.
+/// The edges turned round, the last edge first. If bytes of one key's keystream became another key, a turned edge leads
+/// from the second key to the first.
 ///
 /// # Errors
 ///
@@ -66,7 +66,7 @@ pub(crate) fn edges_back(alloc: Global, edges: &[Edge]) -> Result<Vec<Edge>, All
     edges.iter().rev().map(|edge| turned(*edge)).collect(alloc)
 }
 
-/// The set of these keys.
+/// The keys `keys`, as a set.
 ///
 /// # Errors
 ///
@@ -81,7 +81,7 @@ pub(crate) fn set_of(alloc: Global, keys: &[KeyName]) -> Result<BTreeSet<KeyName
     Ok(set)
 }
 
-// Follows an edge if the edge begins at a known key. Returns whether the edge leads to a new key.
+// If `edge` begins at a known key, adds the key to which it leads. Returns whether that key was not known before.
 fn follow(known: &mut BTreeSet<KeyName>, edge: Edge) -> Result<bool, AllocError>
     ensures { IfOk result (λ more. Follows edge known.old known.new more) }
 {
@@ -91,7 +91,7 @@ fn follow(known: &mut BTreeSet<KeyName>, edge: Edge) -> Result<bool, AllocError>
     Ok(false)
 }
 
-// Follows each edge that begins at a known key. Returns whether one of these edges leads to a new key.
+// Follows each edge that begins at a known key. Returns whether a key was found that was not known before.
 fn pass(known: &mut BTreeSet<KeyName>, edges: &[Edge]) -> Result<bool, AllocError>
     ensures { IfOk result (λ more. HasPassed edges.now known.old known.new more) }
 {
@@ -104,7 +104,7 @@ fn pass(known: &mut BTreeSet<KeyName>, edges: &[Edge]) -> Result<bool, AllocErro
     Ok(more)
 }
 
-/// The start keys, and all keys to which edges lead from the start keys, directly or through other keys.
+/// The keys in `start`, and all keys to which edges lead from them, directly or through other keys.
 ///
 /// # Errors
 ///

@@ -1,4 +1,4 @@
-//! The entries of vgetrandom states without the calls that left them.
+//! The entries of all vgetrandom states, without the calls that left the entries.
 ghost use Rattle.std.specs.Prelude.{◌≡◌, IfOk, map};
 ghost use Rattle.audit_keys.specs.Listed.{caller_lists};
 ghost use Rattle.audit_keys.specs.Entries.{entries_in, lists_in, all_lists_in};
@@ -30,7 +30,7 @@ fn caller_entries(alloc: Global, lists: &[Vec<StateEntry>]) -> Result<Vec<Vec<VE
     Ok(entries)
 }
 
-/// The entries of all lists.
+/// The entries of all vgetrandom states of all callers.
 ///
 /// # Errors
 ///
@@ -48,7 +48,7 @@ pub(crate) fn all_entries(
     Ok(entries)
 }
 
-// The entries of a list that a cut keeps.
+// Those entries of `list`, a vgetrandom state's list, that `cut` keeps.
 fn list_entries_by(alloc: Global, cut: Cut, list: &[StateEntry]) -> Result<Vec<VEntry>, AllocError>
     ensures { IfOk result (λ entries. entries.items ≡ entries_by cut list.now) }
 {
@@ -75,7 +75,7 @@ fn caller_entries_by(
     Ok(entries)
 }
 
-/// The entries of all lists up to a moment.
+/// The entries of all vgetrandom states of all callers that were left up to the moment `until`.
 ///
 /// # Errors
 ///

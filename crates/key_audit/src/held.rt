@@ -1,4 +1,4 @@
-//! The keys and rests in memory at a moment, and their lines.
+//! The keys, and the unserved rests of batches, that are in memory at a moment; and the output's lines for them.
 ghost use Rattle.std.specs.Prelude.{◌≡◌, ◌++◌, IfOk, List, OnOk, filter, slice_get};
 ghost use Rattle.std.specs.List.{flat_map};
 ghost use Rattle.key_names.specs.Lanes.Book.{Book};
@@ -24,7 +24,7 @@ use audit_keys::moments::Moments;
 use audit_keys::rows::{Fate, KeyPiece, KeyRow};
 use std::alloc::{AllocError, Global};
 
-/// The keys and rests that are held at a moment.
+/// The keys, and the unserved rests of batches, that are in memory at the moment `until`.
 ///
 /// # Errors
 ///
@@ -45,8 +45,8 @@ pub(crate) fn held_at(
     Ok(held)
 }
 
-/// For each held key, the number of its row. Each held key has a row, since an entry made the key. If a held key had no
-/// row, the call would fail rather than leave the key out.
+/// For each of `keys`, the number of the row that describes it. Each held key has a row, since an entry made the key.
+/// If a held key had no row, the call would fail rather than leave the key out.
 ///
 /// # Errors
 ///
@@ -72,7 +72,7 @@ fn became_key(fate: Fate) -> bool
     matches!(fate, Fate::Became(_))
 }
 
-// Adds those pieces of a row that became keys.
+// Adds the texts of those `pieces` (spans of a key's keystream) that became keys.
 fn put_became(
     text: &mut TextBuffer,
     moments: &Moments,
@@ -89,7 +89,7 @@ fn put_became(
     Ok(())
 }
 
-/// Adds a word, and then a row with only those of its pieces that became keys.
+/// Adds an output line: `word`, and then the row of a key, with only those of its pieces that became keys.
 ///
 /// # Errors
 ///
@@ -108,7 +108,7 @@ pub(crate) fn put_kept(
     text.word("\n")
 }
 
-// Adds the line of a held key. The key is given by the number of its row.
+// Adds the output line of a held key, which is given by the number of its row.
 fn put_held_at(
     text: &mut TextBuffer,
     moments: &Moments,
@@ -124,7 +124,7 @@ fn put_held_at(
     }
 }
 
-/// Adds the lines of held keys. The keys are given by the numbers of their rows.
+/// Adds the output lines of held keys, which are given by the numbers of their rows.
 ///
 /// # Errors
 ///
@@ -165,7 +165,7 @@ fn put_rest(text: &mut TextBuffer, rest: &HeldRest) -> Result<(), AllocError>
     text.word("\n")
 }
 
-/// Adds the lines of rests of batches.
+/// Adds an output line for each of `rests`, the unserved rests of batches.
 ///
 /// # Errors
 ///

@@ -1,4 +1,4 @@
-//! The command `keys`: the rows of a book.
+//! The command `keys`: a row for each key that the entries of a book made.
 ghost use Rattle.std.specs.Prelude.{◌≡◌, List, IfOk};
 ghost use Rattle.key_names.specs.Lanes.Book.{Book};
 ghost use Rattle.key_names.specs.Callers.Calls.{Call};
@@ -17,7 +17,7 @@ use audit_keys::moments::Moments;
 use audit_keys::rows::{KeyRow, make_rows, sort_rows};
 use std::alloc::{AllocError, Global};
 
-/// The rows of a book in the order in which their keys were made.
+/// The rows of the keys that the entries of a book made, in the order in which the keys were made.
 ///
 /// # Errors
 ///
@@ -38,7 +38,7 @@ pub(crate) fn rows_of(
     Ok(rows)
 }
 
-/// The text of all rows.
+/// The output of the command `keys`: the text of all rows.
 ///
 /// # Errors
 ///

@@ -1,4 +1,4 @@
-//! The command `line C.E`: the sources of a line's bytes.
+//! The command `line C.E`: the keys and the extractions that the bytes of a line come from.
 ghost use Rattle.std.specs.Prelude.{◌≡◌, ◌≤◌, ◌++◌, ◌↔◌, List, IfOk, OnOk, IsTrue, filter, map, reverse, slice_get, take};
 ghost use Rattle.std.specs.BTreeSet.{contains};
 ghost use Rattle.std.specs.List.{flat_map};
@@ -39,7 +39,7 @@ fn is_served_for(moments: &Moments, line: LineOf, fate: Fate) -> bool
     }
 }
 
-// Whether bytes of the row's key were served for a line.
+// Whether bytes of the keystream of the row's key were served for `line`.
 fn serves(moments: &Moments, line: LineOf, row: &KeyRow) -> bool
     ensures { result ≡ serves moments.now line row.now }
 {
@@ -65,7 +65,7 @@ fn serving(
     Ok(keys)
 }
 
-// The keys that the bytes of a line come from.
+// The names of all keys that the bytes of `line` come from, directly or through other keys.
 fn sources(
     alloc: Global,
     moments: &Moments,
@@ -81,7 +81,7 @@ fn sources(
     reached_by(alloc, &back, &serving)
 }
 
-// The rows of these keys. The key made last comes first.
+// The rows of the keys in `keys`. The row of the key made last comes first.
 fn rows_back<'a>(
     alloc: Global,
     keys: &BTreeSet<KeyName>,
@@ -96,7 +96,8 @@ fn rows_back<'a>(
         .collect(alloc)
 }
 
-// Whether an event hands a sample to the pool. All events do so except those that ask for bits or credit bits.
+// Whether the event of `line` hands a sample to the pool. All events do so except those that ask for bits or credit
+// bits.
 fn hands_sample(script: &Script, line: LineOf) -> bool
     ensures { result ≡ hands_sample (event_at script.now line.caller line.event) }
 {
@@ -109,21 +110,21 @@ fn hands_sample(script: &Script, line: LineOf) -> bool
     }
 }
 
-// Whether a visit of the pool was made for a sample.
+// Whether the pool's visit `kept`, which was made at `moment`, was made for a sample (bytes that an event hands over).
 fn is_sample(script: &Script, kept: &KeptPool, moment: &Moment) -> bool
     ensures { result ≡ is_kept_sample script.now kept.now moment.now }
 {
     kept.root.is_none() && hands_sample(script, moment.line)
 }
 
-// The first `count` visits of the pool.
+// The pool's first `count` visits.
 fn first_visits(pool: &[KeptPool], count: u64) -> &[KeptPool]
     ensures { result.now ≡ take count pool.now }
 {
     pool.get(..count as usize).unwrap_or(pool)
 }
 
-// 1 if a visit was made for a sample, and 0 otherwise.
+// 1 if the pool's visit at `place` was made for a sample, and 0 otherwise.
 fn sample_count(script: &Script, kept: &KeptPool, moments: &[Moment], place: usize) -> u64
     ensures count { result ≡ sample_count script.now kept.now (slice_get moments.now place) }
     ensures small { result ≤ 1 }
@@ -134,7 +135,7 @@ fn sample_count(script: &Script, kept: &KeptPool, moments: &[Moment], place: usi
     }
 }
 
-// How many of the visits were made for a sample.
+// How many of the pool's visits were made for a sample.
 fn samples_in(script: &Script, pool: &[KeptPool], moments: &[Moment]) -> u64
     ensures { result ≡ kept_samples script.now 0 pool.now moments.now }
 {
@@ -171,7 +172,7 @@ fn put_counts(text: &mut TextBuffer, samples: u64, bits: u32) -> Result<(), Allo
     text.word("\n")
 }
 
-// Adds the line of the extraction that made a root.
+// Adds the output line of the extraction that made a root, if the key is a root.
 fn put_extraction(
     text: &mut TextBuffer,
     script: &Script,
@@ -220,7 +221,7 @@ fn put_extractions(
     Ok(())
 }
 
-// The text for a line. Samples and bits are counted from the kept visits of the pool.
+// The output for `line`. Samples and bits are counted from the kept visits of the pool.
 fn origin_text(
     alloc: Global,
     line: LineOf,
@@ -241,8 +242,8 @@ fn origin_text(
     Ok(text.bytes)
 }
 
-/// The rows of the keys that the bytes of a line come from, and the extraction of each root among these keys. The row
-/// of the key made last comes first.
+/// The rows of all keys that the bytes of `line` come from, the row of the key made last first. Then the extraction of
+/// each root among these keys.
 ///
 /// # Errors
 ///

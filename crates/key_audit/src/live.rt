@@ -1,5 +1,5 @@
-//! The commands `live T` and `live C.E`: the keys and rests in memory after a stamp or a line, and the keys and bytes
-//! that can be computed from these keys and rests.
+//! The commands `live T` and `live C.E`: the keys, and the unserved rests of batches, that are in memory after a stamp
+//! or after a line. The keys and bytes that can be computed from them follow.
 ghost use Rattle.std.specs.Prelude.{◌≡◌, IfOk, List, Some};
 ghost use Rattle.key_names.specs.Lanes.Book.{Book};
 ghost use Rattle.key_names.specs.Callers.Calls.{Call};
@@ -23,8 +23,8 @@ use crate::until::Until;
 use audit_keys::moments::LineOf;
 use std::alloc::{AllocError, Global};
 
-/// The lines of the keys and rests that are held at a moment, and the lines of the keys and bytes that can be computed
-/// from these keys and rests.
+/// The output lines of the keys, and of the unserved rests of batches, that are in memory at the moment `until`. The
+/// lines of the keys and bytes that can be computed from them follow.
 ///
 /// # Errors
 ///
@@ -47,8 +47,8 @@ pub(crate) fn live_text(alloc: Global, until: Until, book: &KeptBook) -> Result<
     Ok(text.bytes)
 }
 
-/// The lines of the keys and rests that are held after a line, and of the keys and bytes that can be computed from
-/// these. The text is empty if the line does not exist.
+/// The output of `live_text` for the moment when the call of `line` was over. It is empty if the transcript has no such
+/// line.
 ///
 /// # Errors
 ///

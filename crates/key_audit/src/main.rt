@@ -52,7 +52,7 @@ use std::io::BufWriter;
 use std::process::ExitCode;
 use tool_ends::{Status, words};
 
-/// How many bytes of output are gathered for one write.
+/// How many bytes of output are gathered before they are written to standard output.
 const GATHERED: usize = 64 * 1024;
 
 /// Runs a command on the standard streams. Only tested.
@@ -65,7 +65,7 @@ fn run(rt: &HostRuntime, words: &[String]) -> Status {
     audit(rt.alloc(), words, &mut source, &mut sink)
 }
 
-/// Writes one line to standard error if a command ended without an answer. Only tested.
+/// Writes one line to standard error if the command ended without an answer. Only tested.
 fn tell<R: Eprint>(rt: &R, status: Status) {
     let _listed = match status {
         Status::Done | Status::No => return,

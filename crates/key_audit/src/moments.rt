@@ -1,4 +1,4 @@
-//! The moment of each entry of a book: a stamp, and the line that left the entry.
+//! The moment of each entry of a book: a stamp, and the line of the transcript that left the entry.
 ghost use Rattle.std.specs.Prelude.{ℕ, ◌≡◌, ◌<◌, ◌++◌, ◌==◌, ◌∷◌, [], IfOk, OnOk, length, map, if◌then◌else◌};
 ghost use Rattle.key_names.specs.Lanes.Book.{list_at};
 ghost use Rattle.audit_keys.specs.Cut.{moment_lists};
@@ -25,7 +25,7 @@ fn moment_by(of: &MarkOf) -> Moment
     }
 }
 
-// Appends the moment of a visit to the moments of its CPU. If the book lacks this CPU, appends nothing.
+// Appends `moment`, that of a visit, to the moments of CPU number `cpu`. Appends nothing if the book lacks this CPU.
 fn push_cpu(cpus: &mut Vec<Vec<Moment>>, cpu: usize, moment: Moment) -> Result<(), AllocError>
     ensures count { length cpus.new.items ≡ length cpus.old.items }
     ensures each { (c : ℕ) → c < length cpus.old.items → OnOk result (list_at (moment_lists cpus.new.items) c
@@ -37,7 +37,7 @@ fn push_cpu(cpus: &mut Vec<Vec<Moment>>, cpu: usize, moment: Moment) -> Result<(
     Ok(())
 }
 
-// Appends the moment of a visit to the moments of its lane.
+// Appends the moment of a visit, given by its mark `of`, to the moments of the visit's lane.
 fn push_mark(moments: &mut Moments, of: &MarkOf) -> Result<(), AllocError>
     ensures { OnOk result (AddsMark moments.old (seen_mark of.now) moments.new) }
 {
@@ -50,7 +50,7 @@ fn push_mark(moments: &mut Moments, of: &MarkOf) -> Result<(), AllocError>
     Ok(())
 }
 
-// The moments of a book with this many CPUs and no visits.
+// The moments of a book that has `cpus` CPUs and no visits.
 fn no_visits(alloc: Global, cpus: usize) -> Result<Moments, AllocError>
     ensures { IfOk result (λ moments. HasMarks cpus [] moments) }
 {
@@ -66,7 +66,7 @@ fn no_visits(alloc: Global, cpus: usize) -> Result<Moments, AllocError>
     Ok(moments)
 }
 
-// The moments of the visits that have these marks.
+// The moments of the visits with the marks `marks`, lane by lane, in a book that has `cpus` CPUs.
 fn moments_of_marks(alloc: Global, cpus: usize, marks: &[MarkOf]) -> Result<Moments, AllocError>
     ensures { IfOk result (λ moments. HasMarks cpus (map seen_mark marks.now) moments) }
 {
@@ -77,7 +77,7 @@ fn moments_of_marks(alloc: Global, cpus: usize, marks: &[MarkOf]) -> Result<Mome
     Ok(moments)
 }
 
-// The moment when a call was over: its stamp, and the call's line.
+// The moment when a call was over: the stamp then, and the call's line.
 fn end_moment(end: CallEnd) -> Moment
     ensures { result ≡ end_moment end }
 {
@@ -110,7 +110,7 @@ fn caller_moments(alloc: Global, lists: &[Vec<StateEntry>]) -> Result<Vec<Vec<Mo
     Ok(moments)
 }
 
-// The moments of the entries of all vgetrandom states.
+// The moments of the entries of all vgetrandom states of all callers.
 fn state_moments(
     alloc: Global,
     callers: &[Vec<Vec<StateEntry>>],

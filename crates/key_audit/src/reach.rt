@@ -1,5 +1,5 @@
-//! The keys and bytes that can be computed from the keys and rests in memory: keys that are made later, and bytes of
-//! later lines.
+//! The keys and bytes that can be computed from the keys, and the unserved rests of batches, in memory: keys that are
+//! made later, and bytes of later lines.
 ghost use Rattle.std.specs.Prelude.{◌≡◌, ◌++◌, IfOk, OnOk, IsPermutation, IsSortedByKey, map};
 ghost use Rattle.std.specs.BTreeSet.{contains};
 ghost use Rattle.std.specs.List.Sorted.{IsStableByKey};
@@ -19,14 +19,14 @@ use key_names::{KeyName, Span};
 use std::alloc::{AllocError, Global};
 use std::collections::BTreeSet;
 
-/// Bytes of a key that were served for a line.
+/// Bytes of a key's keystream that were served, and the line that they were served for.
 #[derive(Clone, Copy)]
 struct Copied {
     line: LineOf,
     span: Span,
 }
 
-// Whether the first byte of a piece is in the rest of a batch.
+// Whether the first byte of `piece` is among the bytes of `rest`, the unserved rest of a batch.
 fn has_piece(rest: &HeldRest, piece: &KeyPiece) -> bool
     ensures { result ≡ has_piece rest.now piece.now }
 {
@@ -41,7 +41,7 @@ fn is_in_rest(rests: &[HeldRest], piece: &KeyPiece) -> bool
     rests.iter().any(|rest| has_piece(rest, piece))
 }
 
-// Adds each key that a piece of the row became, if a rest has the first byte of this piece.
+// Adds each key that a piece of the row became, if the first byte of this piece is in one of `rests`.
 fn push_rest_keys(
     keys: &mut Vec<KeyName>,
     rests: &[HeldRest],
@@ -59,7 +59,7 @@ fn push_rest_keys(
     Ok(())
 }
 
-// These keys, and the keys that bytes of the rests became.
+// The keys in `keys`, and the keys that bytes of `rests` became.
 fn with_rest_keys(
     alloc: Global,
     keys: &[KeyName],
@@ -75,7 +75,8 @@ fn with_rest_keys(
     Ok(all)
 }
 
-// Adds the bytes of a piece, if they were served and can be computed.
+// Adds the bytes of a piece to `all`, if they were served, and can be computed from a known key or are in one of the
+// rests.
 fn push_piece(
     all: &mut Vec<Copied>,
     moments: &Moments,
@@ -114,7 +115,7 @@ fn push_row(
     Ok(())
 }
 
-// The bytes that were served and can be computed, in the order of the rows.
+// All served bytes that can be computed, in the order of the rows.
 fn copied_bytes(
     alloc: Global,
     moments: &Moments,
@@ -160,7 +161,7 @@ fn is_line(last: Option<LineOf>, line: LineOf) -> bool
     }
 }
 
-// Begins a line of the output, unless the bytes before were served for the same line.
+// Begins the output line for `line`, unless `last`, the line of the bytes before, is the same line.
 fn begin_line(text: &mut TextBuffer, last: Option<LineOf>, line: LineOf) -> Result<(), AllocError>
     ensures { OnOk result (text.new.bytes.items ≡ text.old.bytes.items ++ line_begin last line) }
 {
@@ -193,7 +194,7 @@ fn put_lines(text: &mut TextBuffer, all: &[Copied]) -> Result<(), AllocError>
     end_line(text, last)
 }
 
-// Adds the lines of keys that can be computed and are not held.
+// Adds an output line for each key that can be computed and is not held.
 fn put_next(
     text: &mut TextBuffer,
     moments: &Moments,
@@ -218,7 +219,8 @@ fn names_of(alloc: Global, keys: &[HeldKey]) -> Result<Vec<KeyName>, AllocError>
     keys.iter().map(|held| held.key).collect(alloc)
 }
 
-/// The lines of the keys and bytes that can be computed from these keys and these rests of batches.
+/// The output lines of all keys and bytes that can be computed from the held keys `keys` and from `rests`, the unserved
+/// rests of batches.
 ///
 /// # Errors
 ///

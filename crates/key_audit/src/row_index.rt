@@ -1,4 +1,4 @@
-//! An index that finds the rows of a book by the names of their keys.
+//! An index that finds a key's row by the key's name.
 ghost use Rattle.std.specs.Prelude.{◌≡◌, ◌≢◌, ℕ, IfOk, IfSome, None, Some, length};
 ghost use Rattle.key_audit.specs.Index.{IsIndexTo};
 ghost use Rattle.key_audit.specs.Live.{name_at};
@@ -8,17 +8,17 @@ use key_names::KeyName;
 use std::alloc::{AllocError, Global};
 use std::collections::BTreeMap;
 
-/// The rows of a book, with an index by the names of their keys.
+/// The rows of a book (one row for each key), with an index by the names of the keys.
 #[derive(Drop)]
 pub(crate) struct RowIndex<'a> {
     rows: &'a [KeyRow],
-    /// The number of the row of each key.
+    /// For each key, the number of its row.
     by_name: BTreeMap<KeyName, usize>,
     ghost indexed: { IsIndexTo (length rows.now) rows.now by_name },
 }
 
 impl<'a> RowIndex<'a> {
-    /// The index of some rows.
+    /// Makes the index of these rows.
     ///
     /// # Errors
     ///
@@ -33,7 +33,7 @@ impl<'a> RowIndex<'a> {
         Ok(RowIndex { rows, by_name })
     }
 
-    /// The number of the row of a key, or `None` if no row has this key.
+    /// The number of the row of `key`, or `None` if no row is this key's.
     pub(crate) fn find(&self, key: KeyName) -> Option<usize>
         ensures found { IfSome result (λ n. name_at self.now.rows.now n ≡ Some key) }
         ensures none { result ≡ None → (n : ℕ) → name_at self.now.rows.now n ≢ Some key }

@@ -1,4 +1,4 @@
-//! The texts of names, entries and rows.
+//! Writes the texts of names, entries and rows into a buffer.
 ghost use Rattle.std.specs.Prelude.{◌≡◌, ◌++◌, ◌∷◌, [], OnOk, decimal};
 ghost use Rattle.key_audit.specs.Texts.{name_text, call_text, holder_text, line_text, origin_text, at_text, entry_text};
 ghost use Rattle.key_audit.specs.Texts.{span_text, fate_text, piece_text, end_text, key_text, row_text, rows_text, moment_at};
@@ -11,7 +11,7 @@ use itoa::Buffer;
 use key_names::{KeyName, LaneId, Span};
 use std::alloc::{AllocError, Global};
 
-/// The moment that is shown for an entry that has no moment.
+/// The moment that is printed for an entry without a moment.
 const NO_MOMENT: Moment = Moment {
     stamp: 0,
     line: LineOf {
@@ -20,7 +20,7 @@ const NO_MOMENT: Moment = Moment {
     },
 };
 
-/// A text that is being written.
+/// The bytes of the output that were written so far.
 #[derive(Drop)]
 pub(crate) struct TextBuffer {
     pub(crate) bytes: Vec<u8>,
@@ -91,7 +91,7 @@ impl TextBuffer {
         self.word(")")
     }
 
-    /// Adds a key's holder, such as `base`, `cpu0`, `state0.3` or `call`.
+    /// Adds the holder of a key (where the key is kept in memory), such as `base`, `cpu0`, `state0.3` or `call`.
     pub(crate) fn holder(&mut self, holder: Holder) -> Result<(), AllocError>
         ensures { OnOk result (self.new.bytes.items ≡ self.old.bytes.items ++ holder_text holder) }
     {
@@ -154,7 +154,7 @@ impl TextBuffer {
         self.line(moment.line)
     }
 
-    /// Adds bytes of a keystream, such as `32+8`: the number of the first byte, and how many bytes there are.
+    /// Adds a span of a keystream, such as `32+8`: the position of its first byte, and the number of its bytes.
     pub(crate) fn span(&mut self, span: Span) -> Result<(), AllocError>
         ensures { OnOk result (self.new.bytes.items ≡ self.old.bytes.items ++ span_text span) }
     {
@@ -182,7 +182,7 @@ impl TextBuffer {
         }
     }
 
-    /// Adds a space and a piece.
+    /// Adds a space, and a piece of a row: a span of the key's keystream, and what became of its bytes.
     pub(crate) fn piece(&mut self, moments: &Moments, piece: KeyPiece) -> Result<(), AllocError>
         ensures { OnOk result (self.new.bytes.items ≡ self.old.bytes.items ++ piece_text moments.now piece) }
     {
@@ -203,7 +203,7 @@ impl TextBuffer {
         }
     }
 
-    /// Adds a row without its pieces: the key, its holder, and the entries that made and ended the key.
+    /// Adds a row up to its pieces: the key, its holder, and the entries that made and ended the key.
     pub(crate) fn key(&mut self, moments: &Moments, row: &KeyRow) -> Result<(), AllocError>
         ensures { OnOk result (self.new.bytes.items ≡ self.old.bytes.items ++ key_text moments.now row.now) }
     {
@@ -215,7 +215,7 @@ impl TextBuffer {
         self.end(moments, row.ended)
     }
 
-    /// Adds the line of a row.
+    /// Adds the output line of a row: the key, its holder, the entries that made and ended it, and its pieces.
     pub(crate) fn row(&mut self, moments: &Moments, row: &KeyRow) -> Result<(), AllocError>
         ensures { OnOk result (self.new.bytes.items ≡ self.old.bytes.items ++ row_text moments.now row.now) }
     {
@@ -226,7 +226,7 @@ impl TextBuffer {
         self.word("\n")
     }
 
-    /// Adds the lines of rows.
+    /// Adds the output line of each row.
     pub(crate) fn rows(&mut self, moments: &Moments, rows: &[KeyRow]) -> Result<(), AllocError>
         ensures { OnOk result (self.new.bytes.items ≡ self.old.bytes.items ++ rows_text moments.now rows.now) }
     {

@@ -1,10 +1,10 @@
-//! The moment up to which a command reads a book.
+//! The moment up to which the commands `live T` and `live C.E` read a book.
 ghost use Rattle.std.specs.Prelude.{◌≡◌};
 ghost use Rattle.key_audit.specs.Live.{cut_at, until_stamp};
 
 use audit_keys::entry::Cut;
 
-/// The moment up to which a command reads a book.
+/// The moment up to which a book is read: a stamp, or the end of a call.
 #[derive(Clone, Copy, Debug, PartialEq, Eq)]
 pub(crate) enum Until {
     /// The visits up to this stamp, and the calls that were over by this stamp.
@@ -19,7 +19,7 @@ pub(crate) enum Until {
 }
 
 impl Until {
-    /// The stamp up to which visits are kept.
+    /// The stamp of the last visit that is kept.
     pub(crate) fn stamp(self) -> u64
         ensures { result ≡ until_stamp self }
     {
@@ -28,7 +28,7 @@ impl Until {
         }
     }
 
-    /// The cut that determines which entries of a caller's vgetrandom states are kept.
+    /// The cut that determines which entries of the vgetrandom states of caller number `of` are kept.
     pub(crate) fn cut(self, of: usize) -> Cut
         ensures { result ≡ cut_at self of }
     {

@@ -1,4 +1,4 @@
--- To find a line `end` that came with the last bytes, the code searches only the last bytes and the four bytes before
+-- To find a line `end` that the bytes taken last completed, it is enough to search these bytes and the four before
 -- them.
 use Rattle.std.proofs.Common.{◌≡◌, ℕ, ◌+◌, ◌-◌, ◌≤◌, ◌⊎◌, inl, inr, List, ◌++◌, length, Option, None, Some, IsTrue}
 use Rattle.std.proofs.Common.{refl, sym, ap, ◌∙◌, arith, length-append, length-drop}
@@ -33,14 +33,14 @@ pub found_after : (from : ℕ) (xs needle : List ℕ) (r : Option ℕ) → from 
 found_after from xs needle None le finds is = cc
 found_after from xs needle (Some k) le finds is = (from + k, occurs_after from xs needle k le finds.1)
 
--- a search finds a needle exactly if the bytes contain it
+-- the search returns a place in `xs` exactly if `xs` contains `needle`
 pub found_exactly : (xs needle : List ℕ) (r : Option ℕ) → FindsNeedle xs needle 0 r
     → IsTrue (is_some r) ↔ ((k : ℕ) × OccursAt xs needle k)
 found_exactly xs needle None nowhere =
     (λ is. cc, λ at. let fits = at.1.fits in absurd (nowhere at.0 (omega arith) (omega arith) at.1))
 found_exactly xs needle (Some k) finds = (λ is. (k, finds.1), λ at. refl)
 
--- if `text ++ more` has a line `end`, the line was in `text` or came with `more`
+-- if `text ++ more` has a line `end`, then `text` has one, or `more` completed one
 end_line_comes : (text more : List ℕ) → HasEndLine (text ++ more)
     → HasEndLine text ⊎ HasEndLine (last_part (length more) (text ++ more))
 end_line_comes text more (place, at) =
@@ -57,7 +57,7 @@ end_line_comes text more (place, at) =
       )
     ]
 
--- if `text` has no line `end`, and none came with `more`, `text ++ more` has none
+-- if `text` has no line `end`, and `more` completed none, then `text ++ more` has none
 pub no_end_line : (text more : List ℕ) → (HasEndLine text → ⊥)
     → (HasEndLine (last_part (length more) (text ++ more)) → ⊥) → HasEndLine (text ++ more) → ⊥
 no_end_line text more none nowhere has = elim (end_line_comes text more has) [

@@ -1,4 +1,4 @@
--- How a command ends after the flush at the end of its output.
+-- What a command leaves stays right after the flush at the end of its output.
 use Rattle.std.proofs.Common.{ℕ, ◌≡◌, List, Option, None, Some, ◌++◌, ap, sym, subst, ◌∙◌, inl, inr}
 use Rattle.std.specs.Prelude.{IfSome}
 use Rattle.std.specs.Io.KnownBytes.{Appends, Consumes, IsAtEnd, Keeps}
@@ -21,21 +21,22 @@ appends_kept (Some x) (Some y) (Some z) xs h k = k ∙ h
 prefix_kept : (a b c : Option (List ℕ)) (xs : List ℕ) → AppendsPrefix a b xs → Keeps b c → AppendsPrefix a c xs
 prefix_kept a b c xs p k = (p.0, p.1, appends_kept a b c _ p.2 k)
 
--- if a whole answer was appended, and then the sink's content did not change, a prefix of the answer was appended
+-- if the answer `xs` was appended to the sink, and then its content did not change, a prefix of `xs` was appended
 whole_cut : (a b c : Option (List ℕ)) (xs : List ℕ) → Appends a b xs → Keeps b c → AppendsPrefix a c xs
 whole_cut a b c xs h k = prefix_kept a b c xs (AppendsPrefix-of_whole a b xs h) k
 
--- `a`, `b` and `c` are the sink's counts of faults before a command, after it, and after the end of its output
+-- `a`, `b` and `c` are the sink's counts of faults before a command, after it, and after the end of its output.
+-- `status` is the command's status, and `result` the status after the end of the output
 module _ (status result : Status) (a b c : ℕ) (ended : AtOutputEnd status result b c)
     (same : (status ≡ WriteFault → ⊥) → b ≡ a) where
-  -- if the result is a write fault, the sink failed in the command or at the end of its output
+  -- if `result` is a write fault, the sink failed in the command or at the end of its output
   pub rose_at_end : (status ≡ WriteFault → Rose a b) → result ≡ WriteFault → Rose a c
   rose_at_end rose fault = elim ended [
     | inl stays ↦ subst (Rose a) (sym stays.1) (rose (sym stays.0 ∙ fault))
     | inr cut ↦ subst (λ n. Rose n c) (same (λ is. subst IsAnswered is cut.0)) cut.2
   ]
 
-  -- if the result is no write fault, the sink failed neither in the command nor at the end of its output
+  -- if `result` is not a write fault, the sink failed neither in the command nor at the end of its output
   pub same_at_end : (result ≡ WriteFault → ⊥) → c ≡ a
   same_at_end unfailed = elim ended [
     | inl stays ↦ stays.1 ∙ same (λ is. unfailed (stays.0 ∙ is))
@@ -68,7 +69,7 @@ module _ (Of : List ℕ → Type 0) (a b c : Option (List ℕ)) (k : Keeps b c) 
   cut ReadFault is e = absurd is
   cut Refused is e = absurd e
 
-  -- if a command that reads no input meets its contract, the contract still holds after the end of the output
+  -- if a command that reads no input meets its contract (`EndsWith`), it still does after the end of the output
   pub ends_after : (status result : Status) (m n : ℕ) → AtOutputEnd status result m n → EndsWith Of status a b
       → EndsWith Of result a c
   ends_after status result m n ended e = elim ended [
@@ -76,7 +77,7 @@ module _ (Of : List ℕ → Type 0) (a b c : Option (List ℕ)) (k : Keeps b c) 
     | inr faulty ↦ subst (λ s. EndsWith Of s a c) (sym faulty.1) (cut status faulty.0 e)
   ]
 
--- if an input was read to its end, the input is all that was left in the source
+-- if a source was read to its end, `input` is all that was left in it before
 all_read : (Is : List ℕ → List ℕ → Type 0) (left left_after : Option (List ℕ)) (input output : List ℕ)
     → Consumes left left_after input → IsAtEnd left_after → Is input output → IfSome left (λ all. Is all output)
 all_read Is None after input output read end is = tt
@@ -160,7 +161,7 @@ module _ (most : ℕ) (Of : List ℕ → Status → List ℕ → Type 0) (left l
     read_cut WriteFault is e = absurd is
     read_cut NoMemory is e = absurd is
 
-    -- if a command that reads its input meets its contract, the contract still holds after the end of the output
+    -- if a command that reads its input meets its contract (`ReadsEnds`), it still does after the end of the output
     pub reads_end_after : (status result : Status) (m n : ℕ) → AtOutputEnd status result m n
         → ReadsEnds most Of status left left_after a b → ReadsEnds most Of result left left_after a c
     reads_end_after status result m n ended e = elim ended [

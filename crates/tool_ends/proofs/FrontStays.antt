@@ -1,5 +1,5 @@
--- The front of a text ends with the text's first line `end`, if there is one. Text after this line does not change the
--- front.
+-- The front of an input, its script, ends with the first line `end`, if there is one. Text after this line does not
+-- change the front.
 use Rattle.std.proofs.Common.{◌≡◌, ℕ, ◌+◌, ◌==◌, Bool, true, false, cond, List, [], ◌∷◌, ◌++◌, take, drop, refl, sym}
 use Rattle.std.proofs.Common.{ap, ◌∙◌, append_assoc, arith, length-append}
 use Rattle.std.specs.List.{join_with_byte, onto_first}
@@ -11,36 +11,37 @@ use Rattle.key_names.specs.Texts.ScriptFaults.{front, front_lines, parts}
 use Rattle.key_names.proofs.Script.Parts.{HasFirst, first_part}
 use Rattle.tool_ends.specs.Intakes.{HasEndLine}
 
--- ---- the parts of a text on both sides of a line feed
+-- ---- the lines of a text, cut at a line feed
 
--- a byte put before `lines` changes at most their first line, whatever lines `more` follow
+-- if a byte is put before `lines`, only the first line changes, or a new first line begins, whatever lines `more`
+-- follow
 onto_joined : (t : Bool) (b : ℕ) (lines more : List (List ℕ)) → HasFirst lines
     → cond t ([] ∷ lines ++ more) (onto_first b (lines ++ more)) ≡ cond t ([] ∷ lines) (onto_first b lines) ++ more
 onto_joined t b [] more some = absurd (let e = some.is in cc)
 onto_joined true b (line ∷ lines) more some = refl
 onto_joined false b (line ∷ lines) more some = refl
 
--- the lines of a text with a line feed are the lines before the line feed, and then the lines after it
+-- the lines of a text that has a line feed are the lines before it, and then the lines after it
 parts_joined : (a b : List ℕ) → parts 10 (a ++ 10 ∷ b) ≡ parts 10 a ++ parts 10 b
 parts_joined [] b = refl
 parts_joined (x ∷ a) b =
     ap (λ lines. cond (x == 10) ([] ∷ lines) (onto_first x lines)) (parts_joined a b)
     ∙ onto_joined (x == 10) x (parts 10 a) (parts 10 b) (first_part 10 a)
 
--- ---- the front of lines
+-- ---- the lines of the front
 
--- if more lines follow some lines, all of them together have a first line
+-- if `more` has a first line, so has `lines ++ more`
 first_joined : (lines more : List (List ℕ)) → HasFirst more → HasFirst (lines ++ more)
 first_joined [] more some = some
 first_joined (line ∷ lines) more some = record { first = line; others = lines ++ more; is = refl }
 
--- the front ends after the first line if this line is `end`, and otherwise continues with the front of the other lines
+-- the front of `line ∷ lines` ends after `line` if this is `end`; otherwise it goes on with the front of `lines`
 front_by : (line : List ℕ) (lines : List (List ℕ)) → HasFirst lines
     → front_lines (line ∷ lines) ≡ cond (bytes_eq line (codes "end")) (line ∷ [] ∷ []) (line ∷ front_lines lines)
 front_by line [] some = absurd (let e = some.is in cc)
 front_by line (next ∷ more) some = refl
 
--- lines after a line `end` do not change the front
+-- if a line `end` comes after `lines`, the lines after it do not change the front
 front_same : (lines a b : List (List ℕ)) → HasFirst a → HasFirst b
     → front_lines (lines ++ codes "end" ∷ a) ≡ front_lines (lines ++ codes "end" ∷ b)
 front_same [] a b some other = front_by (codes "end") a some ∙ sym (front_by (codes "end") b other)
@@ -52,9 +53,9 @@ front_same (line ∷ lines) a b some other =
     (front_same lines a b some other)
     ∙ sym (front_by line (lines ++ codes "end" ∷ b) (some_first b))
 
--- ---- more text
+-- ---- more text after a line `end`
 
--- a text consists of what comes before its line `end`, that line, and what comes after it
+-- a text with a line `end` is the text before this line, the line, and the text after it
 cut_at_end : (text : List ℕ) (h : HasEndLine text)
     → text ≡ take h.0 text ++ 10 ∷ 101 ∷ 110 ∷ 100 ∷ 10 ∷ drop (h.0 + 5) text
 cut_at_end text h =
@@ -62,7 +63,7 @@ cut_at_end text h =
     ∙ ap (λ rest. take h.0 text ++ rest)
     (at_from_reads 0 text (10 ∷ 101 ∷ 110 ∷ 100 ∷ 10 ∷ []) h.0 h.1.fits h.1.reads)
 
--- if texts are the same up to a line `end`, they have the same front
+-- if two texts are the same up to and including a line `end`, they have the same front
 front_at_end : (a b c : List ℕ)
     → front (a ++ 10 ∷ 101 ∷ 110 ∷ 100 ∷ 10 ∷ b) ≡ front (a ++ 10 ∷ 101 ∷ 110 ∷ 100 ∷ 10 ∷ c)
 front_at_end a b c =
@@ -70,7 +71,7 @@ front_at_end a b c =
     ap (join_with_byte 10) (ap front_lines (parts_joined a (101 ∷ 110 ∷ 100 ∷ 10 ∷ b)) ∙ same
     ∙ sym (ap front_lines (parts_joined a (101 ∷ 110 ∷ 100 ∷ 10 ∷ c))))
 
--- a line `end` stays where it is if more text comes
+-- if `text` has a line `end`, so has `text ++ more`
 pub end_stays : (text more : List ℕ) → HasEndLine text → HasEndLine (text ++ more)
 end_stays text more (place, at) = (
   place,
@@ -81,7 +82,7 @@ end_stays text more (place, at) = (
   },
 )
 
--- the front of a text with a line `end` stays the same if more text comes
+-- if `text` has a line `end`, `text ++ more` has the same front as `text`
 pub front_stays : (text more : List ℕ) → HasEndLine text → front (text ++ more) ≡ front text
 front_stays text more h =
     let cut = cut_at_end text h in

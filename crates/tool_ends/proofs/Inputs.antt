@@ -1,4 +1,4 @@
--- If an output is right for the part of an input that was read, it is right for the whole input.
+-- An output that is right for the part of an input that was read is right for the whole input.
 use Rattle.std.proofs.Common.{ℕ, ◌+◌, ◌≡◌, ◌≤◌, ◌<◌, ◌⊎◌, List, [], Option, None, Some, length, take, sym, ap, ◌∙◌, subst, arith, inl, inr}
 use Rattle.std.specs.Prelude.{IfSome}
 use Rattle.std.specs.Io.KnownBytes.{Consumes}
@@ -10,7 +10,8 @@ use Rattle.tool_ends.specs.Reads.{ReadsEnds, SomeAnswer, WasRead, WritesEnds}
 use Rattle.tool_ends.specs.declared.status.Status.{Status}
 use Rattle.tool_ends.specs.declared.status.Status.TheVariants.{Done, No, Usage, ReadFault, WriteFault, Refused, NoMemory}
 
--- if `Wide` allows each output that `Of` allows, a command that ends with an output of `Of` ends with one of `Wide`
+-- if each output allowed by `Of` is allowed by `Wide`, a command that ends with an output of `Of` ends with one of
+-- `Wide`
 pub wider : (Of Wide : Status → List ℕ → Type 0) → ((s : Status) (o : List ℕ) → Of s o → Wide s o) →
     (status : Status) (a b : Option (List ℕ)) → WritesEnds Of status a b → WritesEnds Wide status a b
 wider Of Wide is Done a b e = (e.0, is Done e.0 e.1, e.2)
@@ -21,7 +22,8 @@ wider Of Wide is NoMemory a b e = e
 wider Of Wide is Usage a b e = e
 wider Of Wide is ReadFault a b e = e
 
--- outputs of this kind answer no input above the limit, and refuse all inputs above the limit alike
+-- `Of` allows no answer to an input above the limit except a refusal, and the same refusals for all inputs above the
+-- limit
 pub record IsLimited (limit : ℕ) (Of : List ℕ → Status → List ℕ → Type 0) : Type 0 where
   pub done : (input output : List ℕ) → Of input Done output → length input ≤ limit
   pub no : (input output : List ℕ) → Of input No output → length input ≤ limit
@@ -29,7 +31,8 @@ pub record IsLimited (limit : ℕ) (Of : List ℕ → Status → List ℕ → Ty
       Of input Refused output → Of all Refused output
 
 module _ (limit : ℕ) (Of : List ℕ → Status → List ℕ → Type 0) (limited : IsLimited limit Of) where
-  -- the part that was read is the whole input, or both the part and the whole input are longer than the limit
+  -- if the first `limit` + 1 bytes of `all` were read as `input`, then `input` is `all`, or both are longer than the
+  -- limit
   read_or_too_long : (all input : List ℕ) → input ≡ take (limit + 1) all →
       (input ≡ all) ⊎ ((limit < length input) × (limit < length all))
   read_or_too_long all input is = elim (cases_lt limit (length all)) [
@@ -37,7 +40,7 @@ module _ (limit : ℕ) (Of : List ℕ → Status → List ℕ → Type 0) (limit
     | inr short ↦ inl (is ∙ take_all (limit + 1) all (omega arith))
   ]
 
-  -- if an output is right for the part of a long input that was read, it is right for the whole input
+  -- if `input` and `all` are longer than the limit, an output that is right for `input` is right for `all`
   of_long : (status : Status) → IsAnswered status → (input all output : List ℕ) → limit < length input →
       limit < length all → Of input status output → Of all status output
   of_long Done answered input all output long too is =
@@ -65,14 +68,14 @@ module _ (limit : ℕ) (Of : List ℕ → Status → List ℕ → Type 0) (limit
   some_of_all (Some all) input output front is =
       (is.0, is.1, of_all is.0 is.1 (Some all) input output front is.2)
 
-  -- if `input` is the first `limit` + 1 bytes of the source, or all of it, at most `limit` + 1 bytes were taken
+  -- if `input` is the first `limit` + 1 bytes of the source, or all of them, at most `limit` + 1 bytes were taken
   taken_at_most : (left left_after : Option (List ℕ)) (input : List ℕ) → Consumes left left_after input →
       IfSome left (λ all. input ≡ take (limit + 1) all) → ConsumesUpTo (limit + 1) left left_after
   taken_at_most None left_after input read front = ([], omega arith, tt)
   taken_at_most (Some all) left_after input read front =
       (input, omega (arith, ap length front, length-take (limit + 1) all), read)
 
-  -- a command that read `input` and wrote an output for it ends as its contract states
+  -- if a command read `input`, and wrote an output that is right for it, it meets its contract (`ReadsEnds`)
   pub reads_end : (left left_after held held_after : Option (List ℕ)) (input : List ℕ) →
       WasRead limit left left_after input → (status : Status) → WritesEnds (Of input) status held held_after →
       ReadsEnds limit Of status left left_after held held_after
@@ -113,9 +116,9 @@ module _ (limit : ℕ) (Of : List ℕ → Status → List ℕ → Type 0) (limit
   reads_end left left_after held held_after input read Usage e = e
   reads_end left left_after held held_after input read ReadFault e = absurd e
 
--- ---- one answer
+-- ---- an answer that is equal to a right answer
 
--- if a text is an answer with this status, so is any equal text with an equal status
+-- if `text` is right with the status `status`, so is an equal text with an equal status
 pub the_answer : (Of : Status → List ℕ → Type 0) (status : Status) (text : List ℕ) → Of status text →
     (s : Status) (o : List ℕ) → (s ≡ status) × (o ≡ text) → Of s o
 the_answer Of status text of s o is = subst (λ s. Of s o) (sym is.0) (subst (Of status) (sym is.1) of)

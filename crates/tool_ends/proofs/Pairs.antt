@@ -1,4 +1,4 @@
--- A script's transcript has exactly one line for each event and one more for each caller. An input that is no script
+-- A script's transcript has exactly one line for each event and one more for each caller. An input that is not a script
 -- with a transcript after it is refused.
 use Rattle.std.proofs.Common.{◌≡◌, ◌<◌, ℕ, suc, ◌+◌, ◌≤◌, refl, List, [], ◌∷◌, length, sym, ◌∙◌, arith, inl, inr, true, ltb, Some}
 use Rattle.std.specs.List.{sum_by}
@@ -20,7 +20,7 @@ use Rattle.key_names.specs.declared.faults.ScriptFault.{ScriptFault}
 use Rattle.tool_ends.specs.declared.status.Status.{Status}
 use Rattle.tool_ends.specs.declared.status.Status.TheVariants.{Refused as IsRefused, No as IsNo}
 
--- there is exactly one line for each event, and one more for each caller
+-- if the lines are those that the script requires, there is exactly one for each event, and one more for each caller
 lines_of_all : (c : ℕ) (callers : List (List Event)) (t : List (List SeenLine)) → AllFit c callers t
     → sum_by length t ≡ sum_by length callers + length callers
 lines_of_all c [] [] fit = refl
@@ -38,7 +38,7 @@ pub few_lines : (script : Script) (t : List (List SeenLine)) → WellFormed scri
     → sum_by length t ≤ 65600
 few_lines script t ok fit = omega (arith, ok.events, ok.callers.1, lines_of_all 0 script.callers t fit)
 
--- if a transcript has more lines than the transcript of any script, its lines are not those that the script requires
+-- if a transcript has more lines than any script's transcript can have, its lines are not those that `script` requires
 pub too_many : (script : Script) (text : List ℕ) → WellFormed script → HasMoreLines 65600 text → LacksLines script text
 too_many script text ok more = record {
   lines = more.callers;
@@ -51,11 +51,11 @@ too_many script text ok more = record {
   ));
 }
 
--- an input above the limit has its first fault at line 0
+-- the first fault of an input above the limit is that it is too long, at line 0
 pub too_long : (input : List ℕ) → 100663296 < length input → pair_fault input ≡ Some (record { line = 0; kind = TooLong })
 too_long input long = let is : ltb 100663296 (length input) ≡ true = lt-ltb _ _ long in rw is refl
 
--- all inputs above the limit have the same refusal
+-- a refusal that is right for one input above the limit is right for any other input above the limit
 pub too_long_alike : (input all output : List ℕ) → 100663296 < length input → 100663296 < length all →
     TellsFault input output → TellsFault all output
 too_long_alike input all output long too tells = record {
@@ -64,7 +64,7 @@ too_long_alike input all output long too tells = record {
   line = tells.line;
 }
 
--- if the text after a script is not read for some reason, the input is not read for the same reason
+-- if the text after the script is not read for the reason `why`, the whole input is not read for the reason `why`
 pub no_pair : (input : List ℕ) (script : Script) → length input ≤ 100663296 → IsScript script (front input) →
     (why : NotRead) → IsNoText (following input) why → IsNoPair input why
 no_pair input script short is ReadFault not = absurd not
@@ -86,7 +86,7 @@ no_pair input script short is TooManyLines not = (
 )
 no_pair input script short is NoMemory not = tt
 
--- ---- the lines of the refusals
+-- ---- refusals and failed clauses, as lines of output
 
 pub refused_by : (fault : ScriptFault) (line : List ℕ) → line ≡ refusal_line fault → (s : Status) (o : List ℕ) →
     (s ≡ IsRefused) × (o ≡ line) → RefusalOf (Refused fault) s o

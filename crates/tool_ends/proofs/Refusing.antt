@@ -1,4 +1,4 @@
--- The end of a command that reads a script, or a script with a transcript after it.
+-- What a command leaves that reads a script, or a script with a transcript after it.
 use Rattle.std.proofs.Common.{ℕ, ◌+◌, List, Option, sym, subst}
 use Rattle.io_edges.specs.Pieces.{ConsumesUpTo}
 use Rattle.tool_ends.specs.Pairs.{GivesNone, RefusalEnds, RefusalOf}
@@ -11,12 +11,12 @@ use Rattle.tool_ends.proofs.Inputs.{IsLimited, reads_end, wider}
 
 module _ (most : ℕ) (Of : List ℕ → Status → List ℕ → Type 0) (limited : IsLimited most Of)
     (left left_after held held_after : Option (List ℕ)) where
-  -- a command that read an input and wrote this output for it ends as its contract states
+  -- if a command read `input`, and wrote an output that is right for it, it meets its contract (`ReadsEnds`)
   pub said_of : (input : List ℕ) → WasRead most left left_after input → (status : Status) →
       WritesEnds (Of input) status held held_after → ReadsEnds most Of status left left_after held held_after
   said_of input read status e = reads_end most Of limited left left_after held held_after input read status e
 
-  -- if memory ran out, a command that wrote no output ends as its contract states
+  -- if memory ran out, and a command wrote no output, it meets its contract
   unread : (status : Status) → ConsumesUpTo (most + 1) left left_after →
       WritesEnds (RefusalOf Unread) status held held_after → ReadsEnds most Of status left left_after held held_after
   unread Done taken e = absurd e.1
@@ -27,7 +27,7 @@ module _ (most : ℕ) (Of : List ℕ → Status → List ℕ → Type 0) (limite
   unread Usage taken e = absurd e
   unread ReadFault taken e = absurd e
 
-  -- a command that refused an input for this reason ends as its contract states
+  -- if a command refused an input for the reason `why`, it meets its contract
   pub refused_of : (Is : List ℕ → NotRead → Type 0) (why : NotRead) →
       ((input : List ℕ) → Is input why → (s : Status) (o : List ℕ) → RefusalOf why s o → Of input s o) →
       GivesNone most Is left left_after why → (status : Status) → RefusalEnds why status held held_after →

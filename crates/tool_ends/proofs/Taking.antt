@@ -1,4 +1,4 @@
--- An input is taken piece by piece. After each piece the kept data match the input taken so far, and at the end they
+-- Taking an input piece by piece. After each piece the kept data match the input taken so far, and at the end they
 -- match the whole input.
 use Rattle.std.proofs.Common.{◌≡◌, ℕ, ◌+◌, ◌≤◌, List, [], ◌++◌, Option, None, Some, length, sym, ap, subst, ◌∙◌, append-nil, arith}
 use Rattle.std.specs.Prelude.{Result, Ok, Err, IfErr, IfOk, IfSome, IsErrAnd, OnOk, drop, take}
@@ -27,7 +27,7 @@ pub ok_both : {T E : Type 0} (A B : Type 0) (answer : Result T E) → OnOk answe
 ok_both A B (Ok x) a b = (a, b)
 ok_both A B (Err e) a b = tt
 
--- if the script was found, one more piece extends the text that follows the script
+-- if the script was found in `input`, one more piece extends only the text after the script
 pub found_on : (input piece : List ℕ) (script : Script) (text next : After) → HasEndLine input
     → IsFound input script text → HoldsText (following input ++ piece) next → IsFound (input ++ piece) script next
 found_on input piece script text next end f holds =
@@ -44,14 +44,14 @@ pub fault_stays : (input piece : List ℕ) (fault : ScriptFault) → HasEndLine 
     → first_fault (front input) ≡ Some fault → first_fault (front (input ++ piece)) ≡ Some fault
 fault_stays input piece fault end is = ap first_fault (front_stays input piece end) ∙ is
 
--- this many bytes were taken from a source, and `Has` holds of these bytes
+-- `count` bytes were taken from a source so far, and `Has` holds for these bytes
 pub record TakenSoFar (left left_now : Option (List ℕ)) (Has : List ℕ → Type 0) (count : ℕ) : Type 0 where
   pub input : List ℕ
   pub read : Consumes left left_now input
   pub has : Has input
   pub len : length input ≡ count
 
--- `TakenSoFar` holds again after one more piece was taken
+-- if one more piece is taken, `TakenSoFar` holds again, with `Next` instead of `Has`
 pub piece_taken : (left now after : Option (List ℕ)) (Has Next : List ℕ → Type 0) (count more : ℕ) (piece : List ℕ)
     → (s : TakenSoFar left now Has count) → Consumes now after piece → length piece ≡ more
     → (Has s.input → Next (s.input ++ piece)) → TakenSoFar left after Next (count + more)
@@ -62,7 +62,7 @@ piece_taken left now after Has Next count more piece s read len on = record {
   len = omega (arith, s.len, len, length-append s.input piece);
 }
 
--- ---- the input that was read
+-- ---- the input that a source gave
 
 module _ (most : ℕ) where
   all_read : (left after : Option (List ℕ)) (input : List ℕ) → Consumes left after input → IsAtEnd after
@@ -73,7 +73,7 @@ module _ (most : ℕ) where
       let whole : all ≡ input = read ∙ ap (λ r. input ++ r) end ∙ append-nil input in
       sym whole ∙ sym (take_all (most + 1) all (omega (arith, ap length whole)))
 
-  -- if the source has reached its end, the input is all that was left in the source
+  -- if the source has reached its end, `input` is all that was left in it before
   pub ends_read : (left now after : Option (List ℕ)) (input : List ℕ) → Consumes left now input
       → Consumes now after [] → IsAtEnd after → length input ≤ most + 1 → WasRead most left after input
   ends_read left now after input read none end short =
@@ -112,7 +112,7 @@ module _ (most : ℕ) where
     gives_none left after input (Ok x) read few not is = tt
     gives_none left after input (Err why) read few not is = no_input left after input why read few is not
 
-    -- if the answer is the reason why the reading ended, the answer meets its contract
+    -- if the reading ended for the reason `why`, and `answer` is this reason, `answer` meets its contract
     pub broken_off : {T : Type 0} (left after : Option (List ℕ)) (why : NotRead) (answer : Result T NotRead)
         → IsErrAnd answer (λ e. e ≡ why) → GivesNone most Is left after why → IfErr answer (GivesNone most Is left after)
     broken_off left after why (Ok x) is gives = absurd is
@@ -127,7 +127,7 @@ module _ (most : ℕ) where
     no_text left after TooManyLines gives = absurd gives.2
     no_text left after NoMemory gives = gives
 
-    -- if an input was read, no answer about it is a read fault
+    -- if an input was read, `answer` is not a read fault
     pub no_read_fault : {T : Type 0} (Q : Type 0) (input : List ℕ) (answer : Result T NotRead)
         → (Is input ReadFault → ⊥) → IfErr answer (Is input) → IfErr answer (λ why. why ≡ ReadFault → Q)
     no_read_fault Q input (Ok x) not is = tt
@@ -145,7 +145,7 @@ pub gives_script : {E : Type 0} (left after : Option (List ℕ)) (input : List �
 gives_script left after input (Ok script) read is = (input, read, is)
 gives_script left after input (Err e) read is = tt
 
--- if the text after a script is not read for the reason `why`, the answer `why` is right for the whole input
+-- if the text after the script is not read for the reason `why`, then `why` is a right answer for the whole input
 pub no_pair_for : {T : Type 0} (input : List ℕ) (script : Script) (why : NotRead) (answer : Result T NotRead)
     → length input ≤ most_input → IsScript script (front input) → IsNoText (following input) why
     → IsErrAnd answer (λ e. e ≡ why) → IfErr answer (λ e. IsNoPair input e)

@@ -1,10 +1,10 @@
--- Lemmas for tees: what a tee keeps of a piece.
+-- Which bytes of a piece a tee keeps.
 use Rattle.std.proofs.Common.{◌≡◌, ℕ, List, take, min, sym, ap, ◌∙◌, arith, inl, inr}
 use Rattle.std.specs.Prelude.{Result, Ok, Err, IsOk, OnOk}
 use Rattle.std.proofs.lemmas.Bool.{cases_lt}
 use Rattle.std.proofs.lemmas.List.{length-take, take-take, take_all}
 
--- taking the smaller of n and `room` bytes of a piece gives the same as taking n bytes and then `room` of these
+-- taking n or `room` bytes of a piece, whichever are fewer, is taking n bytes of it and then `room` of these
 pub first_of : (piece : List ℕ) (n room : ℕ) → take (min n room) piece ≡ take room (take n piece)
 first_of piece n room = elim (cases_lt room n) [
   | inl less ↦ (

@@ -1,4 +1,4 @@
--- The text after a script, which was compared or fed to a reader.
+-- The text after a script in an input: it was compared with a transcript's text, or fed to a reader.
 use Rattle.std.specs.Prelude.{ℕ, ◌≡◌, ◌≤◌, List, Option, None, Some, length}
 use Rattle.key_names.specs.Texts.ScriptFaults.{front}
 use Rattle.key_names.specs.Texts.ScriptGrammar.{Script, IsScript}
@@ -10,28 +10,28 @@ use Rattle.tool_ends.specs.Reads.{WasRead}
 use Rattle.tool_ends.specs.declared.following.After.{After}
 use Rattle.tool_ends.specs.declared.following.After.TheVariants.{Compared, Fed}
 
--- `text` is what was compared so far, or what the reader was fed
+-- `text` is the text that was compared so far, or that the reader was fed so far
 abbrev pub HoldsText : List ℕ → After → Type 0
 HoldsText text (Compared comparison) = text ≡ comparison.text
 HoldsText text (Fed reader) = HasFed text reader × (most_lines reader ≡ most_script_lines)
 
--- the transcript that the text is compared with
+-- the transcript with whose text the text is compared, or None if the text is read
 abbrev pub compared_with : After → Option (List (List SeenLine))
 compared_with (Compared comparison) = Some comparison.made
 compared_with (Fed reader) = None
 
--- the text was compared, and is all of the transcript's text
+-- the text was compared with a transcript's text to the end, and is equal to it
 abbrev pub IsWhole : After → Type 0
 IsWhole (Compared comparison) = comparison.text ≡ transcript_text comparison.made
 IsWhole (Fed reader) = ⊥
 
--- the input is a script, with this text after it
+-- the input consists of `script`, and then `text`
 pub record IsApart (input : List ℕ) (script : Script) (text : After) : Type 0 where
   pub short : length input ≤ most_input
   pub is_script : IsScript script (front input)
   pub holds : HoldsText (following input) text
 
--- a script and the text after it were read
+-- the source gave an input, and this input consists of `script`, and then `text`
 abbrev pub GivesApart : Option (List ℕ) → Option (List ℕ) → Script → After → Type 0
 GivesApart left left_after script text =
     (input : List ℕ) × WasRead most_input left left_after input × IsApart input script text

@@ -1,4 +1,4 @@
--- The statuses of a program, and the content of the sink after a command that reads no input.
+-- The statuses with which a program ends, and what the sink got from a command that reads no input.
 use Rattle.std.specs.Prelude.{ℕ, ◌≡◌, ◌⊎◌, ⊤, List, Option}
 use Rattle.std.specs.Io.KnownBytes.{Appends, Keeps}
 use Rattle.io_edges.specs.Faults.{Rose}
@@ -16,7 +16,8 @@ code_of WriteFault = 4
 code_of Refused = 5
 code_of NoMemory = 6
 
--- how a command with this status leaves the sink; `Of` holds of each right output
+-- what the sink, whose content was `held` before, has after a command with this status; `Of` holds for each right
+-- output
 abbrev pub EndsWith : (List ℕ → Type 0) → Status → Option (List ℕ) → Option (List ℕ) → Type 0
 EndsWith Of Done held held_after = (output : List ℕ) × Of output × Appends held held_after output
 EndsWith Of WriteFault held held_after = (output : List ℕ) × Of output × AppendsPrefix held held_after output
@@ -36,7 +37,7 @@ pub record CountsReadFault (result : Status) (faults faults_after : ℕ) : Type 
   pub read_fault : result ≡ ReadFault → Rose faults faults_after
   pub no_read_fault : (result ≡ ReadFault → ⊥) → faults_after ≡ faults
 
--- a command with this status wrote its whole answer
+-- a command with this status has written its whole answer
 abbrev pub IsAnswered : Status → Type 0
 IsAnswered Done = ⊤
 IsAnswered No = ⊤
@@ -46,8 +47,8 @@ IsAnswered ReadFault = ⊥
 IsAnswered WriteFault = ⊥
 IsAnswered NoMemory = ⊥
 
--- the status and the sink's count of faults do not change; or the sink failed to hand on the rest of an answer, and
--- counted this fault
+-- at the end of the output, either the status and the sink's count of faults do not change; or an answer was put, the
+-- sink failed to hand on the rest of it, and counted this fault
 abbrev pub AtOutputEnd : Status → Status → ℕ → ℕ → Type 0
 AtOutputEnd status result faults faults_after =
     ((result ≡ status) × (faults_after ≡ faults))

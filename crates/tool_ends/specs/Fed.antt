@@ -1,10 +1,10 @@
--- The text that a source gave, up to a limit.
+-- The text that a source gave until it ended or was above a limit.
 use Rattle.std.specs.Prelude.{ℕ, ◌≡◌, ◌+◌, ◌≤◌, List, Option, length}
 use Rattle.tool_ends.specs.Pairs.{GivesNone}
 use Rattle.tool_ends.specs.Reads.{WasRead}
 use Rattle.tool_ends.specs.declared.pair.NotRead.{NotRead}
 
--- the source was read to its end, or to one byte above the limit; `Has` holds of this text, which has `count` bytes
+-- the source gave a text of `count` bytes, to its end or to one byte above the limit; `Has` holds for this text
 pub record GivesText (limit : ℕ) (left left_after : Option (List ℕ)) (Has : List ℕ → Type 0) (count : ℕ) : Type 0 where
   pub text : List ℕ
   pub read : WasRead limit left left_after text
@@ -12,6 +12,6 @@ pub record GivesText (limit : ℕ) (left left_after : Option (List ℕ)) (Has : 
   pub len : length text ≡ count
   pub within : count ≤ limit + 1
 
--- no text was read: the source failed or memory ran out
+-- no whole text was read: the source failed or memory ran out, after at most `limit` + 1 bytes were taken
 abbrev pub GivesNoText : ℕ → Option (List ℕ) → Option (List ℕ) → NotRead → Type 0
 GivesNoText limit = GivesNone limit (λ text why. ⊥)

@@ -1,4 +1,4 @@
--- A script with a transcript after it as one input, and the answers for any other input.
+-- An input that is a script with a transcript after it, and the answers to any other input.
 use Rattle.std.specs.Prelude.{ℕ, ◌≡◌, ◌⊎◌, ◌+◌, ◌≤◌, ⊤, List, [], ◌∷◌, Option, Some, codes, drop, length, nat_lt}
 use Rattle.std.specs.Prelude.{if◌then◌else◌}
 use Rattle.std.specs.Fmt.{decimal}
@@ -19,19 +19,19 @@ use Rattle.tool_ends.specs.declared.status.Status.{Status}
 use Rattle.tool_ends.specs.declared.status.Status.TheVariants.{ReadFault as Unread, Refused as IsRefused, No as IsNo}
 use Rattle.tool_ends.specs.Reads.{WasRead, WritesEnds}
 
--- the most bytes of a script
+-- the most bytes that a script may have
 abbrev pub most_script : ℕ
 most_script = 16777216
 
--- the most bytes of a script and a transcript
+-- the most bytes that a script and a transcript may have together
 abbrev pub most_input : ℕ
 most_input = 100663296
 
--- the most lines of a script's transcript: one for each of its events, and the last one of each caller
+-- the most lines that a script's transcript can have: one for each event, and the last line of each caller
 abbrev pub most_script_lines : ℕ
 most_script_lines = 65600
 
--- the text after the script
+-- the part of an input after its script
 abbrev pub following : List ℕ → List ℕ
 following input = drop (length (front input)) input
 
@@ -40,30 +40,30 @@ pub record IsPair (input : List ℕ) (script : Script) (t : List (List SeenLine)
   pub is_script : IsScript script (front input)
   pub text : IsTranscriptText (following input) t
 
--- the first fault of an input: it is too long, or its script has a fault
+-- the first fault of an input, if it has one: it is too long, or its script has a fault
 abbrev pub pair_fault : List ℕ → Option ScriptFault
 pair_fault input =
     if nat_lt most_input (length input) then Some (record { line = 0; kind = TooLong }) else first_fault (front input)
 
--- the text is not that of a transcript
+-- `text` is not the text of any transcript
 abbrev pub IsNoTranscript : List ℕ → Type 0
 IsNoTranscript text = (lines : List (List SeenLine)) → IsTranscriptText text lines → ⊥
 
--- the text is that of a transcript, but the transcript's lines are not those that the script requires
+-- `text` is the text of a transcript, but the transcript's lines are not those that `script` requires
 pub record LacksLines (script : Script) (text : List ℕ) : Type 0 where
   pub lines : List (List SeenLine)
   pub is_text : IsTranscriptText text lines
   pub fails : HasLines script lines → ⊥
 
--- the text after the script fails clause 1, since it is not that of a transcript; or it fails clause 2, since its lines
--- are not those that the script requires
+-- the input is a script, and the text after it fails clause 1, since it is not that of a transcript; or it fails clause
+-- 2, since its lines are not those that the script requires
 pub record FailsAsText (input : List ℕ) (number : ℕ) : Type 0 where
   pub short : length input ≤ most_input
   pub script : Script
   pub is_script : IsScript script (front input)
   pub clause : (number ≡ 1) × IsNoTranscript (following input) ⊎ (number ≡ 2) × LacksLines script (following input)
 
--- this is the reason why a text is not read as a transcript
+-- `text` is not read as a transcript, for this reason
 abbrev pub IsNoText : List ℕ → NotRead → Type 0
 IsNoText text ReadFault = ⊥
 IsNoText text (Refused fault) = ⊥
@@ -71,7 +71,7 @@ IsNoText text NoTranscript = IsNoTranscript text
 IsNoText text TooManyLines = HasMoreLines most_script_lines text
 IsNoText text NoMemory = ⊤
 
--- this is the reason why an input is not read as a script
+-- `input` is not read as a script, for this reason
 abbrev pub IsNoScript : List ℕ → NotRead → Type 0
 IsNoScript input ReadFault = ⊥
 IsNoScript input (Refused fault) = first_fault input ≡ Some fault
@@ -79,7 +79,7 @@ IsNoScript input NoTranscript = ⊥
 IsNoScript input TooManyLines = ⊥
 IsNoScript input NoMemory = ⊤
 
--- this is the reason why an input is not read as a script with a transcript after it
+-- `input` is not read as a script with a transcript after it, for this reason
 abbrev pub IsNoPair : List ℕ → NotRead → Type 0
 IsNoPair input ReadFault = ⊥
 IsNoPair input (Refused fault) = pair_fault input ≡ Some fault
@@ -87,19 +87,19 @@ IsNoPair input NoTranscript = FailsAsText input 1
 IsNoPair input TooManyLines = FailsAsText input 2 × HasMoreLines most_script_lines (following input)
 IsNoPair input NoMemory = ⊤
 
--- ---- from a source
+-- ---- what a source gave
 
--- a script was read
+-- the source gave the text of `script`
 abbrev pub GivesScript : Option (List ℕ) → Option (List ℕ) → Script → Type 0
 GivesScript left left_after script =
     (input : List ℕ) × WasRead most_script left left_after input × IsScript script input
 
--- a script and a transcript were read
+-- the source gave the texts of `script` and then of the transcript `t`
 abbrev pub GivesPair : Option (List ℕ) → Option (List ℕ) → Script → List (List SeenLine) → Type 0
 GivesPair left left_after script t = (input : List ℕ) × WasRead most_input left left_after input × IsPair input script t
 
--- an input was read, and `Is` holds of the input and of the reason for its refusal. Or the source failed or memory ran
--- out, and at most `most` + 1 bytes were taken
+-- the source gave an input, and `Is` holds for this input and the reason of its refusal. Or the source failed or memory
+-- ran out, after at most `most` + 1 bytes were taken
 abbrev pub GivesNone : ℕ → (List ℕ → NotRead → Type 0) → Option (List ℕ) → Option (List ℕ) → NotRead → Type 0
 GivesNone most Is left left_after ReadFault = ConsumesUpTo (most + 1) left left_after
 GivesNone most Is left left_after (Refused fault) =
@@ -116,7 +116,7 @@ GivesNoScript = GivesNone most_script IsNoScript
 abbrev pub GivesNoPair : Option (List ℕ) → Option (List ℕ) → NotRead → Type 0
 GivesNoPair = GivesNone most_input IsNoPair
 
--- ---- the answers
+-- ---- the answers to inputs that are not read
 
 -- the output line for a fault, with the number of the faulty line and the number of the fault's kind
 abbrev pub refusal_line : ScriptFault → List ℕ
@@ -133,7 +133,7 @@ pub record TellsFault (input output : List ℕ) : Type 0 where
   pub first : pair_fault input ≡ Some fault
   pub line : output ≡ refusal_line fault
 
--- the output is the line that gives the reason why an input is not read, and the status is that of the reason
+-- the answer to an input that is not read, for this reason: the output, and the status
 abbrev pub RefusalOf : NotRead → Status → List ℕ → Type 0
 RefusalOf ReadFault status output = ⊥
 RefusalOf (Refused fault) status output = (status ≡ IsRefused) × (output ≡ refusal_line fault)
@@ -141,7 +141,7 @@ RefusalOf NoTranscript status output = (status ≡ IsNo) × (output ≡ no_line 
 RefusalOf TooManyLines status output = (status ≡ IsNo) × (output ≡ no_line 2)
 RefusalOf NoMemory status output = ⊥
 
--- the end of a command that refuses an input for this reason
+-- what a command that refuses an input for this reason leaves: its status, and the sink's content before and after
 abbrev pub RefusalEnds : NotRead → Status → Option (List ℕ) → Option (List ℕ) → Type 0
 RefusalEnds ReadFault status held held_after = (status ≡ Unread) × Keeps held held_after
 RefusalEnds (Refused fault) status held held_after = WritesEnds (RefusalOf (Refused fault)) status held held_after

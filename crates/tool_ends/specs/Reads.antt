@@ -1,4 +1,4 @@
--- The end of a command that reads its input: its status, the rest of the source, and the content of the sink.
+-- What a command that reads its input leaves: its status, the rest of the source, and the sink's content.
 use Rattle.std.specs.Prelude.{ℕ, ◌≡◌, ◌+◌, ◌≤◌, List, Option, IfSome, length, take}
 use Rattle.std.specs.Io.KnownBytes.{Appends, Consumes, IsAtEnd, Keeps}
 use Rattle.io_edges.specs.Pieces.{AppendsPrefix, ConsumesUpTo}
@@ -6,11 +6,11 @@ use Rattle.tool_ends.specs.Ends.{IsAnswered}
 use Rattle.tool_ends.specs.declared.status.Status.{Status}
 use Rattle.tool_ends.specs.declared.status.Status.TheVariants.{Done, No, Usage, ReadFault, WriteFault, Refused, NoMemory}
 
--- the output is an answer, with some status
+-- `output` is an answer that is right for some status; `Of` holds for the right outputs of each status
 abbrev pub SomeAnswer : (Status → List ℕ → Type 0) → List ℕ → Type 0
 SomeAnswer Of output = (status : Status) × IsAnswered status × Of status output
 
--- the outputs of one kind, all with the status Done
+-- the only right outputs have the status Done, and `Is` holds for them
 abbrev pub OnlyDone : (List ℕ → Type 0) → Status → List ℕ → Type 0
 OnlyDone Is Done output = Is output
 OnlyDone Is No output = ⊥
@@ -20,7 +20,7 @@ OnlyDone Is WriteFault output = ⊥
 OnlyDone Is Refused output = ⊥
 OnlyDone Is NoMemory output = ⊥
 
--- ---- for the input that was read; `Of` gives the right outputs for a status
+-- ---- what a command leaves for the input that it read; `Of` holds for the right outputs of each status
 
 abbrev pub WasWritten : (List ℕ → Type 0) → Option (List ℕ) → Option (List ℕ) → Type 0
 WasWritten Is held held_after = (output : List ℕ) × Is output × Appends held held_after output
@@ -35,15 +35,16 @@ WritesEnds Of NoMemory held held_after = Keeps held held_after
 WritesEnds Of Usage held held_after = ⊥
 WritesEnds Of ReadFault held held_after = ⊥
 
--- ---- for the whole input, of which at most `most` + 1 bytes are read; `Of` gives the right outputs for an input
+-- ---- what a command leaves for its whole input, of which it reads at most `most` + 1 bytes; `Of` holds for the right
+-- outputs of each input
 
--- the input was read: all that was left in the source, or the first `most` + 1 bytes if more was left
+-- `input` was read from the source: all that was left in it, or the first `most` + 1 bytes if more was left
 pub record WasRead (most : ℕ) (left left_after : Option (List ℕ)) (input : List ℕ) : Type 0 where
   pub read : Consumes left left_after input
   pub whole : length input ≤ most → IsAtEnd left_after
   pub front : IfSome left (λ all. input ≡ take (most + 1) all)
 
--- the whole input was read, and an output for it was written
+-- the whole input was read, and an output that is right for it was written
 pub record WasAnswered (most : ℕ) (Is : List ℕ → List ℕ → Type 0) (left left_after held held_after : Option (List ℕ))
     : Type 0 where
   pub input : List ℕ
@@ -54,7 +55,7 @@ pub record WasAnswered (most : ℕ) (Is : List ℕ → List ℕ → Type 0) (lef
   pub written : Appends held held_after output
 
 -- the input that was read was refused, and the refusal was written. The same refusal is right for all that was left in
--- the source
+-- the source before
 pub record WasRefused (most : ℕ) (Is : List ℕ → List ℕ → Type 0) (left left_after held held_after : Option (List ℕ))
     : Type 0 where
   pub input : List ℕ
@@ -64,8 +65,8 @@ pub record WasRefused (most : ℕ) (Is : List ℕ → List ℕ → Type 0) (left
   pub of_all : IfSome left (λ all. Is all output)
   pub written : Appends held held_after output
 
--- the sink failed and holds a prefix of an output. This output is right for the input that was read, and for all that
--- was left in the source
+-- the sink failed, and got a prefix of an output. This output is right for the input that was read, and for all that
+-- was left in the source before
 pub record WasCutShort (most : ℕ) (Is : List ℕ → List ℕ → Type 0) (left left_after held held_after : Option (List ℕ))
     : Type 0 where
   pub input : List ℕ
@@ -75,7 +76,7 @@ pub record WasCutShort (most : ℕ) (Is : List ℕ → List ℕ → Type 0) (lef
   pub of_all : IfSome left (λ all. Is all output)
   pub written : AppendsPrefix held held_after output
 
--- no output was written, and at most `most` + 1 bytes were taken
+-- no output was written, and at most `most` + 1 bytes were taken from the source
 pub record WasGivenUp (most : ℕ) (left left_after held held_after : Option (List ℕ)) : Type 0 where
   pub taken : ConsumesUpTo (most + 1) left left_after
   pub kept : Keeps held held_after

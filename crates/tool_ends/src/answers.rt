@@ -1,4 +1,4 @@
-//! Answers, with their statuses.
+//! Writing a program's answer, and the status with which the program then ends.
 ghost use Rattle.std.specs.Prelude.{◌≡◌, ◌⊎◌};
 ghost use Rattle.tool_ends.specs.Ends.{CountsWriteFault, IsAnswered};
 ghost use Rattle.tool_ends.specs.Pairs.{RefusalEnds};
@@ -10,7 +10,7 @@ use crate::short_lines::{ShortLine, no_line, refusal_line};
 use crate::status::Status;
 use io_edges::{Failed, Sink, put_all};
 
-/// Writes a text as the answer with this status.
+/// Writes `text` as the answer of a command, and returns the status: `status`, or a write fault if the sink failed.
 pub fn put_answer<K: Sink>(status: Status, text: &[u8], sink: &mut K) -> Status
     requires { IsAnswered status }
     ensures ends { WritesEnds (λ is output. (is ≡ status) × (output ≡ text.now)) result
@@ -24,7 +24,7 @@ pub fn put_answer<K: Sink>(status: Status, text: &[u8], sink: &mut K) -> Status
     }
 }
 
-/// Writes a short line as the answer with this status.
+/// Writes `line` as the answer of a command, and returns the status: `status`, or a write fault if the sink failed.
 pub fn put_line<K: Sink>(status: Status, line: &ShortLine, sink: &mut K) -> Status
     requires { IsAnswered status }
     ensures ends { WritesEnds (λ is output. (is ≡ status) × (output ≡ line.now.bytes)) result
@@ -35,7 +35,8 @@ pub fn put_line<K: Sink>(status: Status, line: &ShortLine, sink: &mut K) -> Stat
     put_answer(status, line.as_str().as_bytes(), sink)
 }
 
-/// Answers an input that was not read as a script with a transcript after it.
+/// Writes the answer for an input that was not read as a script with a transcript after it, for the reason `why`.
+/// Returns the status.
 pub fn put_refusal<K: Sink>(why: &NotRead, sink: &mut K) -> Status
     ensures ends { RefusalEnds why.now result (K.held sink.old) (K.held sink.new) }
     ensures memory { result ≡ Status.NoMemory → why.now ≡ NotRead.NoMemory }

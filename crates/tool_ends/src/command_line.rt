@@ -5,7 +5,7 @@ use crate::status::Status;
 use std::env::{self, Env};
 use std::io;
 
-/// The words after the program's name.
+/// The words of the command line after the program's name.
 ///
 /// # Errors
 ///

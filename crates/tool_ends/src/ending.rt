@@ -1,4 +1,4 @@
-//! The end of the output.
+//! The end of a program's output, at which the sink hands on what it kept back.
 ghost use Rattle.std.specs.Prelude.{◌≡◌, []};
 ghost use Rattle.std.specs.Io.KnownBytes.{Keeps};
 ghost use Rattle.tool_ends.specs.Ends.{AtOutputEnd, IsAnswered};
@@ -6,7 +6,8 @@ ghost use Rattle.tool_ends.specs.Ends.{AtOutputEnd, IsAnswered};
 use crate::status::Status;
 use io_edges::{Failed, Sink};
 
-/// Ends the output of a command with this status. If an answer was put, the answer is handed on, unless the sink fails.
+/// Ends the output of a command whose status is `status`. If an answer was put, all of it is handed on, unless the sink
+/// fails.
 pub fn end_output<K: Sink>(status: Status, sink: &mut K) -> Status
     ensures ended { AtOutputEnd status result (K.faults sink.old) (K.faults sink.new) }
     ensures handed_on { IsAnswered result → K.kept_back sink.new ≡ [] }

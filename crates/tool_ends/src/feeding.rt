@@ -1,4 +1,4 @@
-//! A source is read piece by piece, up to a limit. Each piece is fed to a reader of the text.
+//! Reading a source piece by piece, up to a limit. Each piece is fed to a reader of the text.
 ghost use Rattle.std.specs.Prelude.{◌≡◌, ◌+◌, ◌<◌, ◌≤◌, ◌^◌, ◌++◌, [], ℕ, List, length, IfErr, IfOk, OnOk};
 ghost use Rattle.event_script.specs.Feeding.{HasFed};
 ghost use Rattle.io_edges.specs.Faults.{Rose};
@@ -10,17 +10,17 @@ use event_script::ScriptReader;
 use io_edges::Source;
 use std::alloc::{AllocError, Global};
 
-/// The size of one piece, in bytes.
+/// How many bytes are read from a source at once.
 const PIECE: usize = 64 * 1024;
 
-/// A reader that is fed a text, and may compare the text with a maker's transcript.
+/// A reader to which a text is fed. It may compare the text with the transcript that a maker makes.
 pub(crate) trait TextTaker<M> {
     ghost use Rattle.std.specs.Prelude.{List, ℕ};
 
-    /// The reader was fed this text.
+    /// The reader was fed exactly this text.
     ghost was_fed: { M → List ℕ → Self → Type 0 };
 
-    /// Feeds one more piece of the text.
+    /// Feeds the next piece of the text to the reader.
     ///
     /// # Errors
     ///
@@ -44,12 +44,12 @@ impl TextTaker<NoMaker> for ScriptReader {
     }
 }
 
-/// Feeds the text that a source gives, to the end of the text or to one byte above the limit. Returns how many bytes
-/// were fed.
+/// Reads a source, and feeds its text to a reader, until the text ends or is one byte longer than the limit. Returns
+/// how many bytes were fed.
 ///
 /// # Errors
 ///
-/// `ReadFault` or `NoMemory`. The bytes that were taken are lost.
+/// `ReadFault` if the source failed, or `NoMemory`. The bytes that were taken from the source are lost.
 pub(crate) fn feed_to_limit<S: Source, M, F: TextTaker<M>>(
     alloc: Global,
     source: &mut S,

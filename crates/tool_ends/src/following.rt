@@ -1,4 +1,4 @@
-//! The text after a script. As the text comes, it is compared with a transcript's text, or read.
+//! The text after a script in an input. It is compared with a transcript's text as it comes, or read.
 ghost use Rattle.std.specs.Prelude.{◌≡◌, ◌↔◌, ◌+◌, ◌≤◌, ◌^◌, ◌++◌, [], ℕ, List, Some, length, IfErr, IfOk, IfSome, IsTrue, OnOk};
 ghost use Rattle.key_names.specs.Texts.TranscriptGrammar.{IsTranscriptText};
 ghost use Rattle.transcript_text.specs.Feeding.{HasFed, most_lines};
@@ -9,19 +9,20 @@ use crate::pair::NotRead;
 use std::alloc::{AllocError, Global};
 use transcript_text::{Comparison, TextError, Transcript, TranscriptReader};
 
-/// The most lines of a script's transcript: one for each of 65,536 events, and the last one of each of 64 callers.
+/// The most lines that a script's transcript can have: one for each of 65,536 events, and the last line of each of 64
+/// callers.
 const MOST_LINES: u32 = 65_600;
 
-/// The text after a script.
+/// The text after a script, as far as it came.
 #[derive(Drop)]
 pub enum After {
-    /// A text that so far equals that of a transcript.
+    /// The text so far equals the start of a transcript's text.
     Compared(Comparison),
-    /// A text that was fed to a reader.
+    /// The text so far was fed to a reader of transcripts.
     Fed(TranscriptReader),
 }
 
-// The transcript in the text that a reader was fed.
+// The transcript whose text was fed to `reader`.
 fn transcript_of(reader: TranscriptReader) -> Result<Transcript, NotRead>
     requires short { (text : List ℕ) × HasFed text reader × (length text ≤ 2 ^ 31) }
     requires most { most_lines reader ≡ most_script_lines }
@@ -37,7 +38,7 @@ fn transcript_of(reader: TranscriptReader) -> Result<Transcript, NotRead>
 }
 
 impl After {
-    // No text yet. If `made` is given, the text will be compared with the text of that transcript.
+    // The state before any text came. If `made` is given, the text will be compared with the text of that transcript.
     pub(crate) fn nothing(alloc: Global, made: Option<Transcript>) -> Result<After, AllocError>
         ensures holds { IfOk result (HoldsText []) }
         ensures made { IfOk result (λ text. compared_with text ≡ made) }
@@ -48,7 +49,7 @@ impl After {
         }
     }
 
-    // Takes one more piece of the text. As soon as the text differs from the transcript's text, it is fed to a reader.
+    // Takes the next piece of the text. As soon as the text differs from the transcript's text, it is fed to a reader.
     pub(crate) fn take(&mut self, alloc: Global, piece: &[u8]) -> Result<(), AllocError>
         requires short { (text : List ℕ) × HoldsText text self.old × (length text + length piece.now ≤ 2 ^ 31) }
         ensures more { OnOk result ((text : List ℕ) → HoldsText text self.old
@@ -68,7 +69,7 @@ impl After {
         Ok(())
     }
 
-    /// Whether the text was compared with a transcript's text, and is the whole of that text.
+    /// Whether the text was compared with a transcript's text to the end, and is equal to it.
     pub fn is_whole(&self) -> bool
         ensures { IsTrue result ↔ IsWhole self.now }
     {
@@ -78,7 +79,7 @@ impl After {
         }
     }
 
-    /// The transcript with this text, which has at most 2^31 bytes.
+    /// The transcript that the text spells. The text has at most 2^31 bytes.
     ///
     /// # Errors
     ///

@@ -1,4 +1,4 @@
-//! An input is taken piece by piece: a script, and the text of a transcript after it.
+//! Taking an input piece by piece: a script, and the text of a transcript after it.
 ghost use Rattle.std.specs.Prelude.{◌≡◌, ◌+◌, ◌≤◌, ◌^◌, ◌++◌, ℕ, List, Some, length, IfErr, IfOk, IfSome, OnOk};
 ghost use Rattle.tool_ends.specs.After.{IsApart, compared_with};
 ghost use Rattle.tool_ends.specs.Intakes.{Fills, HasEndLine, HasTaken, IsOpened, made_in, made_of};
@@ -13,19 +13,19 @@ use event_script::{Script, ScriptError, read_front};
 use key_names::ScriptFault;
 use std::alloc::{AllocError, Global};
 
-/// The result for the script at the front of an input.
+/// What was made of the script at the front of an input, when its last line had come.
 #[derive(Drop)]
 pub(crate) enum Opened {
-    /// The script, and the text after it.
+    /// The script was read; `After` is the text after it.
     Script(Script, After),
-    /// The script's first fault.
+    /// The script has a fault; this is its first.
     Faulty(ScriptFault),
 }
 
-/// The part of an input that was taken.
+/// What was made of the part of an input that was taken so far.
 #[derive(Drop)]
 pub(crate) enum Intake {
-    /// The whole input, which has no end of a script yet.
+    /// The last line of the script has not come yet, so all bytes of the input are kept.
     Front(Vec<u8>),
     Opened(Opened),
 }
@@ -47,7 +47,7 @@ fn open<M: Maker>(alloc: Global, maker: &M, input: &[u8]) -> Result<Opened, Allo
 }
 
 impl Opened {
-    // Takes one more piece after the end of the script.
+    // Takes the next piece of an input whose script has ended.
     fn take(&mut self, alloc: Global, piece: &[u8]) -> Result<(), AllocError>
         requires short { (input : List ℕ) × HasEndLine input × IsOpened input self.old
             × (length input + length piece.now ≤ 2 ^ 31) }
@@ -76,7 +76,8 @@ impl Opened {
 }
 
 impl Intake {
-    /// Takes one more piece. The text after the script is compared with the maker's transcript.
+    /// Takes the next piece of an input. The text after the script is compared with the transcript that the maker
+    /// makes.
     pub(crate) fn take<M: Maker>(
         &mut self,
         alloc: Global,
@@ -103,7 +104,7 @@ impl Intake {
         }
     }
 
-    /// The script that was taken, and the text after it.
+    /// The script of the whole input, and the text after the script.
     pub(crate) fn finish<M: Maker>(
         self,
         alloc: Global,

@@ -1,4 +1,4 @@
-//! The transcript that a text is compared with before it is read.
+//! The maker of a transcript, with which the text after a script is compared before it is read.
 ghost use Rattle.std.specs.Prelude.{◌≡◌, ⊤, IfSome, None};
 ghost use Rattle.key_names.specs.Texts.ScriptGrammar.{WellFormed};
 
@@ -6,27 +6,28 @@ use event_script::Script;
 use std::alloc::Global;
 use transcript_text::Transcript;
 
-/// A maker of a transcript for a script. As the text after the script comes, it is compared with the text of the
-/// maker's transcript.
+/// A maker of transcripts for scripts. The text after a script is compared with the text of the made transcript as it
+/// comes.
 pub trait Maker {
     ghost use Rattle.std.specs.Prelude.{List};
     ghost use Rattle.key_names.specs.Transcripts.SeenLine.{SeenLine};
     ghost use Rattle.key_names.specs.Texts.ScriptGrammar.{Script as ScriptValue};
 
-    /// The maker's own precondition for making transcripts.
+    /// The maker's precondition for making transcripts.
     ghost may_make: { Self → Type 0 };
 
-    /// A fact of each transcript that the maker makes for a script.
+    /// What the maker guarantees of each transcript that it makes for a script.
     ghost made: { Self → ScriptValue → List (List SeenLine) → Type 0 };
 
-    /// A transcript of the script, or `None` if the text is to be read without a comparison.
+    /// Makes a transcript for the script, or returns `None` if the text after the script is to be read without a
+    /// comparison.
     fn make(&self, alloc: Global, script: &Script) -> Option<Transcript>
         requires well { WellFormed script.now }
         requires may { may_make self.now }
         ensures { IfSome result (λ t. made self.now script.now t) };
 }
 
-/// A maker that makes no transcript: each text is read without a comparison.
+/// A maker that makes no transcript. The text after each script is read without a comparison.
 pub struct NoMaker;
 
 impl Maker for NoMaker {

@@ -1,10 +1,10 @@
-//! Numbers among the words of the command line.
+//! Reading numbers from the words of the command line.
 ghost use Rattle.std.specs.Prelude.{◌≡◌, ◌≤◌, ◌∷◌, [], ℕ, Some, IfSome, decimal, map, string_bytes};
 ghost use Rattle.tool_ends.specs.Numbers.{Asks};
 
 use event_script::numbers::number_up_to;
 
-/// The number that a word spells in decimal without leading zeros, from `least` to `most`.
+/// The number that `word` spells in decimal without leading zeros, if it is from `least` to `most`.
 pub fn number_in(least: u32, most: u32, word: &str) -> Option<u32>
     ensures found { IfSome result (λ n. (word.now ≡ decimal n) × (least ≤ n) × (n ≤ most)) }
     ensures only { (n : ℕ) → word.now ≡ decimal n → least ≤ n → n ≤ most → result ≡ Some n }
@@ -16,7 +16,7 @@ pub fn number_in(least: u32, most: u32, word: &str) -> Option<u32>
     Some(number as u32)
 }
 
-/// A command with three numbers: its name, and the least and the most that each number may be.
+/// A command that takes three numbers: its name, and the bounds of each number.
 #[derive(Drop)]
 pub struct CommandForm<'a> {
     pub name: &'a str,
@@ -26,7 +26,7 @@ pub struct CommandForm<'a> {
 }
 
 impl CommandForm<'_> {
-    // The numbers of a command of four words.
+    // The three numbers of a command line that has four words.
     fn numbers_by(
         &self,
         command: &str,
@@ -48,7 +48,8 @@ impl CommandForm<'_> {
         Some((first, second, third))
     }
 
-    /// The numbers of the words, if the words are the command's name and three numbers in the command's bounds.
+    /// The three numbers that follow the command's name in `words`. None if the words are not this name and three
+    /// numbers, each within its bounds.
     pub fn numbers(&self, words: &[String]) -> Option<(u32, u32, u32)>
         ensures found { IfSome result (λ n. Asks self.now (map string_bytes words.now) n.0 n.1 n.2) }
         ensures only { (a b c : ℕ) → Asks self.now (map string_bytes words.now) a b c → result ≡ Some (a, b, c) }

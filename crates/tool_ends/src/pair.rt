@@ -1,4 +1,4 @@
-//! A script and a transcript after it, read from one input.
+//! Reading one input as a script with a transcript after it.
 ghost use Rattle.std.specs.Prelude.{◌≡◌, ◌≤◌, IfErr, IfOk, IfSome, OnOk};
 ghost use Rattle.io_edges.specs.Faults.{Rose};
 ghost use Rattle.tool_ends.specs.After.{GivesApart, compared_with};
@@ -15,7 +15,7 @@ use key_names::{FaultKind, ScriptFault};
 use std::alloc::{AllocError, Global};
 use transcript_text::Transcript;
 
-/// The most bytes of a script and a transcript: 96 MiB.
+/// The most bytes that a script and a transcript may have together: 96 MiB.
 const MOST_PAIR_BYTES: usize = 100_663_296;
 
 /// The reason why an input was not read as a script, or as a script and a transcript.
@@ -23,7 +23,7 @@ const MOST_PAIR_BYTES: usize = 100_663_296;
 pub enum NotRead {
     /// The source failed.
     ReadFault,
-    /// The input is too long, or its script has a fault. This is the first fault.
+    /// The input is too long, or its script has a fault; this is the input's first fault.
     Refused(ScriptFault),
     /// The text after the script is not that of a transcript: clause 1 fails.
     NoTranscript,

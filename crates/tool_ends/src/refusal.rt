@@ -1,4 +1,4 @@
-//! The fault, or the clause, that a short answer contains.
+//! Finds the fault, or the number of the clause, in a program's one-line answer.
 ghost use Rattle.std.specs.Prelude.{◌≡◌, IfSome};
 ghost use Rattle.tool_ends.specs.Pairs.{no_line, refusal_line};
 
@@ -21,8 +21,8 @@ const KINDS: [FaultKind; 12] = [
     FaultKind::Unfinished,
 ];
 
-/// The fault in a text, if the text is a line `refused LINE KIND`. Tests cover that the fault is found in each such
-/// line.
+/// The fault that `text` names, if `text` is a line `refused LINE KIND`. Only tests show that the fault is found in
+/// each such line.
 pub fn fault_in(text: &[u8]) -> Option<ScriptFault>
     ensures { IfSome result (λ fault. text.now ≡ refusal_line fault) }
 {
@@ -37,8 +37,8 @@ pub fn fault_in(text: &[u8]) -> Option<ScriptFault>
     None
 }
 
-/// The number of the clause in a text, if the text is a line `no K`. Tests cover that the number is found in each such
-/// line.
+/// The number of the clause that `text` names, if `text` is a line `no K`. Only tests show that the number is found in
+/// each such line.
 pub fn clause_in(text: &[u8]) -> Option<u8>
     ensures { IfSome result (λ clause. text.now ≡ no_line clause) }
 {

@@ -1,4 +1,4 @@
-//! A script, read from an input without any other text.
+//! Reading an input that is a script and nothing else.
 ghost use Rattle.std.specs.Prelude.{◌≡◌, ℕ, List, IfErr, IfOk, OnOk};
 ghost use Rattle.event_script.specs.Feeding.{HasFed};
 ghost use Rattle.io_edges.specs.Faults.{Rose};
@@ -12,10 +12,10 @@ use event_script::{Script, ScriptError, ScriptReader};
 use io_edges::Source;
 use std::alloc::Global;
 
-/// The most bytes of a script: 16 MiB.
+/// The most bytes that a script may have: 16 MiB.
 const MOST_SCRIPT_BYTES: usize = 16_777_216;
 
-// The script in the text that a reader was fed.
+// The script whose text was fed to `reader`.
 fn script_of(reader: ScriptReader) -> Result<Script, NotRead>
     requires { (text : List ℕ) × HasFed text reader }
     ensures read { (text : List ℕ) → HasFed text reader → IfOk result (λ script. IsScript script text) }

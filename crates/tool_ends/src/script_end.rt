@@ -1,13 +1,14 @@
-//! The end of a script that is followed by more text.
+//! Finding the end of a script when more text may follow it.
 ghost use Rattle.std.specs.Prelude.{◌↔◌, IsTrue};
 ghost use Rattle.tool_ends.specs.Intakes.{HasEndLine, last_part};
 
 use memchr::memmem;
 
-/// A script's last line, after another line.
+/// The last line of a script, `end`, and the line feed of the line before it.
 const END_LINE: &[u8] = b"\nend\n";
 
-/// Whether a line `end` came with the last `count` bytes. The line may begin before these bytes.
+/// Whether a whole line `end` was completed by the last `count` bytes of `given`. The line may begin before these
+/// bytes.
 pub(crate) fn has_end_line(given: &[u8], count: usize) -> bool
     ensures came { IsTrue result ↔ HasEndLine (last_part count given.now) }
     ensures conforms { IsTrue result → HasEndLine given.now }

@@ -1,4 +1,4 @@
-//! The short lines that are the whole answer to an input. No memory is allocated for them.
+//! The one-line answers for a refused input and for a failed clause. No memory is allocated for them.
 ghost use Rattle.std.specs.Prelude.{◌≡◌, ◌+◌, ◌≤◌, ◌++◌, decimal, length};
 ghost use Rattle.tool_ends.specs.Pairs.{no_line, refusal_line};
 
@@ -6,13 +6,13 @@ use arrayvec::ArrayString;
 use itoa::Buffer;
 use key_names::ScriptFault;
 
-/// The most bytes of a short line.
+/// The most bytes that a one-line answer may have.
 pub const MOST_BYTES: usize = 128;
 
-/// A line of at most 128 bytes.
+/// A one-line answer of at most 128 bytes.
 pub type ShortLine = ArrayString<MOST_BYTES>;
 
-/// Adds a text to a line, and a number in decimal after it. The line must have room for the text and 20 digits.
+/// Appends `before`, and then `number` in decimal, to a line. The line must have room for `before` and 20 digits.
 pub fn add_number(line: &mut ShortLine, before: &str, number: u64)
     requires { length line.old.bytes + length before.now + 20 ≤ 128 }
     ensures text { line.new.bytes ≡ line.old.bytes ++ before.now ++ decimal number }
@@ -23,7 +23,7 @@ pub fn add_number(line: &mut ShortLine, before: &str, number: u64)
     line.push_str(digits.format(number));
 }
 
-/// The line with an input's first fault.
+/// The answer to an input that is refused: `refused LINE KIND`, for the input's first fault.
 pub fn refusal_line(fault: ScriptFault) -> ShortLine
     ensures { result.bytes ≡ refusal_line fault }
 {
@@ -34,7 +34,7 @@ pub fn refusal_line(fault: ScriptFault) -> ShortLine
     line
 }
 
-/// The line with the number of the first clause that fails.
+/// The answer for a failed clause: `no K`, with the number of the first clause that fails.
 pub fn no_line(number: u8) -> ShortLine
     ensures { result.bytes ≡ no_line number }
 {

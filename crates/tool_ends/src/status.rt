@@ -1,4 +1,4 @@
-//! The ways in which a program ends.
+//! The statuses with which a program ends.
 ghost use Rattle.std.specs.Prelude.{◌≡◌};
 ghost use Rattle.tool_ends.specs.Ends.{code_of};
 
@@ -7,13 +7,13 @@ ghost use Rattle.tool_ends.specs.Ends.{code_of};
 pub enum Status {
     /// The whole output was written.
     Done,
-    /// A clause fails in a transcript, and the line with the clause's number was written.
+    /// A transcript fails a clause, and the line with the clause's number was written.
     No,
-    /// The words are no form of the command line. The program read and wrote nothing.
+    /// The words of the command line have none of its forms. The program read and wrote nothing.
     Usage,
     /// The source failed. Nothing was written.
     ReadFault,
-    /// The sink failed. It holds a prefix of the output.
+    /// The sink failed. It got a prefix of the output.
     WriteFault,
     /// The script was refused, and the line with the script's fault was written.
     Refused,
@@ -22,7 +22,7 @@ pub enum Status {
 }
 
 impl Status {
-    /// The exit code, 0 to 6.
+    /// The exit code of the status, from 0 to 6.
     pub fn code(self) -> u8
         ensures { result ≡ code_of self }
     {

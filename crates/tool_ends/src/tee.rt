@@ -1,5 +1,5 @@
-//! A source that keeps the front of what was taken from it, and a sink that keeps the last piece that was put to it,
-//! for the message of a refusal.
+//! For the message of a refusal: a source that keeps the first bytes that were taken from it, and a sink that keeps the
+//! last piece that was put to it.
 ghost use Rattle.std.specs.Prelude.{◌≡◌, ◌<◌, ◌≤◌, ◌++◌, [], ℕ, List, length, take, IfOk, IfSome, IsSome, IsTrue, OnOk, OnErr};
 ghost use Rattle.std.specs.Io.{ReadsAtMost, WritesAtMost};
 ghost use Rattle.std.specs.Io.KnownBytes.{Keeps, Appends, Consumes, IsAtEnd};
@@ -10,22 +10,22 @@ use arrayvec::ArrayVec;
 use io_edges::{Failed, Sink, Source};
 use std::alloc::Global;
 
-/// The most bytes that a sink keeps. A line `refused LINE KIND` is shorter.
+/// The most bytes of a piece that a tee sink keeps. A line `refused LINE KIND` is shorter.
 const MOST_GOT: usize = 32;
 
 /// A source that keeps a copy of the first bytes that were taken from it, or of fewer if there is no memory for more.
 #[derive(Drop)]
 pub struct TeeSource<S: Source + Drop> {
     source: S,
-    // The most bytes that are kept.
+    // The most bytes that may be kept in `front`.
     most: usize,
     front: Vec<u8>,
-    // Whether `front` is all that was taken.
+    // Whether `front` has all bytes that were taken from `source`.
     is_whole: bool,
 }
 
 impl<S: Source + Drop> TeeSource<S> {
-    /// A source that takes its bytes from `source`. It has kept no byte yet, and will keep at most `most` bytes.
+    /// A tee that takes its bytes from `source`. It has kept no byte yet, and will keep at most `most` bytes.
     pub fn of(alloc: Global, source: S, most: usize) -> TeeSource<S>
         ensures source { tee_source result ≡ source }
         ensures given { HasGiven [] result }
@@ -39,7 +39,8 @@ impl<S: Source + Drop> TeeSource<S> {
         }
     }
 
-    // Keeps as much of a piece that was taken as there is room for, unless an earlier byte was not kept.
+    // Keeps as much of `piece`, which was just taken, as there is room for. Keeps nothing if an earlier byte was not
+    // kept.
     fn keep(&mut self, piece: &[u8])
         ensures source { tee_source self.new ≡ tee_source self.old }
         ensures given { (text : List ℕ) → HasGiven text self.old → HasGiven (text ++ piece.now) self.new }
@@ -56,7 +57,7 @@ impl<S: Source + Drop> TeeSource<S> {
         self.is_whole = left.is_empty();
     }
 
-    /// All that was taken, if all of it was kept.
+    /// All bytes that were taken from the source, if all of them were kept.
     pub fn whole(&self) -> Option<&[u8]>
         ensures kept { (text : List ℕ) → HasGiven text self.now → IfSome result (λ kept. kept.now ≡ text) }
         ensures some { IsTrue (keeps_all self.now) → IsSome result }
@@ -68,12 +69,12 @@ impl<S: Source + Drop> TeeSource<S> {
         }
     }
 
-    /// The line of this number, counted from 1, if the whole line was kept (tested).
+    /// The line with this number, counted from 1, of the text that was taken, if the whole line was kept (tested).
     pub fn line(&self, number: u32) -> Option<&[u8]> {
         let before = (number as usize).checked_sub(1)?;
         let mut lines = self.front.split(|byte| *byte == b'\n');
         let line = lines.nth(before)?;
-        // Unless the front is all that was taken, its last line may be incomplete.
+        // If not all bytes were kept, the last line in `front` may be incomplete.
         if self.is_whole || lines.next().is_some() {
             Some(line)
         } else {
@@ -92,7 +93,7 @@ impl<S: Source + Drop> Source for TeeSource<S> {
             → HasGiven (text ++ take n buf.new) self.new) }
         ensures none_given { OnErr result ((text : List ℕ) → HasGiven text self.old → HasGiven text self.new) }
 
-        // The clauses of `Source`.
+        // These are the contract's clauses that the trait `Source` requires.
         ensures bound { ReadsAtMost result buf.new }
         ensures taken { IfOk result (λ n.
             Consumes (S.left (tee_source self.old)) (S.left (tee_source self.new)) (take n buf.new)) }
@@ -115,7 +116,7 @@ pub struct TeeSink<K: Sink + Drop> {
 }
 
 impl<K: Sink + Drop> TeeSink<K> {
-    /// A sink that puts its pieces to `sink`. It has kept no byte yet.
+    /// A tee that puts its pieces to `sink`. It has kept no byte yet.
     pub fn of(sink: K) -> TeeSink<K>
         ensures sink { tee_sink result ≡ sink }
         ensures got { HasGot [] result }
@@ -126,7 +127,7 @@ impl<K: Sink + Drop> TeeSink<K> {
         }
     }
 
-    /// The first bytes of the last piece that was put, at most 32. A line of up to 32 bytes that was put in one piece
+    /// The first bytes, at most 32, of the last piece that was put. A line of up to 32 bytes that was put in one piece
     /// is whole.
     pub fn last(&self) -> &[u8]
         ensures { (piece : List ℕ) → HasGot piece self.now → result.now ≡ take 32 piece }
@@ -147,7 +148,7 @@ impl<K: Sink + Drop> Sink for TeeSink<K> {
         ensures got { IfOk result (λ n. HasGot (take n piece.now) self.new) }
         ensures none_got { OnErr result ((before : List ℕ) → HasGot before self.old → HasGot before self.new) }
 
-        // The clauses of `Sink`.
+        // These are the contract's clauses that the trait `Sink` requires.
         ensures bound { WritesAtMost result piece.now }
         ensures some { IfOk result (λ n. 0 < length piece.now → 0 < n) }
         ensures appended { IfOk result (λ n.
@@ -166,7 +167,7 @@ impl<K: Sink + Drop> Sink for TeeSink<K> {
     fn flush(&mut self) -> Result<(), Failed>
         ensures got { (before : List ℕ) → HasGot before self.old → HasGot before self.new }
 
-        // The clauses of `Sink`.
+        // These are the contract's clauses that the trait `Sink` requires.
         ensures handed_on { OnOk result (K.kept_back (tee_sink self.new) ≡ []) }
         ensures kept { Keeps (K.held (tee_sink self.old)) (K.held (tee_sink self.new)) }
         ensures not_counted { OnOk result (K.faults (tee_sink self.new) ≡ K.faults (tee_sink self.old)) }

@@ -1,4 +1,4 @@
--- A fact that holds of each line of each caller holds of each line of the transcript.
+-- If a fact holds for each line of each caller, it holds for each line of the transcript.
 use Rattle.std.proofs.Common.{◌≤◌, List, length, map, All, arith}
 use Rattle.std.specs.List.{AllByRecursion}
 use Rattle.std.proofs.lemmas.List.{length-map}

@@ -1,4 +1,4 @@
--- If a text spells no value, None meets the contract of a function that reads a value.
+-- If a text spells no value, a reader of values may return None.
 use Rattle.std.proofs.Common.{◌≡◌, ℕ, List, Option, Some, None}
 use Rattle.std.specs.Prelude.{MatchOption}
 use Rattle.transcript_text.specs.Reading.{Reads}

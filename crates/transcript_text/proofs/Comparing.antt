@@ -1,4 +1,4 @@
--- If a text is compared with the pieces of a transcript's text in turn, it is compared with the whole text.
+-- Comparing a text with the pieces of a transcript's text in turn compares it with the whole text.
 use Rattle.std.proofs.Common.{◌≡◌, ◌≢◌, ℕ, ◌+◌, ◌-◌, ◌<◌, ◌≤◌, List, [], ◌++◌, length, drop, take, refl, ap, sym, subst, ◌∙◌, append_assoc, append-nil, arith, min}
 use Rattle.std.proofs.Math.Seq.{take-add}
 use Rattle.std.proofs.lemmas.List.{drop_all, drop_at, drop-append-le, drop-drop, length-append, length-drop, length-take, take-append-drop, take-append-le, take_at}
@@ -10,7 +10,7 @@ use Rattle.transcript_text.specs.Places.{IsIn, text_left}
 use Rattle.transcript_text.specs.declared.printing.place.TextPosition.{TextPosition}
 use Rattle.transcript_text.specs.declared.parsing.reader.TranscriptReader.{TranscriptReader}
 
--- if the whole piece was compared, the bytes of the transcript's text that are not compared yet are those after `place`
+-- if all of `piece` was compared, the part of the transcript's text that is not compared yet is the text after `place`
 after_piece : (made : List (List SeenLine)) (same from : ℕ) (piece : List ℕ) (place : TextPosition)
     → IsBefore made same piece from place → from ≡ length piece → drop same (transcript_text made) ≡ text_left place made
 after_piece made same from piece place b over =
@@ -44,7 +44,7 @@ front_of_length most text front is =
     sym (take_at front (drop most text) (length front) refl)
     ∙ ap (take (length front)) (ap (λ f. f ++ drop most text) is ∙ take-append-drop most text)
 
--- the bytes of the piece that are compared next are the next bytes of the transcript's text
+-- `next`, the bytes of the piece that are compared next, are the next bytes of the transcript's text
 is_next : (made : List (List SeenLine)) (same from : ℕ) (piece bytes next : List ℕ) (place : TextPosition)
     → IsBefore made same piece from place → next ≡ take (length bytes) (drop from piece)
     → next ≡ take (length next) (drop same (transcript_text made))
@@ -82,7 +82,8 @@ text_on made same from piece bytes next front place b is front_is alike =
     take-add same (length next) text ∙ ap (λ more. take same text ++ more)
     (sym (is_next made same from piece bytes next place b is) ∙ sym alike ∙ front_is)
 
--- if `bytes` differ from the next bytes of the piece, the transcript's text does not continue with `bytes`
+-- if `front`, the first of `bytes`, differs from `next`, the next bytes of the piece, the transcript's text does not
+-- continue with `bytes`
 pub other : (made : List (List SeenLine)) (same from : ℕ) (piece bytes next front : List ℕ) (place : TextPosition)
     → IsBefore made same piece from place → next ≡ take (length bytes) (drop from piece)
     → front ≡ take (length next) bytes → front ≢ next
@@ -98,7 +99,8 @@ other made same from piece bytes next front place b next_is front_is differ foll
     differ (front_is ∙ sym (take-append-le (length next) bytes following few) ∙ ap (take (length next)) (sym rest_is)
     ∙ sym (is_next made same from piece bytes next place b next_is))
 
--- if the first `same` bytes are the whole text of the transcript, no bytes of that text are left
+-- if the first `same` bytes are the whole text of the transcript, the piece is used up, and no text is left after
+-- `place`
 pub none_left : (made : List (List SeenLine)) (same from : ℕ) (piece : List ℕ) (place : TextPosition)
     → IsBefore made same piece from place → take same (transcript_text made) ≡ transcript_text made
     → (from ≡ length piece) × (length (text_left place made) ≡ 0)
@@ -118,9 +120,10 @@ none_left made same from piece place b whole =
       b.few,
     )
 
--- ---- reading the text again
+-- ---- feeding the compared bytes to a reader
 
--- the reader was fed all compared bytes except the last `left`; if `left` is not 0, these bytes begin at `place`
+-- the reader was fed the first `same` bytes of the transcript's text except the last `left` of them; if `left` is not
+-- 0, these last bytes begin at `place`
 pub record FedSoFar (made : List (List SeenLine)) (same left : ℕ) (place : TextPosition) (reader : TranscriptReader) : Type 0 where
   pub within : IsIn place made
   pub few : left ≤ same

@@ -1,4 +1,4 @@
--- A text that contains a byte is cut at the first such byte, and in only one way.
+-- If a text contains a byte, the text is cut at the first place of that byte, and in only one way.
 use Rattle.std.proofs.Common.{◌≡◌, ℕ, suc, ◌+◌, ◌%◌, ◌^◌, ◌<◌, ◌==◌, true, false, not, List, [], ◌∷◌, ◌++◌, length, get_or, take, drop, Some, None, refl, sym, subst, add-one, drop-cons, eq-eqb, arith}
 use Rattle.std.specs.Prelude.{decimal}
 use Rattle.std.proofs.lemmas.Bool.{and_parts, eqb-true, false_from_ne_true}
@@ -38,7 +38,7 @@ same_cut byte (a ∷ as') (b ∷ bs) x y p q e =
     let front : as' ≡ bs = rest.0 in
     (cc, rest.1)
 
--- no digit equals this byte
+-- the text of a decimal digit never equals `byte`
 abbrev pub IsNoDigit : ℕ → Type 0
 IsNoDigit byte = (d : ℕ) → d < 10 → ((48 + d) == byte) ≡ false
 
@@ -49,7 +49,7 @@ lacks-decimal byte n other small =
     (λ m ds ten h. lacks-append byte ds ((48 + m % 10) ∷ []) h (rw (other (m % 10) (omega arith)) refl))
     n small
 
--- ---- the first place of a byte
+-- ---- the text before the first place of a byte
 
 lacks_from : (byte : ℕ) (xs : List ℕ) → ((k : ℕ) → k < length xs → (get_or xs k 0 == byte) ≡ false)
     → lacks byte xs ≡ true

@@ -1,5 +1,5 @@
--- `IsAfter` and `HasFed` stay true of a reader that is fed piece by piece. The reader finds the first fault or the
--- transcript.
+-- `IsAfter` and `HasFed` stay true of a reader that is fed piece by piece. At the end the reader finds the text's first
+-- fault or its transcript.
 use Rattle.std.proofs.Common.{◌≡◌, ℕ, ◌+◌, ◌<◌, ◌≤◌, Bool, true, false, List, [], ◌∷◌, ◌++◌, length, refl, sym, ap, subst, ◌∙◌, append_assoc, append-nil, arith}
 use Rattle.std.specs.Prelude.{vec_len, Result, Ok, Err, IfOk, MatchBool}
 use Rattle.std.proofs.lemmas.List.{length-append, length-map}
@@ -18,7 +18,7 @@ use Rattle.transcript_text.proofs.CountingOn.{passes}
 use Rattle.transcript_text.proofs.Cutting.{lacks-append}
 use Rattle.transcript_text.proofs.ReadingOn.{begins, fault_after, fault_line, fault_missing, few_done, found, goes_on, other_head, uncut_head}
 
--- ---- more of the text
+-- ---- what was read stays read if the text continues
 
 more_read : (text more : List ℕ) (done : List (List SeenLine)) (current : List SeenLine) (rest : List ℕ) (number : ℕ)
     → ReadSoFar text done current rest number → ReadSoFar (text ++ more) done current (rest ++ more) number
@@ -56,7 +56,7 @@ more_conforms Ended s text rest more t = more_emitted s text (line_end ++ 10 ∷
 more_conforms (Faulty line) s text rest more fault = λ following.
     subst (λ x. IsFirstFault x line) (sym (append_assoc text more following)) (fault (more ++ following))
 
--- ---- one more line
+-- ---- a reader's state after one more line
 
 begin_lines : (s : SoFar) (text line following : List ℕ) → IsUnread s → text ≡ line ++ 10 ∷ following → line ≡ head_line
     → HasEmitted s text following
@@ -88,7 +88,7 @@ pub ended : (s : SoFar) (text line following : List ℕ) → HasEmitted s text (
 ended s text line following t is = subst (λ x. HasEmitted s text (x ++ 10 ∷ following)) is t
 
 module _ (s next : SoFar) (line : List ℕ) (most : next.most ≡ s.most) (lines : next.lines ≡ s.lines) where
-  -- a line within the limit is kept and counted
+  -- a line of a caller is kept and counted if fewer than `s.most` lines were counted before
   kept_line : s.lines < s.most
       → AddsLine line (seen_callers s.done.items) (seen_callers next.done.items) s.current.lines next.current.lines
       → (text following : List ℕ) → HasEmitted s text (line ++ 10 ∷ following) → HasEmitted (with_line next) text following
@@ -107,7 +107,7 @@ module _ (s next : SoFar) (line : List ℕ) (most : next.most ≡ s.most) (lines
         kept = λ _. read;
       }
 
-  -- once the limit is reached, a caller's line is counted, and not kept
+  -- if at least `s.most` lines were counted before, a line of a caller is counted, and not kept
   passed_line : s.most ≤ s.lines → IsPassed line (vec_len s.done) (vec_len next.done)
       → (text following : List ℕ) → HasEmitted s text (line ++ 10 ∷ following) → HasEmitted (with_line next) text following
   passed_line many passed text following t = record {
@@ -136,8 +136,8 @@ module _ (s next : SoFar) (line : List ℕ) (most : next.most ≡ s.most) (lines
   passed_or_none (Ok false) many none = none
   passed_or_none (Err e) many none = tt
 
--- if a line is neither the last line nor a line that a caller may have next, this line is the first fault, whatever
--- follows
+-- if `line` is neither the last line, `end`, nor a line that a caller may have next, `line` is the first fault,
+-- whatever follows
 pub no_line : (s next : SoFar) (text line following : List ℕ) → HasEmitted s text (line ++ 10 ∷ following)
     → lacks 10 line ≡ true → (line ≡ line_end → ⊥) → IsNoLine line (vec_len s.done) → next.lines ≡ s.lines
     → ConformsAs (Faulty (next.lines + 2)) next text following
@@ -148,7 +148,7 @@ no_line s next text line following t clean not none lines = λ more.
     (fault_line (text ++ more) ((line ++ 10 ∷ following) ++ more) line (following ++ more) c.done c.current (s.lines + 1)
     (vec_len s.done) c.read (append_assoc line (10 ∷ following) more) clean not (sym c.many) none)
 
--- if text follows the last line, the line after the last line is the first fault
+-- if `rest`, the text after the last line `end`, is not empty, the line after `end` is the first fault
 goes_past : (s : SoFar) (text rest : List ℕ) → HasEmitted s text (line_end ++ 10 ∷ rest) → (rest ≡ [] → ⊥)
     → IsFirstFault text (s.lines + 3)
 goes_past s text rest t some =
@@ -171,7 +171,7 @@ stays_past s next text line following at is = λ more.
       length-append line (10 ∷ following),
     )))
 
--- ---- a reader, and the rest of a piece
+-- ---- a reader within a piece that it is fed
 
 -- if `piece` is added to the text that a reader was fed, exactly `piece` is unread
 pub piece_begins : (text piece : List ℕ) (r : TranscriptReader) → HasFed text r → IsAfter (text ++ piece) r piece
@@ -206,7 +206,7 @@ line_ends text following end line r next at clean is empty few conforms = record
   bound = omega (arith, at.bound, few, ap length empty, length-append end (10 ∷ following));
 }
 
--- ---- after the text
+-- ---- the first fault of a text that ends too early
 
 pub cut_at_head : (text : List ℕ) (r : TranscriptReader) → HasFed text r → r.so_far.stage ≡ Head → IsFirstFault text 1
 cut_at_head text r fed is =
@@ -238,7 +238,7 @@ pub is_faulty : (text : List ℕ) (r : TranscriptReader) (line : ℕ) → HasFed
 is_faulty text r line fed is = subst (λ x. IsFirstFault x line) (append-nil text)
     (subst (λ x. ConformsAs x r.so_far text (r.rest.items ++ [])) is fed.conforms [])
 
--- ---- the transcript
+-- ---- the transcript that the reader returns
 
 pub few_callers : (s : SoFar) (text rest : List ℕ) → HasEmitted s text rest → vec_len s.done < 64
 few_callers s text rest t = omega (

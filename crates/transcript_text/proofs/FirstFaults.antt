@@ -1,5 +1,5 @@
--- The lines before a text's first faulty line begin some transcript; together with that line they begin none. A text
--- has only one first faulty line.
+-- The lines before a text's first faulty line are the start of some transcript; with the faulty line they are the start
+-- of none. A text has only one first faulty line.
 use Rattle.std.proofs.Common.{◌≡◌, ℕ, ◌+◌, ◌<◌, ◌≤◌, ◌⊎◌, inl, inr, true, List, [], ◌∷◌, ◌++◌, length, map, refl, sym, ap, subst, ◌∙◌, append_assoc, append-nil, arith}
 use Rattle.std.specs.Prelude.{codes}
 use Rattle.std.specs.List.{AllByRecursion}
@@ -15,12 +15,12 @@ use Rattle.transcript_text.proofs.Cutting.{same_cut}
 use Rattle.transcript_text.proofs.LineTexts.{same_line, no_end, line_lacks_feed}
 use Rattle.transcript_text.proofs.RisingLines.{all_lines_rise, same_callers}
 
--- ---- lists of lines
+-- ---- two transcripts with the same first lines
 
 tail_of : (x : List ℕ) (a b : List (List ℕ)) → x ∷ a ≡ x ∷ b → a ≡ b
 tail_of x a b e = cc
 
--- after some lines of a transcript, the next line is the transcript's last line, or a line of the same caller or of a
+-- if a transcript begins with `lines`, its next line is the last line, `end`, or a line of the same caller or of a
 -- later caller
 pub next_is : (least : ℕ) (lines others : List SeenLine) (line : List ℕ) (more : List (List ℕ)) → Rising least lines
     → Rising least others
@@ -45,14 +45,14 @@ after_end [] (o ∷ others) line more e = let h : line_end ≡ line_text o = cc 
 after_end (l ∷ lines) [] line more e = let h : line_text l ≡ line_end = cc in no_end l h
 after_end (l ∷ lines) (o ∷ others) line more e = after_end lines others line more cc
 
--- lines without the last line `end` are no transcript
+-- lines without the last line, `end`, are not all lines of a transcript
 pub no_whole : (lines others : List SeenLine) → map line_text lines ≡ map line_text others ++ line_end ∷ [] → ⊥
 no_whole [] [] e = cc
 no_whole [] (o ∷ others) e = cc
 no_whole (l ∷ lines) [] e = let h : line_text l ≡ line_end = cc in no_end l h
 no_whole (l ∷ lines) (o ∷ others) e = no_whole lines others cc
 
--- ---- lists of lines, as texts
+-- ---- texts that begin with given lines
 
 abbrev AllLack : List (List ℕ) → Type 0
 AllLack lines = AllByRecursion (λ line. lacks 10 line ≡ true) lines
@@ -97,7 +97,7 @@ front_lacks lines rising = (refl, subst AllLack (append-nil (map line_text lines
 whole_lacks : (callers : List (List SeenLine)) → Rising 0 (all_lines callers) → AllLack (transcript_lines callers)
 whole_lacks callers rising = (refl, map_lacks 0 (all_lines callers) (line_end ∷ []) rising (refl, tt))
 
--- ---- transcripts
+-- ---- a transcript's text that begins with given lines
 
 pub rises : (callers : List (List SeenLine)) → TranscriptFits callers → UnderOwnNumber 0 callers
     → Rising 0 (all_lines callers)
@@ -234,7 +234,7 @@ no_head text not =
 pub gives_nothing : Gives [] []
 gives_nothing = record { fits = record { few_callers = omega arith; last = tt; lines = tt }; own = tt; all = refl }
 
--- ---- no other transcript
+-- ---- a text is the text of at most one transcript
 
 lined_once : (front lines : List (List ℕ)) → AllLack front → AllLack lines → lined front ≡ lined lines
     → LinesAfter front lines []
@@ -267,9 +267,10 @@ one_transcript text a b s t =
     same_callers 0 a b s.own t.own s.fits.last t.fits.last
     (same_lines 0 (all_lines a) (all_lines b) both.following rise_a rise_b tail)
 
--- ---- one first fault
+-- ---- a text has at most one first faulty line
 
--- if `a` and `b` are first lines of one text, and `b` has more lines, `b` continues `a` with the text's next line
+-- if the same text begins with the lines `a` and with the lines `b`, and `b` has more lines, `b` is `a`, then the
+-- text's next line, then perhaps more
 next_front : (a b : List (List ℕ)) (r s : List ℕ) → AllLack a → AllLack b → lined a ++ r ≡ lined b ++ s
     → length a < length b
     → (line : List ℕ) × ((more : List (List ℕ)) × ((b ≡ a ++ line ∷ more)

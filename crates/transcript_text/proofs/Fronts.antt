@@ -1,4 +1,4 @@
--- A lane, a visit or a step at the start of a text is read in only one way, if no digit follows it.
+-- A text begins with at most one lane, visit or step, if the byte after it is not a digit.
 use Rattle.std.proofs.Common.{◌≡◌, ℕ, ◌-◌, ◌^◌, ◌<◌, ◌≤◌, ◌⊎◌, inl, inr, List, [], ◌∷◌, ◌++◌, length, refl, sym, ap, subst, ◌∙◌, append_assoc, arith}
 use Rattle.std.specs.Prelude.{decimal}
 use Rattle.std.specs.List.{flat_map, AllByRecursion}
@@ -13,7 +13,7 @@ use Rattle.transcript_text.specs.Reading.{StepsFit}
 use Rattle.transcript_text.proofs.StepLists.{next_text, steps_text-cons}
 use Rattle.transcript_text.proofs.StepTexts.{StepsRead, after_read, heads, no_mark_after}
 
--- ---- lanes
+-- ---- a lane at the front of a text
 
 only_pool : (rest : List ℕ) (y : LaneId) (other : List ℕ) → 112 ∷ rest ≡ lane_text y ++ other → (y ≡ Pool) ×
     (rest ≡ other)
@@ -84,7 +84,7 @@ no_lane_front text p b c y other fits after e =
       | inr more ↦ elim more [ inl is ↦ b letter.0 (e ∙ is) | inr is ↦ c letter.0 (e ∙ is) ]
     ]
 
--- ---- visits
+-- ---- a visit of a lane at the front of a text
 
 mark_split : (y : Mark) (other : List ℕ)
     → mark_text y ++ other ≡ lane_text y.lane ++ 58 ∷ (decimal y.place ++ 64 ∷ (decimal y.stamp ++ other))
@@ -93,7 +93,7 @@ mark_split y other = simp append_assoc
 pub no_mark_lane : (text : List ℕ) → NoFront lane_text LaneFits text → NoFront mark_text MarkFits text
 no_mark_lane text none y other fits after e = none y.lane _ fits.lane (λ d. omega arith) (e ∙ mark_split y other)
 
--- ---- steps
+-- ---- a step at the front of a text
 
 only_look : (digits : List ℕ) (y : Step) (other : List ℕ) → 126 ∷ digits ≡ step_text y ++ other
     → (n : ℕ) × (y ≡ Look n) × (digits ≡ decimal n ++ other)
@@ -149,7 +149,7 @@ no_empty_front text none =
     let some : (b : ℕ) (rest : List ℕ) → text ≡ b ∷ rest → ⊥ = λ b rest e. omega (arith, ap length none, ap length e) in
     no_visit_front text (some 126) (no_mark_lane text (no_lane_front text (some 112) (some 98) (some 99)))
 
--- ---- steps in a row
+-- ---- several steps, with commas between them
 
 -- `rest` begins with a step, which is followed by a comma or by the end of `rest`
 record BeginsSo (rest : List ℕ) : Type 0 where
@@ -189,12 +189,12 @@ module _ (text rest : List ℕ) (read : List Step) (so_far : StepsRead text read
   begins_next all fits e =
       let b = after_read text rest read all so_far fits e in begins_after rest b.following b.some b.fits b.spelt
 
-  -- if the rest of a text begins with no step, the text spells no steps
+  -- if `rest`, the text after the steps read so far, begins with no step, the whole text spells no steps
   pub no_next_front : NoFront step_text StepFits rest → (all : List Step) → StepsFit all → text ≡ steps_text all → ⊥
   no_next_front none all fits e =
       let b = begins_next all fits e in none b.step b.other b.fits (ends_step b.other b.after) b.whole
 
-  -- if a byte other than a comma follows the next step, the text spells no steps
+  -- if a byte other than a comma comes after the next step, the whole text spells no steps
   pub no_comma : (step : Step) (following : List ℕ) → IsFront step_text StepFits rest step following → (following ≡ [] → ⊥)
       → ((r : List ℕ) → following ≡ 44 ∷ r → ⊥) → (all : List Step) → StepsFit all → text ≡ steps_text all → ⊥
   no_comma step following f some other all fits e =

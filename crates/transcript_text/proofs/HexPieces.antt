@@ -4,7 +4,8 @@ use Rattle.std.proofs.lemmas.List.{take-append-drop}
 use Rattle.hex.specs.Hex.{encode_with, encode_lower, lower_digits}
 use Rattle.key_names.proofs.Script.HexBytes.{encode_with-append}
 
--- if the first `n` bytes of `rest` are appended to `piece` in hex, only the other bytes are still to be written
+-- if `front`, the first `n` bytes of `rest`, is appended to `piece` in hex, only `following`, the other bytes of
+-- `rest`, remain to be written
 pub next_hex : (piece new rest front following : List ℕ) (n : ℕ) → new ≡ piece ++ encode_lower front
     → front ≡ take n rest → following ≡ drop n rest
     → piece ++ encode_lower rest ≡ new ++ encode_lower following

@@ -1,5 +1,5 @@
--- Appending bytes and steps leaves the earlier lines as they were. A new line refers to the bytes and steps that were
--- appended for it.
+-- Appending to the kept bytes and steps leaves the earlier lines as they were. A new line refers to the bytes and steps
+-- that were appended for it.
 use Rattle.std.proofs.Common.{◌≡◌, ℕ, zero, suc, ◌+◌, ◌<◌, ◌≤◌, List, [], ◌∷◌, ◌++◌, length, take, drop, set, map, get_or, refl, ap, sym, subst, ◌∙◌, append-nil, All, arith}
 use Rattle.std.specs.List.{AllByRecursion}
 use Rattle.std.proofs.lemmas.List.{length-append, length-drop, take-append-drop, take-append-le, drop-append-le, take_all, drop_at, map_push, map-set}
@@ -19,7 +19,7 @@ use Rattle.transcript_text.specs.declared.parsing.line.ReadLine.{ReadLine}
 use Rattle.transcript_text.specs.ReadLines.{seen_read}
 use Rattle.transcript_text.specs.Views.{bytes_of, seen, seen_shown}
 
--- a part of a list does not change when more items are appended
+-- a part of the list `kept` does not change if `more` is appended
 part_more : {X : Type 0} (start len : ℕ) (kept more : List X) → start + len ≤ length kept
     → take len (drop start (kept ++ more)) ≡ take len (drop start kept)
 part_more start len kept more within =
@@ -27,7 +27,7 @@ part_more start len kept more within =
     let b : len ≤ length (drop start kept) = omega (arith, length-drop start kept) in
     ap (take len) (drop-append-le start kept more a) ∙ take-append-le len (drop start kept) more b
 
--- the appended items are found after the old list
+-- after `more` is appended to `kept`, the items from place `length kept` on are `more`
 part_at : {X : Type 0} (kept more : List X) → take (length more) (drop (length kept) (kept ++ more)) ≡ more
 part_at kept more = ap (take (length more)) (drop_at kept more (length kept) refl) ∙ take_all (length more) more (omega arith)
 
@@ -85,14 +85,14 @@ module _ (bs more : List ℕ) (steps others : List Step) where
     all_within_more lines within.1,
   )
 
-  -- kept lines still fit when more bytes and steps are appended
+  -- `lines` that fit with the kept bytes and steps still fit if more bytes and steps are appended
   pub kept_more : (lines : List Line) → IsKept bs steps lines → IsKept (bs ++ more) (steps ++ others) lines
   kept_more lines old = record {
     within = all_within_more lines old.within;
     fits = rw (seen_lines-more lines old.within) old.fits;
   }
 
--- if a line has the content `now`, appending the line appends this content
+-- if `line` has the content `now`, then appending `line` to `lines` appends `now` to their contents
 seen_one : (bs : List ℕ) (steps : List Step) (lines : List Line) (line : Line) (now : SeenLine) (before : List SeenLine)
     → seen_line bs steps line ≡ now → seen_lines bs steps lines ≡ before
     → seen_lines bs steps (lines ++ line ∷ []) ≡ before ++ now ∷ []
@@ -107,7 +107,7 @@ kept_one bs steps lines line now is within fits old = record {
       (each_more LineFits (seen_lines bs steps lines) now old.fits fits);
 }
 
--- if the bytes and steps of `line` were appended last, the kept line `named` has the content of `line`
+-- if the bytes and steps of `line` were appended last, the stored line `named` has the content of `line`
 module _ (bs after_bs : List ℕ) (steps after_steps : List Step) (line : LineView) (named : Line)
     (bytes_are : after_bs ≡ bs ++ bytes_of line.shown) (steps_are : after_steps ≡ steps ++ line.steps.now)
     (named_is : named ≡ kept_line (length steps) (length bs) line) where
@@ -142,11 +142,11 @@ module _ (bs after_bs : List ℕ) (steps after_steps : List Step) (line : LineVi
         (seen line) old.fits fits);
   }
 
--- a list that begins with `bs` is `bs` and then the rest of the list
+-- if the list `after` begins with `bs`, it is `bs` and then the rest of `after`
 grown : (bs after : List ℕ) → take (length bs) after ≡ bs → bs ++ drop (length bs) after ≡ after
 grown bs after e = ap (λ x. x ++ drop (length bs) after) (sym e) ∙ take-append-drop (length bs) after
 
--- reading a line appended its steps, and the bytes `after` reading begin with the old bytes `bs`
+-- suppose that reading a line changed the kept bytes from `bs` to `after`, which begins with `bs`
 module _ (bs after : List ℕ) (steps : List Step) (begins : take (length bs) after ≡ bs) where
   pub seen_grown : (others : List Step) (lines : List Line) → IsKept bs steps lines
       → seen_lines after (steps ++ others) lines ≡ seen_lines bs steps lines

@@ -24,7 +24,7 @@ use Rattle.transcript_text.proofs.NameTexts.{same_word, same_answer, word_lacks_
 use Rattle.transcript_text.proofs.StepLists.{next_text, steps_text-cons}
 use Rattle.transcript_text.proofs.StepTexts.{no_digit_below, IsOutside, comma_outside, space_outside, feed_outside, step_lacks, same_step, no_step, commas}
 
--- ---- numbers
+-- ---- the numbers of a line: its caller and its event
 
 dot : (numbers : LineNumbers) → NumbersFit numbers → lacks 46 (decimal numbers.caller) ≡ true
 dot numbers fits = lacks-decimal 46 numbers.caller (no_digit_below 46 (omega arith)) (omega arith)
@@ -59,7 +59,7 @@ module _ (text following digits : List ℕ) (caller : ℕ) (front : IsFront deci
       some (f.only numbers.event [] (omega arith) tt
       (event_at numbers fits e ∙ sym (append-nil (decimal numbers.event)))).1
 
--- ---- the five fields
+-- ---- cutting a line into its five fields
 
 pub uncut_first : (line : List ℕ) → lacks 32 line ≡ true → (a b c d e : List ℕ) → IsSplit line a b c d e → ⊥
 uncut_first line lack a b c d e s = not_lacking 32 a (spaced (b ∷ c ∷ d ∷ e ∷ []))
@@ -103,7 +103,7 @@ uncut_fourth line x r y q z p cut lack cut2 lack2 cut3 lack3 lack4 a b c d e s =
     not_lacking 32 d e (subst (λ (w : List ℕ). lacks 32 w ≡ true)
     (after_third line x r y q z p cut lack cut2 lack2 cut3 lack3 a b c d e s).1 lack4)
 
--- two texts have the same five fields
+-- the fields `a` to `e` of one text equal the fields `v` to `z` of another
 pub record SameFields (a b c d e v w x y z : List ℕ) : Type 0 where
   pub first : a ≡ v
   pub second : b ≡ w
@@ -120,7 +120,7 @@ same_fields line a b c d e v w x y z s t =
     let four = same_cut 32 d y e z s.fourth t.fourth three.1 in
     record { first = one.0; second = two.0; third = three.0; fourth = four.0; fifth = four.1 }
 
--- ---- the fields of a line
+-- ---- the fields of a line have no spaces, except the last
 
 pub steps_lack : (byte : ℕ) → IsOutside byte → lacks byte (codes "-") ≡ true → lacks byte (codes ",") ≡ true
     → (steps : List Step) → AllByRecursion StepFits steps
@@ -159,14 +159,14 @@ line_splits text line fits e = record {
   fourth = steps_lack 32 space_outside refl refl line.steps fits.steps;
 }
 
--- a text that spells a line has the fields of that line
+-- if `text` has the fields `a` to `e` and spells `line`, then these are the fields of `line`
 pub spells_line : (text a b c d e : List ℕ) → IsSplit text a b c d e → (line : SeenLine) → LineFits line
     → text ≡ line_text line
     → SameFields a b c d e (numbers_text (numbers_in line)) (word_text line.word) (answer_text line.answer)
     (steps_text line.steps) (shown_text line.shown)
 spells_line text a b c d e s line fits is = same_fields text a b c d e _ _ _ _ _ s (line_splits text line fits is)
 
--- ---- no other line
+-- ---- two lines with the same fields are equal
 
 same_steps_with_commas : (a b : List Step) → AllByRecursion StepFits a → AllByRecursion StepFits b
     → commas a ≡ commas b → a ≡ b
@@ -246,7 +246,7 @@ same_line a b f g e =
     (same_steps a.steps b.steps f.steps g.steps fields.fourth)
     ∙ ap (λ (x : Shown). line_made b.caller b.event b.word b.answer b.steps x) shown
 
--- ---- a line that was read
+-- ---- a line that was read from its fields
 
 last_short : (text a b c d e : List ℕ) → IsSplit text a b c d e → length e ≤ length text
 last_short text a b c d e s =
@@ -259,7 +259,7 @@ last_short text a b c d e s =
       length-append d (32 ∷ e),
     )
 
--- if each of the five fields spells its part of `read`, the text spells the line `read`
+-- if each field of `text` spells its part of `read`, then `text` spells the line `read`
 pub is_read : (text a b c d : List ℕ) (read : ReadLine) → IsSplit text a b c d read.shown.now
     → a ≡ numbers_text (record { caller = read.caller; event = read.event })
     → NumbersFit (record { caller = read.caller; event = read.event })
@@ -290,12 +290,12 @@ is_read text a b c d read s numbers numbers_are word answer steps steps_are =
       short = last_short text a b c d read.shown.now s;
     }
 
--- if a text spells a line, the line's caller is the caller that was read
+-- if `text` was read as `read` and spells `line`, the two have the same caller
 pub same_caller : (text : List ℕ) (read : ReadLine) → IsRead text read → (line : SeenLine) → LineFits line
     → text ≡ line_text line → line.caller ≡ read.caller
 same_caller text read is line fits e = ap (λ (l : SeenLine). l.caller) (is.only line fits e).0
 
--- if the text spells `line`, the last field that was read spells the data of `line`
+-- if `text` was read as `read` and spells `line`, the last field of `read` spells the data of `line`
 pub shows_data : (text : List ℕ) (read : ReadLine) → IsRead text read → (line : SeenLine) → LineFits line
     → text ≡ line_text line → ShownFits read.word line.shown × (read.shown.now ≡ shown_text line.shown)
 shows_data text read is line fits e =
@@ -303,7 +303,7 @@ shows_data text read is line fits e =
     let same : line.word ≡ read.word = ap (λ (l : SeenLine). l.word) only.0 in
     (subst (λ (w : Word). ShownFits w line.shown) same fits.shown, only.1)
 
--- ---- lines in a text
+-- ---- a line's text is not `end`, and contains no line feed
 
 pub no_end : (line : SeenLine) → line_text line ≡ codes "end" → ⊥
 unfolding line_text

@@ -29,7 +29,7 @@ pub word_lacks_feed : (word : Word) → lacks 10 (word_text word) ≡ true
 word_lacks_feed End = refl
 word_lacks_feed _ = refl
 
--- ---- answers
+-- ---- the texts of answers
 
 abbrev all_answers : List Answer
 all_answers = answers.Ok ∷ answers.Again ∷ answers.Invalid ∷ answers.NoData ∷ answers.Interrupted ∷ answers.Fired

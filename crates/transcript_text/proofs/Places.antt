@@ -1,4 +1,4 @@
--- The text after a place is the next piece, and then the text after the next place.
+-- The text after a position is the next piece, and then the text after the next position.
 use Rattle.std.proofs.Common.{◌≡◌, ℕ, zero, suc, ◌+◌, ◌<◌, ◌≤◌, List, [], ◌∷◌, ◌++◌, Option, length, drop, take, slice_get, Some, refl, ap, sym, subst, ◌∙◌, append_assoc, arith}
 use Rattle.std.specs.Prelude.{codes, IfSome}
 use Rattle.std.specs.List.{flat_map}
@@ -17,13 +17,13 @@ use Rattle.transcript_text.specs.declared.view.LineView.{LineView}
 use Rattle.transcript_text.proofs.HexPieces.{next_hex}
 use Rattle.transcript_text.proofs.WholeTexts.{line_is, transcript_text-parts}
 
--- ---- a line
+-- ---- the parts of one line that are put
 
--- before any byte of the data is put, all data remain to be put
+-- if no byte of a line's data was put, all of the data remain to be put
 pub none_shown : (n : ℕ) (shown : Shown) → n ≡ 0 → data_left n shown ≡ shown_text shown
 none_shown n shown e = rw e refl
 
--- after the head of a line is put, the line's data and line feed remain to be put
+-- if `head`, the part of a line before its data, is put, the line's data and line feed remain to be put
 pub head_put : (line : LineView) (n : ℕ) (head : List ℕ) → n ≡ 0
     → head ≡ head_text line.caller line.event line.word line.answer line.steps.now
     → (head ++ data_left n (seen_shown line.shown)) ++ codes "\n" ≡ line_left n (seen line)
@@ -33,7 +33,7 @@ pub begun : (n : ℕ) (line : SeenLine) → 0 < n → data_left n line.shown ++ 
 begun zero line some = absurd (omega (arith, some))
 begun (suc n) line some = refl
 
--- if the data are bytes, the part still to be put is the hex of the bytes after the first `n`
+-- if a line's data are bytes, and the first `n` were put, the hex of the other bytes remains to be put
 pub bytes_left : (n : ℕ) (shown : List ℕ) → data_left n (bytes shown) ≡ encode_lower (drop n shown)
 unfolding shown_text
 bytes_left zero shown = refl
@@ -47,7 +47,7 @@ pub left_of_bytes : (n : ℕ) (shown : List ℕ) → 0 < length shown
     → data_left n (bytes_or_none shown) ≡ encode_lower (drop n shown)
 left_of_bytes n shown some = ap (data_left n) (some_bytes shown some) ∙ bytes_left n shown
 
--- if the next `count` bytes are put, only the bytes after them are still to be put
+-- if the first `n` bytes were put before, and now the next `count` bytes, the bytes after these remain to be put
 pub bytes_on : (n count : ℕ) (shown rest front piece new : List ℕ) → rest ≡ drop n shown → front ≡ take count rest
     → new ≡ piece ++ encode_lower front
     → new ++ encode_lower (drop (n + count) shown) ≡ piece ++ encode_lower (drop n shown)
@@ -56,7 +56,7 @@ bytes_on n count shown rest front piece new following is put =
     sym (next_hex piece new rest front (drop (n + count) shown) count put is next)
     ∙ ap (λ bytes. piece ++ encode_lower bytes) following
 
--- ---- lines
+-- ---- the lines of one caller
 
 pub lines_whole : (lines : List SeenLine) → lines_left 0 lines ≡ text_of lines
 lines_whole [] = refl
@@ -74,11 +74,11 @@ pub has_shown : (n i : ℕ) (lines : List SeenLine) (line : SeenLine) → slice_
     → n ≤ length (bytes_in line.shown) → HasShown n (drop i lines)
 has_shown n i lines line at few = subst (HasShown n) (sym (found_dropped lines i line at)) few
 
--- `piece`, then the remaining data and a line feed, are the part of the line that is still to be put
+-- what remains of the line `found` after `n` data bytes were put is `piece`, then the remaining data and a line feed
 abbrev pub Begins : ℕ → List ℕ → Option SeenLine → Type 0
 Begins n piece found = IfSome found (λ line. (piece ++ data_left n line.shown) ++ codes "\n" ≡ line_left n line)
 
--- after the whole rest of a line is put, the lines after this line remain to be put
+-- if the whole rest of line `i` is put, with its line feed, the lines after line `i` remain to be put
 pub line_ended : (n i : ℕ) (lines : List SeenLine) (line : SeenLine) (head piece new : List ℕ)
     → slice_get lines i ≡ Some line → Begins n head (slice_get lines i) → piece ≡ head ++ data_left n line.shown
     → new ≡ piece ++ codes "\n"
@@ -88,7 +88,7 @@ line_ended n i lines line head piece new at begins is end =
     from_line n i lines line at ∙ ap (λ text. text ++ text_of (drop (i + 1) lines)) (sym whole)
     ∙ ap (λ text. new ++ text) (sym (lines_whole (drop (i + 1) lines)))
 
--- after a part of a line's rest is put, the other part and the lines after this line remain to be put
+-- if only a part of the rest of line `i` is put, the other part and the lines after line `i` remain to be put
 pub line_goes_on : (n more i : ℕ) (lines : List SeenLine) (line : SeenLine) (head piece : List ℕ)
     → slice_get lines i ≡ Some line → Begins n head (slice_get lines i) → 0 < more
     → piece ++ data_left more line.shown ≡ head ++ data_left n line.shown
@@ -102,7 +102,7 @@ line_goes_on n more i lines line head piece at begins some is =
     from_line n i lines line at ∙ ap (λ text. text ++ rest) whole ∙ append_assoc piece (line_left more line) rest
     ∙ ap (λ text. piece ++ text) (sym (from_line more i lines line at))
 
--- ---- callers
+-- ---- the lines of all callers
 
 pub callers_whole : (callers : List (List SeenLine)) → callers_left 0 0 callers ≡ callers_text callers
 callers_whole [] = refl
@@ -110,7 +110,7 @@ callers_whole (lines ∷ callers) =
     ap (λ text. text ++ callers_text callers) (lines_whole lines)
     ∙ sym (append_assoc (text_of lines) (flat_map text_of callers) (codes "end\n"))
 
--- after the first line of the text is put, the callers' lines remain to be put
+-- if the first line of the text is put, the callers' lines and the last line remain to be put
 pub head_done : (place : TextPosition) (callers : List (List SeenLine)) (piece : List ℕ) → place.coming ≡ Head
     → IsIn place callers → piece ≡ codes "rngtranscript 1\n"
     → text_left place callers ≡ piece ++ callers_left place.line place.shown (drop place.caller callers)
@@ -121,7 +121,7 @@ head_done place callers piece is within put =
     ap (λ coming. left_from coming place callers) is ∙ transcript_text-parts callers
     ∙ ap (λ text. text ++ callers_text callers) (sym put) ∙ ap (λ text. piece ++ text) (sym left)
 
--- putting a piece with at least one byte lowers most_pieces
+-- if a piece with at least one byte is put, the bound `most_pieces` becomes smaller
 pub fewer_pieces : (old new : TextPosition) (callers : List (List SeenLine)) (piece : List ℕ)
     → text_left old callers ≡ piece ++ text_left new callers → 0 < length piece → new.caller ≡ old.caller
     → most_pieces new callers < most_pieces old callers
@@ -132,7 +132,7 @@ fewer_pieces old new callers piece is some same =
     ap (λ caller. length (drop caller callers)) same in
     omega (arith, text, rest, some)
 
--- before the end of the text, at least the last line remains to be put
+-- before the end of the text, at least the last line, `end`, remains to be put
 pub some_left : (line shown : ℕ) (callers : List (List SeenLine)) → 0 < length (callers_left line shown callers)
 some_left line shown [] = omega arith
 some_left line shown (lines ∷ callers) =
@@ -140,7 +140,7 @@ some_left line shown (lines ∷ callers) =
     let b = length-append (flat_map text_of callers) (codes "end\n") in
     omega (arith, a, b)
 
--- a transcript's text has at least one byte, since it ends with the last line
+-- a transcript's text has at least one byte
 pub text_ends : (callers : List (List SeenLine)) → 0 < length (transcript_text callers)
 text_ends callers =
     let a = length-append (codes "rngtranscript 1\n") (callers_text callers) in

@@ -1,4 +1,4 @@
--- Putting a text piece by piece appends the whole text, or a prefix of it if the sink fails.
+-- If a text is put piece by piece, the sink gets the whole text, or a prefix of it if the sink fails.
 use Rattle.std.proofs.Common.{◌≡◌, ℕ, List, [], ◌++◌, length, take, drop, Option, refl, ap, sym, subst, ◌∙◌, append_assoc, append-nil, arith}
 use Rattle.std.proofs.lemmas.List.{length-append, take-append-drop, take_at}
 use Rattle.std.proofs.KnownBytes.{Appends-trans}
@@ -20,7 +20,7 @@ goes_on a b c whole x y rest p q = record {
   appends = Appends-trans a b c p.front q.front p.appends q.appends;
 }
 
--- if the text that remains to be put begins with a piece, and this piece is put, the text after the piece remains
+-- if the text `left` remains to be put, it begins with `piece`, and `piece` is put, then `rest` remains to be put
 pub piece_put : (a b c : Known) (whole left piece rest : List ℕ) → PutSoFar a b whole left → left ≡ piece ++ rest
     → Appends b c piece → PutSoFar a c whole rest
 piece_put a b c whole left piece rest p is put = goes_on a b c whole piece rest [] (subst (PutSoFar a b whole) is p)
@@ -38,7 +38,7 @@ prefix_of a b whole rest p = (
 from_prefix : (a b : Known) (whole : List ℕ) (p : AppendsPrefix a b whole) → PutSoFar a b whole (drop p.0 whole)
 from_prefix a b whole p = record { front = take p.0 whole; whole = take-append-drop p.0 whole; appends = p.2 }
 
--- if the sink fails within a piece, a prefix of `whole` was appended
+-- if the sink fails while `piece` is put, a prefix of `whole` was appended
 pub breaks_off : (a b c : Known) (whole left piece rest : List ℕ) → PutSoFar a b whole left → left ≡ piece ++ rest
     → AppendsPrefix b c piece → AppendsPrefix a c whole
 breaks_off a b c whole left piece rest p is q = prefix_of a c whole (drop q.0 piece ++ rest)

@@ -1,4 +1,4 @@
--- Reading the lines of a text in sequence.
+-- Reading the lines of a text one after the other.
 use Rattle.std.proofs.Common.{◌≡◌, ℕ, ◌+◌, ◌<◌, ◌≤◌, Bool, true, false, List, [], ◌∷◌, ◌++◌, ◌-◌, ◌^◌, length, map, refl, sym, ap, subst, ◌∙◌, append_assoc, append-nil, arith}
 use Rattle.std.specs.Prelude.{codes, Result, Ok, Err, IfOk, MatchBool}
 use Rattle.std.specs.List.{AllByRecursion}
@@ -53,7 +53,7 @@ goes_on text rest line following done new current next number r cut a = record {
   begun = λ e. absurd (omega (arith, a.some, ap length e));
 }
 
--- ---- the callers so far
+-- ---- the callers of the lines that were read
 
 last_below : (least : ℕ) (lines : List SeenLine) → least < 64 → Rising least lines → last_caller least lines < 64
 last_below least [] low rising = low
@@ -100,7 +100,7 @@ pub gives_so_far : (text rest : List ℕ) (done : List (List SeenLine)) (current
     → (callers : List (List SeenLine)) × Gives callers r.lines
 gives_so_far text rest done current number r = gives_current done current r.lines r.groups r.rising r.last r.begun
 
--- ---- one more line
+-- ---- the lines after one more line was read
 
 module _ (text : List ℕ) (read : ReadLine) (is : IsRead text read) where
   line_added : (old new : List (List SeenLine)) (current gone next : List SeenLine) → length old ≤ read.caller
@@ -130,7 +130,7 @@ module _ (text : List ℕ) (read : ReadLine) (is : IsRead text read) where
       let shows = shows_data text read is line fits e in none line.shown shows.0 shows.1
   line_taken old new current gone next least (Err e) later below len groups p = tt
 
--- ---- faults
+-- ---- the first faulty line after the lines that were read
 
 pub fault_missing : (text rest : List ℕ) (done : List (List SeenLine)) (current : List SeenLine) (number : ℕ)
     → ReadSoFar text done current rest number → lacks 10 rest ≡ true
@@ -156,7 +156,8 @@ fault_line text rest line following done current number least r cut clean end is
     ) in
     fault_here text rest r.lines (number + 1) g.0 g.1 r.rising r.parts (omega (arith, r.count)) not
 
--- the text up to and including the last line is the text of a transcript
+-- if `callers` have all lines that were read, and `end` comes next, the text up to and including `end` is that of the
+-- transcript `callers`
 whole_text : (callers : List (List SeenLine)) (lines : List SeenLine) (text rest following : List ℕ)
     → all_lines callers ≡ lines → text ≡ lined (front_of lines) ++ rest
     → rest ≡ line_end ++ 10 ∷ following → text ≡ lined (transcript_lines callers) ++ following
@@ -191,7 +192,7 @@ found text rest following line done current number callers r cut is none gives =
           ∙ append-nil (lined (transcript_lines callers));
     }
 
--- ---- no head
+-- ---- a text that does not begin with a transcript's first line
 
 pub uncut_head : (text : List ℕ) → lacks 10 text ≡ true → IsFirstFault text 1
 uncut_head text lack = no_head text (λ line more cut is.
@@ -202,7 +203,7 @@ pub other_head : (text head rest : List ℕ) → text ≡ head ++ 10 ∷ rest �
 other_head text head rest cut clean not = no_head text (λ line more cut2 is.
     not ((same_cut 10 head line rest more clean (rw is refl) (sym cut ∙ cut2)).0 ∙ is))
 
--- ---- the text is that of the one transcript
+-- ---- a text that is a transcript's from its first line to its last
 
 few_lines : (lines : List (List ℕ)) → length lines ≤ length (lined lines)
 few_lines [] = omega arith

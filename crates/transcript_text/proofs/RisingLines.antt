@@ -19,7 +19,7 @@ pub last_caller-push : (least : ℕ) (lines : List SeenLine) (line : SeenLine)
 last_caller-push least [] line = refl
 last_caller-push least (l ∷ lines) line = last_caller-push l.caller lines line
 
--- ---- from callers to lines
+-- ---- if lines are grouped by caller, the callers' numbers never fall
 
 Rising-append : (least caller : ℕ) (lines more : List SeenLine) → least ≤ caller → caller < 64 → OfCaller caller lines
     → AllByRecursion LineFits lines
@@ -42,9 +42,9 @@ all_lines_rise least first (lines ∷ callers) low few own fits =
     Rising-append least first lines (all_lines callers) low (omega arith) own.0 fits.0
     (all_lines_rise first (suc first) callers (omega arith) (omega arith) own.1 fits.1)
 
--- ---- from lines to callers
+-- ---- the sequence of lines determines each caller's lines
 
--- each line is of caller `first` or of a later caller
+-- each of `lines` is of caller `first` or of a caller with a higher number
 From : ℕ → List SeenLine → Type 0
 From first lines = AllByRecursion (λ line. first ≤ line.caller) lines
 
@@ -62,7 +62,7 @@ from_all least first [] low own = tt
 from_all least first (lines ∷ callers) low own = from_lines least first lines (all_lines callers) low own.0
     (from_all least (suc first) callers (omega arith) own.1)
 
--- equal sequences have the same lines of the first caller, and the same lines of the other callers
+-- if two sequences of lines are equal, they have the same lines of `caller`, and the same lines of later callers
 same_first : (caller : ℕ) (a b more rest : List SeenLine) → OfCaller caller a → OfCaller caller b
     → From (suc caller) more → From (suc caller) rest
     → a ++ more ≡ b ++ rest → (a ≡ b) × (more ≡ rest)

@@ -62,7 +62,7 @@ reads_no_count word text is dash none no_data fits e = dash e
 reads_no_count word text is dash none (bytes shown) fits e = fits.0 is
 reads_no_count word text is dash none (count n) fits e = none n fits.1 e
 
--- ---- data that are kept
+-- ---- data whose bytes were appended to the kept bytes
 
 kept_shows : (text old new : List ℕ) (named : Data) (n : NamesSpelt text old new named)
     → shown_in new named ≡ bytes_or_none n.appends.bytes

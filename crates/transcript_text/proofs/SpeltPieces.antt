@@ -11,7 +11,7 @@ use Rattle.key_names.proofs.Script.HexFields.{bytes_takes, bytes_again}
 use Rattle.transcript_text.specs.Gathered.{bytes_from}
 use Rattle.transcript_text.specs.Shows.{AppendsSpelt, NamesSpelt}
 
--- `text` is the digits of `bytes`, and then `rest`. If the whole `text` spells bytes, `rest` is the digits of some
+-- `text` is the hex digits of `bytes`, and then `rest`. If the whole `text` spells bytes, `rest` is the digits of some
 -- bytes.
 pub record SpeltSoFar (text bytes rest : List ℕ) : Type 0 where
   pub whole : text ≡ encode_lower bytes ++ rest
@@ -20,7 +20,7 @@ pub record SpeltSoFar (text bytes rest : List ℕ) : Type 0 where
   pub even : length rest ≡ 2 * half
   pub only : (all : List ℕ) → bytes_of text ≡ Some all → (last : List ℕ) × (rest ≡ encode_lower last) × IsBytes last
 
--- `front` and `following` are each the digits of whole bytes
+-- `front` and `following` are each the hex digits of whole bytes
 record Split (front following : List ℕ) : Type 0 where
   first : List ℕ
   last : List ℕ
@@ -137,13 +137,13 @@ pub spelt_whole : (text bytes rest : List ℕ) → SpeltSoFar text bytes rest �
 spelt_whole text bytes rest s done some =
     sym (again text bytes some (s.whole ∙ ap (λ r. encode_lower bytes ++ r) done ∙ append-nil (encode_lower bytes)) s.small)
 
--- `SpeltSoFar` holds for some `bytes`, and `new` is `old` with these bytes appended
+-- the first part of `text` spells some bytes, `rest` is left, and `new` is `old` with these bytes appended
 pub record AppendedSoFar (text old new rest : List ℕ) : Type 0 where
   pub bytes : List ℕ
   pub whole : new ≡ old ++ bytes
   pub so_far : SpeltSoFar text bytes rest
 
--- ---- the data that refer to the appended bytes
+-- ---- data that refer to the bytes appended last
 
 pub names_none : (text old new : List ℕ) → AppendsSpelt text old new → length new ≤ length old
     → NamesSpelt text old new NoData

@@ -5,7 +5,7 @@ use Rattle.std.specs.List.{flat_map}
 use Rattle.key_names.specs.declared.names.Step.{Step}
 use Rattle.key_names.specs.Texts.TranscriptGrammar.{step_text, steps_text}
 
--- the text of a step that follows another step
+-- the text that a step adds after another step: a comma, and the step's text
 abbrev pub next_text : Step → List ℕ
 next_text step = codes "," ++ step_text step
 

@@ -21,7 +21,7 @@ no_digit_below byte low = λ d small. false_from_ne_true _ (λ e. omega (arith, 
 pub no_digit_above : (byte : ℕ) → 57 < byte → IsNoDigit byte
 no_digit_above byte high = λ d small. false_from_ne_true _ (λ e. omega (arith, eqb-true (48 + d) byte e))
 
--- no step contains this byte
+-- `byte` occurs in the text of no step
 pub record IsOutside (byte : ℕ) : Type 0 where
   pub digits : IsNoDigit byte
   pub tilde : lacks byte (codes "~") ≡ true
@@ -97,7 +97,7 @@ step_lacks byte out (Visit mark) fits =
     (lacks-append byte _ (decimal mark.place) (lacks-append byte (lane_text mark.lane) (codes ":") lane out.colon)
     place) out.at) stamp
 
--- ---- no other
+-- ---- two steps, lanes or visits with the same text are equal
 
 first_byte : List ℕ → ℕ
 first_byte text = get_or text 0 0
@@ -116,7 +116,7 @@ same_lane (Cpu a) (Cpu b) f g e =
     let digits : decimal a ≡ decimal b = cc in
     ap Cpu (decimal_injective a b (omega arith) (omega arith) digits)
 
--- the three parts spell the mark's lane, place and stamp
+-- `lane`, `place` and `stamp` are the texts of the lane, place and stamp of the visit `mark`
 pub record SpellsMark (lane place stamp : List ℕ) (mark : Mark) : Type 0 where
   pub lane_is : lane ≡ lane_text mark.lane
   pub place_is : place ≡ decimal mark.place
@@ -179,7 +179,7 @@ same_step (Visit a) (Visit b) f g e = ap Visit (same_mark a b f g e)
 pub heads : (x y : ℕ) (a b : List ℕ) → x ∷ a ≡ y ∷ b → x ≡ y
 heads x y a b e = cc
 
--- a dash begins no step
+-- a text that begins with a dash (45) does not begin with a step
 pub no_step : (text : List ℕ) (step : Step) (rest : List ℕ) → 45 ∷ text ≡ step_text step ++ rest → ⊥
 unfolding step_text first_byte
 no_step text (Look n) rest e = omega (arith, heads 45 126 text (decimal n ++ rest) e)
@@ -190,7 +190,7 @@ no_step text (Visit mark) rest e =
     ∙ append_assoc (lane_text mark.lane) (58 ∷ place_text mark) rest) in
     omega arith
 
--- a tilde begins no visit
+-- a text that begins with a tilde (126) does not begin with a visit
 pub no_mark_after : (text other : List ℕ) (mark : Mark) → 126 ∷ text ≡ mark_text mark ++ other → ⊥
 unfolding first_byte
 no_mark_after text other mark e =
@@ -200,7 +200,7 @@ no_mark_after text other mark e =
     ∙ append_assoc (lane_text mark.lane) (58 ∷ place_text mark) other) in
     omega arith
 
--- ---- steps in a row
+-- ---- the text of several steps
 
 -- the text of the steps, with a comma after each step
 abbrev pub commas : List Step → List ℕ
@@ -255,7 +255,7 @@ begins_so byte [] some e = absurd (omega arith)
 begins_so byte (b ∷ text) some e = let n : suc (length text) - 1 ≡ length text = omega arith in
     rw n (rw (take_all (length text) text (omega arith)) (ap (λ (x : ℕ). x ∷ text) e))
 
--- ---- reading steps in sequence
+-- ---- reading several steps one after the other
 
 -- `text` is the steps that were read, with a comma after each, and then `rest`
 pub record StepsRead (text : List ℕ) (read : List Step) (rest : List ℕ) : Type 0 where
@@ -273,7 +273,7 @@ pub after_read : (text rest : List ℕ) (read all : List Step) → StepsRead tex
 after_read text rest read all so_far fits e =
     steps_after read all rest so_far.each fits.each (some_steps text all so_far.some e) (sym so_far.whole ∙ e)
 
--- if twenty steps with a comma after each were read, the text spells too many steps
+-- if twenty steps with a comma after each were read, `text` does not spell at most twenty steps
 pub too_many : (text rest : List ℕ) (read : List Step) → StepsRead text read rest → 20 ≤ length read
     → (all : List Step) → StepsFit all → text ≡ steps_text all → ⊥
 too_many text rest read so_far many all fits e =

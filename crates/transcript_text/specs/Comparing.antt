@@ -5,7 +5,7 @@ use Rattle.key_names.specs.Texts.TranscriptGrammar.{transcript_text}
 use Rattle.transcript_text.specs.Places.{IsIn, text_left}
 use Rattle.transcript_text.specs.declared.printing.place.TextPosition.{TextPosition}
 
--- the transcript, and the compared text, which is a prefix of the transcript's text
+-- the transcript `made`, and `text`, the bytes compared so far, which are a prefix of the transcript's text
 pub record Compared : Type 0 where
   pub made : List (List SeenLine)
   pub text : List ℕ
@@ -14,8 +14,8 @@ pub record Compared : Type 0 where
 abbrev pub IsOther : List (List SeenLine) → List ℕ → List ℕ → Type 0
 IsOther made text bytes = (following : List ℕ) → text ++ bytes ++ following ≢ transcript_text made
 
--- the first `same` bytes of the transcript's text were found equal; the rest of that text is the piece from byte `from`
--- on, and then the text after the place
+-- the first `same` bytes of the text of `made` were found equal; the rest of that text is `piece` from byte `from` on,
+-- and then the text after `place`
 pub record IsBefore (made : List (List SeenLine)) (same : ℕ) (piece : List ℕ) (from : ℕ) (place : TextPosition) : Type 0 where
   pub within : IsIn place made
   pub in_piece : from ≤ length piece

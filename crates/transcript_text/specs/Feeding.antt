@@ -10,9 +10,9 @@ use Rattle.transcript_text.specs.declared.parsing.so_far.SoFar.{SoFar}
 use Rattle.transcript_text.specs.declared.parsing.so_far.TranscriptStage.{TranscriptStage}
 use Rattle.transcript_text.specs.declared.parsing.so_far.TranscriptStage.TheVariants.{Head, Lines, Ended, Faulty}
 
--- ---- the lines of a text
+-- ---- the lines of a text that was read in part
 
--- the callers' numbers never fall; they are at least `least`, and below 64; and each line fits
+-- the callers' numbers of the lines never fall; each is at least `least` and below 64, and each line fits
 abbrev pub Rising : ℕ → List SeenLine → Type 0
 Rising least [] = ⊤
 Rising least (line ∷ lines) = (least ≤ line.caller) × (line.caller < 64) × LineFits line × Rising line.caller lines
@@ -27,12 +27,12 @@ head_line = codes "rngtranscript 1"
 abbrev pub line_end : List ℕ
 line_end = codes "end"
 
--- the transcript's first line, and then these lines
+-- the texts of the transcript's first line and of `lines`
 abbrev pub front_of : List SeenLine → List (List ℕ)
 front_of lines = head_line ∷ map line_text lines
 
--- `text` is the first line, the lines that were read, and then `rest`. `done` and `current` have the read lines by
--- caller.
+-- `text` is the transcript's first line, the lines that were read, and then `rest`. `done` and `current` have the read
+-- lines, grouped by caller.
 pub record ReadSoFar (text : List ℕ) (done : List (List SeenLine)) (current : List SeenLine) (rest : List ℕ)
     (number : ℕ) : Type 0 where
   pub lines : List SeenLine
@@ -43,7 +43,8 @@ pub record ReadSoFar (text : List ℕ) (done : List (List SeenLine)) (current : 
   pub count : number ≡ length lines + 1
   pub begun : current ≡ [] → lines ≡ []
 
--- the lines before `rest` were read, kept or not; the last line read is of caller `least`
+-- all lines of `text` before `rest` were read, whether they were kept or not; the last line that was read is of caller
+-- `least`
 pub record CountedSoFar (text : List ℕ) (least : ℕ) (rest : List ℕ) (number : ℕ) : Type 0 where
   pub done : List (List SeenLine)
   pub current : List SeenLine
@@ -52,23 +53,24 @@ pub record CountedSoFar (text : List ℕ) (least : ℕ) (rest : List ℕ) (numbe
 
 -- ---- the state of a reader
 
--- no line was read
+-- the state `s` before any line was read
 pub record IsUnread (s : SoFar) : Type 0 where
   pub done : s.done.items ≡ []
   pub current : s.current.lines ≡ []
   pub lines : s.lines ≡ 0
 
--- the lines before `rest` were read and counted; they are all kept, unless their number exceeds the limit
+-- the lines of `text` before `rest` were read and counted; they are all kept, unless their number exceeds the limit
+-- `s.most`
 pub record HasEmitted (s : SoFar) (text rest : List ℕ) : Type 0 where
   pub counted : CountedSoFar text (vec_len s.done) rest (s.lines + 1)
   pub kept : s.lines ≤ s.most → ReadSoFar text (seen_callers s.done.items) s.current.lines rest (s.lines + 1)
 
--- the state after one more line
+-- the state `s` with one more line counted
 abbrev pub with_line : SoFar → SoFar
 with_line s = record s { lines = s.lines + 1 }
 
--- at this stage, `text` is the lines that were read and then `rest`; a faulty text keeps its first fault, whatever
--- follows
+-- at this stage, `text` is the lines that were read, and then `rest`. If `text` is faulty, the stage has the number of
+-- its first fault, whatever follows
 abbrev pub ConformsAs : TranscriptStage → SoFar → List ℕ → List ℕ → Type 0
 ConformsAs Head s text rest = IsUnread s × (text ≡ rest)
 ConformsAs Lines s text rest = HasEmitted s text rest
@@ -78,7 +80,7 @@ ConformsAs (Faulty line) s text rest = (more : List ℕ) → IsFirstFault (text 
 abbrev pub ConformsAt : SoFar → List ℕ → List ℕ → Type 0
 ConformsAt s text rest = ConformsAs s.stage s text rest
 
--- the reader has read all of the text except `unread`, its end
+-- the reader was fed `text` except for `unread`, the end of `text`
 pub record IsAfter (text : List ℕ) (reader : TranscriptReader) (unread : List ℕ) : Type 0 where
   pub conforms : ConformsAt reader.so_far text (reader.rest.items ++ unread)
   pub clean : lacks 10 reader.rest.items ≡ true
@@ -88,6 +90,6 @@ pub record IsAfter (text : List ℕ) (reader : TranscriptReader) (unread : List 
 abbrev pub HasFed : List ℕ → TranscriptReader → Type 0
 HasFed text reader = IsAfter text reader []
 
--- the most lines that the reader keeps
+-- the limit of the number of callers' lines that the reader keeps
 abbrev pub most_lines : TranscriptReader → ℕ
 most_lines reader = reader.so_far.most

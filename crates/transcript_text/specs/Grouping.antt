@@ -1,4 +1,4 @@
--- Lines in sequence, and the same lines grouped by caller.
+-- The lines of a transcript in sequence, and the same lines grouped by caller.
 use Rattle.std.specs.Prelude.{ℕ, ◌≡◌, List, ◌++◌, length, map}
 use Rattle.std.specs.List.{AllByRecursion}
 use Rattle.key_names.specs.Transcripts.SeenLine.{SeenLine}
@@ -8,13 +8,14 @@ use Rattle.transcript_text.specs.declared.caller_lines.CallerLines.{CallerLines}
 abbrev pub OfCaller : ℕ → List SeenLine → Type 0
 OfCaller caller lines = AllByRecursion (λ line. line.caller ≡ caller) lines
 
--- the finished callers and the current one have exactly these lines
+-- `lines` are exactly the lines of the callers in `done`, and then those of the current caller. Each line is grouped
+-- under its own caller's number.
 pub record Groups (done : List (List SeenLine)) (current lines : List SeenLine) : Type 0 where
   pub done_own : UnderOwnNumber 0 done
   pub current_own : OfCaller (length done) current
   pub whole : all_lines done ++ current ≡ lines
 
--- the callers make a transcript, and these are its lines in sequence
+-- `callers` is a transcript, and `lines` are its lines in sequence
 pub record Gives (callers : List (List SeenLine)) (lines : List SeenLine) : Type 0 where
   pub fits : TranscriptFits callers
   pub own : UnderOwnNumber 0 callers

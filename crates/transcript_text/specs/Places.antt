@@ -1,4 +1,4 @@
--- The rest of a text after a place in it.
+-- The rest of a transcript's text after a position in it.
 use Rattle.std.specs.Prelude.{ℕ, zero, suc, ◌≡◌, ◌+◌, ◌≤◌, ⊤, List, [], ◌∷◌, ◌++◌, codes, drop, length}
 use Rattle.std.specs.List.{flat_map}
 use Rattle.hex.specs.Hex.{encode_lower}
@@ -9,32 +9,32 @@ use Rattle.transcript_text.specs.declared.printing.place.TextPosition.{TextPosit
 use Rattle.transcript_text.specs.declared.printing.place.TextAfter.{TextAfter}
 use Rattle.transcript_text.specs.declared.printing.place.TextAfter.TheVariants.{Head, Lines, Nothing}
 
--- the text of the callers' lines from a caller on, and the last line
+-- the text of all lines of `callers`, and then the last line, `end`
 abbrev pub callers_text : List (List SeenLine) → List ℕ
 callers_text callers = flat_map text_of callers ++ codes "end\n"
 
--- the rest of a line's data after their first `n` bytes were put
+-- the text of a line's data that remains after the first `n` bytes of the data were put
 abbrev pub data_left : ℕ → Shown → List ℕ
 data_left zero shown = shown_text shown
 data_left (suc n) shown = encode_lower (drop (suc n) (bytes_in shown))
 
--- the rest of a line after its first `n` data bytes were put; the whole line if no data byte was put
+-- the text of a line that remains after the first `n` bytes of its data were put; the whole line if `n` is 0
 abbrev pub line_left : ℕ → SeenLine → List ℕ
 line_left zero line = whole_line line
 line_left (suc n) line = data_left (suc n) line.shown ++ codes "\n"
 
--- the rest of these lines after the first `shown` data bytes of the first line were put
+-- the text of `lines` that remains after the first `shown` data bytes of the first line were put
 abbrev pub lines_left : ℕ → List SeenLine → List ℕ
 lines_left shown [] = []
 lines_left shown (line ∷ lines) = line_left shown line ++ text_of lines
 
--- no more data bytes were put than the first line has
+-- `shown`, the number of data bytes that were put, is at most the number that the first line has
 abbrev pub HasShown : ℕ → List SeenLine → Type 0
 HasShown shown [] = shown ≡ 0
 HasShown shown (line ∷ lines) = shown ≤ length (bytes_in line.shown)
 
--- the rest of these callers' text, after `line` lines of the first caller and `shown` data bytes of that caller's next
--- line were put
+-- the text that remains for `callers`, after the first `line` lines of the first caller, and `shown` data bytes of that
+-- caller's next line, were put
 abbrev pub callers_left : ℕ → ℕ → List (List SeenLine) → List ℕ
 callers_left line shown [] = codes "end\n"
 callers_left line shown (lines ∷ callers) = lines_left shown (drop line lines) ++ callers_text callers
@@ -48,11 +48,11 @@ left_from Head place callers = transcript_text callers
 left_from Lines place callers = callers_left place.line place.shown (drop place.caller callers)
 left_from Nothing place callers = []
 
--- the rest of a transcript's text after a place in it
+-- the rest of a transcript's text after the position `place`
 abbrev pub text_left : TextPosition → List (List SeenLine) → List ℕ
 text_left place callers = left_from place.coming place callers
 
--- the place is in the text of this transcript
+-- the position `place` is in the text of the transcript `callers`
 abbrev pub IsFrom : TextAfter → TextPosition → List (List SeenLine) → Type 0
 IsFrom Head place callers = (place.caller ≡ 0) × (place.line ≡ 0) × (place.shown ≡ 0)
 IsFrom Lines place callers = (place.caller ≤ length callers)
@@ -62,6 +62,6 @@ IsFrom Nothing place callers = ⊤
 abbrev pub IsIn : TextPosition → List (List SeenLine) → Type 0
 IsIn place callers = IsFrom place.coming place callers
 
--- an upper bound for the number of pieces to come
+-- an upper bound for the number of pieces after the position
 abbrev pub most_pieces : TextPosition → List (List SeenLine) → ℕ
 most_pieces place callers = length (text_left place callers) + length (drop place.caller callers)

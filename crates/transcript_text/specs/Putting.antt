@@ -1,8 +1,9 @@
--- How far a text was put.
+-- Which part of a text was put in a sink.
 use Rattle.std.specs.Prelude.{ℕ, ◌≡◌, List, ◌++◌, Option}
 use Rattle.std.specs.Io.KnownBytes.{Appends}
 
--- the first part of the text was appended, and `rest` is still to come
+-- the sink's bytes changed from `old` to `new`: a first part of `text` was appended, and `rest` is the part still to
+-- come
 pub record PutSoFar (old new : Option (List ℕ)) (text rest : List ℕ) : Type 0 where
   pub front : List ℕ
   pub whole : front ++ rest ≡ text

@@ -1,4 +1,4 @@
--- A line that was read, and its fields.
+-- A line that was read with its data still as text, and the five fields of a line.
 use Rattle.std.specs.Prelude.{ℕ, ◌≡◌, ◌<◌, ◌≤◌, ◌^◌, true, List, [], ◌∷◌, ◌++◌, length, codes, decimal}
 use Rattle.key_names.specs.Transcripts.SeenLine.{SeenLine, Shown}
 use Rattle.key_names.specs.Texts.Spelling.{spaced}
@@ -14,7 +14,7 @@ pub record NumbersFit (numbers : LineNumbers) : Type 0 where
   pub caller : numbers.caller < 2 ^ 32
   pub event : numbers.event < 2 ^ 32
 
--- the line consists of these five fields, and only the last may have spaces
+-- `line` is these five fields with spaces between them, and only the last field may contain spaces
 pub record IsSplit (line numbers word answer steps shown : List ℕ) : Type 0 where
   pub whole : line ≡ spaced (numbers ∷ word ∷ answer ∷ steps ∷ shown ∷ [])
   pub first : lacks 32 numbers ≡ true
@@ -22,7 +22,7 @@ pub record IsSplit (line numbers word answer steps shown : List ℕ) : Type 0 wh
   pub third : lacks 32 answer ≡ true
   pub fourth : lacks 32 steps ≡ true
 
--- the line that was read, with these data
+-- the line `read` with the data `shown`
 abbrev pub seen_read : ReadLine → Shown → SeenLine
 seen_read read shown = record {
   caller = read.caller;
@@ -33,12 +33,12 @@ seen_read read shown = record {
   shown = shown;
 }
 
--- if the line's last field spells some data, the line with these data fits a transcript
+-- if the last field of `read` spells some data, the line with these data fits a transcript
 abbrev pub FitsShowing : ReadLine → Type 0
 FitsShowing read = (shown : Shown) → ShownFits read.word shown → read.shown.now ≡ shown_text shown
     → LineFits (seen_read read shown)
 
--- the text spells the line `read` with the data in that line's last field, and spells no other line
+-- `text` spells the line `read` with the data that its last field spells, and spells no other line
 pub record IsRead (text : List ℕ) (read : ReadLine) : Type 0 where
   pub fits : FitsShowing read
   pub spelt : (shown : Shown) → read.shown.now ≡ shown_text shown → text ≡ line_text (seen_read read shown)
@@ -46,7 +46,7 @@ pub record IsRead (text : List ℕ) (read : ReadLine) : Type 0 where
       → (line ≡ seen_read read line.shown) × (read.shown.now ≡ shown_text line.shown)
   pub short : length read.shown.now ≤ length text
 
--- `new` is `old` and then the line that was read, with data that this line's last field spells
+-- the lines `new` are the lines `old` and then `read`, with data that the last field of `read` spells
 pub record PushesRead (read : ReadLine) (old new : List SeenLine) : Type 0 where
   pub shown : Shown
   pub fits : ShownFits read.word shown

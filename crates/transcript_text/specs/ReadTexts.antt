@@ -1,4 +1,4 @@
--- The possible results of reading a text.
+-- The possible results of reading a text as a transcript.
 use Rattle.std.specs.Prelude.{ℕ, ◌≡◌, ◌<◌, ◌≤◌, ⊤, List, [], ◌∷◌, ◌++◌, length, Result, Ok, Err}
 use Rattle.key_names.specs.Transcripts.SeenLine.{SeenLine}
 use Rattle.key_names.specs.Texts.TranscriptGrammar.{all_lines, line_text, LineFits, IsTranscriptText, IsFirstFault}
@@ -8,28 +8,29 @@ use Rattle.transcript_text.specs.declared.parsing.line.ReadLine.{ReadLine}
 use Rattle.transcript_text.specs.Grouping.{Groups}
 use Rattle.transcript_text.specs.ReadLines.{IsRead}
 
--- the text is that of a transcript with more than `most` lines
+-- `text` is that of a transcript with more than `most` lines
 pub record HasMoreLines (most : ℕ) (text : List ℕ) : Type 0 where
   pub callers : List (List SeenLine)
   pub is_text : IsTranscriptText text callers
   pub many : most < length (all_lines callers)
 
--- the result for the text: its transcript, with at most `most` lines; the first faulty line; too many lines; or no
--- memory
+-- the result of reading `text` is right: its transcript, with at most `most` lines; its first faulty line; that its
+-- transcript has more lines; or that memory ran out
 abbrev pub Answers : ℕ → List ℕ → Result (List (List SeenLine)) TextError → Type 0
 Answers most text (Ok callers) = IsTranscriptText text callers × (length (all_lines callers) ≤ most)
 Answers most text (Err (Fault line)) = IsFirstFault text line
 Answers most text (Err TooManyLines) = HasMoreLines most text
 Answers most text (Err NoMemory) = ⊤
 
--- the answer is this transcript, unless memory ran out
+-- the result is the transcript `callers`, or memory ran out
 abbrev pub IsReadAs : List (List SeenLine) → Result (List (List SeenLine)) TextError → Type 0
 IsReadAs callers (Ok found) = found ≡ callers
 IsReadAs callers (Err (Fault line)) = ⊥
 IsReadAs callers (Err TooManyLines) = ⊥
 IsReadAs callers (Err NoMemory) = ⊤
 
--- the text spells a line of the current caller or of a later one; `new` and `next` are the lines with this line added
+-- `text` spells a line of the current caller or of a later one. With this line added, the finished callers change from
+-- `old` to `new`, and the current caller's lines from `current` to `next`.
 pub record AddsLine (text : List ℕ) (old new : List (List SeenLine)) (current next : List SeenLine) : Type 0 where
   pub line : SeenLine
   pub fits : LineFits line
@@ -40,18 +41,18 @@ pub record AddsLine (text : List ℕ) (old new : List (List SeenLine)) (current 
   pub some : 0 < length next
   pub groups : (lines : List SeenLine) → Groups old current lines → Groups new next (lines ++ line ∷ [])
 
--- the text spells no line of a caller from `least` to 63
+-- `text` spells no line of a caller from `least` to 63
 abbrev pub IsNoLine : List ℕ → ℕ → Type 0
 IsNoLine text least = (line : SeenLine) → LineFits line → least ≤ line.caller → line.caller < 64
     → text ≡ line_text line → ⊥
 
--- the text spells the line `read` with the data in that line's last field; the line's caller is from `least` to 63
+-- `text` spells the line `read` with the data that its last field spells; the line's caller is from `least` to 63
 pub record IsReadFrom (text : List ℕ) (least : ℕ) (read : ReadLine) : Type 0 where
   pub is : IsRead text read
   pub later : least ≤ read.caller
   pub below : read.caller < 64
 
--- the text spells a line of this caller, whose number is at least `least`
+-- `text` spells a line of the caller `caller`, which is at least `least`
 pub record IsPassed (text : List ℕ) (least caller : ℕ) : Type 0 where
   pub line : SeenLine
   pub fits : LineFits line

@@ -1,17 +1,17 @@
--- Lines that borrow their steps and bytes, as values in contracts.
+-- Lines that borrow their steps and bytes (`LineView`), as values in contracts.
 use Rattle.std.specs.Prelude.{ℕ, List, []}
 use Rattle.key_names.specs.Transcripts.SeenLine.{Shown as SeenShown, no_data, count, bytes_or_none, SeenLine}
 use Rattle.transcript_text.specs.declared.view.Shown.{Shown}
 use Rattle.transcript_text.specs.declared.view.Shown.TheVariants.{None as NoData, Bytes, Count}
 use Rattle.transcript_text.specs.declared.view.LineView.{LineView}
 
--- the bytes of the data
+-- the bytes of a line's data, if they are bytes
 abbrev pub bytes_of : Shown → List ℕ
 bytes_of NoData = []
 bytes_of (Bytes shown) = shown.now
 bytes_of (Count n) = []
 
--- the data of a line, with their bytes
+-- a line's data with the borrowed bytes in them, as the definitions of a transcript have them
 abbrev pub seen_shown : Shown → SeenShown
 seen_shown NoData = no_data
 seen_shown (Bytes shown) = bytes_or_none shown.now

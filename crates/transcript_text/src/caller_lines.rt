@@ -1,4 +1,4 @@
-//! The lines of one caller, with their steps and bytes.
+//! The lines of one caller of a transcript, with the lines' steps and bytes.
 ghost use Rattle.std.specs.Prelude.{◌≡◌, ◌==◌, ◌+◌, ◌<◌, ◌≤◌, ◌^◌, ◌∷◌, ◌++◌, [], Some, length, All, vec_len, vec_capacity, slice_get, slice_set, IfOk, OnOk, MatchBool};
 ghost use Rattle.std.specs.List.{AllByRecursion};
 ghost use Rattle.key_names.specs.Transcripts.SeenLine.{seen_lines, shown_in};
@@ -15,8 +15,8 @@ use key_names::{Data, Line, Step};
 use std::alloc::{AllocError, Global};
 use std::marker::Model;
 
-/// The lines that were added for one caller, and room for more. Their steps and bytes are kept in two more lists, in
-/// the order in which they were added. In contracts, each line contains its own steps and bytes.
+/// The lines that were added for one caller, and memory for more. The steps and bytes of all lines are kept in two more
+/// lists, in the order in which they were added. In contracts, each line contains its own steps and bytes.
 #[derive(Drop)]
 pub struct CallerLines {
     lines: Vec<Line>,
@@ -43,7 +43,8 @@ impl Model for CallerLines {
     ghost invariant = { λ c. IsKept c.bytes.items c.steps.items c.lines.items };
 }
 
-// Appends bytes, and returns the data of a line with these bytes. The caller must have made room for them.
+// Appends the bytes `shown` to `kept`, and returns the data of a line with these bytes. The caller must have made room
+// for them in `kept`.
 fn keep_bytes(kept: &mut Vec<u8>, shown: &[u8]) -> Data
     requires room { vec_len kept.old + length shown.now ≤ vec_capacity kept.old }
     requires short { length shown.now < 2 ^ 32 }
@@ -63,7 +64,8 @@ fn keep_bytes(kept: &mut Vec<u8>, shown: &[u8]) -> Data
     }
 }
 
-// Appends the bytes of a line's data, if any, and returns the data, which refer to the kept bytes.
+// Appends the bytes of a line's data `shown` to `kept`, if there are any. Returns the data, which refer to the kept
+// bytes by place.
 #[inline(always)]
 fn keep_shown(kept: &mut Vec<u8>, shown: Shown<'_>) -> Data
     requires room { vec_len kept.old + length (bytes_of shown) ≤ vec_capacity kept.old }
@@ -80,8 +82,8 @@ fn keep_shown(kept: &mut Vec<u8>, shown: Shown<'_>) -> Data
     }
 }
 
-// Appends steps, and returns the place of the first. The caller must have made room for them. A line has few steps, so
-// they are pushed one by one.
+// Appends `steps` to `kept`, and returns the place of the first. The caller must have made room for them in `kept`. A
+// line has few steps, so they are pushed one by one.
 #[inline(always)]
 fn keep_steps(kept: &mut Vec<Step>, steps: &[Step]) -> u64
     requires room { vec_len kept.old + length steps.now ≤ vec_capacity kept.old }
@@ -98,7 +100,7 @@ fn keep_steps(kept: &mut Vec<Step>, steps: &[Step]) -> u64
 }
 
 impl CallerLines {
-    /// No lines, with room for this many lines, steps and bytes.
+    /// A list of no lines, with memory allocated for this many lines, steps and bytes.
     ///
     /// # Errors
     ///
@@ -123,7 +125,7 @@ impl CallerLines {
         })
     }
 
-    /// Makes room for this line, and keeps all earlier room.
+    /// Makes room for this line, its steps and its bytes. Room that was made earlier stays.
     ///
     /// # Errors
     ///
@@ -144,7 +146,7 @@ impl CallerLines {
         self.bytes.reserve(line.shown.bytes().len())
     }
 
-    // Appends the steps and bytes of a line, and returns the line that refers to them.
+    // Appends the steps and bytes of `line`, and returns a `Line` that refers to them by place.
     #[inline(always)]
     fn keep(&mut self, line: LineView<'_>) -> Line
         requires step_room { length line.steps.now ≤ self.old.step_room }
@@ -190,8 +192,8 @@ impl CallerLines {
         self.lines.push_reserved(kept);
     }
 
-    /// Adds a line that was read, and decodes its bytes directly to the end of the kept bytes. Returns false, and adds
-    /// no line, if the last field spells no data.
+    /// Adds a line that was read, and decodes the hex digits of its last field directly into the kept bytes. Returns
+    /// false, and adds no line, if the last field spells no data.
     pub(crate) fn push_read(
         &mut self,
         alloc: Global,
@@ -253,7 +255,7 @@ impl CallerLines {
         self.lines.is_empty()
     }
 
-    // The data of a line, from the kept bytes.
+    // The data of a line, from its stored form `named`: bytes are found by their place in the kept bytes.
     fn shown(&self, named: Data) -> Shown<'_>
         requires { IsWithin (length self.now.bytes) named }
         ensures { seen_shown result ≡ shown_in self.now.bytes named }

@@ -1,4 +1,4 @@
-//! Reading a transcript: its words and numbers, one line, and all lines in sequence.
+//! Reading the text of a transcript: words and numbers, one line, and all lines in sequence.
 
 pub(crate) mod data;
 pub(crate) mod error;

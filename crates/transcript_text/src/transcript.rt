@@ -33,7 +33,8 @@ impl Transcript {
         ensures lines { result ≡ map (λ c. c.lines) callers.items }
         ensures fits { TranscriptFits result }
     {
-        // The contract of `lines` ensures that the lines of a caller fit, which the invariant of this type requires.
+        // The call of `lines` is for its contract: it ensures that a caller's lines fit, as this type's invariant
+        // requires.
         for caller in &callers {
             let _lines = caller.lines();
         }

@@ -1,16 +1,16 @@
-//! Lines that borrow their steps and data, wherever these are kept.
+//! A line of a transcript that borrows its steps and bytes from any memory.
 ghost use Rattle.std.specs.Prelude.{◌≡◌};
 ghost use Rattle.transcript_text.specs.Views.{bytes_of};
 
 use key_names::{Answer, Step, Word};
 
-/// The data of a line.
+/// The last field of a line: no data, bytes, or a count of bits.
 #[derive(Clone, Copy, Debug, PartialEq, Eq)]
 pub enum Shown<'a> {
     None,
     /// The bytes. A line without bytes has [`Shown::None`], or an empty slice here.
     Bytes(&'a [u8]),
-    /// The number of credited bits that the visit found.
+    /// The number of credited bits that the visit of a `bits` line found in the pool.
     Count(u32),
 }
 

@@ -14,7 +14,7 @@ use key_names::hexes::{bytes_of, decode, spells_bytes};
 use key_names::{Data, Word};
 use std::alloc::{AllocError, Global};
 
-/// This many bytes are decoded at a time.
+/// `append_bytes` decodes this many bytes at a time.
 const PIECE_BYTES: usize = 2048;
 
 fn is_bits(word: Word) -> bool
@@ -23,8 +23,8 @@ fn is_bits(word: Word) -> bool
     matches!(word, Word::Bits)
 }
 
-/// Appends the bytes that a text of hex digits spells, piece by piece, so that no byte is stored twice. Returns false
-/// if the text spells no bytes; even then some bytes may have been appended.
+/// Appends the bytes that `text`, in hex digits, spells. They are decoded in pieces, so that no byte is stored twice.
+/// Returns false if `text` spells no bytes; even then some bytes may have been appended.
 fn append_bytes(alloc: Global, kept: &mut Vec<u8>, text: &[u8]) -> Result<bool, AllocError>
     ensures spelt { IfOk result (λ spells. MatchBool spells (AppendsSpelt text.now kept.old.items kept.new.items)
         (bytes_spelt text.now ≡ None)) }
@@ -52,7 +52,8 @@ fn append_bytes(alloc: Global, kept: &mut Vec<u8>, text: &[u8]) -> Result<bool, 
     Ok(true)
 }
 
-/// Appends the bytes that a text of hex digits spells, and returns the data of a line with these bytes.
+/// Appends the bytes that `text`, in hex digits, spells, and returns the data of a line with these bytes. `None` if
+/// `text` spells no bytes.
 fn keep_bytes(alloc: Global, kept: &mut Vec<u8>, text: &[u8]) -> Result<Option<Data>, AllocError>
     requires { length text.now < 2 ^ 32 }
     ensures data { IfOk result (KeepsSpelt text.now kept.old.items kept.new.items) }
@@ -72,7 +73,8 @@ fn keep_bytes(alloc: Global, kept: &mut Vec<u8>, text: &[u8]) -> Result<Option<D
     }))
 }
 
-/// The data that a text spells on a line with this word. If the data are bytes, these are appended to the kept bytes.
+/// The data that `text` spells as the last field of a line with this word. If the data are bytes, they are appended to
+/// `kept`.
 pub(crate) fn keep_data(
     alloc: Global,
     kept: &mut Vec<u8>,
@@ -97,7 +99,7 @@ pub(crate) fn keep_data(
     }
 }
 
-/// Whether a text spells data of a line with this word.
+/// Whether `text` spells data, as the last field of a line with this word.
 pub(crate) fn spells_data(word: Word, text: &[u8]) -> bool
     ensures { MatchBool result (SpellsData word text.now) (SpellsNoData word text.now) }
 {

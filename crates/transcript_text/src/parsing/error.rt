@@ -7,9 +7,9 @@ use std::alloc::AllocError;
 /// Why a text could not be read as a transcript.
 #[derive(Clone, Copy, Debug, PartialEq, Eq)]
 pub enum TextError {
-    /// The number of the first faulty line, counted from 1. The lines before the faulty line begin some transcript;
-    /// together with the faulty line they begin none. If the text ends too early, the faulty line is the incomplete or
-    /// the missing one.
+    /// The number of the first faulty line, counted from 1. The lines before it are the start of some transcript's
+    /// text; with the faulty line they are the start of none. If the text ends too early, the faulty line is the
+    /// incomplete or the missing one.
     Fault { line: u32 },
     /// The text is that of a transcript with more lines than the limit.
     TooManyLines,

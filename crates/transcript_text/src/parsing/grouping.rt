@@ -1,4 +1,4 @@
-//! Lines in sequence, grouped by their callers.
+//! The lines of a transcript in sequence, grouped by their callers.
 ghost use Rattle.std.specs.Prelude.{◌≡◌, ◌<◌, ◌≤◌, [], List, vec_len, OnOk, IfOk};
 ghost use Rattle.key_names.specs.Transcripts.SeenLine.{SeenLine};
 ghost use Rattle.transcript_text.specs.Grouping.{Groups, Gives, seen_callers};
@@ -27,7 +27,7 @@ pub(crate) fn go_on_to(
     Ok(())
 }
 
-/// The transcript of the finished callers and the current one.
+/// The transcript of the callers in `done`, and of the current caller as the last.
 pub(crate) fn finish(
     mut done: Vec<CallerLines>,
     current: CallerLines,

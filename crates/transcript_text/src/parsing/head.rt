@@ -1,4 +1,4 @@
-//! A line up to its data.
+//! Appends a line's text up to its data.
 ghost use Rattle.std.specs.Prelude.{◌≡◌, ◌+◌, ◌≤◌, ◌++◌, [], codes, length};
 ghost use Rattle.key_names.specs.Texts.TranscriptGrammar.{answer_text, lane_text, step_text, steps_text};
 ghost use Rattle.transcript_text.specs.Heads.{head_text};
@@ -8,7 +8,7 @@ use crate::printing::line_buffer::Piece;
 use crate::view::LineView;
 use key_names::{Answer, LaneId, Step};
 
-/// Appends a lane and a colon.
+/// Appends the text of a lane, and a colon.
 #[inline(always)]
 #[tactic(auto, unfolding(key_names::specs::Texts::TranscriptGrammar::lane_text))]
 fn append_lane(piece: &mut Piece, lane: LaneId)

@@ -1,4 +1,4 @@
-//! Texts cut at a byte, and numbers.
+//! Cutting a text at the first byte of a given value, and reading numbers.
 ghost use Rattle.std.specs.Prelude.{◌≡◌, ◌<◌, ◌^◌, ◌∷◌, ◌++◌, ◌↔◌, true, IsTrue, MatchOption, codes, decimal};
 ghost use Rattle.transcript_text.specs.Reading.{lacks, Reads};
 

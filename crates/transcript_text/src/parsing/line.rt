@@ -11,7 +11,7 @@ use crate::parsing::steps::steps_of;
 use event_script::numbers::number_front;
 use key_names::{Answer, Step, Trace, Word};
 
-/// The caller's and the event's number.
+/// The caller's number and the event's number, as a line begins with them.
 #[derive(Clone, Copy)]
 struct LineNumbers {
     caller: u32,
@@ -28,7 +28,7 @@ struct Fields<'a> {
     shown: &'a [u8],
 }
 
-/// A line that was read, with its data still as text.
+/// A line that was read; its last field is kept as text and not decoded yet.
 #[derive(Clone, Copy)]
 pub(crate) struct ReadLine<'a> {
     pub(crate) caller: u32,
@@ -73,8 +73,8 @@ fn fields_of(line: &[u8]) -> Option<Fields<'_>>
     })
 }
 
-/// Reads a line, given without its line feed. The last field is kept as text, which may still spell no data. The line's
-/// steps are put in the trace.
+/// Reads a line, given without its line feed. The last field is kept as text, and may spell no data. The line's steps
+/// are put in `trace`.
 pub(crate) fn line_of<'a>(text: &'a [u8], trace: &'a mut Trace) -> Option<ReadLine<'a>>
     ensures { MatchOption result ((line : SeenLine) → LineFits line → text.now ≢ line_text line)
         (IsRead text.now) }

@@ -44,7 +44,7 @@ pub(crate) fn word_of(text: &[u8]) -> Option<Word>
     words::word_of(text)
 }
 
-/// The answer that a text spells. Most lines have the answer `ok`, so this one is looked for without a call.
+/// The answer that `text` spells. Most lines have the answer `ok`, so `ok` is compared first, without a call.
 #[tactic(auto, unfolding(key_names::specs::Texts::TranscriptGrammar::answer_text))]
 pub(crate) fn answer_of(text: &[u8]) -> Option<Answer>
     ensures { Reads answer_text (λ _. ⊤) text.now result }

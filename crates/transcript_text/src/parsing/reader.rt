@@ -1,4 +1,4 @@
-//! A transcript that is read piece by piece.
+//! A reader to which the text of a transcript is fed piece by piece.
 ghost use Rattle.std.specs.Prelude.{◌≡◌, ◌+◌, ◌<◌, ◌≤◌, ◌^◌, ◌∷◌, ◌++◌, ℕ, [], List, length, true, IfOk, OnOk};
 ghost use Rattle.transcript_text.specs.Feeding.{HasFed, IsAfter, most_lines};
 ghost use Rattle.transcript_text.specs.ReadTexts.{Answers};
@@ -10,11 +10,11 @@ use crate::parsing::so_far::{SoFar, TranscriptStage};
 use crate::transcript::Transcript;
 use std::alloc::{AllocError, Global};
 
-/// A reader for the text of a transcript, in pieces of any length. It buffers at most one incomplete line.
+/// A reader for the text of a transcript, which comes in pieces of any length. It buffers at most one incomplete line.
 #[derive(Drop)]
 pub struct TranscriptReader {
     so_far: SoFar,
-    // The start of a line that has not ended yet.
+    // The bytes of a line whose line feed has not been fed yet.
     rest: Vec<u8>,
 }
 
@@ -35,7 +35,7 @@ impl TranscriptReader {
         })
     }
 
-    // Reads the end of a line, without its line feed.
+    // Reads `end`, the rest of the line that `rest` begins, without the line feed.
     fn end_line(&mut self, alloc: Global, end: &[u8]) -> Result<(), AllocError>
         requires short { length self.old.rest.items + length end.now < 2 ^ 31 }
         requires few { self.old.so_far.lines < 2 ^ 31 }
@@ -71,7 +71,7 @@ impl TranscriptReader {
         Ok(())
     }
 
-    /// The transcript of the text that was fed. The text has at most 2^31 bytes.
+    /// The transcript whose text was fed in all. The text has at most 2^31 bytes.
     ///
     /// # Errors
     ///

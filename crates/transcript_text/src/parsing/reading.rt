@@ -1,4 +1,4 @@
-//! Reading the text of a transcript.
+//! Reading the whole text of a transcript at once.
 ghost use Rattle.std.specs.Prelude.{◌≡◌, ◌≤◌, ◌^◌, ℕ, List, length, IfOk};
 ghost use Rattle.key_names.specs.Transcripts.SeenLine.{SeenLine};
 ghost use Rattle.key_names.specs.Texts.TranscriptGrammar.{IsTranscriptText, IsFirstFault};

@@ -17,29 +17,29 @@ use std::alloc::{AllocError, Global};
 /// How far a text was read.
 #[derive(Clone, Copy)]
 pub(crate) enum TranscriptStage {
-    /// The first line comes next.
+    /// Nothing was read: the transcript's first line comes next.
     Head,
-    /// Lines of callers may follow, or the last line.
+    /// The first line was read. Lines of callers may follow, or the last line, `end`.
     Lines,
-    /// The last line was read.
+    /// The last line, `end`, was read.
     Ended,
     /// The text is not that of a transcript, whatever follows. `line` is the number of the first faulty line.
     Faulty { line: u32 },
 }
 
-/// The lines of a text that were read. Lines after the first `most` are counted and not kept.
+/// What a reader has read of a text. Lines of callers after the first `most` are counted and not kept.
 #[derive(Drop)]
 pub(crate) struct SoFar {
     pub(crate) stage: TranscriptStage,
     pub(crate) most: u32,
-    // The number of lines of callers.
+    // The number of lines of callers that were read, kept or not.
     pub(crate) lines: u32,
     pub(crate) done: Vec<CallerLines>,
     pub(crate) current: CallerLines,
     trace: Trace,
 }
 
-// The stage after the first line.
+// The stage after `line`, the first line of a text, was read.
 fn after_head(line: &[u8]) -> TranscriptStage
     ensures { (s : SoFar) (text following : List ℕ) → IsUnread s → lacks 10 line.now ≡ true
         → text ≡ line.now ++ 10 ∷ following → ConformsAs result s text following }
@@ -52,7 +52,7 @@ fn after_head(line: &[u8]) -> TranscriptStage
 }
 
 impl SoFar {
-    /// The state before the first line, for a transcript of which at most `most` lines are kept.
+    /// The state before the first line of a text. At most `most` lines of callers will be kept.
     pub(crate) fn nothing(alloc: Global, most: u32) -> Result<SoFar, AllocError>
         ensures conforms { IfOk result (λ s. ConformsAt s [] []) }
         ensures lines { IfOk result (λ s. s.lines ≡ 0) }
@@ -86,7 +86,7 @@ impl SoFar {
         pass_line(alloc, done, current, trace, line)
     }
 
-    // The stage after a line that follows the first line.
+    // The stage after `line`, which is not the first line of the text, was read.
     fn after_line(&mut self, alloc: Global, line: &[u8]) -> Result<TranscriptStage, AllocError>
         requires short { length line.now < 2 ^ 31 }
         requires few { self.old.lines < 2 ^ 31 }
@@ -107,7 +107,7 @@ impl SoFar {
         Ok(TranscriptStage::Lines)
     }
 
-    // The stage after a line.
+    // The stage after `line` was read, whatever the stage before.
     fn following(&mut self, alloc: Global, line: &[u8]) -> Result<TranscriptStage, AllocError>
         requires short { length line.now < 2 ^ 31 }
         requires few { self.old.lines < 2 ^ 31 }
@@ -139,7 +139,7 @@ impl SoFar {
         Ok(())
     }
 
-    /// The transcript of a text that ends with its last line.
+    /// The transcript of a text of which everything was read, with `end` as its last line.
     ///
     /// # Errors
     ///

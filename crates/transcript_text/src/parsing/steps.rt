@@ -1,4 +1,4 @@
-//! Reading steps.
+//! Reading the steps of a line.
 ghost use Rattle.std.specs.Prelude.{◌≡◌, ◌<◌, ◌≤◌, ◌^◌, length, MatchOption};
 ghost use Rattle.std.specs.List.{AllByRecursion};
 ghost use Rattle.std.specs.Option.{option_map};
@@ -14,7 +14,7 @@ use key_names::{LaneId, Mark, Step, Trace};
 /// Generations, places and stamps are at most this.
 const MOST_NUMBER: u64 = (1 << 63) - 1;
 
-/// The lane at the start of a text, and the text after it.
+/// The lane that the front of `text` spells, and the rest of `text`.
 fn lane_front(text: &[u8]) -> Option<(LaneId, &[u8])>
     ensures { MatchOption result (NoFront lane_text LaneFits text.now)
         (λ both. IsFront lane_text LaneFits text.now both.0 both.1.now) }
@@ -31,7 +31,7 @@ fn lane_front(text: &[u8]) -> Option<(LaneId, &[u8])>
     }
 }
 
-/// The visit at the start of a text, and the text after it.
+/// The visit of a lane that the front of `text` spells, and the rest of `text`.
 fn mark_front(text: &[u8]) -> Option<(Mark, &[u8])>
     ensures { MatchOption result (NoFront mark_text MarkFits text.now)
         (λ both. IsFront mark_text MarkFits text.now both.0 both.1.now) }
@@ -48,7 +48,7 @@ fn mark_front(text: &[u8]) -> Option<(Mark, &[u8])>
     Some((Mark { lane, place, stamp }, rest))
 }
 
-/// The step at the start of a text, and the text after it.
+/// The step that the front of `text` spells, and the rest of `text`.
 fn step_front(text: &[u8]) -> Option<(Step, &[u8])>
     ensures { MatchOption result (NoFront step_text StepFits text.now)
         (λ both. IsFront step_text StepFits text.now both.0 both.1.now) }

@@ -1,4 +1,4 @@
-//! Adding one more line of a transcript.
+//! Adding one more line to a transcript that is being read.
 ghost use Rattle.std.specs.Prelude.{◌<◌, ◌≤◌, ◌^◌, length, vec_len, MatchBool, MatchOption, IfOk};
 ghost use Rattle.transcript_text.specs.Grouping.{seen_callers};
 ghost use Rattle.transcript_text.specs.ReadTexts.{AddsLine, IsNoLine, IsPassed, IsReadFrom};
@@ -27,7 +27,7 @@ fn line_from<'a>(least: usize, text: &'a [u8], trace: &'a mut Trace) -> Option<R
     Some(read)
 }
 
-/// Adds the line that a text spells. Returns whether the text is a line of the current caller or of a later one. One
+/// Reads a line from `text`, and adds it. Returns whether `text` is a line of the current caller or of a later one. One
 /// trace serves all lines: a trace for each line would have to be cleared and moved.
 pub(crate) fn take_line(
     alloc: Global,
@@ -49,7 +49,7 @@ pub(crate) fn take_line(
     current.push_read(alloc, &read)
 }
 
-/// Reads a line as `take_line` does, but does not keep it.
+/// Reads a line as `take_line` does, and makes its caller the current one, but does not keep the line.
 pub(crate) fn pass_line(
     alloc: Global,
     done: &mut Vec<CallerLines>,

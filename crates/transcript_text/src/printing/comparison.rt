@@ -11,12 +11,12 @@ use crate::transcript::Transcript;
 use std::alloc::{AllocError, Global};
 use std::marker::Model;
 
-/// Compares a text, which comes piece by piece, with the text of a transcript. A comparison keeps the number of equal
+/// Compares a text that comes piece by piece with the text of a transcript. A comparison keeps the number of equal
 /// bytes, and no byte of the compared text.
 #[derive(Drop)]
 pub struct Comparison {
     made: Transcript,
-    // The number of bytes that were found equal.
+    // The number of bytes of the two texts that were found equal.
     same: usize,
     // The piece of the transcript's text that contains the next byte, the position of that byte in the piece, and the
     // place after the piece.
@@ -37,7 +37,7 @@ impl Model for Comparison {
     ghost invariant = { λ c. IsBefore c.made c.same c.piece c.from c.place };
 }
 
-// At most `most` bytes of a text, from byte `from` on.
+// The bytes of `text` from position `from` on, at most `most` of them.
 fn bytes_from(text: &[u8], from: usize, most: usize) -> &[u8]
     requires { from ≤ length text.now }
     ensures bytes { result.now ≡ take most (drop from text.now) }
@@ -49,7 +49,7 @@ fn bytes_from(text: &[u8], from: usize, most: usize) -> &[u8]
 }
 
 impl Comparison {
-    /// The comparison with the text of this transcript, before the first byte.
+    /// A comparison with the text of the transcript `made`, before the first byte is compared.
     pub fn with(made: Transcript) -> Comparison
         ensures made { result.made ≡ made }
         ensures text { result.text ≡ [] }
@@ -63,8 +63,8 @@ impl Comparison {
         }
     }
 
-    // Compares the first bytes, up to the end of one piece of the transcript's text. Returns how many are equal, or 0
-    // if any of these bytes differs.
+    // Compares the first of `bytes` with what is left of one piece of the transcript's text. Returns how many bytes
+    // were compared, or 0 if one of them differs.
     fn compare_front(&mut self, bytes: &[u8]) -> usize
         requires some { 0 < length bytes.now }
         requires short { length self.old.text + length bytes.now ≤ 2 ^ 31 }
@@ -91,8 +91,8 @@ impl Comparison {
         0
     }
 
-    /// Compares more bytes of the text, which has at most 2^31 bytes in all. Returns how many were found equal: all of
-    /// them, unless the text differs.
+    /// Compares more bytes of a text, which has at most 2^31 bytes in all. Returns how many were found equal: all of
+    /// them, unless the texts differ.
     pub fn compare(&mut self, bytes: &[u8]) -> usize
         requires short { length self.old.text + length bytes.now ≤ 2 ^ 31 }
         ensures few { result ≤ length bytes.now }
@@ -118,8 +118,8 @@ impl Comparison {
         self.place.is_end() && self.from == self.piece.text().len()
     }
 
-    /// A reader that has read the text so far, of at most 2^31 bytes. It reads a transcript of at most `most` lines,
-    /// not counting the first and the last.
+    /// A new reader to which the text compared so far, at most 2^31 bytes, was fed. It reads a transcript of at most
+    /// `most` lines, not counting the first and the last.
     ///
     /// # Errors
     ///

@@ -1,4 +1,4 @@
-//! A piece of text that is written by one put.
+//! A buffer for the part of a transcript's text that one put writes to the sink.
 ghost use Rattle.std.specs.Prelude.{◌≡◌, ◌+◌, ◌*◌, ◌<◌, ◌≤◌, ◌∷◌, ◌++◌, [], length, decimal};
 ghost use Rattle.hex.specs.Hex.{encode_lower};
 
@@ -42,7 +42,7 @@ impl Piece {
         self.len = 0;
     }
 
-    /// The bytes so far.
+    /// The bytes that the piece contains.
     pub(crate) fn text(&self) -> &[u8]
         ensures { result.now ≡ self.now }
     {

@@ -18,19 +18,19 @@ use io_edges::{Failed, Sink, put_all};
 /// The next call writes its own text from the start.
 #[derive(Drop)]
 pub struct LineWriter {
-    // Room for the bytes of one put. Bytes of an earlier line that remain here are never put again.
+    // A buffer for the bytes of one put. Bytes of an earlier line that remain in it are never put again.
     piece: Piece,
 }
 
 impl LineWriter {
-    /// A writer before its first line.
+    /// A writer that has written nothing.
     pub fn new() -> LineWriter {
         LineWriter {
             piece: Piece::empty(),
         }
     }
 
-    /// Writes the first line of a transcript.
+    /// Writes the first line of a transcript, `rngtranscript 1`.
     pub fn begin<K: Sink>(sink: &mut K) -> Result<(), Failed>
         ensures whole { OnOk result (Appends (K.held sink.old) (K.held sink.new) (codes "rngtranscript 1\n")) }
         ensures prefix { AppendsPrefix (K.held sink.old) (K.held sink.new) (codes "rngtranscript 1\n") }
@@ -64,7 +64,7 @@ impl LineWriter {
         put_all(sink, self.piece.text())
     }
 
-    /// Writes the last line of a transcript.
+    /// Writes the last line of a transcript, `end`.
     pub fn end<K: Sink>(sink: &mut K) -> Result<(), Failed>
         ensures whole { OnOk result (Appends (K.held sink.old) (K.held sink.new) (codes "end\n")) }
         ensures prefix { AppendsPrefix (K.held sink.old) (K.held sink.new) (codes "end\n") }

@@ -1,4 +1,4 @@
-//! Places in the text of a transcript, which is made piece by piece.
+//! Positions in the text of a transcript, whose text is made piece by piece.
 ghost use Rattle.std.specs.Prelude.{◌≡◌, ◌<◌, ◌≤◌, ◌^◌, ◌++◌, [], List, codes, drop, length, slice_get, IfSome, IsTrue, IsFalse, MatchBool};
 ghost use Rattle.hex.specs.Hex.{encode_lower};
 ghost use Rattle.key_names.specs.Transcripts.SeenLine.{SeenLine, bytes_in};
@@ -12,30 +12,31 @@ use crate::printing::line_buffer::Piece;
 use crate::transcript::Transcript;
 use crate::view::Shown;
 
-/// The part of the text after a place.
+/// What part of a transcript's text comes after a position.
 #[derive(Clone, Copy)]
 pub(crate) enum TextAfter {
     /// The first line of the text.
     Head,
-    /// The rest of a caller's lines, and the lines of later callers.
+    /// The rest of a caller's lines, the lines of later callers, and the last line, `end`.
     Lines,
     Nothing,
 }
 
-/// A place in the text of a transcript, between two of its pieces.
+/// A position in the text of a transcript, at the edge of a piece.
 #[derive(Clone, Copy)]
 pub(crate) struct TextPosition {
     pub(crate) coming: TextAfter,
-    // The caller of the next lines, the number of this caller's next line, and how many bytes of that line's data were
-    // put. If the line was begun, at least one byte was put.
+    // The caller of the next line, the number of that line among this caller's lines, and how many bytes of its data
+    // were put in pieces. If a part of the line was put before, at least one byte of its data was.
     pub(crate) caller: u32,
     pub(crate) line: usize,
     pub(crate) shown: usize,
 }
 
-// The hints inline these functions into the loop over the pieces: a call for each line would keep the place in memory.
+// The hints inline these functions into the loop over the pieces. With a call for each line, the position would be kept
+// in memory.
 impl TextPosition {
-    /// The place before the text.
+    /// The position before the first byte of the text.
     pub(crate) fn start() -> TextPosition
         ensures text { (callers : List (List SeenLine)) → text_left result callers ≡ transcript_text callers }
         ensures within { (callers : List (List SeenLine)) → IsIn result callers }
@@ -48,7 +49,7 @@ impl TextPosition {
         }
     }
 
-    /// Whether this is the end of the text.
+    /// Whether the position is the end of the text.
     #[tactic(auto, using(crate::proofs::Places::text_ends, crate::proofs::Places::some_left))]
     pub(crate) fn is_end(self) -> bool
         ensures { (callers : List (List SeenLine)) → MatchBool result (text_left self callers ≡ [])
@@ -57,7 +58,7 @@ impl TextPosition {
         matches!(self.coming, TextAfter::Nothing)
     }
 
-    // Puts a line up to its data, unless the line was begun before.
+    // Puts the next line up to its data in the piece, unless that was put in an earlier piece.
     #[tactic(auto, using(crate::proofs::Places::head_put, crate::proofs::Places::begun))]
     #[inline(always)]
     fn begin(self, lines: &CallerLines, piece: &mut Piece)
@@ -72,7 +73,8 @@ impl TextPosition {
         }
     }
 
-    // Puts as many of a line's remaining bytes as the piece has room for. Returns whether these are all.
+    // Puts as many of a line's remaining bytes as the piece has room for. Returns whether these are all remaining
+    // bytes.
     fn show_bytes(&mut self, bytes: &[u8], piece: &mut Piece) -> bool
         requires room { length piece.old ≤ 2048 }
         requires within { self.old.shown ≤ length bytes.now }
@@ -96,7 +98,8 @@ impl TextPosition {
         count == rest.len() && piece.room() > 0
     }
 
-    // Puts as much of a line's remaining data as the piece has room for. Returns whether this is all.
+    // Puts as much of a line's remaining data as the piece has room for. Returns whether this is all of the remaining
+    // data.
     #[tactic(auto, using(crate::proofs::Places::left_of_bytes, crate::proofs::Places::none_shown), unfolding(key_names::specs::Texts::TranscriptGrammar::shown_text))]
     #[inline(always)]
     pub(crate) fn show(&mut self, shown: Shown<'_>, piece: &mut Piece) -> bool
@@ -126,7 +129,7 @@ impl TextPosition {
         }
     }
 
-    // Puts the next piece of a line.
+    // Puts the next part of the current line in the piece, up to the line's end if there is room.
     #[inline(always)]
     fn next_of_line(&mut self, lines: &CallerLines, piece: &mut Piece)
         requires some { self.old.line < length lines.now.lines }
@@ -150,7 +153,7 @@ impl TextPosition {
         }
     }
 
-    // Puts the next piece of the callers' lines, or goes on to the next caller, or puts the last line.
+    // Puts the next part of a caller's line in the piece, or goes on to the next caller, or puts the last line, `end`.
     #[inline(always)]
     fn next_of_callers(&mut self, t: &Transcript, piece: &mut Piece)
         requires caller { self.old.caller ≤ length t.now }
@@ -175,8 +178,8 @@ impl TextPosition {
         self.next_of_line(lines, piece);
     }
 
-    /// Goes on to the next place, and replaces the content of the piece by the text between the two places. Returns
-    /// whether there was a next place. A piece has bytes of at most one line, and may be empty.
+    /// Goes on to the next position, and replaces the content of `piece` by the text between the two positions. Returns
+    /// whether there was a next position. A piece has bytes of at most one line, and may be empty.
     #[inline(always)]
     pub(crate) fn go_on(&mut self, t: &Transcript, piece: &mut Piece) -> bool
         requires { IsIn self.old t.now }

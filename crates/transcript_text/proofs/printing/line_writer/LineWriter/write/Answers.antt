@@ -14,7 +14,7 @@ use Rattle.transcript_text.proofs.printing.line_writer.LineWriter.write.Goals as
 more_shown : (left piece rest : List ℕ) → piece ++ rest ≡ left → left ++ codes "\n" ≡ piece ++ (rest ++ codes "\n")
 more_shown left piece rest part = ap (λ text. text ++ codes "\n") (sym part) ∙ append_assoc piece rest (codes "\n")
 
--- the last piece of a line has all data that were left, and the line feed
+-- the last piece of a line is all the data that were left, and the line feed
 all_shown : (left piece last : List ℕ) → piece ≡ left → last ≡ piece ++ codes "\n" → left ++ codes "\n" ≡ last ++ []
 all_shown left piece last all end = ap (λ text. text ++ codes "\n") (sym all) ∙ sym end ∙ sym (append-nil last)
 
