@@ -37,7 +37,7 @@ fn crossed(before: u32, after: u32) -> Crossing
     }
 }
 
-/// The input pool, and the timer of input events.
+/// The input pool, and the timer of its input events, while the pool's list is replayed.
 #[derive(Drop)]
 pub(crate) struct PoolReplay {
     pub(crate) pool: Pool,
