@@ -99,7 +99,7 @@ const WHOLE: Edges = Edges {
     flush_fails: false,
 };
 
-// One byte in each call.
+// The source gives, and the sink takes, one byte in each call; no call fails.
 const SMALL: Edges = Edges { step: 1, ..WHOLE };
 
 // The status of a run with these words over a source and a sink in memory, and the content of the sink.
