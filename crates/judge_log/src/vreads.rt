@@ -77,7 +77,7 @@ impl<N: Note> CallerWalk<'_, N> {
     ///
     /// # Errors
     ///
-    /// `AllocError` if there is no memory for it.
+    /// `AllocError` if there is no memory for the steps or the notes.
     pub fn vread(
         &mut self,
         set: &LineSetting,
