@@ -165,7 +165,7 @@ fn lines_agree<P: Part>(part: &P, lines: &CallerLines, noted: &[Same]) -> bool
     true
 }
 
-/// Whether this part of every line agrees with what the line's steps give.
+/// Whether this part of every line agrees with the part that the line's steps give.
 pub(crate) fn all_agree<P: Part>(part: &P, t: &Transcript, noted: &[Vec<Same>]) -> bool
     requires { length noted.now ≡ length t.now }
     ensures { IsTrue result ↔ AllAgree (λ _. P.IsSame part.now) (said_lists noted.now) t.now }

@@ -1,5 +1,5 @@
-//! Goes through the visits in the order of their stamps, and finds the first visit after which no lists match the
-//! inferred rows so far.
+//! Goes through the visits in the order of their stamps, and finds the first visit such that no lawful lists match the
+//! inferred rows up to this visit.
 ghost use Rattle.std.specs.Prelude.{◌≡◌, ℕ, IfOk, length, take};
 ghost use Rattle.judge_log.specs.Tables.{InRange, tables_of};
 ghost use Rattle.transcript_check.specs.Rows.{AreWide};
@@ -21,7 +21,7 @@ struct Ends {
 }
 
 impl Ends {
-    // Keeps, for each lane, as many rows as `visits` has visits of this lane.
+    // Keeps the first rows of each lane: one row for each visit of this lane in `visits`.
     fn of(alloc: Global, cpus: usize, visits: &[VisitOf]) -> Result<Ends, AllocError> {
         let mut ends = Ends {
             pool: 0,

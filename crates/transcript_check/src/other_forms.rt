@@ -96,7 +96,7 @@ fn line_of<'a>(call: &CalledLines<'a>) -> BareLine<'a> {
     }
 }
 
-// The first line of a caller whose steps match no form of its call.
+// The first line of a caller with steps that match no form.
 fn first_of_caller(
     alloc: Global,
     calls: &[CalledLines<'_>],

@@ -16,7 +16,7 @@ use serial_replay::remake::{Remade, remake};
 use std::alloc::{AllocError, Global};
 use transcript_text::{CallerLines, LineView, Transcript};
 
-/// The part of a line that is compared with what the line's steps give: its answer, or its data.
+/// The part of a line that is compared with the one that the line's steps give: its answer, or its data.
 pub(crate) trait SaidPart {
     /// Whether this part of a line agrees with what was made from the line's steps.
     ghost IsSaid: { Self → SeenLine → SaidOfLine → Type 0 };

@@ -1,4 +1,4 @@
-//! The line at which a transcript fails, and what was expected there.
+//! The failing line of a transcript, and the line or part that was expected there.
 
 use key_names::{Answer, Mark, Word};
 
@@ -38,7 +38,7 @@ pub enum Expected {
     },
 }
 
-/// A line at which a transcript fails, with the part or the line that was expected there.
+/// A failing line of a transcript, with the part or the line that was expected there.
 #[derive(Drop)]
 pub struct FailedLine {
     pub caller: u32,
