@@ -54,7 +54,7 @@ fn refills(kept: &KeptBase, cpu: u32, place: u64, look: u64) -> bool
     }
 }
 
-/// The data kept about the base's visit at a place.
+/// The data kept about the base's visit at `place`.
 fn kept_at(base: &[KeptBase], place: u64) -> Option<KeptBase>
     ensures { result ≡ slice_get base.now place }
 {

@@ -95,7 +95,7 @@ impl LineSpace {
 ///
 /// # Errors
 ///
-/// `AllocError` if there is no memory for them.
+/// `AllocError` if there is no memory for the steps.
 pub fn put_met(met: &mut Vec<KeptStep>, lists: &Lists, steps: &[Step]) -> Result<(), AllocError>
     ensures { OnOk result (met.new.items ≡ met_in lists.now steps.now) }
 {
@@ -135,7 +135,7 @@ fn seen_of(cpu: u32, met: &KeptStep) -> SeenStep
 ///
 /// # Errors
 ///
-/// `AllocError` if there is no memory for them.
+/// `AllocError` if there is no memory for the seen steps.
 pub fn put_seen(seen: &mut Vec<SeenStep>, cpu: u32, met: &[KeptStep]) -> Result<(), AllocError>
     ensures { OnOk result (seen.new.items ≡ seen_in cpu met.now) }
 {
@@ -173,7 +173,7 @@ fn kind_met(cpu: u32, met: &KeptStep) -> Kind
 ///
 /// # Errors
 ///
-/// `AllocError` if there is no memory for them.
+/// `AllocError` if there is no memory for the kinds.
 pub fn put_kinds(kinds: &mut Vec<Kind>, cpu: u32, met: &[KeptStep]) -> Result<(), AllocError>
     ensures { OnOk result (kinds.new.items ≡ kinds_met cpu met.now) }
 {

@@ -108,7 +108,7 @@ impl PoolReplay {
     }
 }
 
-/// The dump at a place of a CPU.
+/// The dump that the visit at `place` of `cpu` made, if this visit is a dump.
 fn dump_at(dumps: &[Vec<Option<Dump>>], cpu: u32, place: u64) -> Option<Dump>
     ensures { result ≡ dump_in (map (λ lane. lane.items) dumps.now) cpu place }
 {

@@ -39,7 +39,7 @@ impl ReplayedStates {
     ///
     /// # Errors
     ///
-    /// `AllocError` if there is no memory for them.
+    /// `AllocError` if there is no memory for the states.
     pub fn new(alloc: Global) -> Result<ReplayedStates, AllocError>
         ensures { IfOk result (λ states. states ≡ first_states) }
     {

@@ -281,7 +281,7 @@ module _ (left left_after start held : Option (List ℕ)) (t : SessionWriter) (c
     written = s.written;
   }
 
--- ---- the end of the input
+-- ---- a session at the end of its input
 
 -- a text that ends with an incomplete line is no script
 bare_part : (next : Awaited) (rest : List ℕ) (s : Script) → goes_from next (rest ∷ []) ≡ Ok s → ⊥

@@ -47,7 +47,7 @@ pub prefix_longer : (a b : Known) (text more : List ℕ) → AppendsPrefix a b t
 prefix_longer a b text more p =
     (p.0, omega (arith, p.1, length-append text more), subst (Appends a b) (sym (take-append-le p.0 text more p.1)) p.2)
 
--- if a text was put, and then a prefix of `more`, a prefix of `text ++ more` was put
+-- if the sink took `text` and then a prefix of `more`, it took a prefix of `text ++ more`
 pub prefix_after : (a b c : Known) (text more : List ℕ) → Appends a b text → AppendsPrefix b c more
     → AppendsPrefix a c (text ++ more)
 prefix_after a b c text more first rest =

@@ -1,4 +1,4 @@
--- The outcome of draws.
+-- The right output of the command `draw`, and how the command ends.
 use Rattle.std.specs.Prelude.{ℕ, ◌≡◌, ◌<◌, ◌≤◌, ◌^◌, ◌++◌, List, [], ◌∷◌, Option, Some, None, String, string_bytes, codes, decimal, map}
 use Rattle.std.specs.List.{flat_map}
 use Rattle.draw_below.specs.TableDraws.{AreTableDraws}

@@ -1,4 +1,4 @@
--- The outcome of feeders.
+-- The right output of the command `feed`, and how the command ends.
 use Rattle.std.specs.Prelude.{ℕ, ◌≡◌, ◌<◌, ◌≤◌, ◌^◌, ◌++◌, List, [], ◌∷◌, Option, String, string_bytes, codes, decimal, map}
 use Rattle.irq_feed.specs.declared.table_feed.FeedSums.{FeedSums}
 use Rattle.irq_feed.specs.TableFeed.{IsFed}

@@ -1,4 +1,4 @@
--- The outcome of a fork inside a vgetrandom call.
+-- The right output of the command `vfork` (a fork inside a vgetrandom call), and how the command ends.
 use Rattle.std.specs.Prelude.{ℕ, ◌≡◌, ◌≤◌, ◌^◌, ◌++◌, List, [], ◌∷◌, Option, String, string_bytes, codes, decimal, map}
 use Rattle.hex.specs.Hex.{encode_lower}
 use Rattle.key_names.specs.declared.point.Point.{Point}
