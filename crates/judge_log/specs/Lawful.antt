@@ -1,4 +1,4 @@
--- When lists that match the inferred entries are lawful: their lanes are lawful, and so are the dumps of the fast pools.
+-- Lists that match the inferred entries are lawful if their lanes are lawful, and also the dumps of the fast pools.
 use Rattle.std.specs.Prelude.{ℕ, ◌≡◌, ⊤, Bool, Some, take, slice_get}
 use Rattle.key_names.specs.declared.entries.CpuEntry.{CpuEntry}
 use Rattle.key_names.specs.declared.entries.CpuEntry.TheVariants.{Read, Int, Irq, Dump, Prepare, Online}

@@ -22,7 +22,7 @@ use judge_lines::inferred::CpuInferred;
 use key_names::{BaseEntry, CpuEntry};
 use std::alloc::{AllocError, Global};
 
-/// The look and the refill that an entry names, if it names one.
+/// The look of the entry, and the place of the base's refill that the entry names, if it names one.
 fn refill_named(entry: CpuEntry) -> Option<(u64, u64)>
     ensures { result ≡ refill_named entry }
 {

@@ -170,7 +170,8 @@ const ROWS: [UsageRow; 10] = [
     ),
 ];
 
-// The source gives one byte a call, and one more call finds the end of the input. A command without input makes no call.
+// The source gives one byte a call, and one more call finds the end of the input. A command without input calls no
+// source.
 #[test]
 fn a_source_that_fails_at_each_call(rt: HostRuntime) -> Result<(), Fail> {
     for (row, (words, input, status, output)) in ROWS.iter().enumerate() {

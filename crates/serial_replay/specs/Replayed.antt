@@ -1,4 +1,4 @@
--- The result of a replay.
+-- The result of a replay: the one lawful transcript with the given steps, or the clause that stops the replay.
 use Rattle.std.specs.Prelude.{◌≡◌, List}
 use Rattle.key_names.specs.Lanes.Book.{lists_of}
 use Rattle.key_names.specs.Texts.ScriptGrammar.{Script}
