@@ -59,7 +59,7 @@ fn refill_at(cpus: &[Vec<KeptCpu>], cpu: u32, place: u64) -> Option<u64>
     base_refill_of(cpus.get(cpu as usize)?.get(place as usize)?.entry)
 }
 
-/// Whether the base's visit at `place`, if it is a refill, is named back by the CPU's entry that it names.
+/// If the base's visit at `place` is a refill, whether the CPU's entry that it names names it back. Otherwise true.
 fn refill_answered(kept: &KeptBase, place: u64, cpus: &[Vec<KeptCpu>]) -> bool
     ensures { IsTrue result ↔ AnsweredBy (map (λ lane. lane.items) cpus.now) place (refill_of kept.now.entry) }
 {
